@@ -1,0 +1,27 @@
+# make demo [EXAMPLE=motor|pumps|interlock]   runs plc on a real program, and prints a line for each scan
+# make plc                                    proves the program and builds it: build/plc
+# make test                                   the whole gate
+
+EXAMPLE ?= motor
+IL = examples/$(EXAMPLE).il
+COMMANDS = examples/$(EXAMPLE).json
+
+.PHONY: demo plc test
+
+# Where build/plc is older than a source, or was never built, the same sources run at once, unproved.
+demo:
+	@cat $(IL)
+	@if [ -x build/plc ] && [ -z "$$(find crates -name out -prune -o -name '*.rt' -newer build/plc -print)" ]; then \
+		echo; echo "-- plc run $(IL) $(COMMANDS), the proved program (build/plc):"; \
+		build/plc run $(IL) $(COMMANDS); \
+	else \
+		echo; echo "-- plc run $(IL) $(COMMANDS), a quick run that proves nothing (rt try; for the proved program: make plc):"; \
+		cd crates/plc && rt try --data program.il=../../$(IL) --data commands.json=../../$(COMMANDS) -- run program.il commands.json; \
+	fi
+
+plc:
+	cd crates/plc && rt run -- --version
+	mkdir -p build && cp crates/plc/out/plc build/plc
+
+test:
+	rt ci

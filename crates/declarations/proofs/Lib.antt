@@ -1,0 +1,5 @@
+pub mod LocationLaws
+pub mod Steps
+pub mod Capitals
+pub mod Places
+pub mod Fits

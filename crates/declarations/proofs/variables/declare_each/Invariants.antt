@@ -1,0 +1,7 @@
+use Rattle.std.proofs.Common.{◌≡◌, drop, map}
+use Rattle.il_reader.specs.Grammar.{declaration}
+use Rattle.declarations.specs.Resolution.{declare, each}
+use Rattle.declarations.proofs.variables.declare_each.Given as goal
+
+abbrev pub invariant-loop-d : goal.invariant-loop-d
+invariant-loop-d l = each declare l.known.items (drop l.d-index (map declaration l.block)) ≡ each declare l.fn.known.items (map declaration l.block)

@@ -1,0 +1,12 @@
+//! Turns the text that was read into a program: names in capital letters, types, locations, operands by name.
+//! It stands on `il_reader` (what a text says) and `il_model` (programs); it judges no types of operands.
+#![tactic(auto)]
+
+mod fault;
+mod instructions;
+mod location;
+mod resolving;
+mod variables;
+
+pub use fault::{DeclError, DeclKind, Fault};
+pub use resolving::resolve;

@@ -1,0 +1,69 @@
+//! Locations as they are written (IEC 61131-3:2003, 2.4.1.1).
+
+ghost use Rattle.std.specs.Prelude.{◌≡◌};
+ghost use Rattle.std.specs.List.{prefix_len};
+ghost use Rattle.declarations.specs.Locations.{is_no_dot, dot_at, bit_of, area_of, behind_x, bit_at, bit_in, location_of};
+
+use il_model::literal::integer;
+use il_model::program::{Area, Loc};
+use il_model::words::capital;
+
+fn bit(area: Area, byte: Option<u64>, bit: Option<u64>) -> Option<Loc>
+    ensures { result ≡ bit_of area byte bit }
+{
+    match (byte, bit) {
+        (Some(b), Some(n)) if b < 64 && n < 8 => Some(Loc::Bit(area, (8 * b + n) as u16)),
+        _ => None,
+    }
+}
+
+fn area(letter: u8) -> Option<Area>
+    ensures { result ≡ area_of letter }
+{
+    match capital(letter) {
+        b'I' => Some(Area::Input),
+        b'Q' => Some(Area::Output),
+        _ => None,
+    }
+}
+
+fn past_x(bytes: &[u8]) -> &[u8]
+    ensures { result.now ≡ behind_x bytes.now }
+{
+    match bytes {
+        [b, others @ ..] if capital(*b) == b'X' => others,
+        _ => bytes,
+    }
+}
+
+fn dot(bytes: &[u8]) -> usize
+    ensures { result ≡ dot_at bytes.now }
+{
+    bytes.iter().take_while(|b| **b != b'.').count()
+}
+
+#[tactic(auto, unfolding(crate::specs::Locations::bit_at), using(crate::proofs::LocationLaws::bit_capped, crate::proofs::LocationLaws::no_bit))]
+fn numbered(area: Area, bytes: &[u8]) -> Option<Loc>
+    ensures { result ≡ bit_at area bytes.now }
+{
+    let before = dot(bytes);
+    if before < bytes.len() {
+        bit(
+            area,
+            integer(10, &bytes[..before]),
+            integer(10, &bytes[before + 1..]),
+        )
+    } else {
+        None
+    }
+}
+
+/// The location that a text with a % in front is, or None where it is none.
+pub fn location(text: &[u8]) -> Option<Loc>
+    ensures { result ≡ location_of text.now }
+{
+    match text {
+        [_, letter, others @ ..] => numbered(area(*letter)?, past_x(others)),
+        _ => None,
+    }
+}

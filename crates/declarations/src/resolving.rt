@@ -1,0 +1,56 @@
+//! From a text that was read to its program.
+
+ghost use Rattle.std.specs.Prelude.{◌≡◌, [], map, IfOk};
+ghost use Rattle.il_model.specs.Fits.{IsText};
+ghost use Rattle.il_reader.specs.Grammar.{declarations};
+ghost use Rattle.declarations.specs.Resolution.{Gives, Answers, declare_block, program_at, resolution_of, each};
+
+use crate::fault::{DeclError, Failure, Fault};
+use crate::instructions::instructions;
+use crate::variables::declare_each;
+use il_model::program::{Program, Variable};
+use il_reader::{Declaration, Source};
+use std::alloc::Global;
+
+fn variables(alloc: Global, blocks: &[Vec<Declaration>]) -> Result<Vec<Variable>, Failure>
+    ensures { Gives (λ v. v.items) result (each declare_block [] (map (λ ds. declarations ds.items) blocks.now)) }
+{
+    let mut known = Vec::new(alloc);
+    for block in blocks {
+        declare_each(alloc, &mut known, block.as_slice())?;
+    }
+    Ok(known)
+}
+
+#[tactic(auto, unfolding(crate::specs::Resolution::program_at))]
+fn program(alloc: Global, source: &Source) -> Result<Program, Failure>
+    ensures text { IfOk result (λ p. IsText p) }
+    ensures exact { Gives (λ p. p) result (program_at source.now.says) }
+{
+    source.is_read();
+    let variables = variables(alloc, source.blocks())?;
+    let code = instructions(alloc, variables.as_slice(), source.lines())?;
+    match Program::new(variables, code) {
+        Some(program) => Ok(program),
+        None => unreachable!(),
+    }
+}
+
+/// The program of a text that was read: its variables in the order of their declarations, its instructions, all names in
+/// capital letters. Else the first fault in the text with its line and column; of two at one place the one with the least
+/// number. Or memory ran out.
+pub fn resolve(alloc: Global, source: Source<'_>) -> Result<Program, DeclError>
+    // Each part of the program has a code in an image from which it reads back: names are lawful and distinct, so are locations.
+    ensures text { IfOk result (λ p. IsText p) }
+    // The program is what the text declares, and a fault is the first one.
+    ensures exact { Answers (λ p. p) result (resolution_of source.entry) }
+{
+    match program(alloc, &source) {
+        Ok(program) => Ok(program),
+        Err(Failure::Refused(refusal)) => Err(DeclError::Fault(Fault {
+            kind: refusal.kind,
+            place: source.place(refusal.left),
+        })),
+        Err(Failure::Memory) => Err(DeclError::Memory),
+    }
+}

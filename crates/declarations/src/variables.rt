@@ -1,0 +1,226 @@
+//! Declarations of variables.
+
+ghost use Rattle.std.specs.Prelude.{◌≡◌, IfOk, map};
+ghost use Rattle.std.specs.List.{position};
+ghost use Rattle.il_model.specs.Image.{loc_code};
+ghost use Rattle.il_model.specs.Codes.{has_code, is_number, is_taken};
+ghost use Rattle.il_reader.specs.Tokens.{token};
+ghost use Rattle.il_reader.specs.Grammar.{declaration, declarations};
+ghost use Rattle.declarations.specs.Resolution.{Gives, capitals, type_of, has_name, is_full, new_name, free_location, known_type, variable, name_variable, declare_located, declare_listed, declare, declare_block, each};
+
+use crate::fault::{DeclKind, Failure, Refusal};
+use crate::location::location;
+use il_model::codes::location_code;
+use il_model::name::{Name, is_reserved};
+use il_model::program::{Loc, Variable};
+use il_model::value::{Ty, Value};
+use il_model::words::{capital, is_spelled};
+use il_reader::{Declaration, Lexeme, Names};
+use std::alloc::{AllocError, Global};
+
+/// The fault of a token.
+pub fn refused(kind: DeclKind, t: Lexeme) -> Failure
+    ensures { result ≡ Failure.Refused (record { kind = kind; left = t.entry.left }) }
+{
+    Failure::Refused(Refusal { kind, left: t.left })
+}
+
+/// A name in capital letters.
+pub fn capital_name(alloc: Global, text: &[u8]) -> Result<Name, AllocError>
+    ensures { IfOk result (λ n. n ≡ capitals text.now) }
+{
+    let mut bytes = Vec::new(alloc);
+    for b in text {
+        bytes.push(capital(*b))?;
+    }
+    Ok(Name::of(bytes))
+}
+
+fn number_of(known: &[Variable], name: &Name) -> Option<usize>
+    ensures { result ≡ is_number known.now name.now }
+{
+    known.iter().position(|v| v.name.is(name))
+}
+
+/// Whether one of these variables has the name.
+pub fn is_known(known: &[Variable], name: &Name) -> bool
+    ensures { result ≡ has_name known.now name.now }
+{
+    number_of(known, name).is_some()
+}
+
+fn lies_at(place: Option<Loc>, loc: Loc) -> bool
+    ensures { result ≡ has_code (loc_code loc) place }
+{
+    match place {
+        Some(_) => location_code(place) == location_code(Some(loc)),
+        None => false,
+    }
+}
+
+fn occupier(known: &[Variable], loc: Loc) -> Option<usize>
+    ensures { result ≡ position (λ v. has_code (loc_code loc) v.location) known.now }
+{
+    known.iter().position(|v| lies_at(v.location, loc))
+}
+
+fn is_occupied(known: &[Variable], loc: Loc) -> bool
+    ensures { result ≡ is_taken known.now (loc_code loc) }
+{
+    occupier(known, loc).is_some()
+}
+
+fn elementary(word: &[u8]) -> Option<Ty>
+    ensures { result ≡ type_of word.now }
+{
+    if is_spelled(b"BOOL", word) {
+        Some(Ty::Bool)
+    } else {
+        None
+    }
+}
+
+fn has_no_room(ty: Option<Ty>, known: &[Variable]) -> bool
+    ensures { result ≡ is_full ty known.now }
+{
+    match ty {
+        Some(_) => known.len() >= 512,
+        None => false,
+    }
+}
+
+#[tactic(auto, unfolding(crate::specs::Resolution::new_name))]
+fn lawful_name(
+    alloc: Global,
+    ty: Option<Ty>,
+    known: &[Variable],
+    t: Lexeme,
+) -> Result<Name, Failure>
+    ensures { Gives (λ n. n) result (new_name ty known.now (token t.entry)) }
+{
+    let name = capital_name(alloc, t.text)?;
+    if is_known(known, &name) {
+        Err(refused(DeclKind::Duplicate, t))
+    } else if is_reserved(name.bytes()) {
+        Err(refused(DeclKind::ReservedName, t))
+    } else if has_no_room(ty, known) {
+        Err(refused(DeclKind::TooMany, t))
+    } else {
+        Ok(name)
+    }
+}
+
+fn unoccupied(known: &[Variable], t: Lexeme) -> Result<Loc, Failure>
+    ensures { Gives (λ loc. loc) result (free_location known.now (token t.entry)) }
+{
+    match location(t.text) {
+        None => Err(refused(DeclKind::BadLocation, t)),
+        Some(loc) => {
+            if is_occupied(known, loc) {
+                Err(refused(DeclKind::Overlap, t))
+            } else {
+                Ok(loc)
+            }
+        }
+    }
+}
+
+fn named_type(t: Lexeme) -> Result<Ty, Failure>
+    ensures { Gives (λ ty. ty) result (known_type (token t.entry)) }
+{
+    elementary(t.text).ok_or(refused(DeclKind::UnknownType, t))
+}
+
+fn fresh(name: Name, ty: Ty, location: Option<Loc>) -> Variable
+    ensures { result ≡ variable name ty location }
+{
+    Variable {
+        name,
+        ty,
+        location,
+        initial: Value::Bool(false),
+    }
+}
+
+#[tactic(auto, unfolding(crate::specs::Resolution::name_variable))]
+fn push_name(
+    alloc: Global,
+    ty: Option<Ty>,
+    known: &mut Vec<Variable>,
+    t: Lexeme,
+) -> Result<(), Failure>
+    ensures { Gives (λ u. known.new.items) result (name_variable ty known.old.items (token t.entry)) }
+{
+    let name = lawful_name(alloc, ty, known.as_slice(), t)?;
+    known.push(fresh(name, ty.unwrap_or(Ty::Bool), None))?;
+    Ok(())
+}
+
+fn push_names(
+    alloc: Global,
+    ty: Option<Ty>,
+    known: &mut Vec<Variable>,
+    names: &[Lexeme],
+) -> Result<(), Failure>
+    ensures { Gives (λ u. known.new.items) result (each (name_variable ty) known.old.items (map token names.now)) }
+{
+    for name in names {
+        push_name(alloc, ty, known, *name)?;
+    }
+    Ok(())
+}
+
+#[tactic(auto, unfolding(crate::specs::Resolution::declare_located))]
+fn declare_at(
+    alloc: Global,
+    known: &mut Vec<Variable>,
+    d: &Declaration,
+    at: Lexeme,
+) -> Result<(), Failure>
+    ensures { Gives (λ u. known.new.items) result (declare_located known.old.items (declaration d.now) (token at.entry)) }
+{
+    let name = lawful_name(alloc, elementary(d.ty.text), known.as_slice(), d.name)?;
+    let loc = unoccupied(known.as_slice(), at)?;
+    let ty = named_type(d.ty)?;
+    known.push(fresh(name, ty, Some(loc)))?;
+    Ok(())
+}
+
+#[tactic(auto, unfolding(crate::specs::Resolution::declare_listed))]
+fn declare_names(
+    alloc: Global,
+    known: &mut Vec<Variable>,
+    d: &Declaration,
+    more: &[Lexeme],
+) -> Result<(), Failure>
+    ensures { Gives (λ u. known.new.items) result (declare_listed known.old.items (declaration d.now) (map token more.now)) }
+{
+    let ty = elementary(d.ty.text);
+    push_name(alloc, ty, known, d.name)?;
+    push_names(alloc, ty, known, more)?;
+    named_type(d.ty)?;
+    Ok(())
+}
+
+fn declare_one(alloc: Global, known: &mut Vec<Variable>, d: &Declaration) -> Result<(), Failure>
+    ensures { Gives (λ u. known.new.items) result (declare known.old.items (declaration d.now)) }
+{
+    match &d.names {
+        Names::Located(at) => declare_at(alloc, known, d, *at),
+        Names::More(more) => declare_names(alloc, known, d, more.as_slice()),
+    }
+}
+
+/// The variables of a block, behind those before it.
+pub fn declare_each(
+    alloc: Global,
+    known: &mut Vec<Variable>,
+    block: &[Declaration],
+) -> Result<(), Failure>
+    ensures { Gives (λ u. known.new.items) result (declare_block known.old.items (declarations block.now)) }
+{
+    for d in block {
+        declare_one(alloc, known, d)?;
+    }
+    Ok(())
+}

@@ -1,0 +1,7 @@
+pub mod Logic
+pub mod SavedWords
+pub mod Bistables
+pub mod Edges
+pub mod Counters
+pub mod Timers
+pub mod Outputs

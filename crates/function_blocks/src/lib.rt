@@ -1,0 +1,11 @@
+//! The ten standard function blocks of IEC 61131-3:2003, 2.5.2.3: each is its equations, and its saved words are its
+//! whole state. It may use `il_model` alone: values, and the table of kinds and their fields.
+#![tactic(auto)]
+
+pub mod any;
+pub mod bistable;
+pub mod block;
+pub mod counter;
+pub mod edge;
+pub mod timer;
+pub mod words;

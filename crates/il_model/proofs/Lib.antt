@@ -1,0 +1,11 @@
+pub mod Rows
+pub mod Safe
+pub mod NeverStuck
+pub mod Room
+pub mod Loop
+pub mod Marks
+pub mod Constants
+pub mod Declared
+pub mod ColdSuits
+pub mod BlockKinds
+pub mod Literals

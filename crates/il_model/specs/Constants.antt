@@ -1,0 +1,43 @@
+-- The constants of a program, in the order of their first use.
+use Rattle.std.specs.Prelude.{◌≡◌, ℕ, suc, ◌+◌, ◌<◌, Bool, true, false, List, [], ◌∷◌, ◌++◌, length, take, slice_get, Option, Some, None, is_some, nat_lt, nat_eq, if◌then◌else◌}
+use Rattle.std.specs.List.{position}
+use Rattle.il_model.specs.declared.value.Value.{Value}
+use Rattle.il_model.specs.declared.value.Value.TheVariants as values
+use Rattle.il_model.specs.declared.program.Instr.{Instr}
+use Rattle.il_model.specs.declared.program.Operand.{Operand}
+use Rattle.il_model.specs.declared.program.Operand.TheVariants as operands
+use Rattle.il_model.specs.Operators.{same_truth, same_number}
+use Rattle.il_model.specs.Text.{Text}
+
+-- of one type, with one number
+abbrev pub same_value : Value → Value → Bool
+same_value (values.Bool a) (values.Bool b) = same_truth a b
+same_value (values.Int a) (values.Int b) = same_number a b
+same_value (values.Dint a) (values.Dint b) = same_number a b
+same_value (values.Time a) (values.Time b) = same_number a b
+same_value a b = false
+
+abbrev pub literal_of : Operand → Option Value
+literal_of (operands.Literal v) = Some v
+literal_of operand = None
+
+-- a constant is put behind the others where it is new; same is the test of values
+abbrev pub joined_constants : (Value → Value → Bool) → List Value → Option Value → List Value
+joined_constants same seen None = seen
+joined_constants same seen (Some v) = if is_some (position (same v) seen) then seen else seen ++ v ∷ []
+
+abbrev pub constants_from : (Value → Value → Bool) → List Value → List Instr → List Value
+constants_from same seen [] = seen
+constants_from same seen (line ∷ code) = constants_from same (joined_constants same seen (literal_of line.operand)) code
+
+abbrev pub constants_of : Text → List Value
+constants_of Q = constants_from same_value [] Q.code
+
+-- how many of a table's constants are used behind a word that uses the k-th, where no lower one is left out
+abbrev pub used_after : ℕ → ℕ → Option ℕ
+used_after used k = if nat_lt k used then Some used else (if nat_eq k used then Some (suc used) else None)
+
+-- what the words of an image use: for each word nothing, or the number of a constant
+abbrev pub step_used : Option ℕ → ℕ → Option ℕ
+step_used None used = Some used
+step_used (Some k) used = used_after used k

@@ -1,0 +1,145 @@
+-- The bytes of a program: one spelling for each. In this order: a header, the variables, the labels, the constants, the
+-- words. All numbers are big-endian.
+use Rattle.std.specs.Prelude.{ℕ, ◌+◌, Bool, true, false, List, [], ◌∷◌, ◌++◌, length, Option, Some, None}
+use Rattle.std.specs.List.{flat_map}
+use Rattle.std.specs.Int.{w8, w16, w32, to_be_bytes, cast_unsigned}
+use Rattle.il_model.specs.declared.value.Ty.{Ty}
+use Rattle.il_model.specs.declared.value.Ty.TheVariants as types
+use Rattle.il_model.specs.declared.op.Op.{Op}
+use Rattle.il_model.specs.declared.op.Op.TheVariants as ops
+use Rattle.il_model.specs.declared.op.Modifier.{Modifier}
+use Rattle.il_model.specs.declared.program.Area.{Area}
+use Rattle.il_model.specs.declared.program.Area.TheVariants as areas
+use Rattle.il_model.specs.declared.program.Loc.{Loc}
+use Rattle.il_model.specs.declared.program.Loc.TheVariants.{Bit, Word}
+use Rattle.il_model.specs.declared.program.Variable.{Variable}
+use Rattle.il_model.specs.declared.program.Operand.{Operand}
+use Rattle.il_model.specs.declared.program.Operand.TheVariants as operands
+use Rattle.il_model.specs.declared.program.Instr.{Instr}
+use Rattle.il_model.specs.declared.value.Value.{Value}
+use Rattle.il_model.specs.Values.{ty_of, number_of}
+use Rattle.il_model.specs.Names.{same_name}
+use Rattle.std.specs.List.{position}
+use Rattle.il_model.specs.Text.{Text}
+use Rattle.il_model.specs.Resolved.{target_of}
+use Rattle.il_model.specs.Marks.{Mark, marks_from}
+use Rattle.il_model.specs.Constants.{same_value, constants_of}
+
+abbrev pub type_code : Ty → ℕ
+type_code types.Bool = 0
+type_code types.Int = 1
+type_code types.Dint = 2
+type_code types.Time = 3
+
+abbrev pub base_of : Area → ℕ
+base_of areas.Input = 0
+base_of areas.Output = 4096
+base_of areas.Memory = 8192
+
+abbrev pub loc_code : Loc → ℕ
+loc_code (Bit a n) = base_of a + n
+loc_code (Word a n) = base_of a + (1024 + n)
+
+abbrev pub location_code : Option Loc → ℕ
+location_code None = 65535
+location_code (Some loc) = loc_code loc
+
+abbrev pub name_bytes : List ℕ → List ℕ
+name_bytes name = to_be_bytes w8 (length name) ++ name
+
+abbrev pub variable_bytes : Variable → List ℕ
+variable_bytes v = name_bytes v.name ++ (to_be_bytes w8 (type_code v.ty) ++ (to_be_bytes w16 (location_code v.location) ++ to_be_bytes w32 (cast_unsigned w32 (number_of v.initial))))
+
+abbrev pub op_code : Op → ℕ
+op_code ops.Empty = 0
+op_code ops.Ld = 1
+op_code ops.St = 2
+op_code ops.S = 3
+op_code ops.R = 4
+op_code ops.And = 5
+op_code ops.Or = 6
+op_code ops.Xor = 7
+op_code ops.Not = 8
+op_code ops.Add = 9
+op_code ops.Sub = 10
+op_code ops.Mul = 11
+op_code ops.Div = 12
+op_code ops.Mod = 13
+op_code ops.Gt = 14
+op_code ops.Ge = 15
+op_code ops.Eq = 16
+op_code ops.Ne = 17
+op_code ops.Le = 18
+op_code ops.Lt = 19
+op_code ops.Jmp = 20
+op_code ops.Cal = 21
+op_code ops.Ret = 22
+op_code ops.Close = 23
+op_code ops.IntToDint = 24
+op_code ops.DintToInt = 25
+
+abbrev pub flag : Bool → ℕ → ℕ
+flag true n = n
+flag false n = 0
+
+abbrev pub modifier_code : Modifier → ℕ
+modifier_code m = flag m.negated 1 + (flag m.conditional 2 + flag m.opens 4)
+
+abbrev pub numbered_code : Option ℕ → ℕ
+numbered_code None = 65535
+numbered_code (Some i) = 16384 + i
+
+-- a label: its name and the address of its word
+abbrev pub mark_bytes : Mark → List ℕ
+mark_bytes m = name_bytes m.name ++ to_be_bytes w16 m.at
+
+abbrev pub constant_bytes : Value → List ℕ
+constant_bytes v = to_be_bytes w8 (type_code (ty_of v)) ++ to_be_bytes w32 (cast_unsigned w32 (number_of v))
+
+abbrev pub constant_code : Option ℕ → ℕ
+constant_code None = 65535
+constant_code (Some k) = 32768 + k
+
+abbrev pub target_code : Option ℕ → ℕ
+target_code None = 65535
+target_code (Some n) = n
+
+-- no operand, a location, or a variable, located or not, by its number
+abbrev pub plain_code : List Variable → Operand → ℕ
+plain_code vs operands.Absent = 65535
+plain_code vs (operands.Direct loc) = loc_code loc
+plain_code vs (operands.Variable name) = numbered_code (position (λ (v : Variable). same_name v.name name) vs)
+plain_code vs operand = 65535
+
+-- a constant is its number in the table, a label the address where it stands
+abbrev pub operand_code : Text → List Value → Operand → ℕ
+operand_code Q constants (operands.Literal v) = constant_code (position (same_value v) constants)
+operand_code Q constants (operands.Label name) = target_code (target_of Q name)
+operand_code Q constants operand = plain_code Q.variables operand
+
+abbrev pub coded_word : Instr → ℕ → List ℕ
+coded_word line code = to_be_bytes w8 (op_code line.op) ++ (to_be_bytes w8 (modifier_code line.modifier) ++ to_be_bytes w16 code)
+
+-- of a word whose operand is no constant and no label
+abbrev pub plain_word_bytes : List Variable → Instr → List ℕ
+plain_word_bytes vs line = coded_word line (plain_code vs line.operand)
+
+abbrev pub word_bytes : Text → List Value → Instr → List ℕ
+word_bytes Q constants line = coded_word line (operand_code Q constants line.operand)
+
+-- how many variables, instances, labels, constants and words there are
+abbrev pub counts_bytes : ℕ → ℕ → ℕ → ℕ → List ℕ
+counts_bytes variables labels constants words =
+    to_be_bytes w16 variables ++ (to_be_bytes w16 0 ++ (to_be_bytes w16 labels ++ (to_be_bytes w16 constants ++ to_be_bytes w16 words)))
+
+-- ILPC, the version, and the counts
+abbrev pub header_bytes : ℕ → ℕ → ℕ → ℕ → List ℕ
+header_bytes variables labels constants words = to_be_bytes w32 1229738051 ++ (to_be_bytes w16 1 ++ counts_bytes variables labels constants words)
+
+abbrev pub spelled_with : Text → List Mark → List Value → List ℕ
+spelled_with Q labels constants =
+    header_bytes (length Q.variables) (length labels) (length constants) (length Q.code)
+    ++ (flat_map variable_bytes Q.variables ++ (flat_map mark_bytes labels ++ (flat_map constant_bytes constants ++ flat_map (word_bytes Q constants) Q.code)))
+
+abbrev pub spelling : Text → List ℕ
+spelling Q = spelled_with Q (marks_from 0 Q.code) (constants_of Q)

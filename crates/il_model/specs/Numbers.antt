@@ -1,0 +1,26 @@
+-- The numbers of stops and refusals, and the image that an answer releases.
+use Rattle.std.specs.Prelude.{ℕ, Option, Some, None}
+use Rattle.il_model.specs.declared.value.Stop.{Stop}
+use Rattle.il_model.specs.declared.value.Stop.TheVariants as stop
+use Rattle.il_model.specs.declared.command.Refusal.{Refusal}
+use Rattle.il_model.specs.declared.command.Refusal.TheVariants as refusal
+use Rattle.il_model.specs.declared.command.Answer.{Answer}
+use Rattle.il_model.specs.declared.command.Answer.TheVariants as answer
+use Rattle.il_model.specs.declared.cells.OutImage.{OutImage}
+
+abbrev pub stop_number : Stop → ℕ
+stop_number stop.Overflow = 1
+stop_number stop.ZeroDivisor = 2
+stop_number stop.Budget = 3
+
+abbrev pub refusal_number : Refusal → ℕ
+refusal_number refusal.NotHeld = 1
+refusal_number refusal.BadPosition = 2
+refusal_number refusal.BadSlot = 3
+refusal_number refusal.BadType = 4
+refusal_number refusal.NoResult = 5
+
+abbrev pub released_image : Answer → Option OutImage
+released_image (answer.Outputs count image) = Some image
+released_image (answer.Stopped stop position image) = Some image
+released_image _ = None

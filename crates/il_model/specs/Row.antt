@@ -1,0 +1,116 @@
+-- The types that each instruction needs, and leaves; the faults in their order.
+use Rattle.std.specs.Prelude.{ℕ, ◌<◌, ◌≢◌, Bool, true, false, not, ◌&&◌, ◌||◌, Option, Some, None, Result, Ok, Err, nat_lt, is_none, if◌then◌else◌}
+use Rattle.il_model.specs.declared.value.Ty.{Ty}
+use Rattle.il_model.specs.declared.value.Ty.TheVariants as types
+use Rattle.il_model.specs.declared.op.Op.{Op}
+use Rattle.il_model.specs.declared.op.Op.TheVariants as ops
+use Rattle.il_model.specs.declared.op.Modifier.{Modifier}
+use Rattle.il_model.specs.declared.typing.TypeFault.{TypeFault}
+use Rattle.il_model.specs.declared.typing.TypeFault.TheVariants.{TypeMismatch, NoCurrentResult, UnknownLabel, DuplicateLabel, Unbalanced, TooDeep, NotWritable, BadField}
+use Rattle.il_model.specs.declared.typing.Kind.{Kind}
+use Rattle.il_model.specs.declared.typing.Kind.TheVariants as kinds
+use Rattle.il_model.specs.declared.typing.Held.{Held}
+use Rattle.il_model.specs.declared.typing.Effect.{Effect}
+use Rattle.il_model.specs.declared.typing.Effect.TheVariants.{Sets, Opens, Closes}
+use Rattle.il_model.specs.Operators.{joined_type}
+
+abbrev pub same_type : Ty → Ty → Bool
+same_type types.Bool types.Bool = true
+same_type types.Int types.Int = true
+same_type types.Dint types.Dint = true
+same_type types.Time types.Time = true
+same_type a b = false
+
+abbrev pub is_bool : Ty → Bool
+is_bool types.Bool = true
+is_bool t = false
+
+-- a letter N asks for BOOL
+abbrev pub negatable : Bool → Ty → Bool
+negatable negated t = not negated || is_bool t
+
+abbrev pub load_row : Bool → Kind → Result Effect TypeFault
+load_row negated (kinds.Typed t w) = if negatable negated t then Ok (Sets (Some t)) else Err TypeMismatch
+load_row negated kind = Err TypeMismatch
+
+abbrev pub store_row : Option Ty → Bool → Kind → Result Effect TypeFault
+store_row None negated (kinds.Typed t true) = Err NoCurrentResult
+store_row (Some c) negated (kinds.Typed t true) = if same_type c t && negatable negated t then Ok (Sets (Some c)) else Err TypeMismatch
+store_row cr negated kind = Err NotWritable
+
+abbrev pub set_row : Option Ty → Kind → Result Effect TypeFault
+set_row None (kinds.Typed t true) = Err NoCurrentResult
+set_row (Some c) (kinds.Typed t true) = if is_bool t && is_bool c then Ok (Sets (Some c)) else Err TypeMismatch
+set_row cr kind = Err NotWritable
+
+abbrev pub truth_row : Option Ty → Result Effect TypeFault
+truth_row None = Err NoCurrentResult
+truth_row (Some c) = if is_bool c then Ok (Sets (Some c)) else Err TypeMismatch
+
+abbrev pub leave_row : Option Ty → Bool → Result Effect TypeFault
+leave_row cr conditional = if conditional then truth_row cr else Ok (Sets None)
+
+abbrev pub closes_to : Option Ty → Result Effect TypeFault
+closes_to (Some t) = Ok (Closes t)
+closes_to None = Err TypeMismatch
+
+abbrev pub close_row : Option Ty → Option Held → Result Effect TypeFault
+close_row cr None = Err Unbalanced
+close_row None (Some held) = Err NoCurrentResult
+close_row (Some c) (Some held) = if negatable held.negated c then closes_to (joined_type held.op held.ty c) else Err TypeMismatch
+
+abbrev pub convert_row : Option Ty → Ty → Ty → Result Effect TypeFault
+convert_row None from to = Err NoCurrentResult
+convert_row (Some c) from to = if same_type c from then Ok (Sets (Some to)) else Err TypeMismatch
+
+abbrev pub opens_with : Held → Kind → Result Effect TypeFault
+opens_with held kinds.Absent = Ok (Opens held None)
+opens_with held (kinds.Typed t w) = Ok (Opens held (Some t))
+opens_with held kind = Err TypeMismatch
+
+abbrev pub open_row : Option Ty → ℕ → Op → Bool → Kind → Result Effect TypeFault
+open_row cr depth op negated kind =
+    if nat_lt depth 16 then
+    elim cr [
+      | None ↦ Err NoCurrentResult
+      | Some c ↦ if is_none (joined_type op c c) then Err TypeMismatch else opens_with (record { op = op; negated = negated; ty = c }) kind
+    ]
+    else Err TooDeep
+
+abbrev pub sets_to : Option Ty → Result Effect TypeFault
+sets_to (Some t) = Ok (Sets (Some t))
+sets_to None = Err TypeMismatch
+
+abbrev pub combine_row : Option Ty → Op → Bool → Kind → Result Effect TypeFault
+combine_row None op negated kind = Err NoCurrentResult
+combine_row (Some c) op negated (kinds.Typed t w) = if negatable negated t then sets_to (joined_type op c t) else Err TypeMismatch
+combine_row (Some c) op negated kind = Err TypeMismatch
+
+abbrev pub jump_row : Option Ty → Bool → Kind → Result Effect TypeFault
+jump_row cr conditional kinds.Target = leave_row cr conditional
+jump_row cr conditional kinds.NoTarget = Err UnknownLabel
+jump_row cr conditional kind = Err TypeMismatch
+
+abbrev pub outside : ℕ → Result Effect TypeFault → Result Effect TypeFault
+outside depth r = if nat_lt 0 depth then Err Unbalanced else r
+
+-- what an instruction does to the types, or its first fault
+abbrev pub row : Option Ty → Option Held → ℕ → Op → Modifier → Kind → Result Effect TypeFault
+row cr top depth ops.Empty m kind = Ok (Sets cr)
+row cr top depth ops.Ld m kind = load_row m.negated kind
+row cr top depth ops.St m kind = store_row cr m.negated kind
+row cr top depth ops.S m kind = set_row cr kind
+row cr top depth ops.R m kind = set_row cr kind
+row cr top depth ops.Not m kind = truth_row cr
+row cr top depth ops.Jmp m kind = outside depth (jump_row cr m.conditional kind)
+row cr top depth ops.Cal m kind = Err BadField
+row cr top depth ops.Ret m kind = outside depth (leave_row cr m.conditional)
+row cr top depth ops.Close m kind = close_row cr top
+row cr top depth ops.IntToDint m kind = convert_row cr types.Int types.Dint
+row cr top depth ops.DintToInt m kind = convert_row cr types.Dint types.Int
+row cr top depth op m kind = if m.opens then open_row cr depth op m.negated kind else combine_row cr op m.negated kind
+
+-- an operator is deferred only where there is room, and applied only where there is one
+abbrev pub HasRoom : ℕ → Effect → Type 0
+HasRoom depth (Opens held cr) = depth < 16
+HasRoom depth e = Unit {0}

@@ -1,0 +1,173 @@
+//! Whether a program is typed.
+
+ghost use Rattle.std.specs.Prelude.{◌≡◌, ◌<◌, ◌≤◌, length, reverse, IfOk, OnErr, Ok, Err, slice_get, Some};
+ghost use Rattle.il_model.specs.Typing.{judged, shape_at, line_row, line_row_of, label_row, applied, arrived, top_of, Shape, after_line};
+ghost use Rattle.il_model.specs.Resolved.{is_labelled};
+ghost use Rattle.il_model.specs.Row.{HasRoom};
+ghost use Rattle.il_model.specs.Checked.{told};
+ghost use Rattle.std.specs.Prelude.{OnOk, IfErr};
+
+use crate::resolve::{kind_of, missing_kind, source_of, target_of};
+use crate::typing::row_of;
+use crate::{Effect, Held, Instr, Name, Program, Ty, TypeFault};
+use arrayvec::ArrayVec;
+use std::marker::Model;
+
+fn label_row(
+    program: &Program,
+    n: usize,
+    depth: usize,
+    label: &Option<Name>,
+) -> Result<bool, TypeFault>
+    ensures { result ≡ label_row program.now n depth label.now }
+{
+    let Some(name) = label else {
+        return Ok(true);
+    };
+    match target_of(program, name) {
+        Some(first) => {
+            if first as usize != n {
+                return Err(TypeFault::DuplicateLabel);
+            }
+            if depth > 0 {
+                Err(TypeFault::Unbalanced)
+            } else {
+                Ok(true)
+            }
+        }
+        None => Err(TypeFault::DuplicateLabel),
+    }
+}
+
+fn line_row(
+    program: &Program,
+    cr: Option<Ty>,
+    top: Option<Held>,
+    depth: usize,
+    line: &Instr,
+) -> Result<Effect, TypeFault>
+    ensures { result ≡ line_row_of program.now cr top depth line.now }
+{
+    match source_of(program, &line.operand) {
+        Some(source) => row_of(
+            cr,
+            top,
+            depth,
+            line.op,
+            line.modifier,
+            kind_of(program, source),
+        ),
+        None => match row_of(
+            cr,
+            top,
+            depth,
+            line.op,
+            line.modifier,
+            missing_kind(&line.operand),
+        ) {
+            Ok(_) => Err(TypeFault::TypeMismatch),
+            Err(fault) => Err(fault),
+        },
+    }
+}
+
+/// The types at a position.
+#[derive(Debug, Drop)]
+struct Types {
+    cr: Option<Ty>,
+    kept: ArrayVec<Held, 16>,
+}
+
+impl Model for Types {
+    ghost use Rattle.std.specs.Prelude.{reverse};
+    ghost use Rattle.il_model.specs.Typing.{Shape};
+
+    ghost Value = { Shape };
+
+    ghost view = { λ t. record { cr = t.cr; kept = reverse t.kept.items } };
+}
+
+impl Types {
+    fn start(program: &Program) -> Types
+        ensures { shape_at program.now 0 ≡ Ok result }
+    {
+        let _first = is_labelled(program, 0);
+        Types {
+            cr: None,
+            kept: ArrayVec::new(),
+        }
+    }
+
+    fn top(&self) -> Option<Held>
+        ensures { result ≡ top_of self.now.kept }
+    {
+        self.kept.as_slice().last().copied()
+    }
+
+    fn depth(&self) -> usize
+        ensures { result ≡ length self.now.kept }
+    {
+        self.kept.len()
+    }
+
+    fn apply(&mut self, effect: Effect)
+        requires { HasRoom (length self.old.kept) effect }
+        ensures { self.new ≡ applied self.old effect }
+    {
+        match effect {
+            Effect::Sets(cr) => self.cr = cr,
+            Effect::Opens(held, cr) => {
+                self.kept.push(held);
+                self.cr = cr;
+            }
+            Effect::Closes(ty) => {
+                let _ = self.kept.pop();
+                self.cr = Some(ty);
+            }
+        }
+    }
+
+    /// Goes past a line, or gives its fault.
+    fn pass(&mut self, program: &Program, n: usize, line: &Instr) -> Result<(), TypeFault>
+        requires n { n < length program.now.code }
+        ensures ok { OnOk result (after_line program.now n self.old line.now ≡ Ok self.new) }
+        ensures err { IfErr result (λ f. after_line program.now n self.old line.now ≡ Err f) }
+    {
+        let _count = program.code.len();
+        let depth = self.depth();
+        label_row(program, n, depth, &line.label)?;
+        let effect = line_row(program, self.cr, self.top(), depth, line)?;
+        self.apply(effect);
+        if is_labelled(program, n + 1) {
+            self.cr = None;
+        }
+        Ok(())
+    }
+}
+
+fn is_labelled(program: &Program, n: usize) -> bool
+    ensures { result ≡ is_labelled program.now n }
+{
+    match program.code.get(n) {
+        Some(line) => line.label.is_some(),
+        None => false,
+    }
+}
+
+/// Whether a program is typed, or the first fault with the instruction's number.
+pub fn check(program: &Program) -> Result<(), (TypeFault, usize)>
+    ensures { told result ≡ judged program.now }
+{
+    let mut types = Types::start(program);
+    let count = program.code.len();
+    for n in 0..count {
+        if let Err(fault) = types.pass(program, n, &program.code[n]) {
+            return Err((fault, n));
+        }
+    }
+    if types.depth() > 0 {
+        Err((TypeFault::Unbalanced, count))
+    } else {
+        Ok(())
+    }
+}

@@ -1,0 +1,31 @@
+//! The words of the language: plain types of an Instruction List program (IEC 61131-3:2003, 3.2), its tables of
+//! operators, types and codes, and the definitions that all other crates cite: values, operators, names, typing, the
+//! image's spelling, the machine's states and steps. It uses no other crate of this repository.
+#![tactic(auto)]
+
+pub mod cells;
+pub mod check;
+pub mod codes;
+pub mod command;
+pub mod fetched;
+pub mod kind;
+pub mod literal;
+pub mod name;
+pub mod op;
+pub mod program;
+pub mod resolve;
+pub mod slot;
+pub mod typing;
+pub mod value;
+pub mod words;
+
+pub use cells::{Cells, InImage, OutImage};
+pub use command::{Answer, Command, Refusal};
+pub use fetched::{Deferred, Fetched, Source};
+pub use kind::{BlockKind, Field};
+pub use name::Name;
+pub use op::{Modifier, Op};
+pub use program::{Area, Instr, Loc, Operand, Place, Program, Variable};
+pub use slot::Slot;
+pub use typing::{Effect, Held, Kind, TypeFault};
+pub use value::{Stop, Ty, Value};

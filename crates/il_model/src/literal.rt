@@ -1,0 +1,46 @@
+//! Literals: digits and what they stand for (IEC 61131-3:2003, B.1.2.1).
+
+ghost use Rattle.std.specs.Prelude.{◌≡◌, ◌≤◌, ◌<◌, min, option_map};
+ghost use Rattle.il_model.specs.Literal.{digit_of, integer_of};
+
+/// Above every number that a literal may have.
+const CAP: u64 = 4_294_967_296;
+
+fn digit(b: u8) -> u8
+    ensures value { result ≡ digit_of b }
+    ensures fits { result < 100 }
+{
+    match b {
+        b'0'..=b'9' => b - 48,
+        b'A'..=b'Z' => b - 55,
+        b'a'..=b'z' => b - 87,
+        _ => 99,
+    }
+}
+
+/// The number that digits stand for, or the cap where it is above that.
+#[tactic(auto, unfolding(crate::specs::Literal::are_digits, crate::specs::Literal::value_behind))]
+pub fn integer(base: u8, bytes: &[u8]) -> Option<u64>
+    requires low { 2 ≤ base }
+    requires high { base ≤ 16 }
+    ensures { result ≡ option_map (λ n. min n 4294967296) (integer_of base bytes.now) }
+{
+    let mut value = 0u64;
+    let mut behind = false;
+    for b in bytes {
+        if *b == b'_' {
+            if !behind {
+                return None;
+            }
+            behind = false;
+        } else {
+            let d = digit(*b);
+            if d >= base {
+                return None;
+            }
+            value = (value * u64::from(base) + u64::from(d)).min(CAP);
+            behind = true;
+        }
+    }
+    if behind { Some(value) } else { None }
+}

@@ -1,0 +1,269 @@
+//! Operators and their rows.
+
+ghost use Rattle.std.specs.Prelude.{◌≡◌, slice_get, length};
+ghost use Rattle.il_model.specs.Values.{ty_of};
+ghost use Rattle.il_model.specs.Operators.{joined_type, numeric_type, operated, on_numbers, on_truths, in_type, divided, rest_of};
+ghost use Rattle.std.specs.Prelude.{◌*ℤ◌, int_div, int_rem, pos, ◌≢◌};
+
+use crate::value::{Stop, Ty, Value, make};
+
+/// An operator, in the order of its code.
+#[derive(Clone, Copy, Debug, PartialEq, Eq)]
+pub enum Op {
+    Empty,
+    Ld,
+    St,
+    S,
+    R,
+    And,
+    Or,
+    Xor,
+    Not,
+    Add,
+    Sub,
+    Mul,
+    Div,
+    Mod,
+    Gt,
+    Ge,
+    Eq,
+    Ne,
+    Le,
+    Lt,
+    Jmp,
+    Cal,
+    Ret,
+    Close,
+    IntToDint,
+    DintToInt,
+}
+
+/// The operators by code.
+pub const OPS: [Op; 26] = [
+    Op::Empty,
+    Op::Ld,
+    Op::St,
+    Op::S,
+    Op::R,
+    Op::And,
+    Op::Or,
+    Op::Xor,
+    Op::Not,
+    Op::Add,
+    Op::Sub,
+    Op::Mul,
+    Op::Div,
+    Op::Mod,
+    Op::Gt,
+    Op::Ge,
+    Op::Eq,
+    Op::Ne,
+    Op::Le,
+    Op::Lt,
+    Op::Jmp,
+    Op::Cal,
+    Op::Ret,
+    Op::Close,
+    Op::IntToDint,
+    Op::DintToInt,
+];
+
+/// The letters after an operator.
+#[derive(Clone, Copy, Debug, PartialEq, Eq)]
+pub struct Modifier {
+    pub negated: bool,
+    pub conditional: bool,
+    pub opens: bool,
+}
+
+impl Op {
+    /// The operator of a code.
+    pub fn of_code(code: u8) -> Option<Op>
+        ensures { result ≡ slice_get OPS code }
+    {
+        if code >= 26 {
+            return None;
+        }
+        match code {
+            0 => Some(Op::Empty),
+            1 => Some(Op::Ld),
+            2 => Some(Op::St),
+            3 => Some(Op::S),
+            4 => Some(Op::R),
+            5 => Some(Op::And),
+            6 => Some(Op::Or),
+            7 => Some(Op::Xor),
+            8 => Some(Op::Not),
+            9 => Some(Op::Add),
+            10 => Some(Op::Sub),
+            11 => Some(Op::Mul),
+            12 => Some(Op::Div),
+            13 => Some(Op::Mod),
+            14 => Some(Op::Gt),
+            15 => Some(Op::Ge),
+            16 => Some(Op::Eq),
+            17 => Some(Op::Ne),
+            18 => Some(Op::Le),
+            19 => Some(Op::Lt),
+            20 => Some(Op::Jmp),
+            21 => Some(Op::Cal),
+            22 => Some(Op::Ret),
+            23 => Some(Op::Close),
+            24 => Some(Op::IntToDint),
+            25 => Some(Op::DintToInt),
+            _ => unreachable!(),
+        }
+    }
+
+    /// The code of an operator.
+    pub fn code(self) -> u8
+        ensures { slice_get OPS result ≡ Some self }
+    {
+        self as u8
+    }
+}
+
+/// The type that an operator with an operand gives, or none where it has no row at these types.
+pub fn joined(op: Op, cr: Ty, operand: Ty) -> Option<Ty>
+    ensures { result ≡ joined_type op cr operand }
+{
+    match (cr, operand) {
+        (Ty::Bool, Ty::Bool) => match op {
+            Op::And | Op::Or | Op::Xor => Some(Ty::Bool),
+            Op::Gt | Op::Ge | Op::Eq | Op::Ne | Op::Le | Op::Lt => Some(Ty::Bool),
+            _ => None,
+        },
+        (Ty::Int, Ty::Int) => numeric(op, Ty::Int),
+        (Ty::Dint, Ty::Dint) => numeric(op, Ty::Dint),
+        (Ty::Time, Ty::Time) => match op {
+            Op::Add | Op::Sub => Some(Ty::Time),
+            Op::Gt | Op::Ge | Op::Eq | Op::Ne | Op::Le | Op::Lt => Some(Ty::Bool),
+            _ => None,
+        },
+        _ => None,
+    }
+}
+
+fn numeric(op: Op, ty: Ty) -> Option<Ty>
+    ensures { result ≡ numeric_type op ty }
+{
+    match op {
+        Op::Add | Op::Sub | Op::Mul | Op::Div | Op::Mod => Some(ty),
+        Op::Gt | Op::Ge | Op::Eq | Op::Ne | Op::Le | Op::Lt => Some(Ty::Bool),
+        _ => None,
+    }
+}
+
+/// An operator on the current result and an operand, or none where it has no row at their types.
+pub fn operate(op: Op, cr: Value, operand: Value) -> Option<Result<Value, Stop>>
+    ensures { result ≡ operated op cr operand }
+{
+    match (cr, operand) {
+        (Value::Bool(a), Value::Bool(b)) => truths(op, a, b),
+        (Value::Int(a), Value::Int(b)) => numbers(op, Ty::Int, a as i32, b as i32),
+        (Value::Dint(a), Value::Dint(b)) => numbers(op, Ty::Dint, a, b),
+        (Value::Time(a), Value::Time(b)) => match op {
+            Op::Mul | Op::Div | Op::Mod => None,
+            _ => numbers(op, Ty::Time, a, b),
+        },
+        _ => None,
+    }
+}
+
+fn truths(op: Op, a: bool, b: bool) -> Option<Result<Value, Stop>>
+    ensures { result ≡ on_truths op a b }
+{
+    let truth = match op {
+        Op::And => a && b,
+        Op::Or => a || b,
+        Op::Xor => a != b,
+        Op::Gt => a && !b,
+        Op::Ge => a || !b,
+        Op::Eq => a == b,
+        Op::Ne => a != b,
+        Op::Le => !a || b,
+        Op::Lt => !a && b,
+        _ => return None,
+    };
+    Some(Ok(Value::Bool(truth)))
+}
+
+/// The value of a type with a number, or the stop where it doesn't fit.
+pub fn within(ty: Ty, z: i64) -> Result<Value, Stop>
+    ensures { result ≡ in_type ty z }
+{
+    make(ty, z).ok_or(Stop::Overflow)
+}
+
+fn numbers(op: Op, ty: Ty, a: i32, b: i32) -> Option<Result<Value, Stop>>
+    ensures { result ≡ on_numbers op ty a b }
+{
+    let x = a as i64;
+    let y = b as i64;
+    match op {
+        Op::Add => Some(within(ty, x + y)),
+        Op::Sub => Some(within(ty, x - y)),
+        Op::Mul => Some(product(ty, a, b)),
+        Op::Div => Some(quotient(ty, a, b)),
+        Op::Mod => Some(remainder(ty, a, b)),
+        Op::Gt => Some(Ok(Value::Bool(a > b))),
+        Op::Ge => Some(Ok(Value::Bool(a >= b))),
+        Op::Eq => Some(Ok(Value::Bool(a == b))),
+        Op::Ne => Some(Ok(Value::Bool(a != b))),
+        Op::Le => Some(Ok(Value::Bool(a <= b))),
+        Op::Lt => Some(Ok(Value::Bool(a < b))),
+        _ => None,
+    }
+}
+
+fn multiplied(a: i32, b: i32) -> i64
+    ensures { result ≡ a *ℤ b }
+{
+    a as i64 * b as i64
+}
+
+fn product(ty: Ty, a: i32, b: i32) -> Result<Value, Stop>
+    ensures { result ≡ in_type ty (a *ℤ b) }
+{
+    within(ty, multiplied(a, b))
+}
+
+fn divide(a: i32, b: i32) -> i64
+    requires { b ≢ pos 0 }
+    ensures { result ≡ int_div a b }
+{
+    a as i64 / b as i64
+}
+
+fn rest(a: i32, b: i32) -> i64
+    requires { b ≢ pos 0 }
+    ensures { result ≡ int_rem a b }
+{
+    a as i64 % b as i64
+}
+
+fn quotient(ty: Ty, a: i32, b: i32) -> Result<Value, Stop>
+    ensures { result ≡ divided ty a b }
+{
+    if b == 0 {
+        Err(Stop::ZeroDivisor)
+    } else {
+        within(ty, divide(a, b))
+    }
+}
+
+fn remainder(ty: Ty, a: i32, b: i32) -> Result<Value, Stop>
+    ensures { result ≡ rest_of ty a b }
+{
+    if b == 0 {
+        Err(Stop::ZeroDivisor)
+    } else {
+        within(ty, rest(a, b))
+    }
+}
+
+impl Default for Op {
+    fn default() -> Op {
+        Op::Empty
+    }
+}

@@ -1,0 +1,313 @@
+//! The types that an instruction needs, and leaves.
+
+ghost use Rattle.std.specs.Prelude.{◌≡◌};
+ghost use Rattle.il_model.specs.Settled.{settled_number, wanted_type, first_type};
+ghost use Rattle.il_model.specs.Row.{row, load_row, store_row, set_row, truth_row, open_row, combine_row, close_row, leave_row, convert_row};
+
+use crate::op::{Modifier, Op, joined};
+use crate::value::{Ty, Value, make};
+use thiserror::Error;
+
+/// Why a program is not typed.
+#[derive(Clone, Copy, Debug, PartialEq, Eq, Error)]
+pub enum TypeFault {
+    /// The current result or the operand is of a type that the operator doesn't take.
+    #[error("type mismatch")]
+    TypeMismatch,
+    /// There is no current result where one is needed.
+    #[error("no current result")]
+    NoCurrentResult,
+    /// A jump goes to a label that stands nowhere.
+    #[error("unknown label")]
+    UnknownLabel,
+    /// A label stands twice.
+    #[error("duplicate label")]
+    DuplicateLabel,
+    /// A parenthesis is closed that isn't open, or open where a label, a jump, a return or the end stands.
+    #[error("unbalanced parenthesis")]
+    Unbalanced,
+    /// More than 16 parentheses are open.
+    #[error("too deep")]
+    TooDeep,
+    /// A literal or an input is written.
+    #[error("not writable")]
+    NotWritable,
+    /// A field that its block hasn't, that is given twice, or in the wrong direction.
+    #[error("bad field")]
+    BadField,
+}
+
+impl TypeFault {
+    ghost use Rattle.il_model.specs.Typing.{fault_number};
+
+    /// The number of a fault, from 1 in the order of this page.
+    pub fn number(self) -> u8
+        ensures { result ≡ fault_number self }
+    {
+        match self {
+            TypeFault::TypeMismatch => 1,
+            TypeFault::NoCurrentResult => 2,
+            TypeFault::UnknownLabel => 3,
+            TypeFault::DuplicateLabel => 4,
+            TypeFault::Unbalanced => 5,
+            TypeFault::TooDeep => 6,
+            TypeFault::NotWritable => 7,
+            TypeFault::BadField => 8,
+        }
+    }
+}
+
+/// What an operand is to the typing.
+#[derive(Clone, Copy, Debug, PartialEq, Eq)]
+pub enum Kind {
+    Absent,
+    /// Of a type, and whether it may be written.
+    Typed(Ty, bool),
+    /// A number that fits no type that its place asks for.
+    Misfit,
+    Target,
+    NoTarget,
+}
+
+/// A deferred operator, with the type of the kept current result.
+#[derive(Clone, Copy, Debug, PartialEq, Eq)]
+pub struct Held {
+    pub op: Op,
+    pub negated: bool,
+    pub ty: Ty,
+}
+
+/// What an instruction does to the types.
+#[derive(Clone, Copy, Debug, PartialEq, Eq)]
+pub enum Effect {
+    /// The type of the current result is this, or there is none.
+    Sets(Option<Ty>),
+    /// An operator is deferred.
+    Opens(Held, Option<Ty>),
+    /// The last deferred operator is applied.
+    Closes(Ty),
+}
+
+/// What an instruction does to the types, or the first fault.
+pub fn row_of(
+    cr: Option<Ty>,
+    top: Option<Held>,
+    depth: usize,
+    op: Op,
+    modifier: Modifier,
+    kind: Kind,
+) -> Result<Effect, TypeFault>
+    ensures { result ≡ row cr top depth op modifier kind }
+{
+    match op {
+        Op::Empty => Ok(Effect::Sets(cr)),
+        Op::Ld => load_types(modifier, kind),
+        Op::St => store_types(cr, modifier, kind),
+        Op::S | Op::R => set_types(cr, kind),
+        Op::Not => truth_types(cr),
+        Op::Jmp => {
+            if depth != 0 {
+                return Err(TypeFault::Unbalanced);
+            }
+            match kind {
+                Kind::Target => leave_types(cr, modifier),
+                Kind::NoTarget => Err(TypeFault::UnknownLabel),
+                _ => Err(TypeFault::TypeMismatch),
+            }
+        }
+        Op::Cal => Err(TypeFault::BadField),
+        Op::Ret => {
+            if depth != 0 {
+                return Err(TypeFault::Unbalanced);
+            }
+            leave_types(cr, modifier)
+        }
+        Op::Close => close_types(cr, top),
+        Op::IntToDint => convert_types(cr, Ty::Int, Ty::Dint),
+        Op::DintToInt => convert_types(cr, Ty::Dint, Ty::Int),
+        _ => {
+            if modifier.opens {
+                open_types(cr, depth, op, modifier, kind)
+            } else {
+                combine_types(cr, op, modifier, kind)
+            }
+        }
+    }
+}
+
+fn load_types(modifier: Modifier, kind: Kind) -> Result<Effect, TypeFault>
+    ensures { result ≡ load_row modifier.negated kind }
+{
+    match kind {
+        Kind::Typed(Ty::Bool, _) => Ok(Effect::Sets(Some(Ty::Bool))),
+        Kind::Typed(ty, _) => {
+            if modifier.negated {
+                Err(TypeFault::TypeMismatch)
+            } else {
+                Ok(Effect::Sets(Some(ty)))
+            }
+        }
+        _ => Err(TypeFault::TypeMismatch),
+    }
+}
+
+fn store_types(cr: Option<Ty>, modifier: Modifier, kind: Kind) -> Result<Effect, TypeFault>
+    ensures { result ≡ store_row cr modifier.negated kind }
+{
+    let Kind::Typed(ty, true) = kind else {
+        return Err(TypeFault::NotWritable);
+    };
+    let Some(c) = cr else {
+        return Err(TypeFault::NoCurrentResult);
+    };
+    if c != ty || (modifier.negated && ty != Ty::Bool) {
+        return Err(TypeFault::TypeMismatch);
+    }
+    Ok(Effect::Sets(cr))
+}
+
+fn set_types(cr: Option<Ty>, kind: Kind) -> Result<Effect, TypeFault>
+    ensures { result ≡ set_row cr kind }
+{
+    match (kind, cr) {
+        (Kind::Typed(ty, true), Some(c)) => {
+            if ty == Ty::Bool && c == Ty::Bool {
+                Ok(Effect::Sets(cr))
+            } else {
+                Err(TypeFault::TypeMismatch)
+            }
+        }
+        (Kind::Typed(_, true), None) => Err(TypeFault::NoCurrentResult),
+        _ => Err(TypeFault::NotWritable),
+    }
+}
+
+fn truth_types(cr: Option<Ty>) -> Result<Effect, TypeFault>
+    ensures { result ≡ truth_row cr }
+{
+    match cr {
+        Some(Ty::Bool) => Ok(Effect::Sets(cr)),
+        Some(_) => Err(TypeFault::TypeMismatch),
+        None => Err(TypeFault::NoCurrentResult),
+    }
+}
+
+fn leave_types(cr: Option<Ty>, modifier: Modifier) -> Result<Effect, TypeFault>
+    ensures { result ≡ leave_row cr modifier.conditional }
+{
+    if modifier.conditional {
+        truth_types(cr)
+    } else {
+        Ok(Effect::Sets(None))
+    }
+}
+
+fn close_types(cr: Option<Ty>, top: Option<Held>) -> Result<Effect, TypeFault>
+    ensures { result ≡ close_row cr top }
+{
+    let Some(held) = top else {
+        return Err(TypeFault::Unbalanced);
+    };
+    let Some(c) = cr else {
+        return Err(TypeFault::NoCurrentResult);
+    };
+    if held.negated && c != Ty::Bool {
+        return Err(TypeFault::TypeMismatch);
+    }
+    match joined(held.op, held.ty, c) {
+        Some(ty) => Ok(Effect::Closes(ty)),
+        None => Err(TypeFault::TypeMismatch),
+    }
+}
+
+fn convert_types(cr: Option<Ty>, from: Ty, to: Ty) -> Result<Effect, TypeFault>
+    ensures { result ≡ convert_row cr from to }
+{
+    match cr {
+        Some(c) => if c == from {
+            Ok(Effect::Sets(Some(to)))
+        } else {
+            Err(TypeFault::TypeMismatch)
+        },
+        None => Err(TypeFault::NoCurrentResult),
+    }
+}
+
+fn open_types(
+    cr: Option<Ty>,
+    depth: usize,
+    op: Op,
+    modifier: Modifier,
+    kind: Kind,
+) -> Result<Effect, TypeFault>
+    ensures { result ≡ open_row cr depth op modifier.negated kind }
+{
+    if depth >= 16 {
+        return Err(TypeFault::TooDeep);
+    }
+    let Some(c) = cr else {
+        return Err(TypeFault::NoCurrentResult);
+    };
+    if joined(op, c, c).is_none() {
+        return Err(TypeFault::TypeMismatch);
+    }
+    let held = Held {
+        op,
+        negated: modifier.negated,
+        ty: c,
+    };
+    match kind {
+        Kind::Absent => Ok(Effect::Opens(held, None)),
+        Kind::Typed(ty, _) => Ok(Effect::Opens(held, Some(ty))),
+        _ => Err(TypeFault::TypeMismatch),
+    }
+}
+
+fn combine_types(
+    cr: Option<Ty>,
+    op: Op,
+    modifier: Modifier,
+    kind: Kind,
+) -> Result<Effect, TypeFault>
+    ensures { result ≡ combine_row cr op modifier.negated kind }
+{
+    let Some(c) = cr else {
+        return Err(TypeFault::NoCurrentResult);
+    };
+    let Kind::Typed(ty, _) = kind else {
+        return Err(TypeFault::TypeMismatch);
+    };
+    if modifier.negated && ty != Ty::Bool {
+        return Err(TypeFault::TypeMismatch);
+    }
+    match joined(op, c, ty) {
+        Some(after) => Ok(Effect::Sets(Some(after))),
+        None => Err(TypeFault::TypeMismatch),
+    }
+}
+
+impl Default for Held {
+    fn default() -> Held {
+        Held {
+            op: Op::Empty,
+            negated: false,
+            ty: Ty::Bool,
+        }
+    }
+}
+
+/// The value of a bare number at its place, if it fits the type that is asked for there.
+pub fn settle(cr: Option<Ty>, op: Op, opens: bool, z: i32) -> Option<Value>
+    ensures { result ≡ settled_number cr op opens z }
+{
+    let first = if -32768 <= z && z < 32768 {
+        Ty::Int
+    } else {
+        Ty::Dint
+    };
+    let wanted = match op {
+        Op::Ld => Some(first),
+        _ => if opens { Some(first) } else { cr },
+    };
+    make(wanted?, z as i64)
+}

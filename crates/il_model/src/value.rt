@@ -1,0 +1,132 @@
+//! Types and values.
+
+ghost use Rattle.std.specs.Prelude.{◌≡◌};
+ghost use Rattle.il_model.specs.Values.{ty_of, number_of, made};
+ghost use Rattle.il_model.specs.Constants.{same_value};
+
+/// An elementary type (IEC 61131-3:2003, 2.3.1).
+#[derive(Clone, Copy, Debug, PartialEq, Eq)]
+pub enum Ty {
+    Bool,
+    Int,
+    Dint,
+    Time,
+}
+
+/// A value of a type. A duration counts milliseconds.
+#[derive(Clone, Copy, Debug, PartialEq, Eq)]
+pub enum Value {
+    Bool(bool),
+    Int(i16),
+    Dint(i32),
+    Time(i32),
+}
+
+/// Why a run stops.
+#[derive(Clone, Copy, Debug, PartialEq, Eq)]
+pub enum Stop {
+    /// A result doesn't fit its type.
+    Overflow,
+    /// The divisor of DIV or MOD is 0.
+    ZeroDivisor,
+    /// As many instructions were performed as one scan may.
+    Budget,
+}
+
+impl Stop {
+    ghost use Rattle.il_model.specs.Numbers.{stop_number};
+
+    /// The number by which frames and printed lines name it, from 1.
+    pub fn number(self) -> u8
+        ensures { result ≡ stop_number self }
+    {
+        match self {
+            Stop::Overflow => 1,
+            Stop::ZeroDivisor => 2,
+            Stop::Budget => 3,
+        }
+    }
+}
+
+impl Value {
+    /// The type of a value.
+    pub fn ty(self) -> Ty
+        ensures { result ≡ ty_of self }
+    {
+        match self {
+            Value::Bool(_) => Ty::Bool,
+            Value::Int(_) => Ty::Int,
+            Value::Dint(_) => Ty::Dint,
+            Value::Time(_) => Ty::Time,
+        }
+    }
+
+    /// The whole number of a value.
+    pub fn number(self) -> i64
+        ensures { result ≡ number_of self }
+    {
+        match self {
+            Value::Bool(b) => b as i64,
+            Value::Int(z) => z as i64,
+            Value::Dint(z) => z as i64,
+            Value::Time(z) => z as i64,
+        }
+    }
+}
+
+/// The value of a type with a number, if that fits.
+pub fn make(ty: Ty, z: i64) -> Option<Value>
+    ensures { result ≡ made ty z }
+{
+    match ty {
+        Ty::Bool => {
+            if z == 0 {
+                Some(Value::Bool(false))
+            } else if z == 1 {
+                Some(Value::Bool(true))
+            } else {
+                None
+            }
+        }
+        Ty::Int => {
+            if -32768 <= z && z < 32768 {
+                Some(Value::Int(z as i16))
+            } else {
+                None
+            }
+        }
+        Ty::Dint => {
+            if -2147483648 <= z && z < 2147483648 {
+                Some(Value::Dint(z as i32))
+            } else {
+                None
+            }
+        }
+        Ty::Time => {
+            if -2147483648 <= z && z < 2147483648 {
+                Some(Value::Time(z as i32))
+            } else {
+                None
+            }
+        }
+    }
+}
+
+/// Whether two values are of one type with one number.
+pub fn same_value(a: Value, b: Value) -> bool
+    ensures { result ≡ same_value a b }
+{
+    match (a, b) {
+        (Value::Bool(x), Value::Bool(y)) => x == y,
+        (Value::Int(x), Value::Int(y)) => x == y,
+        (Value::Dint(x), Value::Dint(y)) => x == y,
+        (Value::Time(x), Value::Time(y)) => x == y,
+        _ => false,
+    }
+}
+
+impl Default for Value {
+    fn default() -> Value {
+        Value::Bool(false)
+    }
+}

@@ -1,0 +1,125 @@
+//! The words that operators are written as (IEC 61131-3:2003, table 52), without regard to case.
+
+ghost use Rattle.std.specs.Prelude.{◌≡◌, map};
+ghost use Rattle.il_model.specs.Words.{upper, spells, look, mnemonic_of};
+
+use crate::op::{Modifier, Op};
+
+/// An operator as it is written in one word: the operator and its letters N and C. A parenthesis is no part of the word.
+#[derive(Clone, Copy, Debug, PartialEq, Eq)]
+pub struct Mnemonic {
+    pub op: Op,
+    pub modifier: Modifier,
+}
+
+const PLAIN: Modifier = Modifier {
+    negated: false,
+    conditional: false,
+    opens: false,
+};
+
+const N: Modifier = Modifier {
+    negated: true,
+    conditional: false,
+    opens: false,
+};
+
+const C: Modifier = Modifier {
+    negated: false,
+    conditional: true,
+    opens: false,
+};
+
+const CN: Modifier = Modifier {
+    negated: true,
+    conditional: true,
+    opens: false,
+};
+
+/// Each operator word with what it stands for; of two words for one operator the one that is listed comes first.
+pub static MNEMONICS: [(&[u8], Op, Modifier); 37] = [
+    (b"LD", Op::Ld, PLAIN),
+    (b"LDN", Op::Ld, N),
+    (b"ST", Op::St, PLAIN),
+    (b"STN", Op::St, N),
+    (b"S", Op::S, PLAIN),
+    (b"R", Op::R, PLAIN),
+    (b"NOT", Op::Not, PLAIN),
+    (b"AND", Op::And, PLAIN),
+    (b"ANDN", Op::And, N),
+    (b"&", Op::And, PLAIN),
+    (b"&N", Op::And, N),
+    (b"OR", Op::Or, PLAIN),
+    (b"ORN", Op::Or, N),
+    (b"XOR", Op::Xor, PLAIN),
+    (b"XORN", Op::Xor, N),
+    (b"ADD", Op::Add, PLAIN),
+    (b"SUB", Op::Sub, PLAIN),
+    (b"MUL", Op::Mul, PLAIN),
+    (b"DIV", Op::Div, PLAIN),
+    (b"MOD", Op::Mod, PLAIN),
+    (b"GT", Op::Gt, PLAIN),
+    (b"GE", Op::Ge, PLAIN),
+    (b"EQ", Op::Eq, PLAIN),
+    (b"NE", Op::Ne, PLAIN),
+    (b"LE", Op::Le, PLAIN),
+    (b"LT", Op::Lt, PLAIN),
+    (b"JMP", Op::Jmp, PLAIN),
+    (b"JMPC", Op::Jmp, C),
+    (b"JMPCN", Op::Jmp, CN),
+    (b"CAL", Op::Cal, PLAIN),
+    (b"CALC", Op::Cal, C),
+    (b"CALCN", Op::Cal, CN),
+    (b"RET", Op::Ret, PLAIN),
+    (b"RETC", Op::Ret, C),
+    (b"RETCN", Op::Ret, CN),
+    (b"INT_TO_DINT", Op::IntToDint, PLAIN),
+    (b"DINT_TO_INT", Op::DintToInt, PLAIN),
+];
+
+/// A byte, a small letter as its capital one.
+pub fn capital(b: u8) -> u8
+    ensures { result ≡ upper b }
+{
+    if b'a' <= b && b <= b'z' { b - 32 } else { b }
+}
+
+/// Whether a text is a word, which is given in capital letters, without regard to case.
+#[tactic(auto, unfolding(crate::specs::Words::spells))]
+pub fn is_spelled(word: &[u8], text: &[u8]) -> bool
+    ensures { result ≡ spells word.now text.now }
+{
+    let mut keys = word;
+    let mut letters = text;
+    while let [k, others @ ..] = keys {
+        match letters {
+            [b, more @ ..] if capital(*b) == *k => letters = more,
+            _ => return false,
+        }
+        keys = others;
+    }
+    letters.is_empty()
+}
+
+#[tactic(auto, unfolding(crate::specs::Words::look))]
+fn looked_up(table: &[(&[u8], Op, Modifier)], text: &[u8]) -> Option<Mnemonic>
+    ensures { result ≡ look (map (λ e. (e.0.now, e.1, e.2)) table.now) text.now }
+{
+    for (word, op, modifier) in table {
+        if is_spelled(word, text) {
+            return Some(Mnemonic {
+                op: *op,
+                modifier: *modifier,
+            });
+        }
+    }
+    None
+}
+
+/// The operator that a text is, without regard to case; None where it is none.
+#[tactic(auto, unfolding(crate::specs::Words::mnemonic_of))]
+pub fn mnemonic_from(text: &[u8]) -> Option<Mnemonic>
+    ensures { result ≡ mnemonic_of text.now }
+{
+    looked_up(&MNEMONICS, text)
+}

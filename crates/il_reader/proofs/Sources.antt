@@ -1,0 +1,30 @@
+-- A text has one source at most.
+use Rattle.std.proofs.Common.{◌≡◌, ℕ, List, Result, Ok, Err, sym, ap, subst, ◌∙◌}
+use Rattle.il_reader.specs.declared.fault.Refusal.{Refusal}
+use Rattle.il_reader.specs.declared.fault.Fault.{Fault}
+use Rattle.il_reader.specs.Grammar.{ProgramText, text_of}
+use Rattle.il_reader.specs.Spelling.{Says}
+use Rattle.il_reader.specs.Texts.{SourceText, Reads}
+
+abbrev read_as : ProgramText → Result ProgramText Refusal
+read_as p = Ok p
+
+abbrev source_as : SourceText → Result SourceText Fault
+source_as s = Ok s
+
+abbrev made : List ℕ → ProgramText → SourceText
+made bytes p = record { text = bytes; says = p }
+
+same_program : (p q : ProgramText) → read_as p ≡ read_as q → p ≡ q
+same_program p q e = cc
+
+pub says_here : (bytes : List ℕ) (s : SourceText) → Reads bytes s → Says bytes s.says
+says_here bytes s r = let P : List ℕ → Type 0 = λ b. Says b s.says in subst P r.0 r.1.said
+
+pub same_source : (bytes : List ℕ) (p : ProgramText) (s : SourceText) → Reads bytes s → text_of bytes ≡ Ok s.says → text_of bytes ≡ Ok p → source_as s ≡ source_as (made bytes p)
+same_source bytes p s r a b =
+    ap (λ (t : List ℕ). source_as (made t s.says)) r.0 ∙ ap (λ (q : ProgramText). source_as (made bytes q)) (same_program s.says p (sym a ∙ b))
+
+pub one_outcome : (read : Result ProgramText Refusal) (p : ProgramText) (f : Refusal) → read ≡ Ok p → read ≡ Err f → ⊥
+one_outcome (Ok q) p f a b = absurd cc
+one_outcome (Err g) p f a b = absurd cc

@@ -1,0 +1,230 @@
+-- The names that a text says are spelled as names are.
+use Rattle.std.proofs.Common.{◌≡◌, ℕ, zero, suc, ◌+◌, ◌-◌, ◌<◌, ◌≤◌, Bool, true, false, cond, eqb, List, [], ◌∷◌, ◌++◌, length, take, drop, Option, Some, None, refl, sym, ap, subst, arith, ◌&&◌, ltb}
+use Rattle.std.specs.List.{flat_map, AllByRecursion, prefix_len, list_all}
+use Rattle.std.proofs.lemmas.Bool.{eqb-true, ltb-false}
+use Rattle.std.proofs.lemmas.List.Concat.{flat_map-cons}
+use Rattle.std.proofs.Common.{append_assoc}
+use Rattle.il_model.specs.Names.{is_well_spelled}
+use Rattle.il_reader.specs.declared.lexeme.Piece.{Piece}
+use Rattle.il_reader.specs.declared.lexeme.Kind.{Kind}
+use Rattle.il_reader.specs.declared.lexeme.Kind.TheVariants as kinds
+use Rattle.il_reader.specs.declared.fault.FaultKind.TheVariants.{BadToken, TooLong}
+use Rattle.il_reader.specs.Tokens.{Token, is_letter_byte, is_word_byte, is_number_start, is_blank_byte, is_within, is_n, begins_with, name_of, word_piece, sign_of, solid_piece, comment_piece, comment_len, piece_of, put, tokens_behind, tokens_of}
+use Rattle.il_reader.specs.Reading.{kind_code, is_kind, skip_breaks}
+use Rattle.il_reader.specs.Grammar.{LineText, operator_of, NamesText, Located, More, DeclarationText, ProgramText, ends_names, ends_block, ends_blocks, ends_lines, ends_named}
+use Rattle.il_reader.specs.Spelling.{Part, breaks, one, this, operator, ahead, Spell, Says, spelled_name, spelled_names, spelled_declaration, spelled_block, spelled_line, spelled_program, spelled_by, going, listed}
+
+abbrev pub begins_letter : List ℕ → Bool
+begins_letter [] = false
+begins_letter (b ∷ bs) = is_letter_byte b
+
+-- a name: letters, digits and underscores, a digit not first, well spelled, at most 32 of them
+pub record IsWordText (w : List ℕ) : Type 0 where
+  pub begins : begins_letter w ≡ true
+  pub bytes : list_all is_word_byte w ≡ true
+  pub spelled : is_well_spelled w ≡ true
+  pub some : 0 < length w
+  pub short : length w ≤ 32
+
+-- ---- tokens
+
+record Good (bytes : List ℕ) (p : Piece) : Type 0 where
+  is_word : kind_code p.kind ≡ 2 → IsWordText (take p.len bytes)
+
+other : (bytes : List ℕ) (p : Piece) → eqb (kind_code p.kind) 2 ≡ false → Good bytes p
+other bytes p differs = record { is_word = λ e. absurd (never e) }
+  where
+    never : kind_code p.kind ≡ 2 → ⊥
+    never e = let n : eqb 2 2 ≡ false = rw e at differs in absurd cc
+
+either : (bytes : List ℕ) (c : Bool) (p q : Piece) → (c ≡ true → Good bytes p) → (c ≡ false → Good bytes q) → Good bytes (cond c p q)
+either bytes true p q a b = a refl
+either bytes false p q a b = b refl
+
+take-length : (xs : List ℕ) (n : ℕ) → take (length (take n xs)) xs ≡ take n xs
+take-length [] zero = refl
+take-length [] (suc n) = refl
+take-length (x ∷ xs) zero = refl
+take-length (x ∷ xs) (suc n) = ap (λ (ys : List ℕ). x ∷ ys) (take-length xs n)
+
+all-prefix : (p : ℕ → Bool) (xs : List ℕ) → list_all p (take (prefix_len p xs) xs) ≡ true
+all-prefix p [] = refl
+all-prefix p (x ∷ xs) = chosen (p x) refl (all-prefix p xs)
+  where
+    chosen : (b : Bool) → p x ≡ b → list_all p (take (prefix_len p xs) xs) ≡ true → list_all p (take (cond b (1 + prefix_len p xs) 0) (x ∷ xs)) ≡ true
+    chosen true is h =
+        let n : 1 + prefix_len p xs ≡ suc (prefix_len p xs) = omega arith in
+        rw (n, is, h) refl
+    chosen false is h = refl
+
+word_is : (b : ℕ) → is_letter_byte b ≡ true → is_word_byte b ≡ true
+word_is b is = rw is refl
+
+name_good : (bytes : List ℕ) (n : ℕ) → begins_letter (take n bytes) ≡ true → list_all is_word_byte (take n bytes) ≡ true → 0 < length (take n bytes) → Good bytes (name_of (take n bytes))
+unfolding name_of
+name_good bytes n begins all some = either bytes (is_well_spelled (take n bytes)) (cond (ltb 32 (length (take n bytes))) (record { kind = kinds.Broken TooLong; len = 1 }) (record { kind = kinds.Name; len = length (take n bytes) })) (record { kind = kinds.Broken BadToken; len = 1 }) spelled (λ _. other bytes _ refl)
+  where
+    fits : is_well_spelled (take n bytes) ≡ true → ltb 32 (length (take n bytes)) ≡ false → Good bytes (record { kind = kinds.Name; len = length (take n bytes) })
+    fits well short = record { is_word = λ e. subst (λ (w : List ℕ). IsWordText w) (sym (take-length bytes n)) (record { begins = begins; bytes = all; spelled = well; some = some; short = ltb-false 32 (length (take n bytes)) short }) }
+
+    spelled : is_well_spelled (take n bytes) ≡ true → Good bytes (cond (ltb 32 (length (take n bytes))) (record { kind = kinds.Broken TooLong; len = 1 }) (record { kind = kinds.Name; len = length (take n bytes) }))
+    spelled well = either bytes (ltb 32 (length (take n bytes))) _ _ (λ long. other bytes _ refl) (λ short. fits well short)
+
+word_good : (b : ℕ) (bs : List ℕ) → is_letter_byte b ≡ true → Good (b ∷ bs) (word_piece (b ∷ bs))
+unfolding word_piece
+word_good b bs is =
+    let n = suc (prefix_len is_word_byte bs) in
+    let first : 1 + prefix_len is_word_byte bs ≡ n = omega arith in
+    let w : is_word_byte b ≡ true = word_is b is in
+    let all : list_all is_word_byte (b ∷ take (prefix_len is_word_byte bs) bs) ≡ true = rw (w, all-prefix is_word_byte bs) refl in
+    rw first (either (b ∷ bs) (begins_with 35 (drop n (b ∷ bs))) _ _ (λ literal. other (b ∷ bs) _ refl) (λ plain. name_good (b ∷ bs) n is all (omega arith)))
+
+sign_good : (bytes : List ℕ) (b : ℕ) (bs : List ℕ) → Good bytes (sign_of b bs)
+unfolding sign_of
+sign_good bytes b bs =
+    either bytes (eqb b 58) _ _ (λ _. either bytes (begins_with 61 bs) _ _ (λ _. other bytes _ refl) (λ _. other bytes _ refl)) (λ _.
+    either bytes (eqb b 61) _ _ (λ _. either bytes (begins_with 62 bs) _ _ (λ _. other bytes _ refl) (λ _. other bytes _ refl)) (λ _.
+    either bytes (eqb b 44) _ _ (λ _. other bytes _ refl) (λ _.
+    either bytes (eqb b 59) _ _ (λ _. other bytes _ refl) (λ _.
+    either bytes (eqb b 40) _ _ (λ _. other bytes _ refl) (λ _.
+    either bytes (eqb b 41) _ _ (λ _. other bytes _ refl) (λ _.
+    either bytes (eqb b 46) _ _ (λ _. other bytes _ refl) (λ _.
+    either bytes (eqb b 38) _ _ (λ _. either bytes (is_n bs) _ _ (λ _. other bytes _ refl) (λ _. other bytes _ refl)) (λ _.
+    either bytes (is_within 32 126 b) _ _ (λ _. other bytes _ refl) (λ _. other bytes _ refl)))))))))
+
+solid_good : (b : ℕ) (bs : List ℕ) → Good (b ∷ bs) (solid_piece (b ∷ bs))
+unfolding solid_piece
+solid_good b bs =
+    either (b ∷ bs) (is_letter_byte b) _ _ (λ is. word_good b bs is) (λ _.
+    either (b ∷ bs) (is_number_start b) _ _ (λ _. other (b ∷ bs) _ refl) (λ _.
+    either (b ∷ bs) (eqb b 37) _ _ (λ _. other (b ∷ bs) _ refl) (λ _. sign_good (b ∷ bs) b bs)))
+
+comment_good : (bytes : List ℕ) (o : Option ℕ) → Good bytes (comment_piece o)
+comment_good bytes None = other bytes _ refl
+comment_good bytes (Some n) = other bytes _ refl
+
+piece_good : (b : ℕ) (bs : List ℕ) → Good (b ∷ bs) (piece_of (b ∷ bs))
+unfolding piece_of
+piece_good b bs =
+    either (b ∷ bs) (eqb b 10) _ _ (λ _. other (b ∷ bs) _ refl) (λ _.
+    either (b ∷ bs) (is_blank_byte b) _ _ (λ _. other (b ∷ bs) _ refl) (λ _.
+    either (b ∷ bs) (eqb b 40 && begins_with 42 bs) _ _ (λ _. comment_good (b ∷ bs) (comment_len (drop 1 bs))) (λ _. solid_good b bs)))
+
+abbrev pub IsWordToken : Token → Type 0
+IsWordToken t = kind_code t.kind ≡ 2 → IsWordText t.text
+
+put_good : (k : Kind) (t : Token) (ts : List Token) → IsWordToken t → AllByRecursion IsWordToken ts → AllByRecursion IsWordToken (put k t ts)
+put_good kinds.Blank t ts here all = all
+put_good kinds.End t ts here all = (here, tt)
+put_good (kinds.Broken f) t ts here all = (here, tt)
+put_good k t ts here all = (here, all)
+
+tokens_good : (k : ℕ) (bytes : List ℕ) → AllByRecursion IsWordToken (tokens_behind k bytes)
+unfolding tokens_behind
+tokens_good k [] = (λ e. absurd (omega (arith, e)), tt)
+tokens_good (suc k) (b ∷ bs) = tokens_good k bs
+tokens_good zero (b ∷ bs) =
+    let p = piece_of (b ∷ bs) in
+    put_good p.kind (record { kind = p.kind; text = take p.len (b ∷ bs); left = length (b ∷ bs) }) (tokens_behind (p.len - 1) bs) (piece_good b bs).is_word (tokens_good (p.len - 1) bs)
+
+-- ---- parts
+
+skip_good : (ts : List Token) → AllByRecursion IsWordToken ts → AllByRecursion IsWordToken (skip_breaks ts)
+unfolding skip_breaks
+skip_good [] all = tt
+skip_good (t ∷ ts) all = chosen (is_kind kinds.Break t) (skip_good ts all.1)
+  where
+    chosen : (b : Bool) → AllByRecursion IsWordToken (skip_breaks ts) → AllByRecursion IsWordToken (cond b (skip_breaks ts) (t ∷ ts))
+    chosen true h = h
+    chosen false h = all
+
+abbrev GoodPart : Part → Type 0
+GoodPart (this p x) = (p x ≡ true) × IsWordToken x
+GoodPart (operator f x) = (t : Token) × (f t ≡ Some x)
+GoodPart part = Unit {0}
+
+parts_good : (ps : List Part) (ts rest : List Token) → AllByRecursion IsWordToken ts → Spell ps ts rest → AllByRecursion GoodPart ps
+parts_good [] ts rest all h = tt
+parts_good (breaks ∷ ps) ts rest all h = (tt, parts_good ps (skip_breaks ts) rest (skip_good ts all) h)
+parts_good (ahead p ∷ ps) ts rest all h = (tt, parts_good ps ts rest all h.1)
+parts_good (one p ∷ ps) [] rest all h = absurd h
+parts_good (one p ∷ ps) (t ∷ ts) rest all h = (tt, parts_good ps ts rest all.1 h.1)
+parts_good (operator f x ∷ ps) [] rest all h = absurd h
+parts_good (operator f x ∷ ps) (t ∷ ts) rest all h = ((t, h.0), parts_good ps ts rest all.1 h.1)
+parts_good (this p x ∷ ps) [] rest all h = absurd h
+parts_good (this p x ∷ ps) (t ∷ ts) rest all h =
+    let P : Token → Type 0 = λ u. (p u ≡ true) × IsWordToken u in
+    (subst P h.0.1 (h.0.0, all.0), parts_good ps ts rest all.1 h.1)
+
+-- ---- what a text says
+
+left_good : (ps qs : List Part) → AllByRecursion GoodPart (ps ++ qs) → AllByRecursion GoodPart ps
+left_good [] qs all = tt
+left_good (p ∷ ps) qs all = (all.0, left_good ps qs all.1)
+
+right_good : (ps qs : List Part) → AllByRecursion GoodPart (ps ++ qs) → AllByRecursion GoodPart qs
+right_good [] qs all = all
+right_good (p ∷ ps) qs all = right_good ps qs all.1
+
+-- the parts of each thing of a list
+each_good : {X : Type 0} (F : X → Type 0) (s : X → List Part) (qs : List Part) → ((x : X) → AllByRecursion GoodPart (s x) → F x) → (xs : List X) → AllByRecursion GoodPart (flat_map s xs ++ qs) → AllByRecursion F xs
+each_good F s qs good [] all = tt
+each_good F s qs good (x ∷ xs) all =
+    let P : List Part → Type 0 = λ ps. AllByRecursion GoodPart ps in
+    let e : flat_map s (x ∷ xs) ++ qs ≡ s x ++ (flat_map s xs ++ qs) = rw (flat_map-cons, append_assoc) refl in
+    let split = subst P e all in
+    (good x (left_good (s x) (flat_map s xs ++ qs) split), each_good F s qs good xs (right_good (s x) (flat_map s xs ++ qs) split))
+
+abbrev pub IsWordName : Token → Type 0
+IsWordName t = IsWordText t.text
+
+abbrev pub AreWordNames : NamesText → Type 0
+AreWordNames (Located t) = Unit {0}
+AreWordNames (More ts) = AllByRecursion IsWordName ts
+
+pub record IsWordDeclaration (d : DeclarationText) : Type 0 where
+  pub name : IsWordText d.name.text
+  pub names : AreWordNames d.names
+
+-- an operator that some token is
+abbrev pub IsOperator : LineText → Type 0
+IsOperator l = (t : Token) × (operator_of t ≡ Some l.operator)
+
+pub record AreWords (p : ProgramText) : Type 0 where
+  pub blocks : AllByRecursion (AllByRecursion IsWordDeclaration) p.blocks
+  pub lines : AllByRecursion IsOperator p.lines
+
+a_name : (t : Token) → (is_kind kinds.Name t ≡ true) × IsWordToken t → IsWordText t.text
+a_name t h = h.1 (eqb-true (kind_code t.kind) 2 h.0)
+
+names_good : (x : NamesText) (qs : List Part) → AllByRecursion GoodPart (spelled_names x ++ qs) → AreWordNames x
+names_good (Located t) qs all = tt
+names_good (More ts) qs all = each_good IsWordName spelled_name (ahead ends_names ∷ []) (λ t h. a_name t h.1.1.1.0) ts (left_good (flat_map spelled_name ts ++ ahead ends_names ∷ []) qs all.1)
+
+declaration_good : (d : DeclarationText) → AllByRecursion GoodPart (going ends_block spelled_declaration d) → IsWordDeclaration d
+declaration_good d all = record { name = a_name d.name all.1.1.0; names = names_good d.names _ all.1.1.1.1 }
+
+block_good : (ds : List DeclarationText) → AllByRecursion GoodPart (going ends_blocks spelled_block ds) → AllByRecursion IsWordDeclaration ds
+block_good ds all = each_good IsWordDeclaration (going ends_block spelled_declaration) (ahead ends_block ∷ []) declaration_good ds (left_good (listed ends_block spelled_declaration ds) _ all.1.1.1)
+
+blocks_good : (bs : List (List DeclarationText)) (qs : List Part) → AllByRecursion GoodPart (listed ends_blocks spelled_block bs ++ qs) → AllByRecursion (AllByRecursion IsWordDeclaration) bs
+blocks_good bs qs all = each_good (AllByRecursion IsWordDeclaration) (going ends_blocks spelled_block) (ahead ends_blocks ∷ []) block_good bs (left_good (listed ends_blocks spelled_block bs) qs all)
+
+line_good : (stops : List Token → Bool) (l : LineText) → AllByRecursion GoodPart (going stops spelled_line l) → IsOperator l
+line_good stops l all = all.1.1.0
+
+body : (stops : List Token → Bool) (p : ProgramText) (qs : List Part) → AllByRecursion GoodPart (listed ends_blocks spelled_block p.blocks ++ (listed stops spelled_line p.lines ++ qs)) → AreWords p
+body stops p qs all =
+    let rest = right_good (listed ends_blocks spelled_block p.blocks) (listed stops spelled_line p.lines ++ qs) all in
+    record {
+      blocks = blocks_good p.blocks (listed stops spelled_line p.lines ++ qs) all;
+      lines = each_good IsOperator (going stops spelled_line) (ahead stops ∷ []) (line_good stops) p.lines (left_good (listed stops spelled_line p.lines) qs rest);
+    }
+
+program_good : (o : Option Token) (p : ProgramText) → AllByRecursion GoodPart (spelled_by o p) → AreWords p
+program_good None p all = body ends_lines p _ all.1
+program_good (Some t) p all = body ends_named p _ all.1.1.1
+
+-- the names of a text's declarations are names
+pub said_words : (bytes : List ℕ) (p : ProgramText) → Says bytes p → AreWords p
+said_words bytes p says = program_good p.name p (parts_good (spelled_program p) (tokens_of bytes) says.0 (tokens_good 0 bytes) says.1)

@@ -1,0 +1,26 @@
+use Rattle.std.proofs.Common.{◌≡◌, ◌++◌, ◌∷◌, [], sym, ◌∙◌}
+use Rattle.std.proofs.lemmas.Result.{err_from_is_err_and}
+use Rattle.std.proofs.lemmas.List.{map_push}
+use Rattle.il_reader.specs.Tokens.{tokens_of, token, after}
+use Rattle.il_reader.specs.Reading.{many}
+use Rattle.il_reader.specs.Grammar.{declaration, declarations, ends_block, declaration_at}
+use Rattle.il_reader.proofs.Loop.{goes_on, ends, stopped, ran_out, refuses_first}
+use Rattle.il_reader.proofs.blocks.block_declarations.Goals as goal
+
+pub returns-then-at_block_end : goal.returns-then-at_block_end
+returns-then-at_block_end c = stopped ends_block (declaration_at c.args.limit) (declarations c.loop.found.items) c.args.limit c.loop.counter (tokens_of c.loop.rest.now) (many ends_block (declaration_at c.args.limit) c.args.limit (tokens_of c.args.bytes.now)) c.loop-test.true (sym c.at_block_end.ensures ∙ c.if-at_block_end.true) c.loop.invariant
+
+pub returns-in_err-one : goal.returns-in_err-one
+returns-in_err-one c =
+    let p = err_from_is_err_and c.from_residual.result c.from_residual.ensures.1 in
+    rw (p.1, p.2) (ends c.in_err-one.field-0.0 ends_block (declaration_at c.args.limit) (declarations c.loop.found.items) c.args.limit c.loop.counter (tokens_of c.loop.rest.now) (many ends_block (declaration_at c.args.limit) c.args.limit (tokens_of c.args.bytes.now)) c.loop-test.true (sym c.at_block_end.ensures ∙ c.if-at_block_end.false) c.in_err-one.ensures c.loop.invariant)
+
+pub loop-preserved : goal.loop-preserved
+loop-preserved c =
+    let e : declarations c.push.new.self.items ≡ declarations c.loop.found.items ++ declaration c.in_ok-one.one ∷ [] = rw c.in_ok-push.ensures.items (map_push _ c.loop.found.items c.in_ok-one.one) in
+    rw e (goes_on ends_block (declaration_at c.args.limit) (declarations c.loop.found.items) c.args.limit c.loop.counter (tokens_of c.loop.rest.now) (tokens_of c.in_ok-one.after.now) (declaration c.in_ok-one.one) (many ends_block (declaration_at c.args.limit) c.args.limit (tokens_of c.args.bytes.now)) c.loop-test.true (sym c.at_block_end.ensures ∙ c.if-at_block_end.false) c.in_ok-one.ensures c.loop.invariant)
+
+pub returns : goal.returns
+returns c =
+    let t = token c.next.result.0 in
+    rw (c.refused.ensures, ← refuses_first (tokens_of c.loop.rest.now) t (after t.kind (tokens_of c.next.result.1.now)) c.next.ensures.value) (ran_out ends_block (declaration_at c.args.limit) (declarations c.loop.found.items) c.args.limit c.loop.counter (tokens_of c.loop.rest.now) (many ends_block (declaration_at c.args.limit) c.args.limit (tokens_of c.args.bytes.now)) c.loop-test.false c.loop.invariant)

@@ -1,0 +1,190 @@
+-- What a text says, and its first fault: the readings of Annex B's productions (IEC 61131-3:2003, B.2 and B.1.4), as far as they are read today.
+use Rattle.std.specs.Prelude.{ℕ, ◌+◌, List, length, map, Option, Some, None, option_map, Result, Ok, Err, Bool, true, false, not, ◌||◌, ◌&&◌, if◌then◌else◌, codes}
+use Rattle.il_model.specs.declared.op.Op.{Op}
+use Rattle.il_model.specs.declared.op.Op.TheVariants as ops
+use Rattle.il_model.specs.declared.words.Mnemonic.{Mnemonic}
+use Rattle.il_model.specs.Words.{spells, mnemonic_of}
+use Rattle.il_reader.specs.declared.fault.Refusal.{Refusal}
+use Rattle.il_reader.specs.declared.lexeme.Kind.TheVariants as kinds
+use Rattle.il_reader.specs.declared.contents.Operator.{Operator}
+use Rattle.il_reader.specs.declared.contents.Operand.{Operand}
+use Rattle.il_reader.specs.declared.contents.Operand.TheVariants as operands
+use Rattle.il_reader.specs.declared.contents.Line.{Line}
+use Rattle.il_reader.specs.declared.contents.Names.{Names}
+use Rattle.il_reader.specs.declared.contents.Names.TheVariants as names
+use Rattle.il_reader.specs.declared.contents.Declaration.{Declaration}
+use Rattle.il_reader.specs.declared.contents.Contents.{Contents}
+use Rattle.il_reader.specs.Tokens.{Token, token, tokens_of}
+use Rattle.il_reader.specs.Reading.{◌>>=◌, first, others, fault_at, is_kind, next_is, next_is_word, skip_breaks, expect, keyword, meaning, many, Reading, pair, mapped, choice, past, mark, stand}
+
+-- ---- what a text says, without where it lies in memory
+
+pub data OperandText : Type 0 where
+  Direct : Token → OperandText
+  Named : Token → OperandText
+
+pub record LineText : Type 0 where
+  pub operator : Operator
+  pub operand : OperandText
+
+-- where a variable lies, or the other names of the declaration
+pub data NamesText : Type 0 where
+  Located : Token → NamesText
+  More : List Token → NamesText
+
+pub record DeclarationText : Type 0 where
+  pub name : Token
+  pub names : NamesText
+  pub ty : Token
+
+-- a program's name, its blocks of declarations and its instruction lines
+pub record ProgramText : Type 0 where
+  pub name : Option Token
+  pub blocks : List (List DeclarationText)
+  pub lines : List LineText
+
+abbrev pub operand : Operand → OperandText
+operand (operands.Direct t) = Direct (token t)
+operand (operands.Named t) = Named (token t)
+
+abbrev pub line : Line → LineText
+line l = record { operator = l.operator; operand = operand l.operand }
+
+abbrev pub names_of : Names → NamesText
+names_of (names.Located t) = Located (token t)
+names_of (names.More ts) = More (map token ts.items)
+
+abbrev pub declaration : Declaration → DeclarationText
+declaration d = record { name = token d.name; names = names_of d.names; ty = token d.ty }
+
+abbrev pub declarations : List Declaration → List DeclarationText
+declarations ds = map declaration ds
+
+abbrev pub program_text : Contents → ProgramText
+program_text c = record { name = option_map token c.name; blocks = map (λ ds. declarations ds.items) c.blocks.items; lines = map line c.lines.items }
+
+-- ---- instructions
+
+-- the operators that are read today, each with its letters
+abbrev pub is_read : Op → Bool → Bool
+is_read ops.Ld negated = true
+is_read ops.St negated = true
+is_read ops.And negated = not negated
+is_read ops.Or negated = not negated
+is_read op negated = false
+
+abbrev pub takes_operand : Mnemonic → Bool
+takes_operand m = is_read m.op m.modifier.negated
+
+abbrev pub operator_from : ℕ → Option Mnemonic → Option Operator
+operator_from left None = None
+operator_from left (Some m) = if takes_operand m then Some (record { mnemonic = m; left = left }) else None
+
+-- the operator that a token is, where it is one that takes an operand
+unfoldable pub operator_of : Token → Option Operator
+operator_of t = if is_kind kinds.Name t || is_kind kinds.Ampersand t then operator_from t.left (mnemonic_of t.text) else None
+
+-- TRUE and FALSE are literals where an operand may stand
+abbrev pub is_truth : Token → Bool
+is_truth t = spells (codes "TRUE") t.text || spells (codes "FALSE") t.text
+
+abbrev pub is_variable : Token → Bool
+is_variable t = is_kind kinds.Name t && not (is_truth t)
+
+unfoldable pub operator_at : Reading Operator
+operator_at ts = meaning operator_of ts
+
+unfoldable pub variable_at : Reading Token
+variable_at ts = if is_variable (first ts) then Ok (first ts, others ts) else Err (fault_at (first ts))
+
+unfoldable pub operand_at : Reading OperandText
+operand_at ts = choice (next_is kinds.Address) (mapped Direct (expect kinds.Address)) (mapped Named variable_at) ts
+
+-- the end of an instruction line, which is not taken
+abbrev pub is_line_stop : List Token → Bool
+is_line_stop ts = next_is kinds.Break ts || next_is kinds.End ts
+
+abbrev pub line_of : Operator × (OperandText × Unit {0}) → LineText
+line_of x = record { operator = x.0; operand = x.1.0 }
+
+unfoldable pub line_at : Reading LineText
+line_at ts = mapped line_of (pair (past operator_at) (pair operand_at (stand is_line_stop tt))) ts
+
+unfoldable pub ends_lines : List Token → Bool
+ends_lines ts = next_is kinds.End (skip_breaks ts)
+
+-- what the lines of a program with a name end by
+unfoldable pub ends_named : List Token → Bool
+ends_named ts = next_is_word (codes "END_PROGRAM") (skip_breaks ts)
+
+-- ---- declarations
+
+abbrev pub second : {X : Type 0} → Unit {0} × X → X
+second x = x.1
+
+unfoldable pub ends_names : List Token → Bool
+ends_names ts = not (next_is kinds.Comma (skip_breaks ts))
+
+-- a comma and a name
+unfoldable pub name_at : Reading Token
+name_at ts = mapped second (pair (past (mark (expect kinds.Comma))) (past (expect kinds.Name))) ts
+
+-- AT and a location, or the other names
+unfoldable pub names_at : ℕ → Reading NamesText
+names_at n ts = choice (next_is_word (codes "AT")) (mapped (λ x. Located (second x)) (pair (mark (keyword (codes "AT"))) (past (expect kinds.Address)))) (mapped More (many ends_names name_at n)) ts
+
+abbrev pub declared : Token × (NamesText × (Unit {0} × (Token × Unit {0}))) → DeclarationText
+declared x = record { name = x.0; names = x.1.0; ty = x.1.1.1.0 }
+
+unfoldable pub declaration_at : ℕ → Reading DeclarationText
+declaration_at n ts = mapped declared (pair (past (expect kinds.Name)) (pair (past (names_at n)) (pair (past (mark (expect kinds.Colon))) (pair (past (expect kinds.Name)) (past (mark (expect kinds.Semicolon))))))) ts
+
+unfoldable pub ends_block : List Token → Bool
+ends_block ts = next_is_word (codes "END_VAR") (skip_breaks ts)
+
+unfoldable pub ends_blocks : List Token → Bool
+ends_blocks ts = not (next_is_word (codes "VAR") (skip_breaks ts))
+
+abbrev pub middle : {X : Type 0} → Unit {0} × (X × Unit {0}) → X
+middle x = x.1.0
+
+-- VAR, declarations, END_VAR
+unfoldable pub block_at : ℕ → Reading (List DeclarationText)
+block_at n ts = mapped middle (pair (past (keyword (codes "VAR"))) (pair (many ends_block (declaration_at n) n) (past (keyword (codes "END_VAR"))))) ts
+
+-- ---- programs
+
+abbrev pub named_program : Unit {0} × (Token × (List (List DeclarationText) × (List LineText × Unit {0}))) → ProgramText
+named_program x = record { name = Some x.1.0; blocks = x.1.1.0; lines = x.1.1.1.0 }
+
+abbrev pub bare_program : List (List DeclarationText) × (List LineText × Unit {0}) → ProgramText
+bare_program x = record { name = None; blocks = x.0; lines = x.1.0 }
+
+abbrev pub at_end : List Token → Bool
+at_end ts = next_is kinds.End ts
+
+unfoldable pub end_at : Reading (Unit {0})
+end_at ts = stand at_end tt ts
+
+abbrev pub first_of : {X : Type 0} → X × Unit {0} → X
+first_of x = x.0
+
+-- END_PROGRAM, and nothing behind it
+unfoldable pub finish_at : Reading (Unit {0})
+finish_at ts = mapped first_of (pair (past (keyword (codes "END_PROGRAM"))) (past end_at)) ts
+
+unfoldable pub named_at : ℕ → Reading ProgramText
+named_at n ts = mapped named_program (pair (past (keyword (codes "PROGRAM"))) (pair (expect kinds.Name) (pair (many ends_blocks (block_at n) n) (pair (many ends_named line_at n) finish_at)))) ts
+
+unfoldable pub bare_at : ℕ → Reading ProgramText
+bare_at n ts = mapped bare_program (pair (many ends_blocks (block_at n) n) (pair (many ends_lines line_at n) (past end_at))) ts
+
+unfoldable pub begins_program : List Token → Bool
+begins_program ts = next_is_word (codes "PROGRAM") (skip_breaks ts)
+
+unfoldable pub program_at : ℕ → Reading ProgramText
+program_at n ts = choice begins_program (named_at n) (bare_at n) ts
+
+-- a list of the grammar has no more things than the text has tokens, and a text has one token more than bytes at most
+unfoldable pub text_of : List ℕ → Result ProgramText Refusal
+text_of bytes = program_at (2 + length bytes) (tokens_of bytes) >>= λ x. Ok x.0

@@ -1,0 +1,129 @@
+-- Reading from left to right, with the first fault that is met.
+use Rattle.std.specs.Prelude.{◌≡◌, ℕ, zero, suc, List, [], ◌∷◌, Option, Some, None, Result, Ok, Err, Bool, ◌&&◌, ◌==◌, if◌then◌else◌}
+use Rattle.il_model.specs.Words.{spells}
+use Rattle.il_reader.specs.declared.fault.Refusal.{Refusal}
+use Rattle.il_reader.specs.declared.fault.Failure.{Failure}
+use Rattle.il_reader.specs.declared.fault.Failure.TheVariants as failures
+use Rattle.il_reader.specs.declared.fault.FaultKind.{FaultKind}
+use Rattle.il_reader.specs.declared.fault.FaultKind.TheVariants.{Misplaced}
+use Rattle.il_reader.specs.declared.lexeme.Kind.{Kind}
+use Rattle.il_reader.specs.declared.lexeme.Kind.TheVariants as kinds
+use Rattle.il_reader.specs.Tokens.{Token}
+
+infixl 10 ◌>>=◌
+abbrev pub ◌>>=◌ : {A B : Type 0} → Result A Refusal → (A → Result B Refusal) → Result B Refusal
+(Ok x) >>= f = f x
+(Err e) >>= f = Err e
+
+-- What a function returned, seen by view, is what reading gives, unless memory ran out.
+abbrev pub Fails : {Y : Type 0} → Failure → Result Y Refusal → Type 0
+Fails failures.Memory read = Unit {0}
+Fails (failures.Refused f) read = read ≡ Err f
+
+abbrev pub Gives : {X Y : Type 0} → (X → Y) → Result X Failure → Result Y Refusal → Type 0
+Gives view (Ok x) read = read ≡ Ok (view x)
+Gives view (Err e) read = Fails e read
+
+abbrev pub kind_code : Kind → ℕ
+kind_code kinds.Blank = 0
+kind_code kinds.Break = 1
+kind_code kinds.Name = 2
+kind_code kinds.Literal = 3
+kind_code kinds.Address = 4
+kind_code kinds.Colon = 5
+kind_code kinds.Assign = 6
+kind_code kinds.Arrow = 7
+kind_code kinds.Comma = 8
+kind_code kinds.Semicolon = 9
+kind_code kinds.Open = 10
+kind_code kinds.Close = 11
+kind_code kinds.Dot = 12
+kind_code kinds.Ampersand = 13
+kind_code kinds.End = 14
+kind_code (kinds.Broken f) = 15
+
+-- why a token is refused where no case allows it
+abbrev pub refusal : Kind → FaultKind
+refusal (kinds.Broken f) = f
+refusal k = Misplaced
+
+abbrev pub fault_at : Token → Refusal
+fault_at t = record { kind = refusal t.kind; left = t.left }
+
+abbrev pub no_token : Token
+no_token = record { kind = kinds.End; text = []; left = 0 }
+
+abbrev pub first : List Token → Token
+first [] = no_token
+first (t ∷ ts) = t
+
+abbrev pub others : List Token → List Token
+others [] = []
+others (t ∷ ts) = ts
+
+abbrev pub is_kind : Kind → Token → Bool
+is_kind k t = kind_code t.kind == kind_code k
+
+unfoldable pub skip_breaks : List Token → List Token
+skip_breaks [] = []
+skip_breaks (t ∷ ts) = if is_kind kinds.Break t then skip_breaks ts else t ∷ ts
+
+-- a token of this kind, and what follows it
+unfoldable pub expect : Kind → List Token → Result (Token × List Token) Refusal
+expect k ts = if is_kind k (first ts) then Ok (first ts, others ts) else Err (fault_at (first ts))
+
+-- As many of them as there are before it stops.
+unfoldable pub many : {X : Type 0} → (List Token → Bool) → (List Token → Result (X × List Token) Refusal) → ℕ → List Token → Result (List X × List Token) Refusal
+many stops item zero ts = Err (fault_at (first ts))
+many stops item (suc n) ts = if stops ts then Ok ([], ts) else item ts >>= λ x. many stops item n x.1 >>= λ xs. Ok (x.0 ∷ xs.0, xs.1)
+
+-- How readings are put together.
+abbrev pub Reading : Type 0 → Type 0
+Reading X = List Token → Result (X × List Token) Refusal
+
+abbrev pub both : {X Y : Type 0} → X → Y → X × Y
+both x y = (x, y)
+
+-- the one and then the other
+abbrev pub pair : {X Y : Type 0} → Reading X → Reading Y → Reading (X × Y)
+pair a b ts = a ts >>= λ x. b x.1 >>= λ y. Ok (both x.0 y.0, y.1)
+
+abbrev pub mapped : {X Y : Type 0} → (X → Y) → Reading X → Reading Y
+mapped f a ts = a ts >>= λ x. Ok (f x.0, x.1)
+
+-- by what stands next, the one or the other
+abbrev pub choice : {X : Type 0} → (List Token → Bool) → Reading X → Reading X → Reading X
+choice p a b ts = if p ts then a ts else b ts
+
+-- behind any number of line ends
+abbrev pub past : {X : Type 0} → Reading X → Reading X
+past a ts = a (skip_breaks ts)
+
+-- a token that says nothing but that it stands there
+abbrev pub mark : {X : Type 0} → Reading X → Reading (Unit {0})
+mark a ts = a ts >>= λ x. Ok (tt, x.1)
+
+-- nothing is taken, where this stands next
+abbrev pub stand : {X : Type 0} → (List Token → Bool) → X → Reading X
+stand p x ts = if p ts then Ok (x, ts) else Err (fault_at (first ts))
+
+abbrev pub next_is : Kind → List Token → Bool
+next_is k ts = is_kind k (first ts)
+
+abbrev pub is_word_token : List ℕ → Token → Bool
+is_word_token w t = is_kind kinds.Name t && spells w t.text
+
+abbrev pub next_is_word : List ℕ → List Token → Bool
+next_is_word w ts = is_word_token w (first ts)
+
+-- the rest, where the keyword stands
+unfoldable pub keyword : List ℕ → Reading (Unit {0})
+keyword w ts = if is_word_token w (first ts) then Ok (tt, others ts) else Err (fault_at (first ts))
+
+abbrev pub meant : {A : Type 0} → Option A → Reading A
+meant None ts = Err (fault_at (first ts))
+meant (Some x) ts = Ok (x, others ts)
+
+-- what a token means, where it means something here
+abbrev pub meaning : {A : Type 0} → (Token → Option A) → Reading A
+meaning f ts = meant (f (first ts)) ts

@@ -1,0 +1,99 @@
+-- What the tokens of a text are, by what it says.
+use Rattle.std.specs.Prelude.{◌≡◌, ℕ, List, [], ◌∷◌, ◌++◌, not, Bool, Option, Some, None, true, codes}
+use Rattle.std.specs.List.{flat_map}
+use Rattle.il_reader.specs.declared.contents.Operator.{Operator}
+use Rattle.il_reader.specs.declared.lexeme.Kind.{Kind}
+use Rattle.il_reader.specs.declared.lexeme.Kind.TheVariants as kinds
+use Rattle.il_reader.specs.Tokens.{Token, tokens_of}
+use Rattle.il_reader.specs.Reading.{skip_breaks, is_kind, is_word_token, next_is_word}
+use Rattle.il_reader.specs.Grammar.{OperandText, Direct, Named, LineText, NamesText, Located, More, DeclarationText, ProgramText, is_variable, operator_of, is_line_stop, ends_names, ends_block, ends_blocks, ends_lines, ends_named, begins_program, at_end}
+
+-- what stands next: any number of line ends, a token of this sort, this token, a token that is this operator, or nothing where this comes next
+pub data Part : Type 0 where
+  breaks : Part
+  one : (Token → Bool) → Part
+  this : (Token → Bool) → Token → Part
+  operator : (Token → Option Operator) → Operator → Part
+  ahead : (List Token → Bool) → Part
+
+-- the tokens begin with these parts, and the rest follows
+abbrev pub Spell : List Part → List Token → List Token → Type 0
+Spell [] ts rest = ts ≡ rest
+Spell (breaks ∷ ps) ts rest = Spell ps (skip_breaks ts) rest
+Spell (ahead p ∷ ps) ts rest = (p ts ≡ true) × Spell ps ts rest
+Spell (one p ∷ ps) [] rest = ⊥
+Spell (one p ∷ ps) (t ∷ ts) rest = (p t ≡ true) × Spell ps ts rest
+Spell (this p x ∷ ps) [] rest = ⊥
+Spell (this p x ∷ ps) (t ∷ ts) rest = ((p t ≡ true) × (t ≡ x)) × Spell ps ts rest
+Spell (operator f x ∷ ps) [] rest = ⊥
+Spell (operator f x ∷ ps) (t ∷ ts) rest = (f t ≡ Some x) × Spell ps ts rest
+
+abbrev pub name : Token → Part
+name t = this (is_kind kinds.Name) t
+
+abbrev pub address : Token → Part
+address t = this (is_kind kinds.Address) t
+
+abbrev pub sign : Kind → Part
+sign k = one (is_kind k)
+
+abbrev pub word : List ℕ → Part
+word w = one (is_word_token w)
+
+-- ---- instructions
+
+abbrev pub spelled_operand : OperandText → List Part
+spelled_operand (Direct t) = address t ∷ []
+spelled_operand (Named t) = this is_variable t ∷ []
+
+abbrev pub spelled_line : LineText → List Part
+spelled_line l = breaks ∷ operator operator_of l.operator ∷ (spelled_operand l.operand ++ ahead is_line_stop ∷ [])
+
+-- ---- declarations
+
+-- another name of the same declaration
+abbrev pub spelled_name : Token → List Part
+spelled_name t = breaks ∷ sign kinds.Comma ∷ breaks ∷ name t ∷ []
+
+abbrev pub is_not_at : List Token → Bool
+is_not_at ts = not (next_is_word (codes "AT") ts)
+
+abbrev pub spelled_names : NamesText → List Part
+spelled_names (Located t) = word (codes "AT") ∷ breaks ∷ address t ∷ []
+spelled_names (More ts) = ahead is_not_at ∷ (flat_map spelled_name ts ++ ahead ends_names ∷ [])
+
+abbrev pub spelled_declaration : DeclarationText → List Part
+spelled_declaration d = breaks ∷ name d.name ∷ breaks ∷ (spelled_names d.names ++ breaks ∷ sign kinds.Colon ∷ breaks ∷ name d.ty ∷ breaks ∷ sign kinds.Semicolon ∷ [])
+
+-- a thing of a list, which does not begin where the list stops
+abbrev pub going : {X : Type 0} → (List Token → Bool) → (X → List Part) → X → List Part
+going stops s x = ahead (λ us. not (stops us)) ∷ s x
+
+-- as many as there are
+abbrev pub listed : {X : Type 0} → (List Token → Bool) → (X → List Part) → List X → List Part
+listed stops s xs = flat_map (going stops s) xs ++ ahead stops ∷ []
+
+abbrev pub spelled_block : List DeclarationText → List Part
+spelled_block ds = breaks ∷ word (codes "VAR") ∷ (listed ends_block spelled_declaration ds ++ breaks ∷ word (codes "END_VAR") ∷ [])
+
+-- ---- programs
+
+abbrev pub is_bare : List Token → Bool
+is_bare ts = not (begins_program ts)
+
+abbrev pub spelled_named : Token → ProgramText → List Part
+spelled_named t s = breaks ∷ word (codes "PROGRAM") ∷ name t ∷ (listed ends_blocks spelled_block s.blocks ++ (listed ends_named spelled_line s.lines ++ breaks ∷ word (codes "END_PROGRAM") ∷ breaks ∷ ahead at_end ∷ []))
+
+abbrev pub spelled_bare : ProgramText → List Part
+spelled_bare s = listed ends_blocks spelled_block s.blocks ++ (listed ends_lines spelled_line s.lines ++ breaks ∷ ahead at_end ∷ [])
+
+abbrev pub spelled_by : Option Token → ProgramText → List Part
+spelled_by None s = ahead is_bare ∷ spelled_bare s
+spelled_by (Some t) s = spelled_named t s
+
+abbrev pub spelled_program : ProgramText → List Part
+spelled_program s = spelled_by s.name s
+
+-- the text says this, from its first token to its last
+abbrev pub Says : List ℕ → ProgramText → Type 0
+Says bytes s = (rest : List Token) × Spell (spelled_program s) (tokens_of bytes) rest

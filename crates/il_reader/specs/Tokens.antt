@@ -1,0 +1,131 @@
+-- What stands at the front of a text.
+use Rattle.std.specs.Prelude.{ℕ, zero, suc, ◌+◌, ◌-◌, Bool, true, false, ◌&&◌, ◌||◌, List, [], ◌∷◌, length, take, drop, Option, Some, None, nat_lt, nat_le, ◌==◌, if◌then◌else◌}
+use Rattle.std.specs.List.{prefix_len}
+use Rattle.il_model.specs.Names.{is_well_spelled}
+use Rattle.il_reader.specs.declared.fault.FaultKind.TheVariants.{BadByte, BadToken, UnclosedComment, TooLong}
+use Rattle.il_reader.specs.declared.lexeme.Piece.{Piece}
+use Rattle.il_reader.specs.declared.lexeme.Lexeme.{Lexeme}
+use Rattle.il_reader.specs.declared.lexeme.Kind.{Kind}
+use Rattle.il_reader.specs.declared.lexeme.Kind.TheVariants as kinds
+
+abbrev pub is_within : ℕ → ℕ → ℕ → Bool
+is_within low high b = nat_le low b && nat_le b high
+
+abbrev pub is_letter_byte : ℕ → Bool
+is_letter_byte b = is_within 65 90 b || is_within 97 122 b || b == 95
+
+abbrev pub is_word_byte : ℕ → Bool
+is_word_byte b = is_letter_byte b || is_within 48 57 b
+
+abbrev pub is_literal_byte : ℕ → Bool
+is_literal_byte b = is_word_byte b || b == 35 || b == 46 || b == 43 || b == 45
+
+abbrev pub is_address_byte : ℕ → Bool
+is_address_byte b = is_word_byte b || b == 46
+
+abbrev pub begins_with : ℕ → List ℕ → Bool
+begins_with x [] = false
+begins_with x (b ∷ bs) = b == x
+
+abbrev pub add_len : ℕ → Option ℕ → Option ℕ
+add_len n None = None
+add_len n (Some m) = Some (n + m)
+
+-- how many bytes there are to the end of the comment whose inside these bytes begin
+unfoldable pub comment_len : List ℕ → Option ℕ
+comment_len [] = None
+comment_len (b ∷ bs) = if b == 42 && begins_with 41 bs then Some 2 else add_len 1 (comment_len bs)
+
+-- a name of at most 32 characters
+unfoldable pub name_of : List ℕ → Piece
+name_of name = if is_well_spelled name
+    then (if nat_lt 32 (length name) then record { kind = kinds.Broken TooLong; len = 1 } else record { kind = kinds.Name; len = length name })
+    else record { kind = kinds.Broken BadToken; len = 1 }
+
+abbrev pub comment_piece : Option ℕ → Piece
+comment_piece None = record { kind = kinds.Broken UnclosedComment; len = 1 }
+comment_piece (Some n) = record { kind = kinds.Blank; len = 2 + n }
+
+unfoldable pub word_piece : List ℕ → Piece
+word_piece bytes =
+    let n = 1 + prefix_len is_word_byte (drop 1 bytes) in
+    if begins_with 35 (drop n bytes) then record { kind = kinds.Literal; len = 1 + prefix_len is_literal_byte (drop 1 bytes) } else name_of (take n bytes)
+
+abbrev pub sign : Kind → ℕ → Piece
+sign k n = record { kind = k; len = n }
+
+-- the byte is in no word and begins no literal behind one
+abbrev pub is_word_end : List ℕ → Bool
+is_word_end [] = true
+is_word_end (b ∷ bs) = if is_word_byte b then false else (if b == 35 then false else true)
+
+-- the word N
+abbrev pub is_n : List ℕ → Bool
+is_n [] = false
+is_n (b ∷ bs) = (b == 78 || b == 110) && is_word_end bs
+
+unfoldable pub sign_of : ℕ → List ℕ → Piece
+sign_of b bs =
+    if b == 58 then (if begins_with 61 bs then sign kinds.Assign 2 else sign kinds.Colon 1)
+    else if b == 61 then (if begins_with 62 bs then sign kinds.Arrow 2 else sign (kinds.Broken BadToken) 1)
+    else if b == 44 then sign kinds.Comma 1
+    else if b == 59 then sign kinds.Semicolon 1
+    else if b == 40 then sign kinds.Open 1
+    else if b == 41 then sign kinds.Close 1
+    else if b == 46 then sign kinds.Dot 1
+    else if b == 38 then (if is_n bs then sign kinds.Ampersand 2 else sign kinds.Ampersand 1)
+    else if is_within 32 126 b then sign (kinds.Broken BadToken) 1
+    else sign (kinds.Broken BadByte) 1
+
+abbrev pub is_number_start : ℕ → Bool
+is_number_start b = is_within 48 57 b || b == 43 || b == 45
+
+abbrev pub is_blank_byte : ℕ → Bool
+is_blank_byte b = b == 32 || b == 9 || b == 13
+
+unfoldable pub solid_piece : List ℕ → Piece
+solid_piece [] = sign kinds.End 0
+solid_piece (b ∷ bs) =
+    if is_letter_byte b then word_piece (b ∷ bs)
+    else if is_number_start b then sign kinds.Literal (1 + prefix_len is_literal_byte bs)
+    else if b == 37 then sign kinds.Address (1 + prefix_len is_address_byte bs)
+    else sign_of b bs
+
+unfoldable pub piece_of : List ℕ → Piece
+piece_of [] = sign kinds.End 0
+piece_of (b ∷ bs) =
+    if b == 10 then sign kinds.Break 1
+    else if is_blank_byte b then sign kinds.Blank 1
+    else if b == 40 && begins_with 42 bs then comment_piece (comment_len (drop 1 bs))
+    else solid_piece (b ∷ bs)
+
+-- a token: its bytes, and how many bytes the text has from its first one on
+pub record Token : Type 0 where
+  pub kind : Kind
+  pub text : List ℕ
+  pub left : ℕ
+
+-- nothing follows the end or a fault
+abbrev pub after : Kind → List Token → List Token
+after kinds.End ts = []
+after (kinds.Broken f) ts = []
+after k ts = ts
+
+-- white space is no token
+abbrev pub put : Kind → Token → List Token → List Token
+put kinds.Blank t ts = ts
+put k t ts = t ∷ after k ts
+
+-- The tokens of a text, of whose first bytes so many belong to a token that has been put already.
+unfoldable pub tokens_behind : ℕ → List ℕ → List Token
+tokens_behind k [] = record { kind = kinds.End; text = []; left = 0 } ∷ []
+tokens_behind (suc k) (b ∷ bs) = tokens_behind k bs
+tokens_behind zero (b ∷ bs) =
+    let p = piece_of (b ∷ bs) in
+    put p.kind (record { kind = p.kind; text = take p.len (b ∷ bs); left = length (b ∷ bs) }) (tokens_behind (p.len - 1) bs)
+
+abbrev pub tokens_of : List ℕ → List Token
+tokens_of bytes = tokens_behind 0 bytes
+
+abbrev pub token : Lexeme → Token
+token t = record { kind = t.kind; text = t.text.now; left = t.left }

@@ -1,0 +1,311 @@
+//! The tokens of a text (IEC 61131-3:2003, 2.1 and B.1.1).
+
+ghost use Rattle.std.specs.Prelude.{◌≡◌, ◌≢◌, ◌≤◌, ◌<◌, ◌+◌, length, drop, IfSome, ◌∷◌, true};
+ghost use Rattle.std.specs.List.{prefix_len};
+ghost use Rattle.il_reader.specs.Tokens.{is_letter_byte, is_number_start, is_blank_byte, solid_piece, is_word_byte, is_literal_byte, is_address_byte, name_of, word_piece, sign_of, comment_len, comment_piece, piece_of, begins_with, is_word_end, is_n, after, tokens_of, token};
+
+use crate::fault::FaultKind;
+use il_model::name::is_well_spelled;
+
+/// What stands at a place of the text.
+#[derive(Clone, Copy, Debug, PartialEq, Eq)]
+pub enum Kind {
+    Blank,
+    Break,
+    Name,
+    Literal,
+    Address,
+    Colon,
+    Assign,
+    Arrow,
+    Comma,
+    Semicolon,
+    Open,
+    Close,
+    Dot,
+    Ampersand,
+    End,
+    Broken(FaultKind),
+}
+
+/// A kind, and how many bytes it takes.
+#[derive(Clone, Copy, Debug, PartialEq, Eq)]
+pub struct Piece {
+    pub kind: Kind,
+    pub len: usize,
+}
+
+/// A token: a slice of the text, and how many bytes the text has from its first one on.
+#[derive(Clone, Copy, Debug)]
+pub struct Lexeme<'a> {
+    pub kind: Kind,
+    pub text: &'a [u8],
+    pub left: usize,
+}
+
+fn is_letter(b: u8) -> bool
+    ensures { result ≡ is_letter_byte b }
+{
+    (b'A' <= b && b <= b'Z') || (b'a' <= b && b <= b'z') || b == b'_'
+}
+
+fn is_word(b: u8) -> bool
+    ensures { result ≡ is_word_byte b }
+{
+    is_letter(b) || (b'0' <= b && b <= b'9')
+}
+
+fn is_literal(b: u8) -> bool
+    ensures { result ≡ is_literal_byte b }
+{
+    is_word(b) || b == b'#' || b == b'.' || b == b'+' || b == b'-'
+}
+
+fn is_address(b: u8) -> bool
+    ensures { result ≡ is_address_byte b }
+{
+    is_word(b) || b == b'.'
+}
+
+fn word_len(bytes: &[u8]) -> usize
+    ensures value { result ≡ prefix_len is_word_byte bytes.now }
+    ensures fits { result ≤ length bytes.now }
+{
+    bytes.iter().take_while(|b| is_word(**b)).count()
+}
+
+fn literal_len(bytes: &[u8]) -> usize
+    ensures value { result ≡ prefix_len is_literal_byte bytes.now }
+    ensures fits { result ≤ length bytes.now }
+{
+    bytes.iter().take_while(|b| is_literal(**b)).count()
+}
+
+fn address_len(bytes: &[u8]) -> usize
+    ensures value { result ≡ prefix_len is_address_byte bytes.now }
+    ensures fits { result ≤ length bytes.now }
+{
+    bytes.iter().take_while(|b| is_address(**b)).count()
+}
+
+fn starts_with(bytes: &[u8], x: u8) -> bool
+    ensures { result ≡ begins_with x bytes.now }
+{
+    match bytes {
+        [] => false,
+        [b, ..] => *b == x,
+    }
+}
+
+#[tactic(auto, using(crate::proofs::Tokens::one_more), unfolding(crate::specs::Tokens::comment_len))]
+fn comment_end(bytes: &[u8]) -> Option<usize>
+    ensures value { result ≡ comment_len bytes.now }
+    ensures fits { IfSome result (λ n. n ≤ length bytes.now) }
+{
+    let mut rest = bytes;
+    let mut count = 0usize;
+    while let [b, others @ ..] = rest {
+        if *b == b'*' && starts_with(others, b')') {
+            return Some(count + 2);
+        }
+        count += 1;
+        rest = others;
+    }
+    None
+}
+
+#[tactic(auto, unfolding(crate::specs::Tokens::name_of))]
+fn name_piece(name: &[u8]) -> Piece
+    requires { 0 < length name.now }
+    ensures value { result ≡ name_of name.now }
+    ensures fits { result.len ≤ length name.now }
+    ensures moves { 0 < result.len }
+{
+    if !is_well_spelled(name) {
+        Piece {
+            kind: Kind::Broken(FaultKind::BadToken),
+            len: 1,
+        }
+    } else if name.len() > 32 {
+        Piece {
+            kind: Kind::Broken(FaultKind::TooLong),
+            len: 1,
+        }
+    } else {
+        Piece {
+            kind: Kind::Name,
+            len: name.len(),
+        }
+    }
+}
+
+#[tactic(auto, unfolding(crate::specs::Tokens::word_piece))]
+fn word_at(bytes: &[u8]) -> Piece
+    requires { 0 < length bytes.now }
+    ensures value { result ≡ word_piece bytes.now }
+    ensures fits { result.len ≤ length bytes.now }
+    ensures moves { 0 < result.len }
+{
+    let (name, others) = bytes.split_at(1 + word_len(&bytes[1..]));
+    if starts_with(others, b'#') {
+        Piece {
+            kind: Kind::Literal,
+            len: 1 + literal_len(&bytes[1..]),
+        }
+    } else {
+        name_piece(name)
+    }
+}
+
+fn ends_word(bytes: &[u8]) -> bool
+    ensures { result ≡ is_word_end bytes.now }
+{
+    match bytes {
+        [] => true,
+        [b, ..] => !is_word(*b) && *b != b'#',
+    }
+}
+
+fn starts_n(bytes: &[u8]) -> bool
+    ensures value { result ≡ is_n bytes.now }
+    ensures some { result ≡ true → 0 < length bytes.now }
+{
+    match bytes {
+        [] => false,
+        [b, others @ ..] => (*b == b'N' || *b == b'n') && ends_word(others),
+    }
+}
+
+#[tactic(auto, unfolding(crate::specs::Tokens::sign_of))]
+fn sign_at(b: u8, others: &[u8]) -> Piece
+    ensures value { result ≡ sign_of b others.now }
+    ensures fits { result.len ≤ 1 + length others.now }
+    ensures moves { 0 < result.len }
+{
+    let (kind, len) = match b {
+        b':' if starts_with(others, b'=') => (Kind::Assign, 2),
+        b':' => (Kind::Colon, 1),
+        b'=' if starts_with(others, b'>') => (Kind::Arrow, 2),
+        b',' => (Kind::Comma, 1),
+        b';' => (Kind::Semicolon, 1),
+        b'(' => (Kind::Open, 1),
+        b')' => (Kind::Close, 1),
+        b'.' => (Kind::Dot, 1),
+        b'&' if starts_n(others) => (Kind::Ampersand, 2),
+        b'&' => (Kind::Ampersand, 1),
+        b' '..=b'~' => (Kind::Broken(FaultKind::BadToken), 1),
+        _ => (Kind::Broken(FaultKind::BadByte), 1),
+    };
+    Piece { kind, len }
+}
+
+fn starts_number(b: u8) -> bool
+    ensures { result ≡ is_number_start b }
+{
+    (b'0' <= b && b <= b'9') || b == b'+' || b == b'-'
+}
+
+fn is_blank(b: u8) -> bool
+    ensures { result ≡ is_blank_byte b }
+{
+    b == b' ' || b == b'\t' || b == b'\r'
+}
+
+#[tactic(auto, unfolding(crate::specs::Tokens::solid_piece))]
+fn solid_at(bytes: &[u8]) -> Piece
+    ensures value { result ≡ solid_piece bytes.now }
+    ensures fits { result.len ≤ length bytes.now }
+    ensures moves { 0 < length bytes.now → 0 < result.len }
+{
+    match bytes {
+        [] => Piece {
+            kind: Kind::End,
+            len: 0,
+        },
+        [b, others @ ..] => {
+            if is_letter(*b) {
+                word_at(bytes)
+            } else if starts_number(*b) {
+                Piece {
+                    kind: Kind::Literal,
+                    len: 1 + literal_len(others),
+                }
+            } else if *b == b'%' {
+                Piece {
+                    kind: Kind::Address,
+                    len: 1 + address_len(others),
+                }
+            } else {
+                sign_at(*b, others)
+            }
+        }
+    }
+}
+
+#[tactic(auto, unfolding(crate::specs::Tokens::piece_of))]
+fn piece_at(bytes: &[u8]) -> Piece
+    ensures value { result ≡ piece_of bytes.now }
+    ensures end { length bytes.now ≡ 0 → result.kind ≡ Kind.End }
+    ensures fits { result.len ≤ length bytes.now }
+    ensures moves { 0 < length bytes.now → 0 < result.len }
+{
+    match bytes {
+        [] => Piece {
+            kind: Kind::End,
+            len: 0,
+        },
+        [b, others @ ..] => {
+            if *b == b'\n' {
+                Piece {
+                    kind: Kind::Break,
+                    len: 1,
+                }
+            } else if is_blank(*b) {
+                Piece {
+                    kind: Kind::Blank,
+                    len: 1,
+                }
+            } else if *b == b'(' && starts_with(others, b'*') {
+                comment_at(&others[1..])
+            } else {
+                solid_at(bytes)
+            }
+        }
+    }
+}
+
+fn comment_at(inside: &[u8]) -> Piece
+    ensures value { result ≡ comment_piece (comment_len inside.now) }
+    ensures fits { result.len ≤ 2 + length inside.now }
+    ensures moves { 0 < result.len }
+{
+    match comment_end(inside) {
+        None => Piece {
+            kind: Kind::Broken(FaultKind::UnclosedComment),
+            len: 1,
+        },
+        Some(n) => Piece {
+            kind: Kind::Blank,
+            len: 2 + n,
+        },
+    }
+}
+
+/// The first token, and what stands after it.
+pub fn next(bytes: &[u8]) -> (Lexeme<'_>, &[u8])
+    ensures value { tokens_of bytes.now ≡ token result.0 ∷ after result.0.kind (tokens_of result.1.now) }
+    ensures moves { result.0.kind ≢ Kind.End → length result.1.now < length bytes.now }
+{
+    let mut rest = bytes;
+    loop {
+        let piece = piece_at(rest);
+        let (text, others) = rest.split_at(piece.len);
+        match piece.kind {
+            Kind::Blank => rest = others,
+            kind => {
+                let left = rest.len();
+                return (Lexeme { kind, text, left }, others);
+            }
+        }
+    }
+}

@@ -1,0 +1,19 @@
+//! Reads an Instruction List text: what it says, or its first fault with its line and column.
+//! It stands on `il_model` (the operator words) and knows no program, no type and no location.
+#![tactic(auto)]
+
+mod blocks;
+mod contents;
+mod fault;
+mod lexeme;
+mod lines;
+mod place;
+mod reading;
+mod source;
+mod whole;
+
+pub use contents::{Contents, Declaration, Line, Names, Operand, Operator};
+pub use fault::{Fault, FaultKind, ReadError};
+pub use lexeme::{Kind, Lexeme};
+pub use place::{Place, place_of};
+pub use source::{Source, read};

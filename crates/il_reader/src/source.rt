@@ -1,0 +1,98 @@
+//! A text that was read.
+
+ghost use Rattle.std.specs.Prelude.{◌≡◌, Ok, IfOk};
+ghost use Rattle.il_reader.specs.Texts.{SourceText, Reads, Answers, source_of};
+
+use crate::contents::{Contents, Declaration, Line};
+use crate::fault::{Failure, Fault, FaultKind, ReadError};
+use crate::place::{Place, place_of};
+use crate::whole::whole;
+use std::alloc::Global;
+use std::marker::Model;
+
+/// A text with what it says. It borrows the text, so that each of its tokens has its place.
+#[derive(Debug, Drop)]
+pub struct Source<'a> {
+    text: &'a [u8],
+    contents: Contents<'a>,
+}
+
+impl<'a> Model for Source<'a> {
+    ghost use Rattle.il_reader.specs.Grammar.{program_text};
+    ghost use Rattle.il_reader.specs.Texts.{SourceText, IsSource};
+
+    ghost Value = { SourceText };
+
+    ghost view = { λ s. record { text = s.text.now; says = program_text s.contents } };
+
+    ghost invariant = { λ s. IsSource (record { text = s.text.now; says = program_text s.contents }) };
+}
+
+/// The greatest length of a text, in bytes.
+pub const TEXT_LIMIT: usize = 2_097_152;
+
+impl<'a> Source<'a> {
+    ghost use Rattle.std.specs.Prelude.{map};
+    ghost use Rattle.il_reader.specs.Grammar.{declarations, line};
+    ghost use Rattle.il_reader.specs.Place.{place_at};
+    ghost use Rattle.il_reader.specs.Texts.{IsSource};
+
+    /// What is known of every source: its text is short enough, and it says this.
+    pub fn is_read(&self)
+        ensures { IsSource self.now }
+    {
+        let _contents = &self.contents;
+    }
+
+    /// The blocks of declarations, in the order of the text.
+    pub fn blocks(&self) -> &[Vec<Declaration<'a>>]
+        ensures { map (λ ds. declarations ds.items) result.now ≡ self.now.says.blocks }
+    {
+        self.contents.blocks.as_slice()
+    }
+
+    /// The instruction lines, in the order of the text.
+    pub fn lines(&self) -> &[Line<'a>]
+        ensures { map line result.now ≡ self.now.says.lines }
+    {
+        self.contents.lines.as_slice()
+    }
+
+    /// Where the byte of the text stands from which on so many are left.
+    pub fn place(&self, left: usize) -> Place
+        ensures { result ≡ place_at self.now.text left }
+    {
+        let _contents = &self.contents;
+        place_of(self.text, left)
+    }
+}
+
+/// Reads a text of at most 2,097,152 bytes (IEC 61131-3:2003, 3.2 and Annex B, as far as it is read today: operators LD, LDN, ST,
+/// STN, AND and OR on variables and direct addresses; declarations of variables with or without a location). A longer text is too
+/// long at 1:1, before all else. Answers the first fault in the text, or that memory ran out.
+pub fn read(alloc: Global, bytes: &[u8]) -> Result<Source<'_>, ReadError>
+    // What is read is what the text says.
+    ensures found { IfOk result (λ s. Reads bytes.now s) }
+    // What the text says is read, unless memory runs out.
+    ensures only { (s : SourceText) → Reads bytes.now s → Answers (λ r. r) result (Ok s) }
+    // Which fault it is.
+    ensures exact { Answers (λ r. r) result (source_of bytes.now) }
+{
+    if bytes.len() > TEXT_LIMIT {
+        return Err(ReadError::Fault(Fault {
+            kind: FaultKind::TooLong,
+            place: Place { line: 1, column: 1 },
+        }));
+    }
+    match whole(alloc, bytes) {
+        Ok(contents) => Ok(Source {
+            text: bytes,
+            contents,
+        }),
+        Err(Failure::Refused(refusal)) => Err(ReadError::Fault(Fault {
+            kind: refusal.kind,
+            place: place_of(bytes, refusal.left),
+        })),
+        Err(Failure::Memory) => Err(ReadError::Memory),
+    }
+}

@@ -1,0 +1,109 @@
+//! Programs (IEC 61131-3:2003, B.1.5.3): with a name and END_PROGRAM, or without.
+
+ghost use Rattle.std.specs.Prelude.{◌≡◌, ◌^◌, ◌<◌, codes, length, Ok, IfOk};
+ghost use Rattle.il_reader.specs.Tokens.{tokens_of, token};
+ghost use Rattle.il_reader.specs.Reading.{Gives};
+ghost use Rattle.il_reader.specs.Spelling.{Says};
+ghost use Rattle.il_reader.specs.Grammar.{program_text, end_at, finish_at, named_at, bare_at, begins_program, program_at, text_of, ProgramText};
+
+use crate::blocks::blocks;
+use crate::contents::Contents;
+use crate::fault::Failure;
+use crate::lexeme::{Kind, next};
+use crate::lines::{lines, named_lines};
+use crate::reading::{expected, is, is_word, past_breaks, past_keyword, refused};
+use std::alloc::Global;
+
+#[tactic(auto, unfolding(crate::specs::Grammar::begins_program))]
+fn at_program(bytes: &[u8]) -> bool
+    ensures { result ≡ begins_program (tokens_of bytes.now) }
+{
+    let (t, _) = next(past_breaks(bytes));
+    is_word(b"PROGRAM", t)
+}
+
+#[tactic(auto, unfolding(crate::specs::Grammar::end_at))]
+fn ended(bytes: &[u8]) -> Result<&[u8], Failure>
+    ensures { Gives (λ x. (tt, tokens_of x.now)) result (end_at (tokens_of bytes.now)) }
+{
+    let (t, _) = next(bytes);
+    if is(Kind::End, t) {
+        Ok(bytes)
+    } else {
+        Err(refused(t))
+    }
+}
+
+#[tactic(auto, unfolding(crate::specs::Grammar::finish_at))]
+fn finished(bytes: &[u8]) -> Result<&[u8], Failure>
+    ensures { Gives (λ x. (tt, tokens_of x.now)) result (finish_at (tokens_of bytes.now)) }
+{
+    let behind = past_keyword(b"END_PROGRAM", past_breaks(bytes))?;
+    ended(past_breaks(behind))
+}
+
+#[tactic(auto, unfolding(crate::specs::Grammar::named_at))]
+fn named(alloc: Global, limit: usize, bytes: &[u8]) -> Result<(Contents<'_>, &[u8]), Failure>
+    ensures { Gives (λ x. (program_text x.0, tokens_of x.1.now)) result (named_at limit (tokens_of bytes.now)) }
+{
+    let rest = past_keyword(b"PROGRAM", past_breaks(bytes))?;
+    let (name, rest) = expected(Kind::Name, rest)?;
+    let (blocks, rest) = blocks(alloc, limit, rest)?;
+    let (lines, rest) = named_lines(alloc, limit, rest)?;
+    let rest = finished(rest)?;
+    Ok((
+        Contents {
+            name: Some(name),
+            blocks,
+            lines,
+        },
+        rest,
+    ))
+}
+
+#[tactic(auto, unfolding(crate::specs::Grammar::bare_at))]
+fn bare(alloc: Global, limit: usize, bytes: &[u8]) -> Result<(Contents<'_>, &[u8]), Failure>
+    ensures { Gives (λ x. (program_text x.0, tokens_of x.1.now)) result (bare_at limit (tokens_of bytes.now)) }
+{
+    let (blocks, rest) = blocks(alloc, limit, bytes)?;
+    let (lines, rest) = lines(alloc, limit, rest)?;
+    let rest = ended(past_breaks(rest))?;
+    Ok((
+        Contents {
+            name: None,
+            blocks,
+            lines,
+        },
+        rest,
+    ))
+}
+
+#[tactic(auto, unfolding(crate::specs::Grammar::program_at))]
+fn program(alloc: Global, limit: usize, bytes: &[u8]) -> Result<(Contents<'_>, &[u8]), Failure>
+    ensures { Gives (λ x. (program_text x.0, tokens_of x.1.now)) result (program_at limit (tokens_of bytes.now)) }
+{
+    if at_program(bytes) {
+        named(alloc, limit, bytes)
+    } else {
+        bare(alloc, limit, bytes)
+    }
+}
+
+#[tactic(auto, unfolding(crate::specs::Grammar::text_of))]
+fn all(alloc: Global, bytes: &[u8]) -> Result<Contents<'_>, Failure>
+    requires { length bytes.now < 2 ^ 32 }
+    ensures { Gives program_text result (text_of bytes.now) }
+{
+    let (contents, _) = program(alloc, 2 + bytes.len(), bytes)?;
+    Ok(contents)
+}
+
+/// What a text says, from its first token to its last.
+pub fn whole(alloc: Global, bytes: &[u8]) -> Result<Contents<'_>, Failure>
+    requires { length bytes.now < 2 ^ 32 }
+    ensures found { IfOk result (λ c. Says bytes.now (program_text c)) }
+    ensures only { (p : ProgramText) → Says bytes.now p → text_of bytes.now ≡ Ok p }
+    ensures exact { Gives program_text result (text_of bytes.now) }
+{
+    all(alloc, bytes)
+}

@@ -1,0 +1,249 @@
+-- What is read is spelled so, and what is spelled so is read: records and tables.
+use Rattle.std.proofs.Common.{◌≡◌, ℕ, zero, suc, ◌+◌, ◌-◌, ◌^◌, ◌<◌, ◌≤◌, Bool, true, false, cond, ltb, eqb, List, [], ◌∷◌, ◌++◌, length, get_or, take, drop, Option, Some, None, Result, Ok, Err, refl, sym, ap, subst, ◌∙◌, append_assoc, arith, inl, inr}
+use Rattle.std.specs.Prelude.{ℤ, pos, negsuc, ◌&&◌, nat_eq, nat_lt, not}
+use Rattle.std.specs.List.{list_all, flat_map}
+use Rattle.std.specs.Option.{option_and_then}
+use Rattle.std.specs.Int.{Width, w8, w16, w32, byte_len, from_be_bytes, to_be_bytes, cast_signed, cast_unsigned}
+use Rattle.std.proofs.lemmas.Bool.{cases_lt, ltb-false, le-ltb, ltb-true, eqb-true}
+use Rattle.std.proofs.lemmas.Int.{ints, of_z-to_z}
+use Rattle.std.proofs.lemmas.List.{take_at, drop_at, take-append-drop, length-append, length-take, get_or-drop, get_or-take, get_or_past, append-nil}
+use Rattle.std.proofs.lemmas.List.Concat.{flat_map-cons}
+use Rattle.std.proofs.lemmas.Nat.{be_bytes_2, be_bytes_4, from_be_bytes-to_be_bytes_2, from_be_bytes-to_be_bytes_4}
+use Rattle.il_model.specs.declared.value.Ty.{Ty}
+use Rattle.il_model.specs.declared.value.Ty.TheVariants as types
+use Rattle.il_model.specs.declared.value.Value.{Value}
+use Rattle.il_model.specs.declared.value.Value.TheVariants as values
+use Rattle.il_model.specs.declared.op.Op.{Op}
+use Rattle.il_model.specs.declared.op.Op.TheVariants as ops
+use Rattle.il_model.specs.declared.op.Modifier.{Modifier}
+use Rattle.il_model.specs.declared.program.Variable.{Variable}
+use Rattle.il_model.specs.declared.program.Instr.{Instr}
+use Rattle.il_model.specs.declared.program.Operand.{Operand}
+use Rattle.il_model.specs.declared.program.Loc.{Loc}
+use Rattle.il_model.specs.Values.{made, truth_made, number_of, is_within}
+use Rattle.il_model.specs.Image.{type_code, loc_code, location_code, name_bytes, variable_bytes, op_code, modifier_code, plain_code, plain_word_bytes}
+use Rattle.loader.specs.declared.fault.LoadFault.{LoadFault}
+use Rattle.loader.specs.declared.fault.LoadFault.TheVariants.{Truncated, BadWord}
+use Rattle.il_model.specs.Codes.{tested, is_new_name, length_of, type_of, loc_of, is_free, free_loc, location_of, initial_of, op_of, modifier_of, raw_operand, operand_of, is_line, line_of}
+use Rattle.loader.specs.Reading.{◌>>=◌, number_at, lawful, agrees, items_from, name_at, variable_at, word_at}
+use Rattle.il_model.specs.Fits.{IsVariable, IsWord, AreItems}
+use Rattle.loader.proofs.Fields.{IsBytes, IsBytes-drop, bind_ok, guard_no, agrees_ok, lawful_ok, some_yes, ok_is, Takes, Takes-then, wide8, wide16, wide32, number_takes, number_again, length_is, length_below, type_is, type_small, location_is, initial_is}
+
+record IsName (seen : List Variable) (name : List ℕ) : Type 0 where
+  len : length_of (length name) ≡ Some (length name)
+  new : is_new_name seen name ≡ true
+
+name_takes : (p : ℕ) (seen : List Variable) (bytes : List ℕ) (x : List ℕ × List ℕ) → IsBytes bytes → name_at p seen bytes ≡ Ok x → Takes bytes (name_bytes x.0) x.1 × IsName seen x.0
+unfolding name_at
+name_takes p seen bytes x fits e =
+    let b_first = bind_ok (number_at w8 bytes) (λ first. lawful p (length_of first.0) >>= λ n. cond (ltb (length first.1) n) (Err Truncated) (agrees (BadWord p) (is_new_name seen (take n first.1)) >>= λ _. Ok (take n first.1, drop n first.1))) x e in
+    let b_n = bind_ok (lawful p (length_of b_first.0.0)) (λ n. cond (ltb (length b_first.0.1) n) (Err Truncated) (agrees (BadWord p) (is_new_name seen (take n b_first.0.1)) >>= λ _. Ok (take n b_first.0.1, drop n b_first.0.1))) x b_first.2 in
+    let m = b_first.0.0 in
+    let after = b_first.0.1 in
+    let n-is : m ≡ b_n.0 = length_is m b_n.0 (lawful_ok p (length_of m) b_n.0 b_n.1) in
+    let g = guard_no (ltb (length after) b_n.0) Truncated (agrees (BadWord p) (is_new_name seen (take b_n.0 after)) >>= λ _. Ok (take b_n.0 after, drop b_n.0 after)) x b_n.2 in
+    let long : b_n.0 ≤ length after = ltb-false _ _ g.0 in
+    let a = bind_ok (agrees (BadWord p) (is_new_name seen (take b_n.0 after))) (λ _. Ok (take b_n.0 after, drop b_n.0 after)) x g.1 in
+    let new = agrees_ok (BadWord p) (is_new_name seen (take b_n.0 after)) a.0 a.1 in
+    let t = number_takes w8 (2 ^ 8) wide8 bytes m after fits b_first.1 in
+    let len : m ≡ length (take b_n.0 after) = omega (arith, length-take b_n.0 after) in
+    let len2 : b_n.0 ≡ length (take b_n.0 after) = omega (arith, length-take b_n.0 after) in
+    let read : length_of (length (take b_n.0 after)) ≡ Some (length (take b_n.0 after)) = sym (ap length_of len) ∙ lawful_ok p (length_of m) b_n.0 b_n.1 ∙ ap (λ (k : ℕ). Some k) len2 in
+    let second : Takes after (take b_n.0 after) (drop b_n.0 after) = record { parts = sym (take-append-drop b_n.0 after); rest_fits = IsBytes-drop b_n.0 after t.0.rest_fits } in
+    let both = Takes-then bytes (to_be_bytes w8 m) after (take b_n.0 after) (drop b_n.0 after) t.0 second in
+    let whole : Takes bytes (name_bytes (take b_n.0 after)) (drop b_n.0 after) = subst (λ (k : ℕ). Takes bytes (to_be_bytes w8 k ++ take b_n.0 after) (drop b_n.0 after)) len both in
+    subst (λ (y : List ℕ × List ℕ). Takes bytes (name_bytes y.0) y.1 × IsName seen y.0) (ok_is (take b_n.0 after, drop b_n.0 after) x a.2) (whole, record { len = read; new = new })
+
+name_again : (p : ℕ) (seen : List Variable) (name rest : List ℕ) → length_of (length name) ≡ Some (length name) → is_new_name seen name ≡ true → name_at p seen (name_bytes name ++ rest) ≡ Ok (name, rest)
+unfolding name_at
+name_again p seen name rest len new =
+    let regrouped : name_bytes name ++ rest ≡ to_be_bytes w8 (length name) ++ (name ++ rest) = append_assoc (to_be_bytes w8 (length name)) name rest in
+    let small : length name < 2 ^ 8 = omega (arith, length_below (length name) (length name) len) in
+    let long : ltb (length (name ++ rest)) (length name) ≡ false = le-ltb _ _ (omega (arith, length-append name rest)) in
+    ap (name_at p seen) regrouped ∙ rw (number_again w8 (2 ^ 8) wide8 (length name) (name ++ rest) small, len, long, take_at name rest (length name) refl, drop_at name rest (length name) refl, new) refl
+
+-- the parts of a variable, each with what was read of it
+variable_joins : (seen : List Variable) (bytes r0 r1 r2 rest : List ℕ) (v : Variable) (code place bits : ℕ)
+    → Takes bytes (name_bytes v.name) r0 → Takes r0 (to_be_bytes w8 code) r1 → Takes r1 (to_be_bytes w16 place) r2 → Takes r2 (to_be_bytes w32 bits) rest
+    → IsName seen v.name → type_of code ≡ Some v.ty → location_of seen v.ty place ≡ Some v.location → place < 2 ^ 16 → initial_of v.ty v.location bits ≡ Some v.initial → bits < 2 ^ 32
+    → Takes bytes (variable_bytes v) rest × IsVariable seen v
+variable_joins seen bytes r0 r1 r2 rest v code place bits t0 t1 t2 t3 name ty-ok loc-ok place-lt value-ok bits-lt =
+    let ty-is = sym (type_is code v.ty ty-ok) in
+    let loc-is = sym (location_is seen v.ty place v.location loc-ok) in
+    let value-is = sym (initial_is v.ty v.location bits v.initial bits-lt value-ok) in
+    let s3 = subst (λ (k : ℕ). Takes r2 (to_be_bytes w32 k) rest) value-is t3 in
+    let s2 = subst (λ (k : ℕ). Takes r1 (to_be_bytes w16 k) r2) loc-is t2 in
+    let s1 = subst (λ (k : ℕ). Takes r0 (to_be_bytes w8 k) r1) ty-is t1 in
+    let e23 = Takes-then r1 (to_be_bytes w16 (location_code v.location)) r2 (to_be_bytes w32 (cast_unsigned w32 (number_of v.initial))) rest s2 s3 in
+    let e13 = Takes-then r0 (to_be_bytes w8 (type_code v.ty)) r1 (to_be_bytes w16 (location_code v.location) ++ to_be_bytes w32 (cast_unsigned w32 (number_of v.initial))) rest s1 e23 in
+    let e03 = Takes-then bytes (name_bytes v.name) r0 (to_be_bytes w8 (type_code v.ty) ++ (to_be_bytes w16 (location_code v.location) ++ to_be_bytes w32 (cast_unsigned w32 (number_of v.initial)))) rest t0 e13 in (
+      e03,
+      record {
+        length = name.len;
+        name = name.new;
+        type = subst (λ (k : ℕ). type_of k ≡ Some v.ty) ty-is ty-ok;
+        location = subst (λ (k : ℕ). location_of seen v.ty k ≡ Some v.location) loc-is loc-ok;
+        location_small = subst (λ (k : ℕ). k < 2 ^ 16) loc-is place-lt;
+        initial = subst (λ (k : ℕ). initial_of v.ty v.location k ≡ Some v.initial) value-is value-ok;
+        initial_small = subst (λ (k : ℕ). k < 2 ^ 32) value-is bits-lt;
+      },
+    )
+
+variable_ends : (seen : List Variable) (bytes r0 r1 r2 rest : List ℕ) (v : Variable) (code place bits : ℕ) (x : Variable × List ℕ)
+    → Takes bytes (name_bytes v.name) r0 → Takes r0 (to_be_bytes w8 code) r1 → Takes r1 (to_be_bytes w16 place) r2 → Takes r2 (to_be_bytes w32 bits) rest
+    → IsName seen v.name → type_of code ≡ Some v.ty → location_of seen v.ty place ≡ Some v.location → place < 2 ^ 16 → initial_of v.ty v.location bits ≡ Some v.initial → bits < 2 ^ 32
+    → (let r : Result (Variable × List ℕ) LoadFault = Ok (v, rest) in r ≡ Ok x)
+    → Takes bytes (variable_bytes x.0) x.1 × IsVariable seen x.0
+variable_ends seen bytes r0 r1 r2 rest v code place bits x t0 t1 t2 t3 name ty-ok loc-ok place-lt value-ok bits-lt e =
+    subst (λ (y : Variable × List ℕ). Takes bytes (variable_bytes y.0) y.1 × IsVariable seen y.0) (ok_is (v, rest) x e) (variable_joins seen bytes r0 r1 r2 rest v code place bits t0 t1 t2 t3 name ty-ok loc-ok place-lt value-ok bits-lt)
+
+-- a variable behind its name and its type
+variable_tail : (p : ℕ) (seen : List Variable) (bytes r0 r1 name : List ℕ) (code : ℕ) (type : Ty) (x : Variable × List ℕ)
+    → Takes bytes (name_bytes name) r0 → IsName seen name → Takes r0 (to_be_bytes w8 code) r1 → type_of code ≡ Some type
+    → (number_at w16 r1 >>= λ place. lawful p (location_of seen type place.0) >>= λ loc. number_at w32 place.1 >>= λ first. lawful p (initial_of type loc first.0) >>= λ value. Ok (record { name = name; ty = type; location = loc; initial = value }, first.1)) ≡ Ok x
+    → Takes bytes (variable_bytes x.0) x.1 × IsVariable seen x.0
+variable_tail p seen bytes r0 r1 name code type x t0 named t1 ty-ok e =
+    let b_place = bind_ok (number_at w16 r1) (λ place. lawful p (location_of seen type place.0) >>= λ loc. number_at w32 place.1 >>= λ first. lawful p (initial_of type loc first.0) >>= λ value. Ok (record { name = name; ty = type; location = loc; initial = value }, first.1)) x e in
+    let b_loc = bind_ok (lawful p (location_of seen type b_place.0.0)) (λ loc. number_at w32 b_place.0.1 >>= λ first. lawful p (initial_of type loc first.0) >>= λ value. Ok (record { name = name; ty = type; location = loc; initial = value }, first.1)) x b_place.2 in
+    let b_first = bind_ok (number_at w32 b_place.0.1) (λ first. lawful p (initial_of type b_loc.0 first.0) >>= λ value. Ok (record { name = name; ty = type; location = b_loc.0; initial = value }, first.1)) x b_loc.2 in
+    let b_value = bind_ok (lawful p (initial_of type b_loc.0 b_first.0.0)) (λ value. Ok (record { name = name; ty = type; location = b_loc.0; initial = value }, b_first.0.1)) x b_first.2 in
+    let t2 = number_takes w16 (2 ^ 16) wide16 r1 b_place.0.0 b_place.0.1 t1.rest_fits b_place.1 in
+    let t3 = number_takes w32 (2 ^ 32) wide32 b_place.0.1 b_first.0.0 b_first.0.1 t2.0.rest_fits b_first.1 in
+    let loc-ok = lawful_ok p (location_of seen type b_place.0.0) b_loc.0 b_loc.1 in
+    let value-ok = lawful_ok p (initial_of type b_loc.0 b_first.0.0) b_value.0 b_value.1 in
+    variable_ends seen bytes r0 r1 b_place.0.1 b_first.0.1 (record { name = name; ty = type; location = b_loc.0; initial = b_value.0 }) code b_place.0.0 b_first.0.0 x t0 t1 t2.0 t3.0 named ty-ok loc-ok t2.1 value-ok t3.1 b_value.2
+
+pub variable_takes : (total : ℕ) (seen : List Variable) (bytes : List ℕ) (x : Variable × List ℕ) → IsBytes bytes → variable_at total seen bytes ≡ Ok x → Takes bytes (variable_bytes x.0) x.1 × IsVariable seen x.0
+unfolding variable_at
+variable_takes total seen bytes x fits e =
+    let p = total - length bytes in
+    let b_name = bind_ok (name_at p seen bytes) (λ name. number_at w8 name.1 >>= λ code. lawful p (type_of code.0) >>= λ type. number_at w16 code.1 >>= λ place. lawful p (location_of seen type place.0) >>= λ loc. number_at w32 place.1 >>= λ first. lawful p (initial_of type loc first.0) >>= λ value. Ok (record { name = name.0; ty = type; location = loc; initial = value }, first.1)) x e in
+    let b_code = bind_ok (number_at w8 b_name.0.1) (λ code. lawful p (type_of code.0) >>= λ type. number_at w16 code.1 >>= λ place. lawful p (location_of seen type place.0) >>= λ loc. number_at w32 place.1 >>= λ first. lawful p (initial_of type loc first.0) >>= λ value. Ok (record { name = b_name.0.0; ty = type; location = loc; initial = value }, first.1)) x b_name.2 in
+    let b_type = bind_ok (lawful p (type_of b_code.0.0)) (λ type. number_at w16 b_code.0.1 >>= λ place. lawful p (location_of seen type place.0) >>= λ loc. number_at w32 place.1 >>= λ first. lawful p (initial_of type loc first.0) >>= λ value. Ok (record { name = b_name.0.0; ty = type; location = loc; initial = value }, first.1)) x b_code.2 in
+    let t0 = name_takes p seen bytes b_name.0 fits b_name.1 in
+    let t1 = number_takes w8 (2 ^ 8) wide8 b_name.0.1 b_code.0.0 b_code.0.1 t0.0.rest_fits b_code.1 in
+    let ty-ok = lawful_ok p (type_of b_code.0.0) b_type.0 b_type.1 in
+    variable_tail p seen bytes b_name.0.1 b_code.0.1 b_name.0.0 b_code.0.0 b_type.0 x t0.0 t0.1 t1.0 ty-ok b_type.2
+
+-- four parts, and what follows
+regrouped_4 : (a b c d rest : List ℕ) → (a ++ (b ++ (c ++ d))) ++ rest ≡ a ++ (b ++ (c ++ (d ++ rest)))
+regrouped_4 a b c d rest = append_assoc a (b ++ (c ++ d)) rest ∙ ap (λ (x : List ℕ). a ++ x) (append_assoc b (c ++ d) rest ∙ ap (λ (x : List ℕ). b ++ x) (append_assoc c d rest))
+
+regrouped_3 : (a b c rest : List ℕ) → (a ++ (b ++ c)) ++ rest ≡ a ++ (b ++ (c ++ rest))
+regrouped_3 a b c rest = append_assoc a (b ++ c) rest ∙ ap (λ (x : List ℕ). a ++ x) (append_assoc b c rest)
+
+pub variable_again : (total : ℕ) (seen : List Variable) (v : Variable) (rest : List ℕ) → IsVariable seen v → variable_at total seen (variable_bytes v ++ rest) ≡ Ok (v, rest)
+unfolding variable_at
+variable_again total seen v rest is =
+    let p = total - length (variable_bytes v ++ rest) in
+    let b1 = to_be_bytes w8 (type_code v.ty) in
+    let b2 = to_be_bytes w16 (location_code v.location) in
+    let b3 = to_be_bytes w32 (cast_unsigned w32 (number_of v.initial)) in
+    let h0 : name_at p seen (variable_bytes v ++ rest) ≡ Ok (v.name, b1 ++ (b2 ++ (b3 ++ rest))) = ap (name_at p seen) (regrouped_4 (name_bytes v.name) b1 b2 b3 rest) ∙ name_again p seen v.name (b1 ++ (b2 ++ (b3 ++ rest))) is.length is.name in
+    rw (h0, number_again w8 (2 ^ 8) wide8 (type_code v.ty) (b2 ++ (b3 ++ rest)) (type_small v.ty), is.type, number_again w16 (2 ^ 16) wide16 (location_code v.location) (b3 ++ rest) is.location_small, is.location, number_again w32 (2 ^ 32) wide32 (cast_unsigned w32 (number_of v.initial)) rest is.initial_small, is.initial) refl
+
+op_is : (n : ℕ) (op : Op) → op_of n ≡ Some op → op_code op ≡ n
+op_is zero op e = absurd cc
+op_is (suc zero) op e = let is : ops.Ld ≡ op = cc in sym (ap op_code is)
+op_is (suc (suc zero)) op e = let is : ops.St ≡ op = cc in sym (ap op_code is)
+op_is (suc (suc (suc zero))) op e = absurd cc
+op_is (suc (suc (suc (suc zero)))) op e = absurd cc
+op_is (suc (suc (suc (suc (suc zero))))) op e = let is : ops.And ≡ op = cc in sym (ap op_code is)
+op_is (suc (suc (suc (suc (suc (suc zero)))))) op e = let is : ops.Or ≡ op = cc in sym (ap op_code is)
+op_is (suc (suc (suc (suc (suc (suc (suc n))))))) op e = absurd cc
+
+modifier_is : (n : ℕ) (m : Modifier) → modifier_of n ≡ Some m → modifier_code m ≡ n
+modifier_is zero m e = let is : (let r : Modifier = record { negated = false; conditional = false; opens = false } in r) ≡ m = cc in sym (ap modifier_code is)
+modifier_is (suc zero) m e = let is : (let r : Modifier = record { negated = true; conditional = false; opens = false } in r) ≡ m = cc in sym (ap modifier_code is)
+modifier_is (suc (suc zero)) m e = let is : (let r : Modifier = record { negated = false; conditional = true; opens = false } in r) ≡ m = cc in sym (ap modifier_code is)
+modifier_is (suc (suc (suc zero))) m e = let is : (let r : Modifier = record { negated = true; conditional = true; opens = false } in r) ≡ m = cc in sym (ap modifier_code is)
+modifier_is (suc (suc (suc (suc zero)))) m e = let is : (let r : Modifier = record { negated = false; conditional = false; opens = true } in r) ≡ m = cc in sym (ap modifier_code is)
+modifier_is (suc (suc (suc (suc (suc zero))))) m e = let is : (let r : Modifier = record { negated = true; conditional = false; opens = true } in r) ≡ m = cc in sym (ap modifier_code is)
+modifier_is (suc (suc (suc (suc (suc (suc n)))))) m e = absurd cc
+
+tested_by : {A : Type 0} (test : A → Bool) (b : Bool) (x y : A) → test x ≡ b → cond b (Some x) None ≡ Some y → test y ≡ true
+tested_by test true x y e h = let is : x ≡ y = cc in sym (ap test is) ∙ e
+tested_by test false x y e h = absurd cc
+
+tested_is : {A : Type 0} (test : A → Bool) (o : Option A) (y : A) → option_and_then (tested test) o ≡ Some y → test y ≡ true
+tested_is test None y e = absurd cc
+tested_is test (Some x) y e = tested_by test (test x) x y refl e
+
+operand_is : (vs : List Variable) (n : ℕ) (o : Operand) → operand_of vs n ≡ Some o → plain_code vs o ≡ n
+operand_is vs n o e = eqb-true (plain_code vs o) n (tested_is (λ o. nat_eq (plain_code vs o) n) (raw_operand vs n) o e)
+
+pub word_takes : (p : ℕ) (vs : List Variable) (bytes : List ℕ) (x : Instr × List ℕ) → IsBytes bytes → word_at p vs bytes ≡ Ok x → Takes bytes (plain_word_bytes vs x.0) x.1 × IsWord vs x.0
+unfolding word_at
+word_takes p vs bytes x fits e =
+    let b_code = bind_ok (number_at w8 bytes) (λ code. lawful p (op_of code.0) >>= λ op. number_at w8 code.1 >>= λ letters. lawful p (modifier_of letters.0) >>= λ m. number_at w16 letters.1 >>= λ slot. lawful p (operand_of vs slot.0) >>= λ operand. lawful p (line_of op m operand) >>= λ line. Ok (line, slot.1)) x e in
+    let b_op = bind_ok (lawful p (op_of b_code.0.0)) (λ op. number_at w8 b_code.0.1 >>= λ letters. lawful p (modifier_of letters.0) >>= λ m. number_at w16 letters.1 >>= λ slot. lawful p (operand_of vs slot.0) >>= λ operand. lawful p (line_of op m operand) >>= λ line. Ok (line, slot.1)) x b_code.2 in
+    let b_letters = bind_ok (number_at w8 b_code.0.1) (λ letters. lawful p (modifier_of letters.0) >>= λ m. number_at w16 letters.1 >>= λ slot. lawful p (operand_of vs slot.0) >>= λ operand. lawful p (line_of b_op.0 m operand) >>= λ line. Ok (line, slot.1)) x b_op.2 in
+    let b_m = bind_ok (lawful p (modifier_of b_letters.0.0)) (λ m. number_at w16 b_letters.0.1 >>= λ slot. lawful p (operand_of vs slot.0) >>= λ operand. lawful p (line_of b_op.0 m operand) >>= λ line. Ok (line, slot.1)) x b_letters.2 in
+    let b_slot = bind_ok (number_at w16 b_letters.0.1) (λ slot. lawful p (operand_of vs slot.0) >>= λ operand. lawful p (line_of b_op.0 b_m.0 operand) >>= λ line. Ok (line, slot.1)) x b_m.2 in
+    let b_operand = bind_ok (lawful p (operand_of vs b_slot.0.0)) (λ operand. lawful p (line_of b_op.0 b_m.0 operand) >>= λ line. Ok (line, b_slot.0.1)) x b_slot.2 in
+    let b_line = bind_ok (lawful p (line_of b_op.0 b_m.0 b_operand.0)) (λ line. Ok (line, b_slot.0.1)) x b_operand.2 in
+    let t0 = number_takes w8 (2 ^ 8) wide8 bytes b_code.0.0 b_code.0.1 fits b_code.1 in
+    let t1 = number_takes w8 (2 ^ 8) wide8 b_code.0.1 b_letters.0.0 b_letters.0.1 t0.0.rest_fits b_letters.1 in
+    let t2 = number_takes w16 (2 ^ 16) wide16 b_letters.0.1 b_slot.0.0 b_slot.0.1 t1.0.rest_fits b_slot.1 in
+    let op-ok = lawful_ok p (op_of b_code.0.0) b_op.0 b_op.1 in
+    let m-ok = lawful_ok p (modifier_of b_letters.0.0) b_m.0 b_m.1 in
+    let operand-ok = lawful_ok p (operand_of vs b_slot.0.0) b_operand.0 b_operand.1 in
+    let line-ok = lawful_ok p (line_of b_op.0 b_m.0 b_operand.0) b_line.0 b_line.1 in
+    let made : Instr = record { label = None; op = b_op.0; modifier = b_m.0; operand = b_operand.0 } in
+    let y = some_yes (is_line b_op.0 b_m.0 b_operand.0) made b_line.0 line-ok in
+    let op-is = sym (op_is b_code.0.0 b_op.0 op-ok) in
+    let m-is = sym (modifier_is b_letters.0.0 b_m.0 m-ok) in
+    let operand-is = sym (operand_is vs b_slot.0.0 b_operand.0 operand-ok) in
+    let s0 = subst (λ (k : ℕ). Takes bytes (to_be_bytes w8 k) b_code.0.1) op-is t0.0 in
+    let s1 = subst (λ (k : ℕ). Takes b_code.0.1 (to_be_bytes w8 k) b_letters.0.1) m-is t1.0 in
+    let s2 = subst (λ (k : ℕ). Takes b_letters.0.1 (to_be_bytes w16 k) b_slot.0.1) operand-is t2.0 in
+    let e12 = Takes-then b_code.0.1 (to_be_bytes w8 (modifier_code b_m.0)) b_letters.0.1 (to_be_bytes w16 (plain_code vs b_operand.0)) b_slot.0.1 s1 s2 in
+    let e02 = Takes-then bytes (to_be_bytes w8 (op_code b_op.0)) b_code.0.1 (to_be_bytes w8 (modifier_code b_m.0) ++ to_be_bytes w16 (plain_code vs b_operand.0)) b_slot.0.1 s0 e12 in
+    let is : IsWord vs made = record {
+      op = subst (λ (k : ℕ). op_of k ≡ Some b_op.0) op-is op-ok;
+      op_small = subst (λ (k : ℕ). k < 2 ^ 8) op-is t0.1;
+      modifier = subst (λ (k : ℕ). modifier_of k ≡ Some b_m.0) m-is m-ok;
+      modifier_small = subst (λ (k : ℕ). k < 2 ^ 8) m-is t1.1;
+      operand = subst (λ (k : ℕ). operand_of vs k ≡ Some b_operand.0) operand-is operand-ok;
+      operand_small = subst (λ (k : ℕ). k < 2 ^ 16) operand-is t2.1;
+      whole = line-ok ∙ ap (λ (l : Instr). Some l) (sym y.1);
+    } in
+    subst (λ (y : Instr × List ℕ). Takes bytes (plain_word_bytes vs y.0) y.1 × IsWord vs y.0) (ap (λ (l : Instr). (l, b_slot.0.1)) y.1 ∙ ok_is (b_line.0, b_slot.0.1) x b_line.2) (e02, is)
+
+pub word_again : (p : ℕ) (vs : List Variable) (line : Instr) (rest : List ℕ) → IsWord vs line → word_at p vs (plain_word_bytes vs line ++ rest) ≡ Ok (line, rest)
+unfolding word_at
+word_again p vs line rest is =
+    let b1 = to_be_bytes w8 (modifier_code line.modifier) in
+    let b2 = to_be_bytes w16 (plain_code vs line.operand) in
+    ap (word_at p vs) (regrouped_3 (to_be_bytes w8 (op_code line.op)) b1 b2 rest) ∙ rw (number_again w8 (2 ^ 8) wide8 (op_code line.op) (b1 ++ (b2 ++ rest)) is.op_small, is.op, number_again w8 (2 ^ 8) wide8 (modifier_code line.modifier) (b2 ++ rest) is.modifier_small, is.modifier, number_again w16 (2 ^ 16) wide16 (plain_code vs line.operand) rest is.operand_small, is.operand, is.whole) refl
+
+-- ---- tables of records
+
+pub record HasItems {X : Type 0} (spell : X → List ℕ) (IsItem : List X → X → Type 0) (n : ℕ) (seen : List X) (bytes : List ℕ) (y : List X × List ℕ) : Type 0 where
+  pub new : List X
+  pub all : seen ++ new ≡ y.0
+  pub count : length new ≡ n
+  pub takes : Takes bytes (flat_map spell new) y.1
+  pub items : AreItems IsItem seen new
+
+pub items_take : {X : Type 0} (item : List X → List ℕ → Result (X × List ℕ) LoadFault) (spell : X → List ℕ) (IsItem : List X → X → Type 0)
+    → ((seen : List X) (bytes : List ℕ) (x : X × List ℕ) → IsBytes bytes → item seen bytes ≡ Ok x → Takes bytes (spell x.0) x.1 × IsItem seen x.0)
+    → (n : ℕ) (seen : List X) (bytes : List ℕ) (y : List X × List ℕ) → IsBytes bytes → items_from item n seen bytes ≡ Ok y → HasItems spell IsItem n seen bytes y
+unfolding items_from
+items_take item spell IsItem each zero seen bytes y fits e =
+    subst (HasItems spell IsItem 0 seen bytes) (ok_is (seen, bytes) y e) (record { new = []; all = append-nil seen; count = refl; takes = record { parts = refl; rest_fits = fits }; items = tt })
+items_take item spell IsItem each (suc n) seen bytes y fits e =
+    let b = bind_ok (item seen bytes) (λ x. items_from item n (seen ++ x.0 ∷ []) x.1) y e in
+    let one = each seen bytes b.0 fits b.1 in
+    let more = items_take item spell IsItem each n (seen ++ b.0.0 ∷ []) b.0.1 y one.0.rest_fits b.2 in
+    let both = Takes-then bytes (spell b.0.0) b.0.1 (flat_map spell more.new) y.1 one.0 more.takes in
+    record { new = b.0.0 ∷ more.new; all = sym (append_assoc seen (b.0.0 ∷ []) more.new) ∙ more.all; count = ap suc more.count; takes = rw flat_map-cons both; items = (one.1, more.items) }
+
+pub items_again : {X : Type 0} (item : List X → List ℕ → Result (X × List ℕ) LoadFault) (spell : X → List ℕ) (IsItem : List X → X → Type 0)
+    → ((seen : List X) (x : X) (rest : List ℕ) → IsItem seen x → item seen (spell x ++ rest) ≡ Ok (x, rest))
+    → (xs seen : List X) (rest : List ℕ) → AreItems IsItem seen xs → items_from item (length xs) seen (flat_map spell xs ++ rest) ≡ Ok (seen ++ xs, rest)
+unfolding items_from
+items_again item spell IsItem each [] seen rest is = ap (λ (s : List _). Ok (s, rest)) (sym (append-nil seen))
+items_again item spell IsItem each (x ∷ xs) seen rest is =
+    let regrouped : flat_map spell (x ∷ xs) ++ rest ≡ spell x ++ (flat_map spell xs ++ rest) = ap (λ (b : List ℕ). b ++ rest) (flat_map-cons spell x xs) ∙ append_assoc (spell x) (flat_map spell xs) rest in
+    ap (items_from item (suc (length xs)) seen) regrouped ∙ rw (each seen x (flat_map spell xs ++ rest) is.0) (items_again item spell IsItem each xs (seen ++ x ∷ []) rest is.1 ∙ ap (λ (s : List _). Ok (s, rest)) (append_assoc seen (x ∷ []) xs))

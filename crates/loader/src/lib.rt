@@ -1,0 +1,13 @@
+//! Images from bytes: exactly the spellings of typed programs are loaded, each to its program. It uses il_model, where
+//! the spelling and the typing are defined.
+#![tactic(auto)]
+
+mod counts;
+mod fault;
+mod image;
+mod loading;
+mod reading;
+
+pub use fault::{LoadError, LoadFault};
+pub use image::Image;
+pub use loading::load;

@@ -1,0 +1,3 @@
+pub mod Safety
+pub mod Reset
+pub mod Keeping

@@ -1,0 +1,10 @@
+-- Why a text gives no commands.
+use Rattle.std.specs.Prelude.{◌≡◌}
+use Rattle.serde_json.specs.Errors.{IsMemory}
+use Rattle.serde_json.specs.declared.error.Error.{Error}
+use Rattle.plc_json.specs.declared.command.JsonFault.{JsonFault}
+use Rattle.plc_json.specs.declared.command.JsonFault.TheVariants.{Shape, Memory}
+
+-- want of memory stays that, and what is wrong with the text is a fault of its shape
+abbrev pub IsFaultOf : Error → JsonFault → Type 0
+IsFaultOf error fault = (IsMemory error → fault ≡ Memory) × (¬ IsMemory error → fault ≡ Shape)

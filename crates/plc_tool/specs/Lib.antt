@@ -1,0 +1,4 @@
+pub mod Meaning
+pub mod Running
+pub mod Status
+pub mod Told

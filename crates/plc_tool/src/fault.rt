@@ -1,0 +1,107 @@
+//! Why a call of the program was refused: one line of text and one status for each fault.
+
+ghost use Rattle.std.specs.Prelude.{◌≡◌};
+ghost use Rattle.plc_tool.specs.Status.{status_of, fault_of};
+ghost use Rattle.plc_tool.specs.declared.fault.Fault.TheVariants.{Memory};
+
+use plc_json::JsonFault;
+use std::alloc::{AllocError, AllocFailed};
+use std::io;
+use thiserror::Error;
+
+/// A fault of a call; its `Display` is the line for standard error. Lines, columns and a fault's number are from 1, an
+/// instruction and a position from 0.
+#[derive(Clone, Copy, Debug, PartialEq, Eq, Error)]
+pub enum Fault {
+    /// The text is no source.
+    #[error("plc: read {number} at {line}:{column}")]
+    Read {
+        number: u8,
+        line: usize,
+        column: usize,
+    },
+    /// The source declares no program.
+    #[error("plc: decl {number} at {line}:{column}")]
+    Declaration {
+        number: u8,
+        line: usize,
+        column: usize,
+    },
+    /// The program has no image.
+    #[error("plc: asm {number} at {instruction}")]
+    Assembly {
+        number: u8,
+        instruction: usize,
+    },
+    /// The bytes are no image.
+    #[error("plc: load {number}")]
+    Load {
+        number: u8,
+    },
+    /// The bytes are no image, by what stands at a position.
+    #[error("plc: load {number} at {position}")]
+    LoadAt {
+        number: u8,
+        position: usize,
+    },
+    /// The text is no list of commands.
+    #[error("plc: commands")]
+    Commands,
+    /// A file or a stream failed.
+    #[error("plc: device")]
+    Device,
+    /// Memory ran out.
+    #[error("plc: memory")]
+    Memory,
+}
+
+impl Fault {
+    /// The status that the program ends with: 1 for refused input, 2 for a device or for memory.
+    pub fn status(self) -> u8
+        ensures { result ≡ status_of self }
+    {
+        match self {
+            Fault::Device | Fault::Memory => 2,
+            _ => 1,
+        }
+    }
+}
+
+impl From<AllocError> for Fault {
+    ghost from_gives = { λ _ e. e ≡ Memory };
+
+    fn from(_error: AllocError) -> Fault {
+        Fault::Memory
+    }
+}
+
+impl<T: Drop> From<AllocFailed<T>> for Fault {
+    ghost from_gives = { λ _ e. e ≡ Memory };
+
+    fn from(_failed: AllocFailed<T>) -> Fault {
+        Fault::Memory
+    }
+}
+
+impl From<JsonFault> for Fault {
+    ghost from_gives = { λ fault e. e ≡ fault_of fault };
+
+    fn from(fault: JsonFault) -> Fault {
+        match fault {
+            JsonFault::Shape => Fault::Commands,
+            JsonFault::Memory => Fault::Memory,
+        }
+    }
+}
+
+/// A writer over memory, and the reading of a whole file, answer want of memory as an error of their device.
+impl From<io::Error> for Fault {
+    ghost from_gives = { λ _ e. status_of e ≡ 2 };
+
+    fn from(error: io::Error) -> Fault {
+        match error.kind() {
+            io::ErrorKind::OutOfMemory => Fault::Memory,
+            _ => Fault::Device,
+        }
+    }
+}

@@ -1,0 +1,17 @@
+//! What the program does, over byte slices and writers: tests call it with slices and vectors, `main` with files and
+//! streams. It may use every layer below, opens no file and knows no runtime.
+#![tactic(auto)]
+
+mod answering;
+mod calls;
+mod fault;
+mod layers;
+mod line;
+mod scan;
+mod telling;
+
+pub use calls::{run, run_unread};
+pub use fault::Fault;
+pub use line::AnswerLine;
+pub use scan::Scans;
+pub use telling::{tell, tell_words};

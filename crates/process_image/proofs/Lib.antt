@@ -1,0 +1,4 @@
+pub mod CallLaws
+pub mod Fronts
+pub mod Adding
+pub mod Sameness

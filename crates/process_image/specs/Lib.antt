@@ -1,0 +1,6 @@
+pub mod Book
+pub mod Entries
+pub mod Calls
+pub mod Staging
+pub mod Releases
+pub mod Releasing

@@ -1,0 +1,163 @@
+//! The book of staged writes.
+ghost use Rattle.std.specs.Prelude.{◌≡◌, ◌+◌, ◌<◌, ◌≤◌, ◌↔◌, true, length, IfOk, OnErr, Err, IsTrue};
+ghost use Rattle.process_image.specs.Book.{Book, bits_at, words_at, cells_of, is_full, new_book};
+ghost use Rattle.process_image.specs.Calls.{Does, read_gave, sample_gave, wrote};
+
+use il_model::cells::{Cells, InImage};
+use std::alloc::{AllocError, Global};
+use std::marker::Model;
+use thiserror::Error;
+
+const BITS: usize = 512;
+
+const WORDS: usize = 64;
+
+/// So many writes may stand between two samples.
+const MOST_WRITES: usize = 4096;
+
+/// The number of a write that was taken. A book's tickets are 0, 1, 2 and so on, and never the greatest `u64`.
+#[derive(Clone, Copy, Debug, PartialEq, Eq)]
+pub struct Ticket {
+    pub number: u64,
+}
+
+/// The cells with each write that has a ticket below `next`, the number of the next ticket.
+#[derive(Clone, Copy, Debug, PartialEq, Eq)]
+pub struct Sample {
+    pub inputs: InImage,
+    pub next: u64,
+}
+
+/// Why a write was not taken. The book is as it was.
+#[derive(Clone, Copy, Debug, Error, PartialEq, Eq)]
+pub enum StageError {
+    #[error("the write leaves the area")]
+    Address,
+    #[error("too many writes since the last sample")]
+    Full,
+    #[error("no memory for the write")]
+    Memory,
+}
+
+#[derive(Drop)]
+enum Entry {
+    Bits(usize, Vec<bool>),
+    Words(usize, Vec<i16>),
+}
+
+/// The last sample and the writes since then. It keeps the cells as they are now beside them.
+#[derive(Drop)]
+pub struct StageBook {
+    sample: Cells,
+    entries: Vec<Entry>,
+    next: u64,
+    cells: Cells,
+}
+
+impl Model for StageBook {
+    ghost use Rattle.std.specs.Prelude.{◌≡◌, ◌≤◌, length};
+    ghost use Rattle.process_image.specs.Book.{Book, replayed};
+
+    ghost Value = { Book };
+
+    ghost use Rattle.process_image.specs.Entries.{changes_of};
+
+    ghost view = { λ b. record { sample = b.sample; changes = changes_of b.entries.items; next = b.next } };
+
+    ghost invariant = { λ b. (b.cells ≡ replayed b.sample (changes_of b.entries.items)) × (length b.entries.items ≤ 4096) × (length b.entries.items ≤ b.next) };
+}
+
+impl StageBook {
+    /// A book with all bits FALSE, all words 0 and no write. Its writes take their memory from `alloc`.
+    pub fn new(alloc: Global) -> StageBook
+        ensures { result ≡ new_book }
+    {
+        StageBook {
+            sample: Cells::clear(),
+            entries: Vec::new(alloc),
+            next: 0,
+            cells: Cells::clear(),
+        }
+    }
+
+    /// The cells with each write so far. It takes no memory.
+    pub fn read(&self) -> InImage
+        ensures { Does self.now (read_gave result.cells) self.now }
+    {
+        InImage { cells: self.cells }
+    }
+
+    /// The cells with each write so far, and the next ticket's number. It forgets the writes, and takes no memory.
+    pub fn sample(&mut self) -> Sample
+        ensures { Does self.old (sample_gave result.inputs.cells result.next) self.new }
+    {
+        let inputs = self.read();
+        let next = self.next;
+        self.sample = inputs.cells;
+        self.entries.clear();
+        Sample { inputs, next }
+    }
+
+    /// Whether a write within its area is refused.
+    fn is_full(&self) -> bool
+        ensures { result ≡ is_full self.now }
+    {
+        self.entries.len() == MOST_WRITES || self.next == u64::MAX
+    }
+
+    /// Writes these bits, the first at `address` of 0 to 511, all or none. `Address` where one lies past the area, else `Full` at
+    /// 4096 writes since the last sample or where the tickets are used up, else `Memory` where a growth was refused.
+    pub fn write_bits(&mut self, address: usize, values: &[bool]) -> Result<Ticket, StageError>
+        ensures ok { IfOk result (λ t. Does self.old (wrote (bits_at address values.now) t.number) self.new) }
+        ensures address { (result ≡ Err StageError.Address) ↔ (512 < address + length values.now) }
+        ensures full { (result ≡ Err StageError.Full) ↔ ((address + length values.now ≤ 512) × (is_full self.old ≡ true)) }
+        ensures err { OnErr result (self.new ≡ self.old) }
+    {
+        if address > BITS || values.len() > BITS - address {
+            return Err(StageError::Address);
+        }
+        if self.is_full() {
+            return Err(StageError::Full);
+        }
+        let alloc = *self.entries.allocator();
+        let Ok(copy) = values.to_vec(alloc) else {
+            return Err(StageError::Memory);
+        };
+        if self.entries.push(Entry::Bits(address, copy)).is_err() {
+            return Err(StageError::Memory);
+        }
+        let end = address + values.len();
+        self.cells.bits[address..end].copy_from_slice(values);
+        let number = self.next;
+        self.next += 1;
+        Ok(Ticket { number })
+    }
+
+    /// Writes these words, the first at `address` of 0 to 63, all or none. `Address` where one lies past the area, else `Full` at
+    /// 4096 writes since the last sample or where the tickets are used up, else `Memory` where a growth was refused.
+    pub fn write_words(&mut self, address: usize, values: &[i16]) -> Result<Ticket, StageError>
+        ensures ok { IfOk result (λ t. Does self.old (wrote (words_at address values.now) t.number) self.new) }
+        ensures address { (result ≡ Err StageError.Address) ↔ (64 < address + length values.now) }
+        ensures full { (result ≡ Err StageError.Full) ↔ ((address + length values.now ≤ 64) × (is_full self.old ≡ true)) }
+        ensures err { OnErr result (self.new ≡ self.old) }
+    {
+        if address > WORDS || values.len() > WORDS - address {
+            return Err(StageError::Address);
+        }
+        if self.is_full() {
+            return Err(StageError::Full);
+        }
+        let alloc = *self.entries.allocator();
+        let Ok(copy) = values.to_vec(alloc) else {
+            return Err(StageError::Memory);
+        };
+        if self.entries.push(Entry::Words(address, copy)).is_err() {
+            return Err(StageError::Memory);
+        }
+        let end = address + values.len();
+        self.cells.words[address..end].copy_from_slice(values);
+        let number = self.next;
+        self.next += 1;
+        Ok(Ticket { number })
+    }
+}

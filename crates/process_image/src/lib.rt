@@ -1,0 +1,18 @@
+//! The images that threads share: staged inputs, each write of which stands whole in the next sample, and released outputs, whose
+//! readers wait for nobody and never go back. It may use `il_model` and the ported crates, and knows no program and no protocol.
+#![tactic(auto)]
+
+pub mod book;
+pub mod calls;
+pub mod copies;
+pub mod ends;
+pub mod list;
+pub mod release;
+pub mod staging;
+
+pub use book::{Sample, StageBook, StageError, Ticket};
+pub use copies::{Pen, SharedPen};
+pub use ends::{PublishError, ReleasedReader, ReleasedWriter, Told, Unmade, released};
+pub use list::{Naming, NewList};
+pub use release::{Release, View};
+pub use staging::{Stage, StageHandle, Staging};

@@ -1,0 +1,102 @@
+//! What a session and the scan driver write to and sample.
+ghost use Rattle.std.specs.Prelude.{◌≡◌, ◌+◌, ◌<◌, ◌≤◌, ◌↔◌, true, length, IfOk, OnErr, Err, Option, Some, None};
+
+use crate::book::{Sample, StageBook, StageError, Ticket};
+use il_model::cells::InImage;
+use std::sync::{Mutex, Wait};
+
+/// Staged inputs. An implementation tells its book, or tells nothing, as one behind a lock.
+pub trait Staging {
+    ghost use Rattle.std.specs.Prelude.{◌≡◌, ◌+◌, ◌<◌, ◌≤◌, ◌↔◌, true, length, IfOk, OnErr, Err, Option};
+    ghost use Rattle.process_image.specs.Book.{Book, bits_at, words_at, is_full};
+    ghost use Rattle.process_image.specs.Calls.{Does, read_gave, sample_gave, wrote};
+    ghost use Rattle.process_image.specs.Staging.{Changed};
+
+    ghost told: { Self → Option Book };
+
+    /// As `StageBook::read`.
+    fn read(&mut self) -> InImage
+        ensures { Changed (told self.old) (told self.new) (λ b c. Does b (read_gave result.cells) c) };
+
+    /// As `StageBook::sample`.
+    fn sample(&mut self) -> Sample
+        ensures { Changed (told self.old) (told self.new) (λ b c. Does b (sample_gave result.inputs.cells result.next) c) };
+
+    /// As `StageBook::write_bits`.
+    fn write_bits(&mut self, address: usize, values: &[bool]) -> Result<Ticket, StageError>
+        ensures address { (result ≡ Err StageError.Address) ↔ (512 < address + length values.now) }
+        ensures told { Changed (told self.old) (told self.new) (λ b c. IfOk result (λ t. Does b (wrote (bits_at address values.now) t.number) c) × OnErr result (c ≡ b) × ((result ≡ Err StageError.Full) ↔ ((address + length values.now ≤ 512) × (is_full b ≡ true)))) };
+
+    /// As `StageBook::write_words`.
+    fn write_words(&mut self, address: usize, values: &[i16]) -> Result<Ticket, StageError>
+        ensures address { (result ≡ Err StageError.Address) ↔ (64 < address + length values.now) }
+        ensures told { Changed (told self.old) (told self.new) (λ b c. IfOk result (λ t. Does b (wrote (words_at address values.now) t.number) c) × OnErr result (c ≡ b) × ((result ≡ Err StageError.Full) ↔ ((address + length values.now ≤ 64) × (is_full b ≡ true)))) };
+}
+
+impl Staging for StageBook {
+    ghost told = { λ b. Some b };
+
+    fn read(&mut self) -> InImage {
+        StageBook::read(self)
+    }
+
+    fn sample(&mut self) -> Sample {
+        StageBook::sample(self)
+    }
+
+    fn write_bits(&mut self, address: usize, values: &[bool]) -> Result<Ticket, StageError> {
+        StageBook::write_bits(self, address, values)
+    }
+
+    fn write_words(&mut self, address: usize, values: &[i16]) -> Result<Ticket, StageError> {
+        StageBook::write_words(self, address, values)
+    }
+}
+
+/// A book that threads share behind a lock. What lies behind it is a book whenever the lock is free.
+#[derive(Drop)]
+pub struct Stage {
+    book: Mutex<StageBook>,
+}
+
+impl Stage {
+    /// Puts a book behind a lock.
+    pub fn new(book: StageBook) -> Stage {
+        Stage {
+            book: Mutex::new(book),
+        }
+    }
+
+    /// A handle for one thread.
+    pub fn handle<'a, R: Wait>(&'a self, rt: &'a R) -> StageHandle<'a, R> {
+        StageHandle { stage: self, rt }
+    }
+}
+
+/// One thread's handle to a shared book. Each call holds the lock once, for one call of the book. It waits for other threads, and
+/// tells nothing.
+#[derive(Drop)]
+pub struct StageHandle<'a, R: Wait> {
+    stage: &'a Stage,
+    rt: &'a R,
+}
+
+impl<'a, R: Wait> Staging for StageHandle<'a, R> {
+    ghost told = { λ _. None };
+
+    fn read(&mut self) -> InImage {
+        self.stage.book.lock(self.rt).read()
+    }
+
+    fn sample(&mut self) -> Sample {
+        self.stage.book.lock(self.rt).sample()
+    }
+
+    fn write_bits(&mut self, address: usize, values: &[bool]) -> Result<Ticket, StageError> {
+        self.stage.book.lock(self.rt).write_bits(address, values)
+    }
+
+    fn write_words(&mut self, address: usize, values: &[i16]) -> Result<Ticket, StageError> {
+        self.stage.book.lock(self.rt).write_words(address, values)
+    }
+}

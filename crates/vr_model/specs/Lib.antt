@@ -1,0 +1,16 @@
+pub mod Logs
+pub mod Groups
+pub mod Messages
+pub mod Replicas
+pub mod Choices
+pub mod Rules
+pub mod World
+pub mod Answers
+pub mod Report
+pub mod Views
+pub mod Agreement
+pub mod Steps
+pub mod Stores
+pub mod Interleaving
+pub mod StandsFor
+pub mod BestLog

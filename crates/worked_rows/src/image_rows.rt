@@ -1,0 +1,335 @@
+//! Staged writes and released images: what no contract says of them.
+ghost use Rattle.std.specs.Prelude.{◌≡◌};
+
+use il_model::cells::{Cells, InImage, OutImage};
+use process_image::{
+    Naming, NewList, Pen, PublishError, Release, ReleasedReader, ReleasedWriter, Sample, Stage,
+    StageBook, StageError, Staging, Ticket, View, released,
+};
+use std::alloc::{AllocError, Global};
+use std::marker::Brand;
+use std::process::Abort;
+use std::sync::Wait;
+use std::sync::atomic::{AtomicU64, Ordering};
+use std::test::Fail;
+use std::thread;
+use std::thread::{Threads, join};
+
+// Writes words, once more where memory refused it.
+fn write_words<S: Staging>(
+    staging: &mut S,
+    address: usize,
+    words: &[i16],
+) -> Result<Ticket, StageError> {
+    match staging.write_words(address, words) {
+        Err(StageError::Memory) => staging.write_words(address, words),
+        answer => answer,
+    }
+}
+
+// Writes bits, once more where memory refused it.
+fn write_bits<S: Staging>(
+    staging: &mut S,
+    address: usize,
+    bits: &[bool],
+) -> Result<Ticket, StageError> {
+    match staging.write_bits(address, bits) {
+        Err(StageError::Memory) => staging.write_bits(address, bits),
+        answer => answer,
+    }
+}
+
+fn fills_up<S: Staging, R: Abort>(rt: &R, staging: &mut S) {
+    for number in 0..4096u64 {
+        assert_eq!(rt; write_words(staging, 0, &[7]), Ok(Ticket { number }));
+    }
+    assert_eq!(rt; write_words(staging, 0, &[8]), Err(StageError::Full));
+    assert_eq!(rt; write_bits(staging, 0, &[true]), Err(StageError::Full));
+    assert_eq!(rt;
+        write_bits(staging, 510, &[true; 3]),
+        Err(StageError::Address)
+    );
+    let sample = staging.sample();
+    assert_eq!(rt; (sample.inputs.cells.words[0], sample.next), (7, 4096));
+    assert_eq!(rt; write_words(staging, 0, &[8]), Ok(Ticket { number: 4096 }));
+}
+
+#[test]
+fn the_4097th_write_since_a_sample_is_refused(rt: HostRuntime) {
+    fills_up(&rt, &mut StageBook::new(rt.alloc()));
+    let stage = Stage::new(StageBook::new(rt.alloc()));
+    fills_up(&rt, &mut stage.handle(&rt));
+}
+
+fn keeps_within_the_areas<S: Staging, R: Abort>(rt: &R, staging: &mut S) {
+    assert_eq!(rt;
+        write_bits(staging, 510, &[true; 3]),
+        Err(StageError::Address)
+    );
+    assert_eq!(rt; write_words(staging, 63, &[1; 2]), Err(StageError::Address));
+    assert_eq!(rt; write_bits(staging, 513, &[]), Err(StageError::Address));
+    assert_eq!(rt; staging.read(), InImage::clear());
+    assert_eq!(rt; write_bits(staging, 512, &[]), Ok(Ticket { number: 0 }));
+    assert_eq!(rt;
+        write_bits(staging, 510, &[true; 2]),
+        Ok(Ticket { number: 1 })
+    );
+    assert_eq!(rt;
+        write_words(staging, 62, &[-2, 9]),
+        Ok(Ticket { number: 2 })
+    );
+    assert_eq!(rt; write_words(staging, 63, &[5]), Ok(Ticket { number: 3 }));
+    let mut inputs = InImage::clear();
+    inputs.cells.bits[510] = true;
+    inputs.cells.bits[511] = true;
+    inputs.cells.words[62] = -2;
+    inputs.cells.words[63] = 5;
+    assert_eq!(rt; staging.read(), inputs);
+    assert_eq!(rt; staging.sample(), Sample { inputs, next: 4 });
+    assert_eq!(rt; staging.sample(), Sample { inputs, next: 4 });
+}
+
+#[test]
+fn a_write_past_its_area_is_refused(rt: HostRuntime) {
+    keeps_within_the_areas(&rt, &mut StageBook::new(rt.alloc()));
+    let stage = Stage::new(StageBook::new(rt.alloc()));
+    keeps_within_the_areas(&rt, &mut stage.handle(&rt));
+}
+
+const WRITES: usize = 100;
+
+// A write of 64 equal words.
+#[derive(Clone, Copy)]
+struct Written {
+    number: u64,
+    word: i16,
+}
+
+// Writes 64 equal words, so many times.
+fn write_all<S: Staging>(
+    staging: &mut S,
+    alloc: Global,
+    first: i16,
+) -> Result<Vec<Written>, AllocError> {
+    let mut writes = Vec::new(alloc);
+    let mut word = first;
+    for _ in 0..WRITES {
+        if let Ok(ticket) = write_words(staging, 0, &[word; 64]) {
+            let number = ticket.number;
+            writes.push(Written { number, word })?;
+        }
+        word = word.wrapping_add(1);
+    }
+    Ok(writes)
+}
+
+// Writes, and then says that this writer has ended.
+fn write_and_end<R: Wait>(
+    rt: &R,
+    stage: &Stage,
+    ended: &AtomicU64,
+    alloc: Global,
+    first: i16,
+) -> Result<Vec<Written>, AllocError> {
+    let writes = write_all(&mut stage.handle(rt), alloc, first);
+    ended.fetch_add(1, Ordering::SeqCst);
+    writes
+}
+
+// Samples until both writers have ended, and once more. It keeps each sample that differs from the one before.
+fn sample_all<R: Wait>(
+    rt: &R,
+    stage: &Stage,
+    ended: &AtomicU64,
+    alloc: Global,
+) -> Result<Vec<Sample>, AllocError> {
+    let mut staging = stage.handle(rt);
+    let mut samples = Vec::new(alloc);
+    for _ in rt.forever() {
+        let was_last = ended.load(Ordering::SeqCst) == 2;
+        let sample = staging.sample();
+        if samples.last() != Some(&sample) {
+            samples.push(sample)?;
+        }
+        if was_last {
+            break;
+        }
+        thread::yield_now();
+    }
+    Ok(samples)
+}
+
+struct Test {
+    first: Result<Vec<Written>, AllocError>,
+    second: Result<Vec<Written>, AllocError>,
+    samples: Result<Vec<Sample>, AllocError>,
+}
+
+// Where no thread can be made, `join` runs its first closure last: the sampler, which waits for the others.
+fn in_three_threads<R: Threads + Wait + Sync>(rt: &R, alloc: Global) -> Test {
+    let stage = &Stage::new(StageBook::new(alloc));
+    let ended = &AtomicU64::new(0);
+    let (samples, (first, second)) = join(
+        rt,
+        || sample_all(rt, stage, ended, alloc),
+        || join(
+            rt,
+            || write_and_end(rt, stage, ended, alloc, 1),
+            || write_and_end(rt, stage, ended, alloc, 1001),
+        ),
+    );
+    Test {
+        first,
+        second,
+        samples,
+    }
+}
+
+// The cells after a write of 64 such words.
+fn full_of(word: i16) -> InImage {
+    InImage {
+        cells: Cells {
+            bits: [false; 512],
+            words: [word; 64],
+        },
+    }
+}
+
+// The word of the last write below this number, or 0.
+fn word_below(writes: &[Written], number: u64) -> i16 {
+    writes
+        .iter()
+        .filter(|w| w.number < number)
+        .max_by_key(|w| w.number)
+        .map_or(0, |w| w.word)
+}
+
+#[test]
+fn each_sample_replays_the_writes_below_its_number(rt: HostRuntime) -> Result<(), Fail> {
+    let Test {
+        first,
+        second,
+        samples,
+    } = in_three_threads(&rt, rt.alloc());
+    let mut writes = first?;
+    writes.extend_from_slice(second?.as_slice())?;
+    assert_eq!(rt; writes.len(), 2 * WRITES);
+    for number in 0..200u64 {
+        assert_eq!(rt; writes.iter().filter(|w| w.number == number).count(), 1);
+    }
+    let samples = samples?;
+    for sample in &samples {
+        let word = word_below(writes.as_slice(), sample.next);
+        assert_eq!(rt; sample.inputs, full_of(word));
+    }
+    assert_eq!(rt; samples.last().map(|s| s.next), Some(200));
+    Ok(())
+}
+
+// An image of its own for each number.
+fn release(number: u64) -> Release {
+    let mut image = OutImage::safe();
+    let word = i16::try_from(number).unwrap_or(-1);
+    image.cells.words[3] = word;
+    image.cells.words[60] = word;
+    image.cells.bits[9] = number % 2 == 1;
+    Release { number, image }
+}
+
+fn view(number: u64) -> View {
+    let Release { number, image } = release(number);
+    View { number, image }
+}
+
+// Publishes, once more where memory refused it.
+fn publish<J: Naming, P: Pen<J>>(
+    writer: &mut ReleasedWriter<J, P>,
+    release: Release,
+) -> Result<(), PublishError> {
+    match writer.publish(release) {
+        Err(PublishError::Memory) => writer.publish(release),
+        answer => answer,
+    }
+}
+
+fn in_one_thread<J: Naming, R: Wait + Abort>(
+    rt: &R,
+    alloc: Global,
+    list: NewList,
+) -> Result<(), Fail>
+    requires { list ≡ J.book }
+{
+    let (mut writer, mut readers) = released::<J, &R>(list, alloc, rt, 2)?;
+    let mut first = readers.pop().ok_or("two readers")?;
+    let mut second = readers.pop().ok_or("two readers")?;
+    assert_eq!(rt; first.read(), view(0));
+    assert_eq!(rt; publish(&mut writer, release(0)), Err(PublishError::Stale));
+    assert_eq!(rt; publish(&mut writer, release(4)), Ok(()));
+    assert_eq!(rt; publish(&mut writer, release(4)), Err(PublishError::Stale));
+    second.learn(writer.tell());
+    assert_eq!(rt; second.read(), view(4));
+    assert_eq!(rt; first.read(), view(4));
+    assert_eq!(rt; publish(&mut writer, release(9)), Ok(()));
+    assert_eq!(rt; publish(&mut writer, release(7)), Err(PublishError::Stale));
+    second.learn(writer.tell());
+    drop(writer);
+    assert_eq!(rt; second.read(), view(9));
+    assert_eq!(rt; first.read(), view(4));
+    Ok(())
+}
+
+#[test]
+fn a_reader_reads_4_after_the_publish_of_4(rt: HostRuntime) -> Result<(), Fail> {
+    in_one_thread::<Brand, _>(&rt, rt.alloc(), NewList::new())
+}
+
+const RELEASES: u64 = 1000;
+
+fn publish_all<J: Naming, P: Pen<J>>(writer: &mut ReleasedWriter<J, P>) -> u32 {
+    let mut count = 0u32;
+    for number in 1..=RELEASES {
+        if publish(writer, release(number)).is_ok() {
+            count = count.wrapping_add(1);
+        }
+    }
+    count
+}
+
+// Counts the reads that went back or were torn.
+fn read_all<J: Naming>(reader: &mut ReleasedReader<J>) -> u32 {
+    let (mut last, mut wrong) = (0, 0u32);
+    for _ in 0..20_000 {
+        let now = reader.read();
+        if now.number < last || now != view(now.number) {
+            wrong = wrong.wrapping_add(1);
+        }
+        last = now.number;
+    }
+    wrong
+}
+
+fn in_readers_threads<J: Naming + Send + Sync, R: Wait + Threads + Abort + Sync + Send>(
+    rt: &R,
+    alloc: Global,
+    list: NewList,
+) -> Result<(), Fail>
+    requires { list ≡ J.book }
+{
+    let (mut writer, mut readers) = released::<J, &R>(list, alloc, rt, 2)?;
+    let mut first = readers.pop().ok_or("two readers")?;
+    let mut second = readers.pop().ok_or("two readers")?;
+    let (published, wrong) = join(
+        rt,
+        || publish_all(&mut writer),
+        || join(rt, || read_all(&mut first), || read_all(&mut second)),
+    );
+    assert_eq!(rt; (published, wrong), (1000, (0, 0)));
+    assert_eq!(rt; first.read(), view(RELEASES));
+    assert_eq!(rt; second.read(), view(RELEASES));
+    Ok(())
+}
+
+#[test]
+fn readers_in_threads_never_go_back(rt: HostRuntime) -> Result<(), Fail> {
+    in_readers_threads::<Brand, _>(&rt, rt.alloc(), NewList::new())
+}

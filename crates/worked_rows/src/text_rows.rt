@@ -1,0 +1,365 @@
+//! Texts that read and texts that don't, texts that have a program and texts that have none, with each fault at its place.
+
+use declarations::{DeclError, resolve};
+use il_model::op::Op;
+use il_model::program::{Area, Loc, Operand, Program};
+use il_reader::{ReadError, read};
+use std::alloc::{AllocError, Global};
+use std::process::Abort;
+use std::test::Fail;
+
+/// What a text comes to: the number of its variables and instructions, or a fault with its number, line and column.
+#[derive(Clone, Copy, Debug, PartialEq, Eq)]
+enum Outcome {
+    Good(usize, usize),
+    Read(u8, usize, usize),
+    Declared(u8, usize, usize),
+    Memory,
+}
+
+fn resolved(alloc: Global, text: &[u8]) -> Result<Program, Outcome> {
+    let source = match read(alloc, text) {
+        Ok(source) => source,
+        Err(ReadError::Memory) => return Err(Outcome::Memory),
+        Err(ReadError::Fault(fault)) => {
+            return Err(Outcome::Read(fault.kind.number(), fault.place.line, fault.place.column));
+        }
+    };
+    match resolve(alloc, source) {
+        Ok(program) => Ok(program),
+        Err(DeclError::Memory) => Err(Outcome::Memory),
+        Err(DeclError::Fault(fault)) => Err(Outcome::Declared(
+            fault.kind.number(),
+            fault.place.line,
+            fault.place.column,
+        )),
+    }
+}
+
+fn told(alloc: Global, text: &[u8]) -> Outcome {
+    match resolved(alloc, text) {
+        Ok(program) => Outcome::Good(program.variables.len(), program.code.len()),
+        Err(fault) => fault,
+    }
+}
+
+fn wants(rt: &impl Abort, alloc: Global, rows: &[(&[u8], Outcome)]) {
+    for (n, (text, wanted)) in rows.iter().enumerate() {
+        assert_eq!(rt; told(alloc, text), *wanted, "in row {n}");
+    }
+}
+
+/// A text of these parts, the middle one so many times, each time with its number behind the first part of it.
+fn repeated(
+    alloc: Global,
+    before: &[u8],
+    head: &[u8],
+    tail: &[u8],
+    count: usize,
+    after: &[u8],
+) -> Result<Vec<u8>, AllocError> {
+    let mut text = Vec::from_slice(alloc, before)?;
+    for n in 0..count {
+        text.extend_from_slice(head)?;
+        text.extend_from_slice(&[
+            b'0' + (n / 1000 % 10) as u8,
+            b'0' + (n / 100 % 10) as u8,
+            b'0' + (n / 10 % 10) as u8,
+            b'0' + (n % 10) as u8,
+        ])?;
+        text.extend_from_slice(tail)?;
+    }
+    text.extend_from_slice(after)?;
+    Ok(text)
+}
+
+#[cfg(test)]
+mod tests {
+    use super::*;
+
+    #[test]
+    fn each_fault_of_reading_at_its_place(rt: HostRuntime) {
+        let rows: [(&[u8], Outcome); 40] = [
+            // bytes
+            (b"LD \x80", Outcome::Read(1, 1, 4)),
+            (b"LD %IX0.0\n\x00", Outcome::Read(1, 2, 1)),
+            (b"(* \x80\x00 *) LD %IX0.0", Outcome::Good(0, 1)),
+            (b"LD %IX0.0 $ \x80", Outcome::Read(2, 1, 11)),
+            // tokens
+            (b"LD A__B", Outcome::Read(2, 1, 4)),
+            (b"LD A_", Outcome::Read(2, 1, 4)),
+            (b"LD _", Outcome::Read(2, 1, 4)),
+            (b"VAR _A : BOOL; END_VAR LD _a", Outcome::Good(1, 1)),
+            (b"LD $", Outcome::Read(2, 1, 4)),
+            (b"LD = X", Outcome::Read(2, 1, 4)),
+            (b"LD\n*", Outcome::Read(5, 1, 3)),
+            // comments
+            (b"LD %IX0.0 (* a", Outcome::Read(4, 1, 11)),
+            (b"LD %IX0.0 (*)", Outcome::Read(4, 1, 11)),
+            (b"LD %IX0.0 (**)", Outcome::Good(0, 1)),
+            (b"LD (* a\nb *) %IX0.0 X", Outcome::Read(5, 2, 13)),
+            // tokens that no case allows
+            (b"LD", Outcome::Read(5, 1, 3)),
+            (b"LD  ", Outcome::Read(5, 1, 5)),
+            (b"LD\nLD %IX0.0", Outcome::Read(5, 1, 3)),
+            (b"LD\t\r\n", Outcome::Read(5, 1, 5)),
+            (b"FOO %IX0.0", Outcome::Read(5, 1, 1)),
+            (b"LD %IX0.0 %IX0.1", Outcome::Read(5, 1, 11)),
+            (b"LD 5", Outcome::Read(5, 1, 4)),
+            (b"LD TRUE", Outcome::Read(5, 1, 4)),
+            (b"L: LD %IX0.0", Outcome::Read(5, 1, 1)),
+            (b"LD: LD %IX0.0", Outcome::Read(5, 1, 3)),
+            (b"ANDN %IX0.0", Outcome::Read(5, 1, 1)),
+            (b"ORN %IX0.0", Outcome::Read(5, 1, 1)),
+            (b"LD %IX0.0\nAND( %IX0.1", Outcome::Read(5, 2, 4)),
+            (b"LD A.B", Outcome::Read(5, 1, 5)),
+            (b"S %QX0.0", Outcome::Read(5, 1, 1)),
+            (b"VAR X : BOOL := TRUE; END_VAR", Outcome::Read(5, 1, 14)),
+            (
+                b"VAR A, B AT %QX0.0 : BOOL; END_VAR",
+                Outcome::Read(5, 1, 10),
+            ),
+            (b"VAR X : BOOL; LD X", Outcome::Read(5, 1, 18)),
+            (b"LD %IX0.0\nVAR X : BOOL; END_VAR", Outcome::Read(5, 2, 1)),
+            (b"VAR X : BOOL; END_VAR LD X LD X", Outcome::Read(5, 1, 28)),
+            (b"PROGRAM P\nLD %IX0.0\n", Outcome::Read(5, 3, 1)),
+            (b"PROGRAM\nP\nEND_PROGRAM", Outcome::Read(5, 1, 8)),
+            (b"LD %IX0.0\nEND_PROGRAM", Outcome::Read(5, 2, 1)),
+            (
+                b"PROGRAM P LD %IX0.0\nEND_PROGRAM X",
+                Outcome::Read(5, 2, 13),
+            ),
+            (b"PROGRAM P LD %IX0.0 END_PROGRAM", Outcome::Read(5, 1, 21)),
+        ];
+        wants(&rt, rt.alloc(), &rows);
+    }
+
+    #[test]
+    fn each_fault_of_declarations_at_its_place(rt: HostRuntime) {
+        let rows: [(&[u8], Outcome); 33] = [
+            // a name twice
+            (
+                b"VAR A : BOOL; B : BOOL; a : BOOL; END_VAR",
+                Outcome::Declared(1, 1, 25),
+            ),
+            (b"VAR A, B, A : BOOL; END_VAR", Outcome::Declared(1, 1, 11)),
+            (b"VAR A, A : FOO; END_VAR", Outcome::Declared(1, 1, 8)),
+            (
+                b"VAR A : BOOL; END_VAR\nVAR A AT %QX9.9 : FOO; END_VAR",
+                Outcome::Declared(1, 2, 5),
+            ),
+            // no type
+            (b"VAR X : FOO; END_VAR", Outcome::Declared(2, 1, 9)),
+            (b"VAR X : INT; END_VAR", Outcome::Declared(2, 1, 9)),
+            (b"VAR X : TON; END_VAR", Outcome::Declared(2, 1, 9)),
+            (
+                b"VAR X AT %IX0.0 : FOO; END_VAR",
+                Outcome::Declared(2, 1, 19),
+            ),
+            // no such variable
+            (b"VAR X : BOOL; END_VAR\nLD Z", Outcome::Declared(3, 2, 4)),
+            (b"LD ST", Outcome::Declared(3, 1, 4)),
+            // no location
+            (
+                b"VAR X AT %IW0 : BOOL; END_VAR",
+                Outcome::Declared(4, 1, 10),
+            ),
+            (b"VAR X AT %FOO : FOO; END_VAR", Outcome::Declared(4, 1, 10)),
+            (
+                b"VAR X AT %MX0.0 : BOOL; END_VAR",
+                Outcome::Declared(4, 1, 10),
+            ),
+            (b"LD %", Outcome::Declared(4, 1, 4)),
+            (b"LD %IX64.0", Outcome::Declared(4, 1, 4)),
+            (b"LD %IX0.8", Outcome::Declared(4, 1, 4)),
+            (b"LD %IX0", Outcome::Declared(4, 1, 4)),
+            (b"LD %IX0.0.0", Outcome::Declared(4, 1, 4)),
+            (b"LD %IX.0", Outcome::Declared(4, 1, 4)),
+            (b"LD %IX0_.0", Outcome::Declared(4, 1, 4)),
+            (b"LD %IXX0.0", Outcome::Declared(4, 1, 4)),
+            (b"LD %IX99999999999999999999.0", Outcome::Declared(4, 1, 4)),
+            // a location twice
+            (
+                b"VAR X AT %QX0.0 : BOOL; Y AT %q00.0 : BOOL; END_VAR",
+                Outcome::Declared(5, 1, 30),
+            ),
+            (
+                b"VAR X AT %IX0.0 : BOOL; Y AT %QX0.0 : BOOL; END_VAR",
+                Outcome::Good(2, 0),
+            ),
+            // a word of the language
+            (b"VAR LD : BOOL; END_VAR", Outcome::Declared(7, 1, 5)),
+            (b"VAR calcn : BOOL; END_VAR", Outcome::Declared(7, 1, 5)),
+            (b"VAR Tof : BOOL; END_VAR", Outcome::Declared(7, 1, 5)),
+            (b"VAR TRUE : BOOL; END_VAR", Outcome::Declared(7, 1, 5)),
+            (
+                b"VAR A, int_to_dint : BOOL; END_VAR",
+                Outcome::Declared(7, 1, 8),
+            ),
+            (
+                b"VAR T, I, Q, M, N, C, LINT, IN, PT, CLK : BOOL; END_VAR LD t",
+                Outcome::Good(10, 1),
+            ),
+            // a fault further left wins, but all is read before any name is looked up
+            (
+                b"VAR A : FOO; A : BOOL; END_VAR LD Z",
+                Outcome::Declared(2, 1, 9),
+            ),
+            (
+                b"VAR LD : BOOL; END_VAR\nLD %IX0.0 X",
+                Outcome::Read(5, 2, 11),
+            ),
+            (b"LD Z\nLD %FOO", Outcome::Declared(3, 1, 4)),
+        ];
+        wants(&rt, rt.alloc(), &rows);
+    }
+
+    #[test]
+    fn programs(rt: HostRuntime) -> Result<(), Fail> {
+        let rows: [(&[u8], Outcome); 12] = [
+            (b"", Outcome::Good(0, 0)),
+            (b"\r\n\t (* nothing *)\n", Outcome::Good(0, 0)),
+            (b"VAR END_VAR VAR\n\nEND_VAR", Outcome::Good(0, 0)),
+            (
+                b"PROGRAM P VAR X : BOOL; END_VAR LD X\nEND_PROGRAM",
+                Outcome::Good(1, 1),
+            ),
+            (b"PROGRAM LD\nEND_PROGRAM\n\n", Outcome::Good(0, 0)),
+            (b"var x : bool; End_Var ld X\nSt x", Outcome::Good(1, 2)),
+            (
+                b"VAR\nA,\nB\n:\nBOOL\n;\nEND_VAR\n\n\nLD A\n\nSTN B",
+                Outcome::Good(2, 2),
+            ),
+            (b"LD%IX0.0\nST%QX0.0", Outcome::Good(0, 2)),
+            (b"LD %ix0_1.07\nLD %i63.7\nLD %Qx0.0", Outcome::Good(0, 3)),
+            (b"LD %IX0.0\n& %IX0.1", Outcome::Good(0, 2)),
+            (b"LD %IX0.0\n&N %IX0.1", Outcome::Read(5, 2, 1)),
+            (
+                b"VAR N : BOOL; END_VAR LD N\n& N\n&%IX0.0",
+                Outcome::Good(1, 3),
+            ),
+        ];
+        wants(&rt, rt.alloc(), &rows);
+
+        let text = b"VAR x AT %IX0.1 : BOOL; yy : BOOL; END_VAR\nLDN X\nor %Qx63.7\nST YY";
+        let program = match resolved(rt.alloc(), text) {
+            Ok(program) => program,
+            Err(fault) => {
+                assert!(rt; false, "{fault:?}");
+                return Ok(());
+            }
+        };
+        assert_eq!(rt; program.variables.len(), 2);
+        assert_eq!(rt; program.variables[0].name.bytes(), b"X".as_slice());
+        assert_eq!(rt;
+            program.variables[0].location,
+            Some(Loc::Bit(Area::Input, 1))
+        );
+        assert_eq!(rt; program.variables[1].name.bytes(), b"YY".as_slice());
+        assert_eq!(rt; program.variables[1].location, None);
+        assert_eq!(rt; program.code.len(), 3);
+        assert_eq!(rt; program.code[0].op, Op::Ld);
+        assert!(rt; program.code[0].modifier.negated);
+        assert_eq!(rt; program.code[1].op, Op::Or);
+        assert!(rt;
+            matches!(
+                &program.code[1].operand,
+                Operand::Direct(Loc::Bit(Area::Output, 511))
+            )
+        );
+        assert_eq!(rt; program.code[2].op, Op::St);
+        assert!(rt;
+            matches!(&program.code[2].operand, Operand::Variable(name) if name.bytes() == b"YY".as_slice())
+        );
+        Ok(())
+    }
+
+    #[test]
+    fn limits(rt: HostRuntime) -> Result<(), Fail> {
+        let alloc = rt.alloc();
+        let rows: [(&[u8], Outcome); 4] = [
+            (
+                b"VAR A2345678901234567890123456789012 : BOOL; END_VAR",
+                Outcome::Good(1, 0),
+            ),
+            (
+                b"VAR A23456789012345678901234567890123 : BOOL; END_VAR",
+                Outcome::Read(6, 1, 5),
+            ),
+            (
+                b"LD %IX0.0 A23456789012345678901234567890123",
+                Outcome::Read(6, 1, 11),
+            ),
+            (
+                b"LD __23456789012345678901234567890123",
+                Outcome::Read(2, 1, 4),
+            ),
+        ];
+        wants(&rt, alloc, &rows);
+
+        let variables = repeated(alloc, b"VAR\n", b"A", b" : BOOL;\n", 512, b"END_VAR")?;
+        assert_eq!(rt; told(alloc, variables.as_slice()), Outcome::Good(512, 0));
+        let variables = repeated(
+            alloc,
+            b"VAR\n",
+            b"A",
+            b" : BOOL;\n",
+            512,
+            b"B : BOOL; END_VAR",
+        )?;
+        assert_eq!(rt;
+            told(alloc, variables.as_slice()),
+            Outcome::Declared(8, 514, 1)
+        );
+        let variables = repeated(
+            alloc,
+            b"VAR\n",
+            b"A",
+            b" : BOOL;\n",
+            512,
+            b"A0000 : BOOL; END_VAR",
+        )?;
+        assert_eq!(rt;
+            told(alloc, variables.as_slice()),
+            Outcome::Declared(1, 514, 1)
+        );
+        let variables = repeated(
+            alloc,
+            b"VAR\n",
+            b"A",
+            b" : BOOL;\n",
+            512,
+            b"B : FOO; END_VAR",
+        )?;
+        assert_eq!(rt;
+            told(alloc, variables.as_slice()),
+            Outcome::Declared(2, 514, 5)
+        );
+
+        let lines = repeated(alloc, b"", b"LD %IX0.0 (*", b"*)\n", 4096, b"\n")?;
+        assert_eq!(rt; told(alloc, lines.as_slice()), Outcome::Good(0, 4096));
+        let lines = repeated(alloc, b"", b"LD %IX0.0 (*", b"*)\n", 4096, b"  LD %IX0.0")?;
+        assert_eq!(rt;
+            told(alloc, lines.as_slice()),
+            Outcome::Declared(8, 4097, 3)
+        );
+
+        let mut text = vec![in alloc; b' '; 2_097_152]?;
+        assert_eq!(rt; told(alloc, text.as_slice()), Outcome::Good(0, 0));
+        text.push(b'$')?;
+        assert_eq!(rt; told(alloc, text.as_slice()), Outcome::Read(6, 1, 1));
+        Ok(())
+    }
+
+    // Run with each allocation refused in turn, by `rt try --test --fail-alloc N`: want of memory or the program, and nothing else.
+    #[test]
+    fn memory_is_the_only_other_answer(rt: HostRuntime) {
+        let text =
+            b"PROGRAM P VAR A, B : BOOL; C AT %IX0.0 : BOOL; END_VAR\nLD A\nAND %IX0.1\nST B\nEND_PROGRAM";
+        let answer = told(rt.alloc(), text);
+        assert!(rt;
+            answer == Outcome::Good(3, 3) || answer == Outcome::Memory,
+            "{answer:?}"
+        );
+    }
+}
