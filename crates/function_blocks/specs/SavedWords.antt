@@ -1,6 +1,6 @@
 -- How the code reads words back: it takes what stands where a state has it, and then asks whether that is a state
 -- with these words.
-use Rattle.std.specs.Prelude.{ℕ, ◌%◌, ◌/◌, Bool, List, [], ◌∷◌, ℤ, pos, nat_eq, slice_index, if◌then◌else◌}
+use Rattle.std.specs.Prelude.{ℕ, ◌%◌, ◌/◌, ◌^◌, Bool, List, [], ◌∷◌, ℤ, pos, nat_eq, slice_index, if◌then◌else◌}
 use Rattle.std.specs.Int.{cast_signed, w32}
 use Rattle.function_blocks.specs.Words.{saved_words, fits_int}
 use Rattle.function_blocks.specs.declared.words.Saved.{Saved}
@@ -13,10 +13,10 @@ abbrev pub has_bit : ℕ → ℕ → Bool
 has_bit n weight = nat_eq ((n / weight) % 2) 1
 
 abbrev pub high_of : ℕ → ℤ
-high_of n = cast_signed w32 (n / 4294967296)
+high_of n = cast_signed w32 (n / 2 ^ 32)
 
 abbrev pub low_of : ℕ → ℤ
-low_of n = cast_signed w32 (n % 4294967296)
+low_of n = cast_signed w32 (n % 2 ^ 32)
 
 abbrev pub decoded_words : ℕ → ℕ → ℕ → Saved
 decoded_words truths numbers start = record { called = has_bit truths 1; first = has_bit truths 2; second = has_bit truths 4; third = has_bit truths 8; fourth = has_bit truths 16; high = high_of numbers; low = low_of numbers; start = start }

@@ -1,7 +1,7 @@
 -- The timers TP, TON and TOF (IEC 61131-3:2003, 2.5.2.3.4), at discrete moments: a timer changes when it is called,
 -- and a call knows the moment of its scan. That is this project's own. Moments and times are natural numbers of ms.
 -- An edge is IN that is TRUE and was FALSE at the last call, a fall is IN that is FALSE and was TRUE.
-use Rattle.std.specs.Prelude.{ℕ, ◌+◌, ◌-◌, min, Bool, true, false, not, ◌&&◌, ◌||◌, List, [], ◌∷◌, ℤ, pos, negsuc, nat_le, nat_lt, nat_eq, if◌then◌else◌}
+use Rattle.std.specs.Prelude.{ℕ, ◌+◌, ◌-◌, ◌^◌, min, Bool, true, false, not, ◌&&◌, ◌||◌, List, [], ◌∷◌, ℤ, pos, negsuc, nat_le, nat_lt, nat_eq, if◌then◌else◌}
 use Rattle.function_blocks.specs.Words.{saved_words, fits_time, is_zero, same_bool}
 use Rattle.function_blocks.specs.declared.words.Saved.{Saved}
 use Rattle.function_blocks.specs.declared.timer.TimerState.{TimerState}
@@ -66,7 +66,7 @@ is_cold_timer s = not s.q && not s.last && not s.run && is_zero s.et && is_zero 
 
 -- with run: 0 <= ET <= PT, and start + ET is a moment of 64 bits
 abbrev pub is_running : TimerState → Bool
-is_running s = is_within s.et (milliseconds s.pt) && nat_lt (s.start + milliseconds s.et) 18446744073709551616
+is_running s = is_within s.et (milliseconds s.pt) && nat_lt (s.start + milliseconds s.et) (2 ^ 64)
 
 -- without run: both are 0
 abbrev pub is_resting : TimerState → Bool

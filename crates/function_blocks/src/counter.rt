@@ -106,13 +106,13 @@ fn cold_ctud() -> CtudState
 fn one_up(cv: i16) -> i16
     ensures { result ≡ one_up cv }
 {
-    if cv < 32767 { cv + 1 } else { cv }
+    if cv < i16::MAX { cv + 1 } else { cv }
 }
 
 fn one_down(cv: i16) -> i16
     ensures { result ≡ one_down cv }
 {
-    if cv > -32768 { cv - 1 } else { cv }
+    if cv > i16::MIN { cv - 1 } else { cv }
 }
 
 fn ctu_count(s: &CounterState, i: &CtuIn) -> i16

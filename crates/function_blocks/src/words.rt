@@ -22,6 +22,9 @@ pub struct Saved {
     pub start: u64,
 }
 
+/// How many values half a word has.
+const HALF: u64 = 0x1_0000_0000;
+
 fn bit(truth: bool) -> u64
     ensures value { result ≡ bit truth }
     ensures small { result ≤ 1 }
@@ -39,7 +42,7 @@ fn truths_number(s: &Saved) -> u64
 fn joined_halves(high: i32, low: i32) -> u64
     ensures { result ≡ joined_halves high low }
 {
-    u64::from(high.cast_unsigned()) * 4294967296 + u64::from(low.cast_unsigned())
+    u64::from(high.cast_unsigned()) * HALF + u64::from(low.cast_unsigned())
 }
 
 /// The four words.
@@ -59,13 +62,13 @@ fn has_bit(number: u64, weight: u64) -> bool
 fn high_half(number: u64) -> i32
     ensures { result ≡ high_of number }
 {
-    ((number / 4294967296) as u32).cast_signed()
+    ((number / HALF) as u32).cast_signed()
 }
 
 fn low_half(number: u64) -> i32
     ensures { result ≡ low_of number }
 {
-    ((number % 4294967296) as u32).cast_signed()
+    ((number % HALF) as u32).cast_signed()
 }
 
 fn decoded_words(truths: u64, numbers: u64, start: u64) -> Saved

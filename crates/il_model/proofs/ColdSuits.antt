@@ -1,7 +1,7 @@
 -- The state before the first scan, and at the start of each, suits the program.
-use Rattle.std.proofs.Common.{◌≡◌, ℕ, suc, ◌+◌, ◌<◌, Bool, true, false, cond, ltb, List, [], ◌∷◌, ◌++◌, length, map, Option, Some, None, Ok, refl, sym, ap, ◌∙◌, subst}
+use Rattle.std.proofs.Common.{◌≡◌, Bool, true, false, cond, ltb, List, [], ◌∷◌, ◌++◌, length, map, Option, Some, None, refl, sym, ap, ◌∙◌}
 use Rattle.std.specs.Prelude.{ℤ, pos, negsuc, unwrap_or, slice_set}
-use Rattle.std.specs.Option.{option_map, option_and_then}
+use Rattle.std.specs.Option.{option_and_then}
 use Rattle.std.specs.Int.{w32, cast_signed, cast_unsigned}
 use Rattle.std.proofs.lemmas.List.{length-set}
 use Rattle.il_model.specs.declared.value.Ty.{Ty}
@@ -15,7 +15,7 @@ use Rattle.il_model.specs.declared.program.Variable.{Variable}
 use Rattle.il_model.specs.declared.cells.Cells.{Cells}
 use Rattle.il_model.specs.Text.{Text}
 use Rattle.il_model.specs.Values.{ty_of, number_of, is_within, truth_made, made}
-use Rattle.il_model.specs.Codes.{tested, may_start_with, initial_of}
+use Rattle.il_model.specs.Codes.{tested, may_start_with}
 use Rattle.il_model.specs.Fits.{IsVariable, AreItems, IsText}
 use Rattle.il_model.specs.State.{State, area_of, written_in}
 use Rattle.il_model.specs.Cells.{clear_cells}

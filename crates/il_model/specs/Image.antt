@@ -1,6 +1,6 @@
 -- The bytes of a program: one spelling for each. In this order: a header, the variables, the labels, the constants, the
 -- words. All numbers are big-endian.
-use Rattle.std.specs.Prelude.{ℕ, ◌+◌, Bool, true, false, List, [], ◌∷◌, ◌++◌, length, Option, Some, None}
+use Rattle.std.specs.Prelude.{ℕ, ◌+◌, Bool, true, false, List, ◌++◌, length, Option, Some, None}
 use Rattle.std.specs.List.{flat_map}
 use Rattle.std.specs.Int.{w8, w16, w32, to_be_bytes, cast_unsigned}
 use Rattle.il_model.specs.declared.value.Ty.{Ty}

@@ -1,5 +1,5 @@
 -- How many variables and instructions a program may have.
-use Rattle.std.specs.Prelude.{ℕ, ◌≤◌, Bool, ◌||◌, List, length, Option, Some, None, nat_lt, if◌then◌else◌}
+use Rattle.std.specs.Prelude.{◌≤◌, Bool, ◌||◌, List, length, Option, Some, None, nat_lt, if◌then◌else◌}
 use Rattle.il_model.specs.declared.program.Variable.{Variable}
 use Rattle.il_model.specs.declared.program.Instr.{Instr}
 use Rattle.il_model.specs.Text.{Text}

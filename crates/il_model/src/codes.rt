@@ -15,6 +15,7 @@ use crate::program::{Area, Loc, Operand, Variable};
 use crate::resolve::{is_output, loc_type, variable_named};
 use crate::value::{Ty, Value, make};
 
+/// The code of a type.
 pub fn type_code(ty: Ty) -> usize
     ensures { result ≡ type_code ty }
 {
@@ -26,6 +27,7 @@ pub fn type_code(ty: Ty) -> usize
     }
 }
 
+/// The type of a code; of the types, programs have BOOL today.
 pub fn type_of(code: u8) -> Option<Ty>
     ensures { result ≡ type_of code }
 {
@@ -54,6 +56,7 @@ fn loc_code(loc: Loc) -> usize
     }
 }
 
+/// The code of a location, or 65535 for none.
 pub fn location_code(location: Option<Loc>) -> usize
     ensures { result ≡ location_code location }
 {
@@ -189,12 +192,14 @@ pub fn initial_of(ty: Ty, location: Option<Loc>, bits: u32) -> Option<Value>
     }
 }
 
+/// The code of an operator.
 pub fn op_code(op: Op) -> usize
     ensures { result ≡ op_code op }
 {
     op as usize
 }
 
+/// The operator of a code; of the operators, programs have LD, ST, AND and OR today.
 pub fn op_of(code: u8) -> Option<Op>
     ensures { result ≡ op_of code }
 {
@@ -213,6 +218,7 @@ fn flag(test: bool, n: usize) -> usize
     if test { n } else { 0 }
 }
 
+/// The sum of 1 for N, 2 for C and 4 for a parenthesis.
 pub fn modifier_code(m: Modifier) -> usize
     ensures { result ≡ modifier_code m }
 {
@@ -229,6 +235,7 @@ fn letters(negated: bool, conditional: bool, opens: bool) -> Option<Modifier>
     })
 }
 
+/// The letters that a sum stands for.
 pub fn modifier_of(code: u8) -> Option<Modifier>
     ensures { result ≡ modifier_of code }
 {
@@ -277,6 +284,7 @@ fn variable_code(vs: &[Variable], name: &Name) -> usize
     }
 }
 
+/// The code of an operand that is no constant and no label, or 65535.
 pub fn plain_code(vs: &[Variable], operand: &Operand) -> usize
     ensures { result ≡ plain_code vs.now operand.now }
 {

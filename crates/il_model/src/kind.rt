@@ -1,7 +1,7 @@
 //! The kinds of standard function blocks (IEC 61131-3:2003, 2.5.2.3) and their fields: the one table of
 //! names, codes, numbers, types and directions.
 
-ghost use Rattle.std.specs.Prelude.{◌≡◌, ◌≤◌, ◌<◌, Some, IfSome, length, position, slice_get};
+ghost use Rattle.std.specs.Prelude.{◌≡◌, ◌≤◌, ◌<◌, Some, IfSome, length, nat_lt, position, slice_get};
 ghost use Rattle.std.specs.Str.{bytes_eq};
 ghost use Rattle.il_model.specs.declared.kind.BlockKind.{BlockKind};
 ghost use Rattle.il_model.specs.Kinds.{kind_code, kind_of_code, kind_name, kind_of_name, kind_fields, field_name, field_type, is_input, field_number, input_count};
@@ -136,6 +136,12 @@ fn with_name(name: &[u8]) -> Option<BlockKind>
         .find(|kind| kind.name() == name)
 }
 
+fn field_at(fields: &[Field], number: u8) -> Option<Field>
+    ensures { result ≡ slice_get fields.now number }
+{
+    fields.get(usize::from(number)).copied()
+}
+
 fn position_of(fields: &[Field], name: &[u8]) -> Option<usize>
     ensures value { result ≡ position (λ field. bytes_eq (field_name field) name.now) fields.now }
     ensures bound { IfSome result (λ number. number < length fields.now) }
@@ -217,11 +223,12 @@ impl BlockKind {
         }
     }
 
-    /// The field with that number; None where the kind has fewer.
+    /// The field with that number; None where the kind has fewer. Those below `input_count` are inputs.
     pub fn field(self, number: u8) -> Option<Field>
-        ensures { result ≡ slice_get (kind_fields self) number }
+        ensures value { result ≡ slice_get (kind_fields self) number }
+        ensures direction { IfSome result (λ field. is_input field ≡ nat_lt number (input_count self)) }
     {
-        self.fields().get(usize::from(number)).copied()
+        field_at(self.fields(), number)
     }
 
     /// The number of the field with that name, in capitals; None where the kind has no such field.
@@ -236,11 +243,9 @@ impl BlockKind {
     pub fn input_count(self) -> u8
         ensures { result ≡ input_count self }
     {
-        match self {
-            BlockKind::RTrig | BlockKind::FTrig => 1,
-            BlockKind::Sr | BlockKind::Rs | BlockKind::Tp | BlockKind::Ton | BlockKind::Tof => 2,
-            BlockKind::Ctu | BlockKind::Ctd => 3,
-            BlockKind::Ctud => 5,
-        }
+        self.fields()
+            .iter()
+            .filter(|field| field.is_input())
+            .count() as u8
     }
 }

@@ -32,6 +32,7 @@ fn line_labelled(code: &[Instr], name: &Name) -> Option<usize>
     code.iter().position(|line| has_label(line, name))
 }
 
+/// Where the variable of a name lies: at its location, or by its number.
 pub fn place_of(program: &Program, name: &Name) -> Option<Place>
     ensures { result ≡ place_of program.now name.now }
 {
@@ -43,6 +44,7 @@ pub fn place_of(program: &Program, name: &Name) -> Option<Place>
     }
 }
 
+/// The number of the instruction with a label.
 pub fn target_of(program: &Program, name: &Name) -> Option<u16>
     ensures { result ≡ target_of program.now name.now }
 {
@@ -50,6 +52,7 @@ pub fn target_of(program: &Program, name: &Name) -> Option<u16>
     Some(at as u16)
 }
 
+/// What an operand stands for; none where a name or a label is unknown, and for a bare number.
 pub fn source_of(program: &Program, operand: &Operand) -> Option<Source>
     ensures { result ≡ source_of program.now operand.now }
 {
@@ -63,6 +66,7 @@ pub fn source_of(program: &Program, operand: &Operand) -> Option<Source>
     }
 }
 
+/// The type of a location: BOOL for a bit, INT for a word; none past its area.
 pub fn loc_type(loc: Loc) -> Option<Ty>
     ensures { result ≡ loc_type loc }
 {
@@ -100,6 +104,7 @@ fn is_writable(place: Place) -> bool
     }
 }
 
+/// What an operand that stands for something is to the typing.
 pub fn kind_of(program: &Program, source: Source) -> Kind
     ensures { result ≡ source_kind program.now source }
 {
@@ -114,6 +119,7 @@ pub fn kind_of(program: &Program, source: Source) -> Kind
     }
 }
 
+/// What an operand that stands for nothing is to the typing.
 pub fn missing_kind(operand: &Operand) -> Kind
     ensures { result ≡ missing_kind operand.now }
 {

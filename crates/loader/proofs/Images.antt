@@ -1,9 +1,9 @@
 -- The two laws: what is read is the spelling of a typed program, and that spelling is read.
-use Rattle.std.proofs.Common.{◌≡◌, ℕ, zero, suc, ◌+◌, ◌-◌, ◌*◌, ◌^◌, ◌<◌, ◌≤◌, Bool, true, false, cond, ltb, eqb, List, [], ◌∷◌, ◌++◌, length, Result, Ok, Err, refl, sym, ap, subst, ◌∙◌, append_assoc, arith}
+use Rattle.std.proofs.Common.{◌≡◌, ℕ, ◌-◌, ◌^◌, ◌<◌, ◌≤◌, Bool, true, false, cond, List, [], ◌++◌, length, Result, Ok, Err, refl, sym, ap, subst, ◌∙◌, append_assoc, arith}
 use Rattle.std.specs.Prelude.{◌||◌, nat_eq, nat_lt, nat_le}
 use Rattle.std.specs.List.{flat_map}
-use Rattle.std.specs.Int.{w8, w16, w32, to_be_bytes}
-use Rattle.std.proofs.lemmas.Bool.{ltb-true, ltb-false, lt-ltb, le-ltb, eqb-true, leb-true, le-leb}
+use Rattle.std.specs.Int.{w16, w32, to_be_bytes}
+use Rattle.std.proofs.lemmas.Bool.{ltb-false, le-ltb, eqb-true, leb-true, le-leb}
 use Rattle.std.proofs.lemmas.List.{append-nil, nil_from_length}
 use Rattle.il_model.specs.declared.program.Variable.{Variable}
 use Rattle.il_model.specs.declared.program.Instr.{Instr}
@@ -15,7 +15,7 @@ use Rattle.loader.specs.declared.counts.Counts.{Counts}
 use Rattle.loader.specs.declared.fault.LoadFault.{LoadFault}
 use Rattle.loader.specs.declared.fault.LoadError.{LoadError}
 use Rattle.std.specs.Prelude.{IfOk}
-use Rattle.loader.specs.declared.fault.LoadFault.TheVariants.{Truncated, BadMagic, BadVersion, BadCount, BadWord, Trailing}
+use Rattle.loader.specs.declared.fault.LoadFault.TheVariants.{BadMagic, BadVersion, BadCount, Trailing}
 use Rattle.loader.specs.Reading.{◌>>=◌, Gives, number_at, agrees, items_from, count_at, counts_at, header_at, variable_at, next_word, ended, text_at, placed, judged_at, judged_program, image_of}
 use Rattle.il_model.specs.Fits.{IsVariable, IsWord, AreItems, IsText, IsImage}
 use Rattle.loader.proofs.Fields.{IsBytes, bind_ok, agrees_ok, ok_is, Takes, Takes-then, wide16, wide32, number_takes, number_again}

@@ -1,5 +1,5 @@
 -- The spelling of a program without labels and constants.
-use Rattle.std.proofs.Common.{◌≡◌, ℕ, suc, Bool, true, false, cond, List, [], ◌∷◌, ◌++◌, length, Option, Some, None, refl, sym, ap, ◌∙◌}
+use Rattle.std.proofs.Common.{◌≡◌, ℕ, suc, Bool, true, false, List, [], ◌∷◌, ◌++◌, length, Option, None, refl, sym, ap, ◌∙◌}
 use Rattle.std.specs.Prelude.{◌&&◌, not}
 use Rattle.std.specs.List.{flat_map}
 use Rattle.std.proofs.lemmas.List.Concat.{flat_map-cons}
@@ -15,7 +15,7 @@ use Rattle.il_model.specs.Text.{Text}
 use Rattle.il_model.specs.Marks.{Mark, with_mark, marks_from}
 use Rattle.il_model.specs.Constants.{same_value, literal_of, joined_constants, constants_from, constants_of}
 use Rattle.il_model.specs.Image.{variable_bytes, plain_code, operand_code, coded_word, plain_word_bytes, word_bytes, header_bytes, spelled_with, spelling}
-use Rattle.il_model.specs.Codes.{is_named, is_plain, is_line, line_of}
+use Rattle.il_model.specs.Codes.{is_named, is_plain, is_line}
 use Rattle.il_model.specs.Fits.{IsWord, AreItems, IsText}
 use Rattle.loader.proofs.Fields.{some_yes}
 

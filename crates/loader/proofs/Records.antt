@@ -1,30 +1,24 @@
 -- What is read is spelled so, and what is spelled so is read: records and tables.
-use Rattle.std.proofs.Common.{◌≡◌, ℕ, zero, suc, ◌+◌, ◌-◌, ◌^◌, ◌<◌, ◌≤◌, Bool, true, false, cond, ltb, eqb, List, [], ◌∷◌, ◌++◌, length, get_or, take, drop, Option, Some, None, Result, Ok, Err, refl, sym, ap, subst, ◌∙◌, append_assoc, arith, inl, inr}
-use Rattle.std.specs.Prelude.{ℤ, pos, negsuc, ◌&&◌, nat_eq, nat_lt, not}
-use Rattle.std.specs.List.{list_all, flat_map}
+use Rattle.std.proofs.Common.{◌≡◌, ℕ, zero, suc, ◌-◌, ◌^◌, ◌<◌, ◌≤◌, Bool, true, false, cond, ltb, List, [], ◌∷◌, ◌++◌, length, take, drop, Option, Some, None, Result, Ok, Err, refl, sym, ap, subst, ◌∙◌, append_assoc, arith}
+use Rattle.std.specs.Prelude.{nat_eq}
+use Rattle.std.specs.List.{flat_map}
 use Rattle.std.specs.Option.{option_and_then}
-use Rattle.std.specs.Int.{Width, w8, w16, w32, byte_len, from_be_bytes, to_be_bytes, cast_signed, cast_unsigned}
-use Rattle.std.proofs.lemmas.Bool.{cases_lt, ltb-false, le-ltb, ltb-true, eqb-true}
-use Rattle.std.proofs.lemmas.Int.{ints, of_z-to_z}
-use Rattle.std.proofs.lemmas.List.{take_at, drop_at, take-append-drop, length-append, length-take, get_or-drop, get_or-take, get_or_past, append-nil}
+use Rattle.std.specs.Int.{w8, w16, w32, to_be_bytes, cast_unsigned}
+use Rattle.std.proofs.lemmas.Bool.{ltb-false, le-ltb, eqb-true}
+use Rattle.std.proofs.lemmas.List.{take_at, drop_at, take-append-drop, length-append, length-take, append-nil}
 use Rattle.std.proofs.lemmas.List.Concat.{flat_map-cons}
-use Rattle.std.proofs.lemmas.Nat.{be_bytes_2, be_bytes_4, from_be_bytes-to_be_bytes_2, from_be_bytes-to_be_bytes_4}
 use Rattle.il_model.specs.declared.value.Ty.{Ty}
-use Rattle.il_model.specs.declared.value.Ty.TheVariants as types
-use Rattle.il_model.specs.declared.value.Value.{Value}
-use Rattle.il_model.specs.declared.value.Value.TheVariants as values
 use Rattle.il_model.specs.declared.op.Op.{Op}
 use Rattle.il_model.specs.declared.op.Op.TheVariants as ops
 use Rattle.il_model.specs.declared.op.Modifier.{Modifier}
 use Rattle.il_model.specs.declared.program.Variable.{Variable}
 use Rattle.il_model.specs.declared.program.Instr.{Instr}
 use Rattle.il_model.specs.declared.program.Operand.{Operand}
-use Rattle.il_model.specs.declared.program.Loc.{Loc}
-use Rattle.il_model.specs.Values.{made, truth_made, number_of, is_within}
-use Rattle.il_model.specs.Image.{type_code, loc_code, location_code, name_bytes, variable_bytes, op_code, modifier_code, plain_code, plain_word_bytes}
+use Rattle.il_model.specs.Values.{number_of}
+use Rattle.il_model.specs.Image.{type_code, location_code, name_bytes, variable_bytes, op_code, modifier_code, plain_code, plain_word_bytes}
 use Rattle.loader.specs.declared.fault.LoadFault.{LoadFault}
 use Rattle.loader.specs.declared.fault.LoadFault.TheVariants.{Truncated, BadWord}
-use Rattle.il_model.specs.Codes.{tested, is_new_name, length_of, type_of, loc_of, is_free, free_loc, location_of, initial_of, op_of, modifier_of, raw_operand, operand_of, is_line, line_of}
+use Rattle.il_model.specs.Codes.{tested, is_new_name, length_of, type_of, location_of, initial_of, op_of, modifier_of, raw_operand, operand_of, is_line, line_of}
 use Rattle.loader.specs.Reading.{◌>>=◌, number_at, lawful, agrees, items_from, name_at, variable_at, word_at}
 use Rattle.il_model.specs.Fits.{IsVariable, IsWord, AreItems}
 use Rattle.loader.proofs.Fields.{IsBytes, IsBytes-drop, bind_ok, guard_no, agrees_ok, lawful_ok, some_yes, ok_is, Takes, Takes-then, wide8, wide16, wide32, number_takes, number_again, length_is, length_below, type_is, type_small, location_is, initial_is}

@@ -88,6 +88,7 @@ fn counts_at(bytes: &[u8]) -> Result<(Counts, &[u8]), LoadError>
     Ok((Counts { variables, words }, rest))
 }
 
+/// The header: magic, version and counts.
 #[tactic(auto, unfolding(crate::specs::Reading::header_at))]
 pub fn header_at(bytes: &[u8]) -> Result<(Counts, &[u8]), LoadError>
     ensures { Gives (λ x. (x.0, x.1.now)) result (header_at bytes.now) }
@@ -214,6 +215,7 @@ fn word_at<'a>(
     Ok((line, rest))
 }
 
+/// As many variables as the header says, each judged with those before it.
 pub fn variables_of(
     alloc: Global,
     total: usize,
@@ -244,6 +246,7 @@ fn next_word<'a>(
     word_at(alloc, total.saturating_sub(bytes.len()), vs, bytes)
 }
 
+/// As many words as the header says.
 pub fn words_of<'a>(
     alloc: Global,
     total: usize,

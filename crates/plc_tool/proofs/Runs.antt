@@ -1,5 +1,5 @@
 -- A run that stops within its budget.
-use Rattle.std.proofs.Common.{◌≡◌, ℕ, suc, ◌+◌, ◌-◌, ◌<◌, Bool, false, cond, refl, sym, ap, ◌∙◌, arith}
+use Rattle.std.proofs.Common.{◌≡◌, ℕ, suc, ◌+◌, ◌-◌, ◌<◌, false, cond, refl, sym, ap, ◌∙◌, arith}
 use Rattle.il_model.specs.declared.value.Stop.{Stop}
 use Rattle.il_model.specs.Text.{Text}
 use Rattle.il_model.specs.State.{State}

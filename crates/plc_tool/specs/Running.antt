@@ -1,5 +1,5 @@
 -- How a run ends; a program and what its controller keeps.
-use Rattle.std.specs.Prelude.{◌≡◌, ℕ, List, Option, Some, None}
+use Rattle.std.specs.Prelude.{Option, Some, None}
 use Rattle.il_model.specs.declared.value.Stop.{Stop}
 use Rattle.il_model.specs.Text.{Text}
 use Rattle.il_model.specs.State.{State}

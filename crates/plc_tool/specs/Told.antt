@@ -1,5 +1,4 @@
 -- The printed fault of each layer's error: its number and its place.
-use Rattle.std.specs.Prelude.{ℕ}
 use Rattle.il_reader.specs.declared.fault.ReadError.{ReadError}
 use Rattle.il_reader.specs.declared.fault.ReadError.TheVariants as reads
 use Rattle.il_reader.specs.Faults.{kind_number}

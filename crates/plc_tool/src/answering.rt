@@ -2,7 +2,7 @@
 
 ghost use Rattle.std.specs.Prelude.{◌≡◌, IfOk};
 ghost use Rattle.il_model.specs.Fits.{IsText};
-ghost use Rattle.plc_tool.specs.Meaning.{IsProgramOf, IsAnswered};
+ghost use Rattle.plc_tool.specs.Meaning.{IsProgramOf, IsAnswered, Gives, typed_program, program_of_text, meaning};
 
 use crate::fault::Fault;
 use crate::scan::Scans;
@@ -19,7 +19,8 @@ const BUDGET: u32 = 10000;
 /// The image of a program.
 fn image_of(alloc: Global, program: &Program) -> Result<Image, Fault>
     requires { IsText program.now }
-    ensures { IfOk result (λ i. i ≡ program.now) }
+    ensures same { IfOk result (λ i. i ≡ program.now) }
+    ensures exact { Gives (λ i. i) result (typed_program program.now) }
 {
     let _code = &program.code;
     let bytes = assemble(alloc, program)?;
@@ -28,16 +29,20 @@ fn image_of(alloc: Global, program: &Program) -> Result<Image, Fault>
 
 /// The image of the program of a text, or the first fault of the first layer that refuses it.
 pub fn image(alloc: Global, text: &[u8]) -> Result<Image, Fault>
-    ensures { IfOk result (λ i. IsProgramOf text.now i) }
+    ensures found { IfOk result (λ i. IsProgramOf text.now i) }
+    ensures exact { Gives (λ i. i) result (program_of_text text.now) }
 {
     let source = read(alloc, text)?;
     let program = resolve(alloc, source)?;
     image_of(alloc, &program)
 }
 
-/// The answers of a text to commands: what the definitions give for its program, or the first fault.
+/// The answers of a text to commands, or the first fault.
 pub fn answers(alloc: Global, text: &[u8], commands: &[Command]) -> Result<Vec<Answer>, Fault>
-    ensures { IfOk result (λ v. IsAnswered text.now commands.now v.items) }
+    // What is answered is what the definitions give for the text's program.
+    ensures found { IfOk result (λ v. IsAnswered text.now commands.now v.items) }
+    // Which answers or which fault it is, unless memory runs out.
+    ensures exact { Gives (λ v. v.items) result (meaning text.now commands.now) }
 {
     let image = image(alloc, text)?;
     image.lawful();

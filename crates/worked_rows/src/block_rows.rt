@@ -586,46 +586,23 @@ fn words_are_judged(rt: HostRuntime) {
     }
 }
 
-/// Each kind by its code and name, called with values, read by the numbers of its fields.
+/// Kinds by code and name, fields by number and name.
 #[test]
-fn any_kind_by_its_fields(rt: HostRuntime) {
+fn kinds_and_fields_are_found(rt: HostRuntime) {
     for kind in BlockKind::ALL {
         assert_eq!(rt; BlockKind::of_code(kind.code()), Some(kind));
         assert_eq!(rt; BlockKind::of_name(kind.name()), Some(kind));
-        let mut block = Block::cold(kind);
-        assert_eq!(rt; block.kind(), kind);
-        assert_eq!(rt; block.save(), [0, 0, 0, 0]);
-        block.call(&[Value::Bool(true), Value::Time(5)], 7);
-        assert_eq!(rt; block.save()[0] % 2, 1);
-        match Block::restore(kind, block.save()) {
-            Some(again) => assert_eq!(rt; again.save(), block.save()),
-            None => assert!(rt; false, "{kind:?}"),
-        }
         for (number, &field) in (0u8..).zip(kind.fields()) {
             assert_eq!(rt; kind.field(number), Some(field));
             assert_eq!(rt; kind.field_number(field.name()), Some(number));
             assert_eq!(rt; field.is_input(), number < kind.input_count());
-            assert_eq!(rt; block.output(number).is_some(), !field.is_input());
         }
     }
     assert_eq!(rt; BlockKind::of_code(0), None);
     assert_eq!(rt; BlockKind::of_code(11), None);
     assert_eq!(rt; BlockKind::of_name(b"TO"), None);
+    assert_eq!(rt; BlockKind::of_name(b"R_TRIG"), Some(BlockKind::RTrig));
     assert_eq!(rt; BlockKind::Tof.field_number(b"CV"), None);
-    let mut ctud = Block::cold(BlockKind::Ctud);
-    ctud.call(
-        &[
-            Value::Bool(false),
-            Value::Bool(false),
-            Value::Bool(false),
-            Value::Bool(true),
-            Value::Int(-3),
-        ],
-        0,
-    );
-    assert_eq!(rt; ctud.output(7), Some(Value::Int(-3)));
-    assert_eq!(rt; ctud.output(6), Some(Value::Bool(true)));
-    assert_eq!(rt; ctud.output(8), None);
     assert_eq!(rt;
         BlockKind::Ctud.field(4).map(|field| field.ty()),
         Some(Ty::Int)
@@ -634,4 +611,39 @@ fn any_kind_by_its_fields(rt: HostRuntime) {
         BlockKind::Ton.field(3).map(|field| field.ty()),
         Some(Ty::Time)
     );
+}
+
+/// A block of each kind is cold, is called with values, shows its outputs alone and comes back from its words.
+#[test]
+fn blocks_of_any_kind(rt: HostRuntime) {
+    for kind in BlockKind::ALL {
+        let mut block = Block::cold(kind);
+        assert_eq!(rt; block.kind(), kind);
+        assert_eq!(rt; block.save(), [0, 0, 0, 0]);
+        block.call(&[Value::Bool(true), Value::Time(5)], 7);
+        assert_eq!(rt; block.save()[0] % 2, 1);
+        for number in 0..9 {
+            assert_eq!(rt;
+                block.output(number).is_some(),
+                number >= kind.input_count() && kind.field(number).is_some()
+            );
+        }
+        match Block::restore(kind, block.save()) {
+            Some(again) => assert_eq!(rt; again.save(), block.save()),
+            None => assert!(rt; false, "{kind:?}"),
+        }
+    }
+}
+
+/// The outputs of a counter both ways that was loaded with -3.
+#[test]
+fn outputs_by_number(rt: HostRuntime) {
+    let mut block = Block::cold(BlockKind::Ctud);
+    let rest = Value::Bool(false);
+    block.call(&[rest, rest, rest, Value::Bool(true), Value::Int(-3)], 0);
+    assert_eq!(rt; block.output(4), None);
+    assert_eq!(rt; block.output(5), Some(Value::Bool(true)));
+    assert_eq!(rt; block.output(6), Some(Value::Bool(true)));
+    assert_eq!(rt; block.output(7), Some(Value::Int(-3)));
+    assert_eq!(rt; block.output(8), None);
 }

@@ -89,7 +89,9 @@ fn changed_images_are_refused(rt: HostRuntime) {
         (41, 2, LoadFault::BadWord { position: 38 }),
     ] {
         let mut bytes = TWO_WORDS;
-        bytes[place] = byte;
+        if place < 42 {
+            bytes[place] = byte;
+        }
         assert!(rt; fault_of(rt.alloc(), bytes.as_slice()) == Some(LoadError::Fault(fault)));
     }
 }
@@ -120,10 +122,9 @@ fn a_machine_steps_through_its_image(rt: HostRuntime) -> Result<(), Fail> {
     machine.start(&InImage {
         cells: Cells::clear(),
     });
-    for position in 1..4u16 {
-        assert!(rt; machine.step(&image, 0) == StepOut::Next);
-        assert_eq!(rt; machine.pos(), position);
-    }
+    assert!(rt; machine.step(&image, 0) == StepOut::Next && machine.pos() == 1);
+    assert!(rt; machine.step(&image, 0) == StepOut::Next && machine.pos() == 2);
+    assert!(rt; machine.step(&image, 0) == StepOut::Next && machine.pos() == 3);
     assert!(rt; machine.step(&image, 0) == StepOut::End);
     assert!(rt; machine.cr() == Some(Value::Bool(false)));
     assert!(rt; machine.peek(Slot(0x4000)) == Some(Value::Bool(true)));

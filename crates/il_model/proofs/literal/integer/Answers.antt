@@ -1,4 +1,4 @@
-use Rattle.std.proofs.Common.{◌≡◌, ◌<◌, ◌+◌, ◌*◌, min, true, rules, arith, get_or, drop}
+use Rattle.std.proofs.Common.{◌≡◌, ◌<◌, ◌+◌, ◌*◌, min, true, rules, arith, get_or}
 use Rattle.std.specs.Prelude.{option_map}
 use Rattle.il_model.specs.Literal.{digit_of, integer_of}
 use Rattle.il_model.proofs.Literals.{digit_at, underscore_at}
