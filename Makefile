@@ -1,4 +1,4 @@
-# make demo [EXAMPLE=motor|pumps|interlock]   runs plc on a real program, and prints a line for each scan
+# make demo [EXAMPLE=motor|tank|pumps|interlock]   runs plc on a real program, and prints a line for each scan
 # make plc                                    proves the program and builds it: build/plc
 # make test                                   the whole gate
 

@@ -1,1 +1,4 @@
+pub mod Encoding
+pub mod Literals
 pub mod Labels
+pub mod Keys

@@ -1,19 +1,19 @@
 -- What an assembler gives for a program.
 use Rattle.std.specs.Prelude.{◌≡◌, ℕ, List, Result, Ok, Err}
 use Rattle.il_model.specs.Text.{Text}
-use Rattle.il_model.specs.Typing.{judged, IsTyped}
-use Rattle.il_model.specs.Image.{spelling}
 use Rattle.il_model.specs.Typing.{fault_number}
+use Rattle.il_model.specs.Settled.{settled}
+use Rattle.il_model.specs.Image.{spelling}
 use Rattle.assembler.specs.declared.fault.AsmError.{AsmError}
 use Rattle.assembler.specs.declared.fault.AsmError.TheVariants as errors
 
 abbrev pub Refuses : Text → AsmError → Type 0
 Refuses P errors.Memory = Unit {0}
-Refuses P (errors.Fault f n) = judged P ≡ Err (f, n)
+Refuses P (errors.Fault f n) = settled P ≡ Err (f, n)
 
--- the one spelling of a typed program, or its first fault
+-- the one spelling of the program's typed program, or its first fault
 abbrev pub Assembles : {X : Type 0} → Text → (X → List ℕ) → Result X AsmError → Type 0
-Assembles P view (Ok x) = IsTyped P × (view x ≡ spelling P)
+Assembles P view (Ok x) = (Q : Text) × (settled P ≡ Ok Q) × (view x ≡ spelling Q)
 Assembles P view (Err e) = Refuses P e
 
 abbrev pub error_number : AsmError → ℕ

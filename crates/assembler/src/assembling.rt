@@ -1,21 +1,53 @@
 //! The image of a program.
 
 ghost use Rattle.assembler.specs.Assembled.{Assembles};
+ghost use Rattle.assembler.specs.Encoded.{GivesLiterals};
 
 use crate::encode::encode;
 use crate::fault::AsmError;
-use il_model::Program;
-use il_model::check::check;
+use il_model::check::Types;
+use il_model::indexed::IndexedProgram;
+use il_model::{Program, TypeFault, Value};
 use std::alloc::Global;
 
-/// The bytes of the image of a program. Answers the fault of the least instruction that has one (of its faults the first in
-/// this order: a label that stands twice, an unbalanced parenthesis, one too many, an unknown label, a bad field, an operand
-/// that can't be written, no current result, a type that doesn't fit), or that memory ran out.
+/// Types each instruction from left to right, with bare numbers by their places; gives for each the literal that its operand
+/// then is, if it is one.
+fn literals(alloc: Global, program: &IndexedProgram) -> Result<Vec<Option<Value>>, AsmError>
+    ensures { GivesLiterals program.now (λ v. v.items) result }
+{
+    let mut types = Types::start(program.program());
+    let mut found = Vec::new(alloc);
+    let code = program.code();
+    let count = code.len();
+    for n in 0..count {
+        match types.settle(program, n, &code[n]) {
+            Ok(literal) => found.push(literal)?,
+            Err(fault) => {
+                return Err(AsmError::Fault {
+                    fault,
+                    instruction: n,
+                });
+            }
+        }
+    }
+    if types.depth() > 0 {
+        return Err(AsmError::Fault {
+            fault: TypeFault::Unbalanced,
+            instruction: count,
+        });
+    }
+    Ok(found)
+}
+
+/// The bytes of the image of a program. A bare number takes the type that its place asks for: after LD or an opening
+/// parenthesis INT where it fits, else DINT; elsewhere the type of the current result, 0 and 1 for BOOL. Answers the fault of
+/// the least instruction that has one (of its faults the first in this order: a label that stands twice, an unbalanced
+/// parenthesis, one too many, an unknown label, a bad field, an operand that can't be written, no current result, a type that
+/// doesn't fit), or that memory ran out.
 pub fn assemble(alloc: Global, program: &Program) -> Result<Vec<u8>, AsmError>
     ensures { Assembles program.now (λ v. v.items) result }
 {
-    if let Err((fault, instruction)) = check(program) {
-        return Err(AsmError::Fault { fault, instruction });
-    }
-    Ok(encode(alloc, program)?)
+    let program = IndexedProgram::new(alloc, program)?;
+    let literals = literals(alloc, &program)?;
+    Ok(encode(alloc, &program, literals.as_slice())?)
 }

@@ -1,16 +1,17 @@
 //! The bytes of a program.
 
 ghost use Rattle.std.specs.Prelude.{◌≡◌, ◌++◌, OnOk, IfOk, length, count_by, is_some, []};
+ghost use Rattle.assembler.specs.Encoded.{constants_in, settled_code, settled_word, settled_words, settled_bytes};
 ghost use Rattle.std.specs.Int.{w8, w16, w32, to_be_bytes};
 ghost use Rattle.std.specs.List.{flat_map, position};
 ghost use Rattle.il_model.specs.Marks.{with_mark, marks_from};
-ghost use Rattle.il_model.specs.Constants.{same_value, literal_of, constants_from, constants_of};
-ghost use Rattle.il_model.specs.Image.{name_bytes, variable_bytes, mark_bytes, constant_bytes, constant_code, target_code, operand_code, word_bytes, counts_bytes, spelling};
+ghost use Rattle.il_model.specs.Constants.{same_value};
+ghost use Rattle.il_model.specs.Image.{name_bytes, variable_bytes, mark_bytes, constant_bytes, constant_code, target_code, operand_code, counts_bytes};
 
+use crate::constants::Constants;
 use il_model::codes::{bits, location_code, modifier_code, op_code, plain_code, type_code};
-use il_model::resolve::target_of;
-use il_model::value::same_value;
-use il_model::{Instr, Name, Operand, Program, Value, Variable};
+use il_model::indexed::IndexedProgram;
+use il_model::{Instr, Name, Operand, Value, Variable};
 use std::alloc::{AllocError, Global};
 
 fn put_u8(out: &mut Vec<u8>, n: usize) -> Result<(), AllocError>
@@ -59,46 +60,63 @@ fn put_constant(out: &mut Vec<u8>, v: Value) -> Result<(), AllocError>
     put_u32(out, bits(v))
 }
 
-fn constant_position(constants: &[Value], v: Value) -> Option<usize>
-    ensures { result ≡ position (same_value v) constants.now }
-{
-    constants.iter().position(|c| same_value(v, *c))
-}
-
-fn constant_number(constants: &[Value], v: Value) -> usize
+fn constant_number(constants: &Constants, v: Value) -> usize
     ensures { result ≡ constant_code (position (same_value v) constants.now) }
 {
-    match constant_position(constants, v) {
+    match constants.place(v) {
         Some(k) => 32768 + k,
         None => 65535,
     }
 }
 
 /// The number of an operand: a constant's by its place in the table, a label's by where it stands.
-fn operand_code(program: &Program, constants: &[Value], operand: &Operand) -> usize
+fn operand_code(program: &IndexedProgram, constants: &Constants, operand: &Operand) -> usize
     ensures { result ≡ operand_code program.now constants.now operand.now }
 {
     match operand {
         Operand::Literal(v) => constant_number(constants, *v),
-        Operand::Label(name) => match target_of(program, name) {
+        Operand::Label(name) => match program.target_of(name) {
             Some(n) => n as usize,
             None => 65535,
         },
-        _ => plain_code(program.variables.as_slice(), operand),
+        Operand::Variable(name) => match program.variable_named(name) {
+            Some(i) => 16384 + i as usize,
+            None => 65535,
+        },
+        _ => plain_code(program.program().variables.as_slice(), operand),
+    }
+}
+
+/// The number of an operand that is this literal, or none and then stands in the program as it is.
+fn settled_code(
+    program: &IndexedProgram,
+    constants: &Constants,
+    operand: &Operand,
+    literal: Option<Value>,
+) -> usize
+    ensures { result ≡ settled_code program.now constants.now operand.now literal }
+{
+    match literal {
+        Some(v) => constant_number(constants, v),
+        None => operand_code(program, constants, operand),
     }
 }
 
 fn put_word(
     out: &mut Vec<u8>,
-    program: &Program,
-    constants: &[Value],
+    program: &IndexedProgram,
+    constants: &Constants,
     line: &Instr,
+    literal: Option<Value>,
 ) -> Result<(), AllocError>
-    ensures { OnOk result (out.new.items ≡ out.old.items ++ word_bytes program.now constants.now line.now) }
+    ensures { OnOk result (out.new.items ≡ out.old.items ++ settled_word program.now constants.now line.now literal) }
 {
     put_u8(out, op_code(line.op))?;
     put_u8(out, modifier_code(line.modifier))?;
-    put_u16(out, operand_code(program, constants, &line.operand))
+    put_u16(
+        out,
+        settled_code(program, constants, &line.operand, literal),
+    )
 }
 
 fn put_counts(
@@ -165,30 +183,6 @@ fn label_count(code: &[Instr]) -> usize
     labelled_count(code)
 }
 
-fn literal(operand: &Operand) -> Option<Value>
-    ensures { result ≡ literal_of operand.now }
-{
-    match operand {
-        Operand::Literal(v) => Some(*v),
-        _ => None,
-    }
-}
-
-/// The constants in the order of their first use.
-fn constants(alloc: Global, code: &[Instr]) -> Result<Vec<Value>, AllocError>
-    ensures { IfOk result (λ v. v.items ≡ constants_from same_value [] code.now) }
-{
-    let mut found: Vec<Value> = Vec::new(alloc);
-    for line in code {
-        if let Some(v) = literal(&line.operand) {
-            if constant_position(found.as_slice(), v).is_none() {
-                found.push(v)?;
-            }
-        }
-    }
-    Ok(found)
-}
-
 fn put_constants(out: &mut Vec<u8>, constants: &[Value]) -> Result<(), AllocError>
     ensures { OnOk result (out.new.items ≡ out.old.items ++ flat_map constant_bytes constants.now) }
 {
@@ -200,25 +194,32 @@ fn put_constants(out: &mut Vec<u8>, constants: &[Value]) -> Result<(), AllocErro
 
 fn put_words(
     out: &mut Vec<u8>,
-    program: &Program,
-    constants: &[Value],
+    program: &IndexedProgram,
+    constants: &Constants,
     code: &[Instr],
+    literals: &[Option<Value>],
 ) -> Result<(), AllocError>
-    ensures { OnOk result (out.new.items ≡ out.old.items ++ flat_map (word_bytes program.now constants.now) code.now) }
+    requires { length literals.now ≡ length code.now }
+    ensures { OnOk result (out.new.items ≡ out.old.items ++ settled_words program.now constants.now code.now literals.now) }
 {
-    for line in code {
-        put_word(out, program, constants, line)?;
+    for n in 0..code.len() {
+        put_word(out, program, constants, &code[n], literals[n])?;
     }
     Ok(())
 }
 
-/// The bytes of a program.
-pub fn encode(alloc: Global, program: &Program) -> Result<Vec<u8>, AllocError>
-    ensures { IfOk result (λ v. v.items ≡ spelling program.now) }
+/// The bytes of the typed program of a program, whose literals these are, one for each instruction.
+pub fn encode(
+    alloc: Global,
+    program: &IndexedProgram,
+    literals: &[Option<Value>],
+) -> Result<Vec<u8>, AllocError>
+    requires { length literals.now ≡ length program.now.code }
+    ensures { IfOk result (λ v. v.items ≡ settled_bytes program.now (constants_in [] literals.now) literals.now) }
 {
-    let variables = program.variables.as_slice();
-    let code = program.code.as_slice();
-    let constants = constants(alloc, code)?;
+    let variables = program.program().variables.as_slice();
+    let code = program.code();
+    let constants = Constants::of(alloc, literals)?;
     let mut out = Vec::new(alloc);
     put_u32(&mut out, 1229738051)?;
     put_u16(&mut out, 1)?;
@@ -226,12 +227,12 @@ pub fn encode(alloc: Global, program: &Program) -> Result<Vec<u8>, AllocError>
         &mut out,
         variables.len(),
         label_count(code),
-        constants.len(),
+        constants.values().len(),
         code.len(),
     )?;
     put_variables(&mut out, variables)?;
     put_labels(&mut out, code)?;
-    put_constants(&mut out, constants.as_slice())?;
-    put_words(&mut out, program, constants.as_slice(), code)?;
+    put_constants(&mut out, constants.values())?;
+    put_words(&mut out, program, &constants, code, literals)?;
     Ok(out)
 }

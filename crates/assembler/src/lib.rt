@@ -3,6 +3,7 @@
 #![tactic(auto)]
 
 mod assembling;
+mod constants;
 mod encode;
 mod fault;
 

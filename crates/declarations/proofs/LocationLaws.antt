@@ -4,9 +4,9 @@ use Rattle.std.proofs.Math.ListN.{drop_of_length-le}
 use Rattle.std.specs.Prelude.{option_map}
 use Rattle.std.proofs.lemmas.Bool.{cases_lt, le-ltb}
 use Rattle.il_model.specs.declared.program.Area.{Area}
-use Rattle.il_model.specs.declared.program.Loc.TheVariants.{Bit}
+use Rattle.il_model.specs.declared.program.Loc.TheVariants.{Bit, Word}
 use Rattle.il_model.specs.Literal.{integer_of, are_digits}
-use Rattle.declarations.specs.Locations.{bit_of, dot_at, bit_at}
+use Rattle.declarations.specs.Locations.{bit_of, word_of, dot_at, bit_at}
 
 abbrev pub held : ℕ → ℕ
 held n = min n 4294967296
@@ -32,6 +32,14 @@ bit_capped area (Some b) (Some n) = chosen (ltb b 64) (ltb n 8) refl refl
     chosen true true e f = rw (held-lt b 64 (omega arith), held-lt n 8 (omega arith), held_is b 64 (omega arith) e, held_is n 8 (omega arith) f) refl
     chosen true false e f = rw (held-lt b 64 (omega arith), held-lt n 8 (omega arith), e, f) refl
     chosen false q e f = rw (held-lt b 64 (omega arith), held-lt n 8 (omega arith), e) refl
+
+pub word_capped : (area : Area) (k : Option ℕ) → word_of area (option_map (λ n. min n 4294967296) k) ≡ word_of area k
+word_capped area None = refl
+word_capped area (Some k) = chosen (ltb k 64) refl
+  where
+    chosen : (p : Bool) → ltb k 64 ≡ p → cond (ltb (held k) 64) (Some (Word area (held k))) None ≡ cond (ltb k 64) (Some (Word area k)) None
+    chosen true e = rw (held-lt k 64 (omega arith), held_is k 64 (omega arith) e) refl
+    chosen false e = rw (held-lt k 64 (omega arith), e) refl
 
 bit_none : (area : Area) (b : Option ℕ) → bit_of area b None ≡ None
 bit_none area None = refl

@@ -1,10 +1,10 @@
--- Locations as they are written (IEC 61131-3:2003, 2.4.1.1): %IXb.n and %QXb.n, where X may be missing, without regard to case.
+-- Locations as they are written (IEC 61131-3:2003, 2.4.1.1): %IXb.n, where X may be missing, and %IWk, of inputs, outputs and memory, without regard to case.
 use Rattle.std.specs.Prelude.{ℕ, ◌+◌, ◌*◌, Bool, not, ◌&&◌, ◌==◌, List, [], ◌∷◌, take, drop, Option, Some, None, nat_lt, if◌then◌else◌}
 use Rattle.std.specs.List.{prefix_len}
 use Rattle.il_model.specs.declared.program.Area.{Area}
 use Rattle.il_model.specs.declared.program.Area.TheVariants as areas
 use Rattle.il_model.specs.declared.program.Loc.{Loc}
-use Rattle.il_model.specs.declared.program.Loc.TheVariants.{Bit}
+use Rattle.il_model.specs.declared.program.Loc.TheVariants.{Bit, Word}
 use Rattle.il_model.specs.Words.{upper}
 use Rattle.il_model.specs.Literal.{integer_of}
 
@@ -20,23 +20,33 @@ abbrev pub bit_of : Area → Option ℕ → Option ℕ → Option Loc
 bit_of area (Some b) (Some n) = if nat_lt b 64 && nat_lt n 8 then Some (Bit area (8 * b + n)) else None
 bit_of area b n = None
 
-abbrev pub area_of : ℕ → Option Area
-area_of letter = if upper letter == 73 then Some areas.Input else if upper letter == 81 then Some areas.Output else None
+-- a word, by its number
+abbrev pub word_of : Area → Option ℕ → Option Loc
+word_of area (Some k) = if nat_lt k 64 then Some (Word area k) else None
+word_of area None = None
 
-abbrev pub behind_x : List ℕ → List ℕ
-behind_x [] = []
-behind_x (b ∷ bs) = if upper b == 88 then bs else b ∷ bs
+abbrev pub area_of : ℕ → Option Area
+area_of letter = if upper letter == 73 then Some areas.Input else if upper letter == 81 then Some areas.Output else if upper letter == 77 then Some areas.Memory else None
 
 -- two integers with a dot between them
 unfoldable pub bit_at : Area → List ℕ → Option Loc
 bit_at area bytes = bit_of area (integer_of 10 (take (dot_at bytes) bytes)) (integer_of 10 (drop (dot_at bytes + 1) bytes))
 
-abbrev pub bit_in : Option Area → List ℕ → Option Loc
-bit_in None bytes = None
-bit_in (Some area) bytes = bit_at area bytes
+-- one integer
+unfoldable pub word_at : Area → List ℕ → Option Loc
+word_at area bytes = word_of area (integer_of 10 bytes)
+
+-- behind the letter of the area: X and a bit, W and a word, or a bit
+abbrev pub place_at : Area → List ℕ → Option Loc
+place_at area [] = None
+place_at area (b ∷ bs) = if upper b == 88 then bit_at area bs else if upper b == 87 then word_at area bs else bit_at area (b ∷ bs)
+
+abbrev pub place_in : Option Area → List ℕ → Option Loc
+place_in None bytes = None
+place_in (Some area) bytes = place_at area bytes
 
 -- the location that a text with a % in front is
 abbrev pub location_of : List ℕ → Option Loc
 location_of [] = None
 location_of (percent ∷ []) = None
-location_of (percent ∷ letter ∷ bytes) = bit_in (area_of letter) (behind_x bytes)
+location_of (percent ∷ letter ∷ bytes) = place_in (area_of letter) bytes

@@ -3,6 +3,7 @@
 #![tactic(auto)]
 
 mod fault;
+mod initial;
 mod instructions;
 mod location;
 mod resolving;

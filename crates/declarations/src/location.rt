@@ -2,7 +2,7 @@
 
 ghost use Rattle.std.specs.Prelude.{◌≡◌};
 ghost use Rattle.std.specs.List.{prefix_len};
-ghost use Rattle.declarations.specs.Locations.{is_no_dot, dot_at, bit_of, area_of, behind_x, bit_at, bit_in, location_of};
+ghost use Rattle.declarations.specs.Locations.{is_no_dot, dot_at, bit_of, word_of, area_of, bit_at, word_at, place_at, location_of};
 
 use il_model::literal::integer;
 use il_model::program::{Area, Loc};
@@ -23,16 +23,8 @@ fn area(letter: u8) -> Option<Area>
     match capital(letter) {
         b'I' => Some(Area::Input),
         b'Q' => Some(Area::Output),
+        b'M' => Some(Area::Memory),
         _ => None,
-    }
-}
-
-fn past_x(bytes: &[u8]) -> &[u8]
-    ensures { result.now ≡ behind_x bytes.now }
-{
-    match bytes {
-        [b, others @ ..] if capital(*b) == b'X' => others,
-        _ => bytes,
     }
 }
 
@@ -58,12 +50,41 @@ fn numbered(area: Area, bytes: &[u8]) -> Option<Loc>
     }
 }
 
+fn word(area: Area, number: Option<u64>) -> Option<Loc>
+    ensures { result ≡ word_of area number }
+{
+    match number {
+        Some(k) if k < 64 => Some(Loc::Word(area, k as u16)),
+        _ => None,
+    }
+}
+
+#[tactic(auto, unfolding(crate::specs::Locations::word_at), using(crate::proofs::LocationLaws::word_capped))]
+fn numbered_word(area: Area, bytes: &[u8]) -> Option<Loc>
+    ensures { result ≡ word_at area bytes.now }
+{
+    word(area, integer(10, bytes))
+}
+
+fn place(area: Area, bytes: &[u8]) -> Option<Loc>
+    ensures { result ≡ place_at area bytes.now }
+{
+    match bytes {
+        [] => None,
+        [b, others @ ..] => match capital(*b) {
+            b'X' => numbered(area, others),
+            b'W' => numbered_word(area, others),
+            _ => numbered(area, bytes),
+        },
+    }
+}
+
 /// The location that a text with a % in front is, or None where it is none.
 pub fn location(text: &[u8]) -> Option<Loc>
     ensures { result ≡ location_of text.now }
 {
     match text {
-        [_, letter, others @ ..] => numbered(area(*letter)?, past_x(others)),
+        [_, letter, others @ ..] => place(area(*letter)?, others),
         _ => None,
     }
 }

@@ -1,7 +1,7 @@
 //! From a text that was read to its program.
 
 ghost use Rattle.std.specs.Prelude.{◌≡◌, [], map, IfOk};
-ghost use Rattle.il_model.specs.Fits.{IsText};
+ghost use Rattle.il_model.specs.Declarable.{IsDeclared};
 ghost use Rattle.il_reader.specs.Grammar.{declarations};
 ghost use Rattle.declarations.specs.Resolution.{Gives, Answers, declare_block, program_at, resolution_of, each};
 
@@ -24,7 +24,7 @@ fn variables(alloc: Global, blocks: &[Vec<Declaration>]) -> Result<Vec<Variable>
 
 #[tactic(auto, unfolding(crate::specs::Resolution::program_at))]
 fn program(alloc: Global, source: &Source) -> Result<Program, Failure>
-    ensures text { IfOk result (λ p. IsText p) }
+    ensures text { IfOk result (λ p. IsDeclared p) }
     ensures exact { Gives (λ p. p) result (program_at source.now.says) }
 {
     source.is_read();
@@ -36,12 +36,13 @@ fn program(alloc: Global, source: &Source) -> Result<Program, Failure>
     }
 }
 
-/// The program of a text that was read: its variables in the order of their declarations, its instructions, all names in
-/// capital letters. Else the first fault in the text with its line and column; of two at one place the one with the least
+/// The program of a text that was read: its variables in the order of their declarations, with their first values, and its
+/// instructions, one for a label alone too, all names in capital letters. Numbers without a type stay bare, labels of jumps are not looked up. Else the first fault in the text with its line and column; of two at one place the one with the least
 /// number. Or memory ran out.
 pub fn resolve(alloc: Global, source: Source<'_>) -> Result<Program, DeclError>
-    // Each part of the program has a code in an image from which it reads back: names are lawful and distinct, so are locations.
-    ensures text { IfOk result (λ p. IsText p) }
+    // Each part of the program has a lawful form: names are lawful and distinct, so are locations; values are in their ranges; an
+    // operator has letters and an operand that it takes.
+    ensures text { IfOk result (λ p. IsDeclared p) }
     // The program is what the text declares, and a fault is the first one.
     ensures exact { Answers (λ p. p) result (resolution_of source.entry) }
 {

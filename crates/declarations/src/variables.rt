@@ -6,13 +6,15 @@ ghost use Rattle.il_model.specs.Image.{loc_code};
 ghost use Rattle.il_model.specs.Codes.{has_code, is_number, is_taken};
 ghost use Rattle.il_reader.specs.Tokens.{token};
 ghost use Rattle.il_reader.specs.Grammar.{declaration, declarations};
-ghost use Rattle.declarations.specs.Resolution.{Gives, capitals, type_of, has_name, is_full, new_name, free_location, known_type, variable, name_variable, declare_located, declare_listed, declare, declare_block, each};
+ghost use Rattle.declarations.specs.Resolution.{Gives, capitals, type_of, has_name, is_full, suits, new_name, free_location, known_type, variable, plan_of, name_variable, declare_located, declare_listed, declare, declare_block, each};
 
 use crate::fault::{DeclKind, Failure, Refusal};
+use crate::initial::{first_value, planned_value};
 use crate::location::location;
 use il_model::codes::location_code;
 use il_model::name::{Name, is_reserved};
 use il_model::program::{Loc, Variable};
+use il_model::resolve::loc_type;
 use il_model::value::{Ty, Value};
 use il_model::words::{capital, is_spelled};
 use il_reader::{Declaration, Lexeme, Names};
@@ -75,6 +77,12 @@ fn elementary(word: &[u8]) -> Option<Ty>
 {
     if is_spelled(b"BOOL", word) {
         Some(Ty::Bool)
+    } else if is_spelled(b"INT", word) {
+        Some(Ty::Int)
+    } else if is_spelled(b"DINT", word) {
+        Some(Ty::Dint)
+    } else if is_spelled(b"TIME", word) {
+        Some(Ty::Time)
     } else {
         None
     }
@@ -110,18 +118,48 @@ fn lawful_name(
     }
 }
 
-fn unoccupied(known: &[Variable], t: Lexeme) -> Result<Loc, Failure>
-    ensures { Gives (λ loc. loc) result (free_location known.now (token t.entry)) }
+fn location_suits(ty: Option<Ty>, loc: Loc) -> bool
+    ensures { result ≡ suits ty loc }
+{
+    match ty {
+        Some(Ty::Bool) => matches!(loc_type(loc), Some(Ty::Bool)),
+        Some(Ty::Int) => matches!(loc_type(loc), Some(Ty::Int)),
+        Some(_) => false,
+        None => true,
+    }
+}
+
+fn unoccupied(ty: Option<Ty>, known: &[Variable], t: Lexeme) -> Result<Loc, Failure>
+    ensures { Gives (λ loc. loc) result (free_location ty known.now (token t.entry)) }
 {
     match location(t.text) {
         None => Err(refused(DeclKind::BadLocation, t)),
         Some(loc) => {
-            if is_occupied(known, loc) {
+            if !location_suits(ty, loc) {
+                Err(refused(DeclKind::BadLocation, t))
+            } else if is_occupied(known, loc) {
                 Err(refused(DeclKind::Overlap, t))
             } else {
                 Ok(loc)
             }
         }
+    }
+}
+
+/// What the variables of a list are: their type and their first value, where both are good.
+#[derive(Clone, Copy, Debug)]
+pub struct Plan {
+    pub ty: Option<Ty>,
+    pub initial: Value,
+}
+
+fn planned(d: &Declaration) -> Plan
+    ensures { result ≡ plan_of (declaration d.now) }
+{
+    let ty = elementary(d.ty.text);
+    Plan {
+        ty,
+        initial: planned_value(ty, d.initial),
     }
 }
 
@@ -131,41 +169,36 @@ fn named_type(t: Lexeme) -> Result<Ty, Failure>
     elementary(t.text).ok_or(refused(DeclKind::UnknownType, t))
 }
 
-fn fresh(name: Name, ty: Ty, location: Option<Loc>) -> Variable
-    ensures { result ≡ variable name ty location }
+fn fresh(name: Name, ty: Ty, location: Option<Loc>, initial: Value) -> Variable
+    ensures { result ≡ variable name ty location initial }
 {
     Variable {
         name,
         ty,
         location,
-        initial: Value::Bool(false),
+        initial,
     }
 }
 
 #[tactic(auto, unfolding(crate::specs::Resolution::name_variable))]
-fn push_name(
-    alloc: Global,
-    ty: Option<Ty>,
-    known: &mut Vec<Variable>,
-    t: Lexeme,
-) -> Result<(), Failure>
-    ensures { Gives (λ u. known.new.items) result (name_variable ty known.old.items (token t.entry)) }
+fn push_name(alloc: Global, plan: Plan, known: &mut Vec<Variable>, t: Lexeme) -> Result<(), Failure>
+    ensures { Gives (λ u. known.new.items) result (name_variable plan known.old.items (token t.entry)) }
 {
-    let name = lawful_name(alloc, ty, known.as_slice(), t)?;
-    known.push(fresh(name, ty.unwrap_or(Ty::Bool), None))?;
+    let name = lawful_name(alloc, plan.ty, known.as_slice(), t)?;
+    known.push(fresh(name, plan.ty.unwrap_or(Ty::Bool), None, plan.initial))?;
     Ok(())
 }
 
 fn push_names(
     alloc: Global,
-    ty: Option<Ty>,
+    plan: Plan,
     known: &mut Vec<Variable>,
     names: &[Lexeme],
 ) -> Result<(), Failure>
-    ensures { Gives (λ u. known.new.items) result (each (name_variable ty) known.old.items (map token names.now)) }
+    ensures { Gives (λ u. known.new.items) result (each (name_variable plan) known.old.items (map token names.now)) }
 {
     for name in names {
-        push_name(alloc, ty, known, *name)?;
+        push_name(alloc, plan, known, *name)?;
     }
     Ok(())
 }
@@ -180,9 +213,10 @@ fn declare_at(
     ensures { Gives (λ u. known.new.items) result (declare_located known.old.items (declaration d.now) (token at.entry)) }
 {
     let name = lawful_name(alloc, elementary(d.ty.text), known.as_slice(), d.name)?;
-    let loc = unoccupied(known.as_slice(), at)?;
+    let loc = unoccupied(elementary(d.ty.text), known.as_slice(), at)?;
     let ty = named_type(d.ty)?;
-    known.push(fresh(name, ty, Some(loc)))?;
+    let initial = first_value(ty, Some(loc), d.initial)?;
+    known.push(fresh(name, ty, Some(loc), initial))?;
     Ok(())
 }
 
@@ -195,10 +229,11 @@ fn declare_names(
 ) -> Result<(), Failure>
     ensures { Gives (λ u. known.new.items) result (declare_listed known.old.items (declaration d.now) (map token more.now)) }
 {
-    let ty = elementary(d.ty.text);
-    push_name(alloc, ty, known, d.name)?;
-    push_names(alloc, ty, known, more)?;
-    named_type(d.ty)?;
+    let plan = planned(d);
+    push_name(alloc, plan, known, d.name)?;
+    push_names(alloc, plan, known, more)?;
+    let ty = named_type(d.ty)?;
+    first_value(ty, None, d.initial)?;
     Ok(())
 }
 

@@ -24,7 +24,7 @@ use Rattle.il_model.specs.Resolved.{is_labelled}
 use Rattle.il_model.specs.Typing.{Shape, shape_at, arrived}
 use Rattle.il_model.specs.Suits.{AreCells, HasValues, HasShape, Suits}
 
-some_of : (b : Bool) (x v : Value) → cond b (Some x) None ≡ Some v → x ≡ v
+pub some_of : (b : Bool) (x v : Value) → cond b (Some x) None ≡ Some v → x ≡ v
 some_of true x v e = cc
 some_of false x v e = absurd cc
 

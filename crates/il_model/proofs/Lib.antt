@@ -9,3 +9,11 @@ pub mod Declared
 pub mod ColdSuits
 pub mod BlockKinds
 pub mod Literals
+pub mod Lawful
+pub mod Positions
+pub mod Settling
+pub mod Indexing
+pub mod Decimals
+pub mod Declaring
+pub mod LiteralLaws
+pub mod HeldNumbers

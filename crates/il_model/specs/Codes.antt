@@ -1,5 +1,5 @@
 -- What the numbers in an image stand for: types, locations, operators, letters, operands.
-use Rattle.std.specs.Prelude.{ℕ, ◌-◌, zero, suc, Bool, true, false, not, ◌&&◌, ◌||◌, List, slice_get, Option, Some, None, is_some, nat_lt, nat_eq, if◌then◌else◌}
+use Rattle.std.specs.Prelude.{ℕ, ◌-◌, zero, suc, Bool, true, false, not, ◌&&◌, ◌||◌, List, [], ◌∷◌, slice_get, Option, Some, None, is_some, is_none, nat_lt, nat_eq, if◌then◌else◌}
 use Rattle.std.specs.List.{position}
 use Rattle.std.specs.Option.{option_map, option_and_then}
 use Rattle.std.specs.Int.{w32, cast_signed}
@@ -17,11 +17,18 @@ use Rattle.il_model.specs.declared.program.Variable.{Variable}
 use Rattle.il_model.specs.declared.program.Operand.{Operand}
 use Rattle.il_model.specs.declared.program.Operand.TheVariants as operands
 use Rattle.il_model.specs.declared.program.Instr.{Instr}
+use Rattle.il_model.specs.declared.codes.LetterSet.{LetterSet}
+use Rattle.il_model.specs.declared.codes.LetterSet.TheVariants as letters
+use Rattle.il_model.specs.declared.codes.Form.{Form}
+use Rattle.il_model.specs.declared.codes.Form.TheVariants as forms
+use Rattle.il_model.specs.declared.codes.Usage.{Usage}
 use Rattle.il_model.specs.Values.{made, number_of}
 use Rattle.il_model.specs.Operators.{is_zero}
 use Rattle.il_model.specs.Names.{same_name, is_lawful_name}
 use Rattle.il_model.specs.State.{area_of}
 use Rattle.il_model.specs.Typing.{loc_type, is_output}
+use Rattle.il_model.specs.Marks.{Mark}
+use Rattle.il_model.specs.Constants.{same_value}
 use Rattle.il_model.specs.Image.{plain_code, loc_code}
 
 abbrev pub tested : {A : Type 0} → (A → Bool) → A → Option A
@@ -34,12 +41,19 @@ is_number seen name = position (λ (v : Variable). same_name v.name name) seen
 abbrev pub is_new_name : List Variable → List ℕ → Bool
 is_new_name seen name = is_lawful_name name && not (is_some (is_number seen name))
 
+-- a lawful name that no label before it has; labels are a name space of their own
+abbrev pub is_new_label : List Mark → List ℕ → Bool
+is_new_label seen name = is_lawful_name name && not (is_some (position (λ (m : Mark). same_name m.name name) seen))
+
 abbrev pub length_of : ℕ → Option ℕ
 length_of n = if nat_lt 0 n && nat_lt n 33 then Some n else None
 
 abbrev pub type_of : ℕ → Option Ty
 type_of zero = Some types.Bool
-type_of (suc n) = None
+type_of (suc zero) = Some types.Int
+type_of (suc (suc zero)) = Some types.Dint
+type_of (suc (suc (suc zero))) = Some types.Time
+type_of n = None
 
 abbrev pub area_loc : Area → ℕ → Option Loc
 area_loc area n =
@@ -51,15 +65,6 @@ abbrev pub any_loc : ℕ → Option Loc
 any_loc n =
     if nat_lt n 4096 then area_loc areas.Input n
     else (if nat_lt n 8192 then area_loc areas.Output (n - 4096) else area_loc areas.Memory (n - 8192))
-
--- programs name bits of the inputs and of the outputs
-abbrev pub is_part_loc : Loc → Bool
-is_part_loc (Bit areas.Input n) = true
-is_part_loc (Bit areas.Output n) = true
-is_part_loc loc = false
-
-abbrev pub loc_of : ℕ → Option Loc
-loc_of n = option_and_then (tested is_part_loc) (any_loc n)
 
 abbrev pub has_code : ℕ → Option Loc → Bool
 has_code n None = false
@@ -82,7 +87,7 @@ free_loc seen t n None = None
 free_loc seen t n (Some loc) = if is_free seen t n loc then Some (Some loc) else None
 
 abbrev pub location_of : List Variable → Ty → ℕ → Option (Option Loc)
-location_of seen t n = if nat_eq n 65535 then Some None else free_loc seen t n (loc_of n)
+location_of seen t n = if nat_eq n 65535 then Some None else free_loc seen t n (any_loc n)
 
 -- an input has no first value of its own
 abbrev pub may_start_with : Option Loc → Value → Bool
@@ -91,6 +96,13 @@ may_start_with (Some loc) v = is_output (area_of loc) || is_zero (number_of v)
 
 abbrev pub initial_of : Ty → Option Loc → ℕ → Option Value
 initial_of type loc bits = option_and_then (tested (may_start_with loc)) (made type (cast_signed w32 bits))
+
+abbrev pub is_known : List Value → Value → Bool
+is_known seen v = is_some (position (same_value v) seen)
+
+-- a constant that wasn't there before
+abbrev pub constant_of : List Value → Ty → ℕ → Option Value
+constant_of seen type bits = option_and_then (tested (λ v. not (is_known seen v))) (made type (cast_signed w32 bits))
 
 -- the letters that a number stands for
 abbrev pub modifier_of : ℕ → Option Modifier
@@ -106,41 +118,119 @@ abbrev pub variable_named : Option Variable → Option Operand
 variable_named None = None
 variable_named (Some v) = Some (operands.Variable v.name)
 
--- a variable or a location
-abbrev pub is_named : Operand → Bool
-is_named (operands.Variable name) = true
-is_named (operands.Direct loc) = true
-is_named operand = false
+-- ---- the table of operators: the letters that each takes, and the form of its operand
 
-abbrev pub is_plain : Modifier → Bool
-is_plain m = not m.negated && not m.conditional && not m.opens
+abbrev pub usage_of : Op → Option Usage
+usage_of ops.Empty = Some (record { letters = letters.None; form = forms.Absent })
+usage_of ops.Ld = Some (record { letters = letters.N; form = forms.Value })
+usage_of ops.St = Some (record { letters = letters.N; form = forms.Value })
+usage_of ops.S = Some (record { letters = letters.None; form = forms.Value })
+usage_of ops.R = Some (record { letters = letters.None; form = forms.Value })
+usage_of ops.And = Some (record { letters = letters.NOpens; form = forms.Value })
+usage_of ops.Or = Some (record { letters = letters.NOpens; form = forms.Value })
+usage_of ops.Xor = Some (record { letters = letters.NOpens; form = forms.Value })
+usage_of ops.Not = Some (record { letters = letters.None; form = forms.Absent })
+usage_of ops.Add = Some (record { letters = letters.Opens; form = forms.Value })
+usage_of ops.Sub = Some (record { letters = letters.Opens; form = forms.Value })
+usage_of ops.Mul = Some (record { letters = letters.Opens; form = forms.Value })
+usage_of ops.Div = Some (record { letters = letters.Opens; form = forms.Value })
+usage_of ops.Mod = Some (record { letters = letters.Opens; form = forms.Value })
+usage_of ops.Gt = Some (record { letters = letters.Opens; form = forms.Value })
+usage_of ops.Ge = Some (record { letters = letters.Opens; form = forms.Value })
+usage_of ops.Eq = Some (record { letters = letters.Opens; form = forms.Value })
+usage_of ops.Ne = Some (record { letters = letters.Opens; form = forms.Value })
+usage_of ops.Le = Some (record { letters = letters.Opens; form = forms.Value })
+usage_of ops.Lt = Some (record { letters = letters.Opens; form = forms.Value })
+usage_of ops.Jmp = Some (record { letters = letters.C; form = forms.Label })
+usage_of ops.Cal = None
+usage_of ops.Ret = Some (record { letters = letters.C; form = forms.Absent })
+usage_of ops.Close = Some (record { letters = letters.None; form = forms.Absent })
+usage_of ops.IntToDint = Some (record { letters = letters.None; form = forms.Absent })
+usage_of ops.DintToInt = Some (record { letters = letters.None; form = forms.Absent })
 
--- the letters and the operand that an operator takes; types are judged later
-abbrev pub is_line : Op → Modifier → Operand → Bool
-is_line ops.Ld m o = not m.conditional && not m.opens && is_named o
-is_line ops.St m o = not m.conditional && not m.opens && is_named o
-is_line ops.And m o = is_plain m && is_named o
-is_line ops.Or m o = is_plain m && is_named o
-is_line _ m o = false
+-- no letter; N or none; C, CN or none; a parenthesis or none; that with N or without
+abbrev pub allows : LetterSet → Modifier → Bool
+allows letters.None m = not m.negated && not m.conditional && not m.opens
+allows letters.N m = not m.conditional && not m.opens
+allows letters.C m = (m.conditional || not m.negated) && not m.opens
+allows letters.Opens m = not m.negated && not m.conditional
+allows letters.NOpens m = not m.conditional
 
+-- an operator with a parenthesis needs no operand
+abbrev pub has_form : Form → Bool → Operand → Bool
+has_form forms.Absent opens operands.Absent = true
+has_form forms.Value opens (operands.Literal v) = true
+has_form forms.Value opens (operands.Variable name) = true
+has_form forms.Value opens (operands.Direct loc) = true
+has_form forms.Value true operands.Absent = true
+has_form forms.Label opens (operands.Label name) = true
+has_form form opens operand = false
+
+abbrev pub allowed_by : Option Usage → Modifier → Bool
+allowed_by None m = false
+allowed_by (Some usage) m = allows usage.letters m
+
+abbrev pub formed_by : Option Usage → Modifier → Operand → Bool
+formed_by None m o = false
+formed_by (Some usage) m o = has_form usage.form m.opens o
+
+-- ---- words
+
+-- the operators in the order of their codes
+abbrev pub op_list : List Op
+op_list =
+    ops.Empty ∷ ops.Ld ∷ ops.St ∷ ops.S ∷ ops.R ∷ ops.And ∷ ops.Or ∷ ops.Xor ∷ ops.Not ∷
+    ops.Add ∷ ops.Sub ∷ ops.Mul ∷ ops.Div ∷ ops.Mod ∷ ops.Gt ∷ ops.Ge ∷ ops.Eq ∷ ops.Ne ∷ ops.Le ∷ ops.Lt ∷
+    ops.Jmp ∷ ops.Cal ∷ ops.Ret ∷ ops.Close ∷ ops.IntToDint ∷ ops.DintToInt ∷ []
+
+-- an operator that has a row in the table
 abbrev pub op_of : ℕ → Option Op
-op_of zero = None
-op_of (suc zero) = Some ops.Ld
-op_of (suc (suc zero)) = Some ops.St
-op_of (suc (suc (suc zero))) = None
-op_of (suc (suc (suc (suc zero)))) = None
-op_of (suc (suc (suc (suc (suc zero))))) = Some ops.And
-op_of (suc (suc (suc (suc (suc (suc zero)))))) = Some ops.Or
-op_of n = None
+op_of n = option_and_then (tested (λ op. is_some (usage_of op))) (slice_get op_list n)
+
+-- the letters of an operator
+abbrev pub letters_of : Op → ℕ → Option Modifier
+letters_of op n = option_and_then (tested (allowed_by (usage_of op))) (modifier_of n)
 
 abbrev pub raw_operand : List Variable → ℕ → Option Operand
 raw_operand vs n =
-    if nat_lt n 16384 then option_map operands.Direct (loc_of n)
+    if nat_lt n 16384 then option_map operands.Direct (any_loc n)
     else (if nat_eq n 65535 then Some operands.Absent else variable_named (slice_get vs (n - 16384)))
 
--- an operand that has this code
+-- no operand, a location or a variable, that has this code
 abbrev pub operand_of : List Variable → ℕ → Option Operand
 operand_of vs n = option_and_then (tested (λ o. nat_eq (plain_code vs o) n)) (raw_operand vs n)
 
-abbrev pub line_of : Op → Modifier → Operand → Option Instr
-line_of op m o = if is_line op m o then Some (record { label = None; op = op; modifier = m; operand = o }) else None
+-- an operand that is no label: a constant of the table, or one of the above
+abbrev pub value_operand : List Variable → List Value → ℕ → Option Operand
+value_operand vs constants n =
+    if nat_lt n 32768 || nat_eq n 65535 then operand_of vs n else option_map operands.Literal (slice_get constants (n - 32768))
+
+-- the name of the first label at an address
+abbrev pub label_there : List Mark → ℕ → Option (List ℕ)
+label_there [] n = None
+label_there (m ∷ ms) n = if nat_eq m.at n then Some m.name else label_there ms n
+
+-- a jump to an address without a label goes to the empty name, which no label has
+abbrev pub target_name : Option (List ℕ) → List ℕ
+target_name (Some name) = name
+target_name None = []
+
+abbrev pub is_jump : Op → Bool
+is_jump ops.Jmp = true
+is_jump op = false
+
+-- what a word's number stands for; any address may follow JMP, whether a label stands there is judged later
+abbrev pub numbered_operand : List Variable → List Mark → List Value → Op → ℕ → Option Operand
+numbered_operand vs marks constants op n = if is_jump op then Some (operands.Label (target_name (label_there marks n))) else value_operand vs constants n
+
+-- that, where the operator takes an operand of its form
+abbrev pub word_operand : List Variable → List Mark → List Value → Op → Modifier → ℕ → Option Operand
+word_operand vs marks constants op m n = option_and_then (tested (formed_by (usage_of op) m)) (numbered_operand vs marks constants op n)
+
+-- an empty instruction stands only where a label stands
+abbrev pub is_empty : Op → Bool
+is_empty ops.Empty = true
+is_empty op = false
+
+abbrev pub is_pointless : Instr → Bool
+is_pointless line = is_empty line.op && is_none line.label

@@ -1,13 +1,19 @@
 -- What a program is that has an image: each part reads back from its code.
-use Rattle.std.specs.Prelude.{◌≡◌, ◌<◌, ◌≤◌, ◌^◌, true, List, [], ◌∷◌, ◌++◌, length, Some}
+use Rattle.std.specs.Prelude.{◌≡◌, ℕ, ◌<◌, ◌≤◌, ◌^◌, true, false, List, [], ◌∷◌, ◌++◌, length, Some}
 use Rattle.std.specs.Int.{w32, cast_unsigned}
+use Rattle.il_model.specs.declared.value.Value.{Value}
+use Rattle.il_model.specs.declared.op.Op.{Op}
+use Rattle.il_model.specs.declared.op.Modifier.{Modifier}
 use Rattle.il_model.specs.declared.program.Variable.{Variable}
+use Rattle.il_model.specs.declared.program.Operand.{Operand}
 use Rattle.il_model.specs.declared.program.Instr.{Instr}
-use Rattle.il_model.specs.Values.{number_of}
+use Rattle.il_model.specs.Values.{ty_of, number_of}
 use Rattle.il_model.specs.Text.{Text}
 use Rattle.il_model.specs.Typing.{IsTyped}
-use Rattle.il_model.specs.Image.{type_code, location_code, op_code, modifier_code, plain_code}
-use Rattle.il_model.specs.Codes.{length_of, is_new_name, type_of, location_of, initial_of, op_of, modifier_of, operand_of, line_of}
+use Rattle.il_model.specs.Marks.{Mark, marks_from}
+use Rattle.il_model.specs.Constants.{constants_of}
+use Rattle.il_model.specs.Image.{type_code, location_code, op_code, modifier_code, operand_code}
+use Rattle.il_model.specs.Codes.{length_of, is_new_name, is_new_label, type_of, location_of, initial_of, constant_of, op_of, letters_of, word_operand, is_pointless}
 
 -- a variable behind those that were declared before it
 pub record IsVariable (seen : List Variable) (v : Variable) : Type 0 where
@@ -19,14 +25,30 @@ pub record IsVariable (seen : List Variable) (v : Variable) : Type 0 where
   pub initial : initial_of v.ty v.location (cast_unsigned w32 (number_of v.initial)) ≡ Some v.initial
   pub initial_small : cast_unsigned w32 (number_of v.initial) < 2 ^ 32
 
-pub record IsWord (vs : List Variable) (line : Instr) : Type 0 where
-  pub op : op_of (op_code line.op) ≡ Some line.op
-  pub op_small : op_code line.op < 2 ^ 8
-  pub modifier : modifier_of (modifier_code line.modifier) ≡ Some line.modifier
-  pub modifier_small : modifier_code line.modifier < 2 ^ 8
-  pub operand : operand_of vs (plain_code vs line.operand) ≡ Some line.operand
-  pub operand_small : plain_code vs line.operand < 2 ^ 16
-  pub whole : line_of line.op line.modifier line.operand ≡ Some line
+-- a label behind those before it
+pub record IsMark (seen : List Mark) (m : Mark) : Type 0 where
+  pub length : length_of (length m.name) ≡ Some (length m.name)
+  pub name : is_new_label seen m.name ≡ true
+  pub small : m.at < 2 ^ 16
+
+-- a constant behind those before it
+pub record IsConstant (seen : List Value) (v : Value) : Type 0 where
+  pub type : type_of (type_code (ty_of v)) ≡ Some (ty_of v)
+  pub value : constant_of seen (ty_of v) (cast_unsigned w32 (number_of v)) ≡ Some v
+  pub small : cast_unsigned w32 (number_of v) < 2 ^ 32
+
+-- an operator with its letters and its operand, which is a number
+pub record IsCoded (vs : List Variable) (marks : List Mark) (constants : List Value) (op : Op) (m : Modifier) (operand : Operand) (code : ℕ) : Type 0 where
+  pub op_read : op_of (op_code op) ≡ Some op
+  pub op_small : op_code op < 2 ^ 8
+  pub letters : letters_of op (modifier_code m) ≡ Some m
+  pub letters_small : modifier_code m < 2 ^ 8
+  pub operand_read : word_operand vs marks constants op m code ≡ Some operand
+  pub operand_small : code < 2 ^ 16
+
+pub record IsWord (Q : Text) (line : Instr) : Type 0 where
+  pub coded : IsCoded Q.variables (marks_from 0 Q.code) (constants_of Q) line.op line.modifier line.operand (operand_code Q (constants_of Q) line.operand)
+  pub labelled : is_pointless line ≡ false
 
 -- each of the later items is one behind those before it
 abbrev pub AreItems : {X : Type 0} → (List X → X → Type 0) → List X → List X → Type 0
@@ -36,7 +58,11 @@ AreItems IsItem seen (x ∷ xs) = IsItem seen x × AreItems IsItem (seen ++ x �
 pub record IsText (Q : Text) : Type 0 where
   pub variables : AreItems IsVariable [] Q.variables
   pub variables_few : length Q.variables ≤ 512
-  pub words : AreItems (λ seen. IsWord Q.variables) [] Q.code
+  pub labels : AreItems IsMark [] (marks_from 0 Q.code)
+  pub labels_few : length (marks_from 0 Q.code) ≤ 4096
+  pub constants : AreItems IsConstant [] (constants_of Q)
+  pub constants_few : length (constants_of Q) ≤ 20480
+  pub words : AreItems (λ seen. IsWord Q) [] Q.code
   pub words_few : length Q.code ≤ 36864
 
 pub record IsImage (Q : Text) : Type 0 where

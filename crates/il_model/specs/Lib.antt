@@ -24,3 +24,8 @@ pub mod Words
 pub mod Kinds
 pub mod Literal
 pub mod Numbers
+pub mod NameTables
+pub mod Lawful
+pub mod Durations
+pub mod Literals
+pub mod Declarable

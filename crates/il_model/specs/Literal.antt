@@ -1,5 +1,5 @@
 -- What digits stand for (IEC 61131-3:2003, B.1.2.1).
-use Rattle.std.specs.Prelude.{ℕ, ◌+◌, ◌-◌, ◌*◌, Bool, true, false, ◌&&◌, List, [], ◌∷◌, Option, Some, None, nat_lt, nat_le, ◌==◌, if◌then◌else◌}
+use Rattle.std.specs.Prelude.{ℕ, ◌+◌, ◌-◌, ◌*◌, ◌^◌, min, option_map, Bool, true, false, ◌&&◌, List, [], ◌∷◌, length, Option, Some, None, nat_lt, nat_le, ◌==◌, if◌then◌else◌}
 
 -- the value of a digit, 99 for any other byte
 abbrev pub digit_of : ℕ → ℕ
@@ -27,3 +27,16 @@ integer_behind base behind n bs = if are_digits base behind bs then Some (value_
 -- the whole number that a text of digits stands for
 abbrev pub integer_of : ℕ → List ℕ → Option ℕ
 integer_of base bs = integer_behind base false 0 bs
+
+-- the value of decimals behind the point, in ones of the last place
+unfoldable pub decimals : List ℕ → ℕ
+decimals [] = 0
+decimals (d ∷ ds) = d * 10 ^ length ds + decimals ds
+
+-- how digits are read as a number of a base
+abbrev pub Digits : Type 0
+Digits = ℕ → List ℕ → Option ℕ
+
+-- That, with all numbers from 2^32 on, which lie above every range, told as 2^32: what code of fixed width computes.
+abbrev pub held_integer : Digits
+held_integer base bs = option_map (λ n. min n 4294967296) (integer_of base bs)

@@ -1,7 +1,7 @@
-//! Whether a program is typed.
+//! The types on arrival at each instruction, and whether a program is typed.
 
 ghost use Rattle.std.specs.Prelude.{◌≡◌, ◌<◌, ◌≤◌, length, reverse, IfOk, OnErr, Ok, Err, slice_get, Some};
-ghost use Rattle.il_model.specs.Typing.{judged, shape_at, line_row, line_row_of, label_row, applied, arrived, top_of, Shape, after_line};
+ghost use Rattle.il_model.specs.Typing.{judged, shape_at, source_row, line_row, line_row_of, label_at, label_row, applied, arrived, top_of, Shape, after_line};
 ghost use Rattle.il_model.specs.Resolved.{is_labelled};
 ghost use Rattle.il_model.specs.Row.{HasRoom};
 ghost use Rattle.il_model.specs.Checked.{told};
@@ -9,22 +9,14 @@ ghost use Rattle.std.specs.Prelude.{OnOk, IfErr};
 
 use crate::resolve::{kind_of, missing_kind, source_of, target_of};
 use crate::typing::row_of;
-use crate::{Effect, Held, Instr, Name, Program, Ty, TypeFault};
+use crate::{Effect, Held, Instr, Name, Program, Source, Ty, TypeFault};
 use arrayvec::ArrayVec;
 use std::marker::Model;
 
-fn label_row(
-    program: &Program,
-    n: usize,
-    depth: usize,
-    label: &Option<Name>,
-) -> Result<bool, TypeFault>
-    ensures { result ≡ label_row program.now n depth label.now }
+pub(crate) fn label_at(first: Option<u16>, n: usize, depth: usize) -> Result<bool, TypeFault>
+    ensures { result ≡ label_at first n depth }
 {
-    let Some(name) = label else {
-        return Ok(true);
-    };
-    match target_of(program, name) {
+    match first {
         Some(first) => {
             if first as usize != n {
                 return Err(TypeFault::DuplicateLabel);
@@ -39,16 +31,31 @@ fn label_row(
     }
 }
 
-fn line_row(
+fn label_row(
+    program: &Program,
+    n: usize,
+    depth: usize,
+    label: &Option<Name>,
+) -> Result<bool, TypeFault>
+    ensures { result ≡ label_row program.now n depth label.now }
+{
+    match label {
+        Some(name) => label_at(target_of(program, name), n, depth),
+        None => Ok(true),
+    }
+}
+
+pub(crate) fn source_row(
     program: &Program,
     cr: Option<Ty>,
     top: Option<Held>,
     depth: usize,
     line: &Instr,
+    source: Option<Source>,
 ) -> Result<Effect, TypeFault>
-    ensures { result ≡ line_row_of program.now cr top depth line.now }
+    ensures { result ≡ source_row program.now cr top depth line.now source }
 {
-    match source_of(program, &line.operand) {
+    match source {
         Some(source) => row_of(
             cr,
             top,
@@ -71,9 +78,29 @@ fn line_row(
     }
 }
 
-/// The types at a position.
+fn line_row(
+    program: &Program,
+    cr: Option<Ty>,
+    top: Option<Held>,
+    depth: usize,
+    line: &Instr,
+) -> Result<Effect, TypeFault>
+    ensures { result ≡ line_row_of program.now cr top depth line.now }
+{
+    source_row(
+        program,
+        cr,
+        top,
+        depth,
+        line,
+        source_of(program, &line.operand),
+    )
+}
+
+/// The types on arrival at an instruction: that of the current result, if there is one, and those of the operators that
+/// wait for a closing parenthesis.
 #[derive(Debug, Drop)]
-struct Types {
+pub struct Types {
     cr: Option<Ty>,
     kept: ArrayVec<Held, 16>,
 }
@@ -88,7 +115,8 @@ impl Model for Types {
 }
 
 impl Types {
-    fn start(program: &Program) -> Types
+    /// The types on arrival at the first instruction.
+    pub fn start(program: &Program) -> Types
         ensures { shape_at program.now 0 ≡ Ok result }
     {
         let _first = is_labelled(program, 0);
@@ -98,19 +126,26 @@ impl Types {
         }
     }
 
-    fn top(&self) -> Option<Held>
+    pub(crate) fn cr(&self) -> Option<Ty>
+        ensures { result ≡ self.now.cr }
+    {
+        self.cr
+    }
+
+    pub(crate) fn top(&self) -> Option<Held>
         ensures { result ≡ top_of self.now.kept }
     {
         self.kept.as_slice().last().copied()
     }
 
-    fn depth(&self) -> usize
+    /// How many parentheses are open.
+    pub fn depth(&self) -> usize
         ensures { result ≡ length self.now.kept }
     {
         self.kept.len()
     }
 
-    fn apply(&mut self, effect: Effect)
+    pub(crate) fn apply(&mut self, effect: Effect)
         requires { HasRoom (length self.old.kept) effect }
         ensures { self.new ≡ applied self.old effect }
     {
@@ -127,7 +162,16 @@ impl Types {
         }
     }
 
-    /// Goes past a line, or gives its fault.
+    /// At a label there is no current result.
+    pub(crate) fn arrive(&mut self, program: &Program, n: usize)
+        ensures { self.new ≡ arrived program.now n self.old }
+    {
+        if is_labelled(program, n) {
+            self.cr = None;
+        }
+    }
+
+    /// Goes past an instruction, or gives its fault.
     fn pass(&mut self, program: &Program, n: usize, line: &Instr) -> Result<(), TypeFault>
         requires n { n < length program.now.code }
         ensures ok { OnOk result (after_line program.now n self.old line.now ≡ Ok self.new) }
@@ -138,9 +182,7 @@ impl Types {
         label_row(program, n, depth, &line.label)?;
         let effect = line_row(program, self.cr, self.top(), depth, line)?;
         self.apply(effect);
-        if is_labelled(program, n + 1) {
-            self.cr = None;
-        }
+        self.arrive(program, n + 1);
         Ok(())
     }
 }

@@ -7,15 +7,14 @@ ghost use Rattle.il_model.specs.Names.{same_name};
 ghost use Rattle.il_model.specs.Values.{number_of};
 ghost use Rattle.il_model.specs.Constants.{same_value};
 ghost use Rattle.il_model.specs.Image.{type_code, base_of, loc_code, location_code, op_code, flag, modifier_code, numbered_code, plain_code};
-ghost use Rattle.il_model.specs.Codes.{is_number, is_new_name, length_of, type_of, area_loc, any_loc, is_part_loc, loc_of, has_code, is_type, is_free, location_of, may_start_with, initial_of, op_of, modifier_of, is_named, is_plain, is_line};
+ghost use Rattle.il_model.specs.Codes.{is_number, is_new_name, length_of, type_of, area_loc, any_loc, has_code, is_type, is_free, location_of, may_start_with, initial_of, constant_of, op_of, modifier_of, usage_of, allows, has_form, allowed_by, formed_by, letters_of, is_pointless};
 
 use crate::name::{Name, is_lawful_name};
 use crate::op::{Modifier, Op};
-use crate::program::{Area, Loc, Operand, Variable};
+use crate::program::{Area, Instr, Loc, Operand, Variable};
 use crate::resolve::{is_output, loc_type, variable_named};
-use crate::value::{Ty, Value, make};
+use crate::value::{Ty, Value, make, same_value};
 
-/// The code of a type.
 pub fn type_code(ty: Ty) -> usize
     ensures { result ≡ type_code ty }
 {
@@ -27,12 +26,14 @@ pub fn type_code(ty: Ty) -> usize
     }
 }
 
-/// The type of a code; of the types, programs have BOOL today.
 pub fn type_of(code: u8) -> Option<Ty>
     ensures { result ≡ type_of code }
 {
     match code {
         0 => Some(Ty::Bool),
+        1 => Some(Ty::Int),
+        2 => Some(Ty::Dint),
+        3 => Some(Ty::Time),
         _ => None,
     }
 }
@@ -56,7 +57,6 @@ fn loc_code(loc: Loc) -> usize
     }
 }
 
-/// The code of a location, or 65535 for none.
 pub fn location_code(location: Option<Loc>) -> usize
     ensures { result ≡ location_code location }
 {
@@ -91,24 +91,6 @@ pub fn any_loc(n: u16) -> Option<Loc>
     } else {
         area_loc(Area::Memory, n - 8192)
     }
-}
-
-fn is_part_loc(loc: Loc) -> bool
-    ensures { result ≡ is_part_loc loc }
-{
-    match loc {
-        Loc::Bit(Area::Input, _) => true,
-        Loc::Bit(Area::Output, _) => true,
-        _ => false,
-    }
-}
-
-/// The location that a code in a program stands for.
-pub fn loc_of(n: u16) -> Option<Loc>
-    ensures { result ≡ loc_of n }
-{
-    let loc = any_loc(n)?;
-    if is_part_loc(loc) { Some(loc) } else { None }
 }
 
 fn has_code(n: u16, location: Option<Loc>) -> bool
@@ -149,7 +131,7 @@ pub fn location_of(seen: &[Variable], ty: Ty, n: u16) -> Option<Option<Loc>>
     if n == 65535 {
         return Some(None);
     }
-    match loc_of(n) {
+    match any_loc(n) {
         Some(loc) => if is_free(seen, ty, n, loc) {
             Some(Some(loc))
         } else {
@@ -192,23 +174,39 @@ pub fn initial_of(ty: Ty, location: Option<Loc>, bits: u32) -> Option<Value>
     }
 }
 
-/// The code of an operator.
+fn constant_named(seen: &[Value], v: Value) -> Option<usize>
+    ensures { result ≡ position (same_value v) seen.now }
+{
+    seen.iter().position(|w| same_value(v, *w))
+}
+
+/// The constant that bits stand for, if none of these is the same.
+pub fn constant_of(seen: &[Value], ty: Ty, bits: u32) -> Option<Value>
+    ensures { result ≡ constant_of seen.now ty bits }
+{
+    let v = make(ty, i64::from(bits.cast_signed()))?;
+    if constant_named(seen, v).is_some() {
+        None
+    } else {
+        Some(v)
+    }
+}
+
 pub fn op_code(op: Op) -> usize
     ensures { result ≡ op_code op }
 {
     op as usize
 }
 
-/// The operator of a code; of the operators, programs have LD, ST, AND and OR today.
+/// The operator of a code, if instructions may have it.
 pub fn op_of(code: u8) -> Option<Op>
     ensures { result ≡ op_of code }
 {
-    match code {
-        1 => Some(Op::Ld),
-        2 => Some(Op::St),
-        5 => Some(Op::And),
-        6 => Some(Op::Or),
-        _ => None,
+    let op = Op::of_code(code)?;
+    if usage_of(op).is_some() {
+        Some(op)
+    } else {
+        None
     }
 }
 
@@ -218,7 +216,6 @@ fn flag(test: bool, n: usize) -> usize
     if test { n } else { 0 }
 }
 
-/// The sum of 1 for N, 2 for C and 4 for a parenthesis.
 pub fn modifier_code(m: Modifier) -> usize
     ensures { result ≡ modifier_code m }
 {
@@ -235,7 +232,6 @@ fn letters(negated: bool, conditional: bool, opens: bool) -> Option<Modifier>
     })
 }
 
-/// The letters that a sum stands for.
 pub fn modifier_of(code: u8) -> Option<Modifier>
     ensures { result ≡ modifier_of code }
 {
@@ -250,29 +246,122 @@ pub fn modifier_of(code: u8) -> Option<Modifier>
     }
 }
 
-fn is_named(operand: &Operand) -> bool
-    ensures { result ≡ is_named operand.now }
-{
-    matches!(operand, Operand::Variable(_) | Operand::Direct(_))
+/// The letters that an operator takes (IEC 61131-3:2003, table 52).
+#[derive(Clone, Copy, Debug, PartialEq, Eq)]
+pub enum LetterSet {
+    /// None.
+    None,
+    /// N or none.
+    N,
+    /// C, CN or none.
+    C,
+    /// A parenthesis or none.
+    Opens,
+    /// N, a parenthesis, both or none.
+    NOpens,
 }
 
-fn is_plain(m: Modifier) -> bool
-    ensures { result ≡ is_plain m }
-{
-    !m.negated && !m.conditional && !m.opens
+/// The form of an operator's operand.
+#[derive(Clone, Copy, Debug, PartialEq, Eq)]
+pub enum Form {
+    /// There is none.
+    Absent,
+    /// A constant, a variable or a location; there may be none behind a parenthesis.
+    Value,
+    /// A label.
+    Label,
 }
 
-/// Whether an operator takes these letters and this form of operand; types are judged later.
-pub fn is_line(op: Op, m: Modifier, operand: &Operand) -> bool
-    ensures { result ≡ is_line op m operand.now }
+/// What may stand beside an operator.
+#[derive(Clone, Copy, Debug, PartialEq, Eq)]
+pub struct Usage {
+    pub letters: LetterSet,
+    pub form: Form,
+}
+
+fn row(letters: LetterSet, form: Form) -> Option<Usage>
+    ensures { result ≡ Some (record { letters = letters; form = form }) }
+{
+    Some(Usage { letters, form })
+}
+
+/// The table of the operators: the letters and the form of operand that each takes; none for one that no instruction has.
+pub fn usage_of(op: Op) -> Option<Usage>
+    ensures { result ≡ usage_of op }
 {
     match op {
-        Op::Ld => !m.conditional && !m.opens && is_named(operand),
-        Op::St => !m.conditional && !m.opens && is_named(operand),
-        Op::And => is_plain(m) && is_named(operand),
-        Op::Or => is_plain(m) && is_named(operand),
-        _ => false,
+        Op::Ld | Op::St => row(LetterSet::N, Form::Value),
+        Op::S | Op::R => row(LetterSet::None, Form::Value),
+        Op::And | Op::Or | Op::Xor => row(LetterSet::NOpens, Form::Value),
+        Op::Add | Op::Sub | Op::Mul | Op::Div | Op::Mod => row(LetterSet::Opens, Form::Value),
+        Op::Gt | Op::Ge | Op::Eq | Op::Ne | Op::Le | Op::Lt => row(LetterSet::Opens, Form::Value),
+        Op::Jmp => row(LetterSet::C, Form::Label),
+        Op::Ret => row(LetterSet::C, Form::Absent),
+        Op::Empty | Op::Not | Op::Close | Op::IntToDint | Op::DintToInt => {
+            row(LetterSet::None, Form::Absent)
+        }
+        Op::Cal => None,
     }
+}
+
+fn allows(letters: LetterSet, m: Modifier) -> bool
+    ensures { result ≡ allows letters m }
+{
+    match letters {
+        LetterSet::None => !m.negated && !m.conditional && !m.opens,
+        LetterSet::N => !m.conditional && !m.opens,
+        LetterSet::C => (m.conditional || !m.negated) && !m.opens,
+        LetterSet::Opens => !m.negated && !m.conditional,
+        LetterSet::NOpens => !m.conditional,
+    }
+}
+
+fn has_form(form: Form, opens: bool, operand: &Operand) -> bool
+    ensures { result ≡ has_form form opens operand.now }
+{
+    match form {
+        Form::Absent => matches!(operand, Operand::Absent),
+        Form::Value => match operand {
+            Operand::Literal(_) | Operand::Variable(_) | Operand::Direct(_) => true,
+            Operand::Absent => opens,
+            _ => false,
+        },
+        Form::Label => matches!(operand, Operand::Label(_)),
+    }
+}
+
+fn allowed(op: Op, m: Modifier) -> bool
+    ensures { result ≡ allowed_by (usage_of op) m }
+{
+    match usage_of(op) {
+        Some(usage) => allows(usage.letters, m),
+        None => false,
+    }
+}
+
+/// Whether an operator with these letters takes this form of operand; types are judged later.
+pub fn is_formed(op: Op, m: Modifier, operand: &Operand) -> bool
+    ensures { result ≡ formed_by (usage_of op) m operand.now }
+{
+    match usage_of(op) {
+        Some(usage) => has_form(usage.form, m.opens, operand),
+        None => false,
+    }
+}
+
+/// The letters that a number stands for, if the operator takes them.
+pub fn letters_of(op: Op, code: u8) -> Option<Modifier>
+    ensures { result ≡ letters_of op code }
+{
+    let m = modifier_of(code)?;
+    if allowed(op, m) { Some(m) } else { None }
+}
+
+/// Whether an instruction is an empty one without a label.
+pub fn is_pointless(line: &Instr) -> bool
+    ensures { result ≡ is_pointless line.now }
+{
+    line.op == Op::Empty && line.label.is_none()
 }
 
 fn variable_code(vs: &[Variable], name: &Name) -> usize
@@ -284,7 +373,6 @@ fn variable_code(vs: &[Variable], name: &Name) -> usize
     }
 }
 
-/// The code of an operand that is no constant and no label, or 65535.
 pub fn plain_code(vs: &[Variable], operand: &Operand) -> usize
     ensures { result ≡ plain_code vs.now operand.now }
 {

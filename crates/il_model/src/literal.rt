@@ -1,12 +1,22 @@
 //! Literals: digits and what they stand for (IEC 61131-3:2003, B.1.2.1).
 
-ghost use Rattle.std.specs.Prelude.{◌≡◌, ◌≤◌, ◌<◌, min, option_map};
-ghost use Rattle.il_model.specs.Literal.{digit_of, integer_of};
+ghost use Rattle.std.specs.Prelude.{◌≡◌, ◌≤◌, ◌<◌, IfSome};
+ghost use Rattle.il_model.specs.Literal.{digit_of, held_integer};
+
+use crate::value::Value;
+
+/// A literal: a bare number, which takes the type that its place asks for, or a value.
+#[derive(Clone, Copy, Debug, PartialEq, Eq)]
+pub enum Literal {
+    Bare(i32),
+    Typed(Value),
+}
 
 /// Above every number that a literal may have.
 const CAP: u64 = 4_294_967_296;
 
-fn digit(b: u8) -> u8
+/// The value of a digit, 99 for any other byte.
+pub fn digit(b: u8) -> u8
     ensures value { result ≡ digit_of b }
     ensures fits { result < 100 }
 {
@@ -23,7 +33,8 @@ fn digit(b: u8) -> u8
 pub fn integer(base: u8, bytes: &[u8]) -> Option<u64>
     requires low { 2 ≤ base }
     requires high { base ≤ 16 }
-    ensures { result ≡ option_map (λ n. min n 4294967296) (integer_of base bytes.now) }
+    ensures value { result ≡ held_integer base bytes.now }
+    ensures held { IfSome result (λ n. n ≤ 4294967296) }
 {
     let mut value = 0u64;
     let mut behind = false;

@@ -1,7 +1,7 @@
 //! The types that an instruction needs, and leaves.
 
 ghost use Rattle.std.specs.Prelude.{◌≡◌};
-ghost use Rattle.il_model.specs.Settled.{settled_number, wanted_type, first_type};
+ghost use Rattle.il_model.specs.Settled.{settled_number, first_type};
 ghost use Rattle.il_model.specs.Row.{row, load_row, store_row, set_row, truth_row, open_row, combine_row, close_row, leave_row, convert_row};
 
 use crate::op::{Modifier, Op, joined};
@@ -296,18 +296,24 @@ impl Default for Held {
     }
 }
 
+/// The type of a bare number after LD or an opening parenthesis.
+fn first_type(z: i32) -> Ty
+    ensures { result ≡ first_type z }
+{
+    if -32768 <= z && z < 32768 {
+        Ty::Int
+    } else {
+        Ty::Dint
+    }
+}
+
 /// The value of a bare number at its place, if it fits the type that is asked for there.
 pub fn settle(cr: Option<Ty>, op: Op, opens: bool, z: i32) -> Option<Value>
     ensures { result ≡ settled_number cr op opens z }
 {
-    let first = if -32768 <= z && z < 32768 {
-        Ty::Int
-    } else {
-        Ty::Dint
-    };
     let wanted = match op {
-        Op::Ld => Some(first),
-        _ => if opens { Some(first) } else { cr },
+        Op::Ld => Some(first_type(z)),
+        _ => if opens { Some(first_type(z)) } else { cr },
     };
     make(wanted?, z as i64)
 }

@@ -7,8 +7,8 @@ use Rattle.il_reader.specs.declared.fault.Failure.{Failure}
 use Rattle.il_reader.specs.declared.contents.Contents.{Contents}
 use Rattle.il_reader.specs.Tokens.{Token, put, piece_of, tokens_behind, tokens_of}
 use Rattle.il_reader.specs.Reading.{Gives}
-use Rattle.il_reader.specs.Grammar.{LineText, NamesText, Located, More, DeclarationText, ProgramText, program_text, text_of, program_at, ends_names, ends_block, ends_blocks, ends_named, ends_lines, at_end}
-use Rattle.il_reader.specs.Spelling.{Part, breaks, word, name, sign, ahead, Spell, Says, spelled_name, spelled_names, spelled_declaration, spelled_block, spelled_line, spelled_program, spelled_by, going, listed}
+use Rattle.il_reader.specs.Grammar.{LineText, Labelled, Plain, NamesText, Located, More, DeclarationText, ProgramText, program_text, text_of, program_at, ends_names, ends_block, ends_blocks, ends_named, ends_lines, at_end}
+use Rattle.il_reader.specs.Spelling.{Part, breaks, word, name, sign, ahead, Spell, Says, spelled_name, spelled_names, spelled_initial, spelled_declaration, spelled_block, spelled_line, spelled_program, spelled_by, going, listed}
 use Rattle.il_reader.proofs.Laws.{Any, bind_ok, ok_is, count, count-append, Spell-count, count-length, all-fit}
 use Rattle.il_reader.proofs.Programs.{FitsNames, FitsDeclaration, FitsBlock, FitsBlocks, FitsLines, IsSome, IsNamedProgram, IsBareProgram, program_law}
 
@@ -17,7 +17,7 @@ names_fit n (Located t) lt = inl tt
 names_fit n (More ts) lt = inr (all-fit Any spelled_name (ahead ends_names ∷ []) n (λ x l. tt) ts lt, omega (arith, lt, count-length spelled_name (ahead ends_names ∷ []) (λ x. omega arith) ts))
 
 abbrev after_names : DeclarationText → List Part
-after_names d = breaks ∷ sign kinds.Colon ∷ breaks ∷ name d.ty ∷ breaks ∷ sign kinds.Semicolon ∷ []
+after_names d = breaks ∷ sign kinds.Colon ∷ breaks ∷ name d.ty ∷ breaks ∷ (spelled_initial d.initial ++ breaks ∷ sign kinds.Semicolon ∷ [])
 
 declaration_fits : (n : ℕ) (d : DeclarationText) → count (going ends_block spelled_declaration d) < n → FitsDeclaration n d
 declaration_fits n d lt = names_fit n d.names (omega (arith, lt, count-append (spelled_names d.names) (after_names d)))
@@ -29,7 +29,8 @@ block_fits n ds lt =
     (all-fit (FitsDeclaration n) (going ends_block spelled_declaration) (ahead ends_block ∷ []) n (declaration_fits n) ds less, omega (arith, less, count-length (going ends_block spelled_declaration) (ahead ends_block ∷ []) (λ x. omega arith) ds))
 
 line_counts : (stops : List Token → Bool) (l : LineText) → 0 < count (going stops spelled_line l)
-line_counts stops l = omega arith
+line_counts stops (Labelled t o) = omega arith
+line_counts stops (Plain o) = omega arith
 
 fits : (n : ℕ) (bs : List (List DeclarationText)) (ls : List LineText) (stops : List Token → Bool) (qs : List Part)
     → count (listed ends_blocks spelled_block bs ++ (listed stops spelled_line ls ++ qs)) < n → FitsBlocks n bs × FitsLines n ls

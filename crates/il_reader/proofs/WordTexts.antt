@@ -4,15 +4,17 @@ use Rattle.std.specs.List.{flat_map, AllByRecursion, prefix_len, list_all}
 use Rattle.std.proofs.lemmas.Bool.{eqb-true, ltb-false}
 use Rattle.std.proofs.lemmas.List.Concat.{flat_map-cons}
 use Rattle.std.proofs.Common.{append_assoc}
+use Rattle.std.specs.Prelude.{is_some}
 use Rattle.il_model.specs.Names.{is_well_spelled}
+use Rattle.il_model.specs.Literals.{literal_of}
 use Rattle.il_reader.specs.declared.lexeme.Piece.{Piece}
 use Rattle.il_reader.specs.declared.lexeme.Kind.{Kind}
 use Rattle.il_reader.specs.declared.lexeme.Kind.TheVariants as kinds
 use Rattle.il_reader.specs.declared.fault.FaultKind.TheVariants.{BadToken, TooLong}
-use Rattle.il_reader.specs.Tokens.{Token, is_letter_byte, is_word_byte, is_number_start, is_blank_byte, is_within, is_n, begins_with, name_of, word_piece, sign_of, solid_piece, comment_piece, comment_len, piece_of, put, tokens_behind, tokens_of}
+use Rattle.il_reader.specs.Tokens.{Token, is_letter_byte, is_word_byte, is_number_start, is_blank_byte, is_within, is_n, begins_with, name_of, literal_piece, word_piece, sign_of, solid_piece, comment_piece, comment_len, piece_of, put, tokens_behind, tokens_of}
 use Rattle.il_reader.specs.Reading.{kind_code, is_kind, skip_breaks}
-use Rattle.il_reader.specs.Grammar.{LineText, operator_of, NamesText, Located, More, DeclarationText, ProgramText, ends_names, ends_block, ends_blocks, ends_lines, ends_named}
-use Rattle.il_reader.specs.Spelling.{Part, breaks, one, this, operator, ahead, Spell, Says, spelled_name, spelled_names, spelled_declaration, spelled_block, spelled_line, spelled_program, spelled_by, going, listed}
+use Rattle.il_reader.specs.Grammar.{LineText, Labelled, Plain, OperationText, is_line_stop, NamesText, Located, More, DeclarationText, ProgramText, ends_names, ends_block, ends_blocks, ends_lines, ends_named}
+use Rattle.il_reader.specs.Spelling.{Part, breaks, one, this, operator, ahead, Spell, Says, spelled_name, spelled_names, spelled_declaration, spelled_block, spelled_line, spelled_program, spelled_by, going, listed, operator_before, spelled_optional_operation}
 
 abbrev pub begins_letter : List ℕ → Bool
 begins_letter [] = false
@@ -70,6 +72,10 @@ name_good bytes n begins all some = either bytes (is_well_spelled (take n bytes)
     spelled : is_well_spelled (take n bytes) ≡ true → Good bytes (cond (ltb 32 (length (take n bytes))) (record { kind = kinds.Broken TooLong; len = 1 }) (record { kind = kinds.Name; len = length (take n bytes) }))
     spelled well = either bytes (ltb 32 (length (take n bytes))) _ _ (λ long. other bytes _ refl) (λ short. fits well short)
 
+literal_good : (bytes text : List ℕ) → Good bytes (literal_piece text)
+unfolding literal_piece
+literal_good bytes text = either bytes (is_some (literal_of text)) _ _ (λ _. other bytes _ refl) (λ _. other bytes _ refl)
+
 word_good : (b : ℕ) (bs : List ℕ) → is_letter_byte b ≡ true → Good (b ∷ bs) (word_piece (b ∷ bs))
 unfolding word_piece
 word_good b bs is =
@@ -77,7 +83,7 @@ word_good b bs is =
     let first : 1 + prefix_len is_word_byte bs ≡ n = omega arith in
     let w : is_word_byte b ≡ true = word_is b is in
     let all : list_all is_word_byte (b ∷ take (prefix_len is_word_byte bs) bs) ≡ true = rw (w, all-prefix is_word_byte bs) refl in
-    rw first (either (b ∷ bs) (begins_with 35 (drop n (b ∷ bs))) _ _ (λ literal. other (b ∷ bs) _ refl) (λ plain. name_good (b ∷ bs) n is all (omega arith)))
+    rw first (either (b ∷ bs) (begins_with 35 (drop n (b ∷ bs))) _ _ (λ _. literal_good (b ∷ bs) _) (λ plain. name_good (b ∷ bs) n is all (omega arith)))
 
 sign_good : (bytes : List ℕ) (b : ℕ) (bs : List ℕ) → Good bytes (sign_of b bs)
 unfolding sign_of
@@ -96,7 +102,7 @@ solid_good : (b : ℕ) (bs : List ℕ) → Good (b ∷ bs) (solid_piece (b ∷ b
 unfolding solid_piece
 solid_good b bs =
     either (b ∷ bs) (is_letter_byte b) _ _ (λ is. word_good b bs is) (λ _.
-    either (b ∷ bs) (is_number_start b) _ _ (λ _. other (b ∷ bs) _ refl) (λ _.
+    either (b ∷ bs) (is_number_start b) _ _ (λ _. literal_good (b ∷ bs) _) (λ _.
     either (b ∷ bs) (eqb b 37) _ _ (λ _. other (b ∷ bs) _ refl) (λ _. sign_good (b ∷ bs) b bs)))
 
 comment_good : (bytes : List ℕ) (o : Option ℕ) → Good bytes (comment_piece o)
@@ -186,9 +192,18 @@ pub record IsWordDeclaration (d : DeclarationText) : Type 0 where
   pub name : IsWordText d.name.text
   pub names : AreWordNames d.names
 
--- an operator that some token is
+-- an operation whose operator some token is
+abbrev pub IsOperation : OperationText → Type 0
+IsOperation o = (t : Token) × (operator_before o.behind t ≡ Some o.operator)
+
+abbrev pub IsOptionalOperation : Option OperationText → Type 0
+IsOptionalOperation None = Unit {0}
+IsOptionalOperation (Some o) = IsOperation o
+
+-- a label is a name
 abbrev pub IsOperator : LineText → Type 0
-IsOperator l = (t : Token) × (operator_of t ≡ Some l.operator)
+IsOperator (Labelled t o) = IsWordText t.text × IsOptionalOperation o
+IsOperator (Plain o) = IsOperation o
 
 pub record AreWords (p : ProgramText) : Type 0 where
   pub blocks : AllByRecursion (AllByRecursion IsWordDeclaration) p.blocks
@@ -211,7 +226,12 @@ blocks_good : (bs : List (List DeclarationText)) (qs : List Part) → AllByRecur
 blocks_good bs qs all = each_good (AllByRecursion IsWordDeclaration) (going ends_blocks spelled_block) (ahead ends_blocks ∷ []) block_good bs (left_good (listed ends_blocks spelled_block bs) qs all)
 
 line_good : (stops : List Token → Bool) (l : LineText) → AllByRecursion GoodPart (going stops spelled_line l) → IsOperator l
-line_good stops l all = all.1.1.0
+line_good stops (Plain o) all = all.1.1.1.0
+line_good stops (Labelled t o) all = (a_name t all.1.1.0, optional o all.1.1.1.1)
+  where
+    optional : (o : Option OperationText) → AllByRecursion GoodPart (spelled_optional_operation o ++ ahead is_line_stop ∷ []) → IsOptionalOperation o
+    optional None h = tt
+    optional (Some x) h = h.0
 
 body : (stops : List Token → Bool) (p : ProgramText) (qs : List Part) → AllByRecursion GoodPart (listed ends_blocks spelled_block p.blocks ++ (listed stops spelled_line p.lines ++ qs)) → AreWords p
 body stops p qs all =

@@ -1,5 +1,5 @@
 -- What a text says, and its first fault: the readings of Annex B's productions (IEC 61131-3:2003, B.2 and B.1.4), as far as they are read today.
-use Rattle.std.specs.Prelude.{ℕ, ◌+◌, List, length, map, Option, Some, None, option_map, Result, Ok, Err, Bool, true, false, not, ◌||◌, ◌&&◌, if◌then◌else◌, codes}
+use Rattle.std.specs.Prelude.{ℕ, ◌+◌, List, length, map, Option, Some, None, is_none, option_map, Result, Ok, Err, Bool, true, false, not, ◌||◌, ◌&&◌, if◌then◌else◌, codes}
 use Rattle.il_model.specs.declared.op.Op.{Op}
 use Rattle.il_model.specs.declared.op.Op.TheVariants as ops
 use Rattle.il_model.specs.declared.words.Mnemonic.{Mnemonic}
@@ -9,7 +9,13 @@ use Rattle.il_reader.specs.declared.lexeme.Kind.TheVariants as kinds
 use Rattle.il_reader.specs.declared.contents.Operator.{Operator}
 use Rattle.il_reader.specs.declared.contents.Operand.{Operand}
 use Rattle.il_reader.specs.declared.contents.Operand.TheVariants as operands
+use Rattle.il_reader.specs.declared.contents.Behind.{Behind}
+use Rattle.il_reader.specs.declared.contents.Behind.TheVariants as behinds
+use Rattle.il_reader.specs.declared.contents.Operation.{Operation}
 use Rattle.il_reader.specs.declared.contents.Line.{Line}
+use Rattle.il_reader.specs.declared.contents.Line.TheVariants as lines
+use Rattle.il_reader.specs.declared.operations.Form.{Form}
+use Rattle.il_reader.specs.declared.operations.Form.TheVariants as forms
 use Rattle.il_reader.specs.declared.contents.Names.{Names}
 use Rattle.il_reader.specs.declared.contents.Names.TheVariants as names
 use Rattle.il_reader.specs.declared.contents.Declaration.{Declaration}
@@ -20,12 +26,24 @@ use Rattle.il_reader.specs.Reading.{◌>>=◌, first, others, fault_at, is_kind,
 -- ---- what a text says, without where it lies in memory
 
 pub data OperandText : Type 0 where
+  Constant : Token → OperandText
   Direct : Token → OperandText
   Named : Token → OperandText
 
-pub record LineText : Type 0 where
+-- behind an operator: nothing, an operand, the label of a jump, or a parenthesis with an operand or without
+pub data BehindText : Type 0 where
+  Nothing : BehindText
+  Given : OperandText → BehindText
+  Target : Token → BehindText
+  Opened : Option OperandText → BehindText
+
+pub record OperationText : Type 0 where
   pub operator : Operator
-  pub operand : OperandText
+  pub behind : BehindText
+
+pub data LineText : Type 0 where
+  Labelled : Token → Option OperationText → LineText
+  Plain : OperationText → LineText
 
 -- where a variable lies, or the other names of the declaration
 pub data NamesText : Type 0 where
@@ -36,6 +54,7 @@ pub record DeclarationText : Type 0 where
   pub name : Token
   pub names : NamesText
   pub ty : Token
+  pub initial : Option Token
 
 -- a program's name, its blocks of declarations and its instruction lines
 pub record ProgramText : Type 0 where
@@ -44,18 +63,29 @@ pub record ProgramText : Type 0 where
   pub lines : List LineText
 
 abbrev pub operand : Operand → OperandText
+operand (operands.Constant t) = Constant (token t)
 operand (operands.Direct t) = Direct (token t)
 operand (operands.Named t) = Named (token t)
 
+abbrev pub behind : Behind → BehindText
+behind behinds.Nothing = Nothing
+behind (behinds.Given x) = Given (operand x)
+behind (behinds.Target t) = Target (token t)
+behind (behinds.Opened o) = Opened (option_map operand o)
+
+abbrev pub operation : Operation → OperationText
+operation o = record { operator = o.operator; behind = behind o.behind }
+
 abbrev pub line : Line → LineText
-line l = record { operator = l.operator; operand = operand l.operand }
+line (lines.Labelled t o) = Labelled (token t) (option_map operation o)
+line (lines.Plain o) = Plain (operation o)
 
 abbrev pub names_of : Names → NamesText
 names_of (names.Located t) = Located (token t)
 names_of (names.More ts) = More (map token ts.items)
 
 abbrev pub declaration : Declaration → DeclarationText
-declaration d = record { name = token d.name; names = names_of d.names; ty = token d.ty }
+declaration d = record { name = token d.name; names = names_of d.names; ty = token d.ty; initial = option_map token d.initial }
 
 abbrev pub declarations : List Declaration → List DeclarationText
 declarations ds = map declaration ds
@@ -65,24 +95,41 @@ program_text c = record { name = option_map token c.name; blocks = map (λ ds. d
 
 -- ---- instructions
 
--- the operators that are read today, each with its letters
-abbrev pub is_read : Op → Bool → Bool
-is_read ops.Ld negated = true
-is_read ops.St negated = true
-is_read ops.And negated = not negated
-is_read ops.Or negated = not negated
-is_read op negated = false
+-- what may stand behind an operator
+abbrev pub form_of : Op → Form
+form_of ops.Ld = forms.Operand
+form_of ops.St = forms.Operand
+form_of ops.S = forms.Operand
+form_of ops.R = forms.Operand
+form_of ops.Jmp = forms.Label
+form_of ops.Cal = forms.Call
+form_of ops.Not = forms.Nothing
+form_of ops.Ret = forms.Nothing
+form_of ops.Close = forms.Nothing
+form_of ops.Empty = forms.Nothing
+form_of ops.IntToDint = forms.Nothing
+form_of ops.DintToInt = forms.Nothing
+form_of op = forms.Either
 
-abbrev pub takes_operand : Mnemonic → Bool
-takes_operand m = is_read m.op m.modifier.negated
+abbrev pub is_call : Form → Bool
+is_call forms.Call = true
+is_call form = false
 
+-- the right parenthesis
+abbrev pub closing : Mnemonic
+closing = record { op = ops.Close; modifier = record { negated = false; conditional = false; opens = false } }
+
+-- calls are not read today
 abbrev pub operator_from : ℕ → Option Mnemonic → Option Operator
 operator_from left None = None
-operator_from left (Some m) = if takes_operand m then Some (record { mnemonic = m; left = left }) else None
+operator_from left (Some m) = if is_call (form_of m.op) then None else Some (record { mnemonic = m; left = left })
 
--- the operator that a token is, where it is one that takes an operand
+-- the operator that a token is
 unfoldable pub operator_of : Token → Option Operator
-operator_of t = if is_kind kinds.Name t || is_kind kinds.Ampersand t then operator_from t.left (mnemonic_of t.text) else None
+operator_of t =
+    if is_kind kinds.Name t || is_kind kinds.Ampersand t then operator_from t.left (mnemonic_of t.text)
+    else if is_kind kinds.Close t then Some (record { mnemonic = closing; left = t.left })
+    else None
 
 -- TRUE and FALSE are literals where an operand may stand
 abbrev pub is_truth : Token → Bool
@@ -91,24 +138,81 @@ is_truth t = spells (codes "TRUE") t.text || spells (codes "FALSE") t.text
 abbrev pub is_variable : Token → Bool
 is_variable t = is_kind kinds.Name t && not (is_truth t)
 
+unfoldable pub is_constant : Token → Bool
+is_constant t = if is_kind kinds.Name t then is_truth t else is_kind kinds.Literal t
+
+abbrev pub next_is_constant : List Token → Bool
+next_is_constant ts = is_constant (first ts)
+
 unfoldable pub operator_at : Reading Operator
 operator_at ts = meaning operator_of ts
 
 unfoldable pub variable_at : Reading Token
 variable_at ts = if is_variable (first ts) then Ok (first ts, others ts) else Err (fault_at (first ts))
 
+unfoldable pub constant_at : Reading Token
+constant_at ts = if is_constant (first ts) then Ok (first ts, others ts) else Err (fault_at (first ts))
+
 unfoldable pub operand_at : Reading OperandText
-operand_at ts = choice (next_is kinds.Address) (mapped Direct (expect kinds.Address)) (mapped Named variable_at) ts
+operand_at ts = choice (next_is kinds.Address) (mapped Direct (expect kinds.Address)) (choice next_is_constant (mapped Constant constant_at) (mapped Named variable_at)) ts
 
 -- the end of an instruction line, which is not taken
 abbrev pub is_line_stop : List Token → Bool
 is_line_stop ts = next_is kinds.Break ts || next_is kinds.End ts
 
-abbrev pub line_of : Operator × (OperandText × Unit {0}) → LineText
-line_of x = record { operator = x.0; operand = x.1.0 }
+unfoldable pub optional_operand_at : Reading (Option OperandText)
+optional_operand_at ts = choice is_line_stop (stand is_line_stop None) (mapped Some operand_at) ts
+
+abbrev pub second : {X : Type 0} → Unit {0} × X → X
+second x = x.1
+
+-- ( with an operand or without
+unfoldable pub nested_at : Reading (Option OperandText)
+nested_at ts = mapped second (pair (mark (expect kinds.Open)) optional_operand_at) ts
+
+unfoldable pub either_at : Reading BehindText
+either_at ts = choice (next_is kinds.Open) (mapped Opened nested_at) (mapped Given operand_at) ts
+
+unfoldable pub behind_at : Form → Reading BehindText
+behind_at forms.Operand ts = mapped Given operand_at ts
+behind_at forms.Nothing ts = Ok (Nothing, ts)
+behind_at forms.Label ts = mapped Target (expect kinds.Name) ts
+behind_at forms.Either ts = either_at ts
+behind_at forms.Call ts = Err (fault_at (first ts))
+
+unfoldable pub operation_at : Reading OperationText
+operation_at ts = do
+  operator ← operator_at ts
+  behind ← behind_at (form_of operator.0.mnemonic.op) operator.1
+  Ok (record { operator = operator.0; behind = behind.0 }, behind.1)
+
+unfoldable pub optional_operation_at : Reading (Option OperationText)
+optional_operation_at ts = choice is_line_stop (stand is_line_stop None) (mapped Some operation_at) ts
+
+-- a word before a colon is a label, and so is one that is no operator
+unfoldable pub is_label : List Token → Bool
+is_label ts = next_is kinds.Name ts && (next_is kinds.Colon (others ts) || is_none (mnemonic_of (first ts).text))
+
+abbrev pub is_no_label : List Token → Bool
+is_no_label ts = not (is_label ts)
+
+abbrev pub labelled : Token × (Unit {0} × Option OperationText) → LineText
+labelled x = Labelled x.0 x.1.1
+
+unfoldable pub labelled_at : Reading LineText
+labelled_at ts = mapped labelled (pair (expect kinds.Name) (pair (mark (expect kinds.Colon)) optional_operation_at)) ts
+
+unfoldable pub plain_at : Reading LineText
+plain_at ts = mapped Plain operation_at ts
+
+unfoldable pub either_line_at : Reading LineText
+either_line_at ts = choice is_label labelled_at plain_at ts
+
+abbrev pub first_of : {X : Type 0} → X × Unit {0} → X
+first_of x = x.0
 
 unfoldable pub line_at : Reading LineText
-line_at ts = mapped line_of (pair (past operator_at) (pair operand_at (stand is_line_stop tt))) ts
+line_at ts = mapped first_of (pair (past either_line_at) (stand is_line_stop tt)) ts
 
 unfoldable pub ends_lines : List Token → Bool
 ends_lines ts = next_is kinds.End (skip_breaks ts)
@@ -118,9 +222,6 @@ unfoldable pub ends_named : List Token → Bool
 ends_named ts = next_is_word (codes "END_PROGRAM") (skip_breaks ts)
 
 -- ---- declarations
-
-abbrev pub second : {X : Type 0} → Unit {0} × X → X
-second x = x.1
 
 unfoldable pub ends_names : List Token → Bool
 ends_names ts = not (next_is kinds.Comma (skip_breaks ts))
@@ -133,11 +234,17 @@ name_at ts = mapped second (pair (past (mark (expect kinds.Comma))) (past (expec
 unfoldable pub names_at : ℕ → Reading NamesText
 names_at n ts = choice (next_is_word (codes "AT")) (mapped (λ x. Located (second x)) (pair (mark (keyword (codes "AT"))) (past (expect kinds.Address)))) (mapped More (many ends_names name_at n)) ts
 
-abbrev pub declared : Token × (NamesText × (Unit {0} × (Token × Unit {0}))) → DeclarationText
-declared x = record { name = x.0; names = x.1.0; ty = x.1.1.1.0 }
+abbrev pub no_value : List Token → Bool
+no_value ts = not (next_is kinds.Assign ts)
+
+unfoldable pub initial_at : Reading (Option Token)
+initial_at ts = choice (next_is kinds.Assign) (mapped (λ x. Some (second x)) (pair (mark (expect kinds.Assign)) (past constant_at))) (stand no_value None) ts
+
+abbrev pub declared : Token × (NamesText × (Unit {0} × (Token × (Option Token × Unit {0})))) → DeclarationText
+declared x = record { name = x.0; names = x.1.0; ty = x.1.1.1.0; initial = x.1.1.1.1.0 }
 
 unfoldable pub declaration_at : ℕ → Reading DeclarationText
-declaration_at n ts = mapped declared (pair (past (expect kinds.Name)) (pair (past (names_at n)) (pair (past (mark (expect kinds.Colon))) (pair (past (expect kinds.Name)) (past (mark (expect kinds.Semicolon))))))) ts
+declaration_at n ts = mapped declared (pair (past (expect kinds.Name)) (pair (past (names_at n)) (pair (past (mark (expect kinds.Colon))) (pair (past (expect kinds.Name)) (pair (past initial_at) (past (mark (expect kinds.Semicolon)))))))) ts
 
 unfoldable pub ends_block : List Token → Bool
 ends_block ts = next_is_word (codes "END_VAR") (skip_breaks ts)
@@ -165,9 +272,6 @@ at_end ts = next_is kinds.End ts
 
 unfoldable pub end_at : Reading (Unit {0})
 end_at ts = stand at_end tt ts
-
-abbrev pub first_of : {X : Type 0} → X × Unit {0} → X
-first_of x = x.0
 
 -- END_PROGRAM, and nothing behind it
 unfoldable pub finish_at : Reading (Unit {0})

@@ -1,12 +1,14 @@
 -- What the tokens of a text are, by what it says.
-use Rattle.std.specs.Prelude.{◌≡◌, ℕ, List, [], ◌∷◌, ◌++◌, not, Bool, Option, Some, None, true, codes}
+use Rattle.std.specs.Prelude.{◌≡◌, List, [], ◌∷◌, ◌++◌, not, Bool, true, false, Option, Some, None, ℕ, codes, if◌then◌else◌}
 use Rattle.std.specs.List.{flat_map}
 use Rattle.il_reader.specs.declared.contents.Operator.{Operator}
+use Rattle.il_reader.specs.declared.operations.Form.{Form}
+use Rattle.il_reader.specs.declared.operations.Form.TheVariants as forms
 use Rattle.il_reader.specs.declared.lexeme.Kind.{Kind}
 use Rattle.il_reader.specs.declared.lexeme.Kind.TheVariants as kinds
 use Rattle.il_reader.specs.Tokens.{Token, tokens_of}
 use Rattle.il_reader.specs.Reading.{skip_breaks, is_kind, is_word_token, next_is_word}
-use Rattle.il_reader.specs.Grammar.{OperandText, Direct, Named, LineText, NamesText, Located, More, DeclarationText, ProgramText, is_variable, operator_of, is_line_stop, ends_names, ends_block, ends_blocks, ends_lines, ends_named, begins_program, at_end}
+use Rattle.il_reader.specs.Grammar.{OperandText, Constant, Direct, Named, BehindText, Nothing, Given, Target, Opened, OperationText, LineText, Labelled, Plain, NamesText, Located, More, DeclarationText, ProgramText, is_constant, is_variable, form_of, operator_of, is_line_stop, is_no_label, no_value, ends_names, ends_block, ends_blocks, ends_lines, ends_named, begins_program, at_end}
 
 -- what stands next: any number of line ends, a token of this sort, this token, a token that is this operator, or nothing where this comes next
 pub data Part : Type 0 where
@@ -43,11 +45,50 @@ word w = one (is_word_token w)
 -- ---- instructions
 
 abbrev pub spelled_operand : OperandText → List Part
+spelled_operand (Constant t) = this is_constant t ∷ []
 spelled_operand (Direct t) = address t ∷ []
 spelled_operand (Named t) = this is_variable t ∷ []
 
+abbrev pub spelled_optional : Option OperandText → List Part
+spelled_optional None = ahead is_line_stop ∷ []
+spelled_optional (Some x) = spelled_operand x
+
+-- an operator of this form takes this
+abbrev pub accepts : Form → BehindText → Bool
+accepts forms.Operand (Given x) = true
+accepts forms.Nothing Nothing = true
+accepts forms.Label (Target t) = true
+accepts forms.Either (Given x) = true
+accepts forms.Either (Opened o) = true
+accepts form b = false
+
+abbrev pub accepting : BehindText → Option Operator → Option Operator
+accepting b None = None
+accepting b (Some o) = if accepts (form_of o.mnemonic.op) b then Some o else None
+
+-- the operator that a token is, where it takes this
+abbrev pub operator_before : BehindText → Token → Option Operator
+operator_before b t = accepting b (operator_of t)
+
+abbrev pub spelled_behind : BehindText → List Part
+spelled_behind Nothing = []
+spelled_behind (Given x) = spelled_operand x
+spelled_behind (Target t) = name t ∷ []
+spelled_behind (Opened o) = sign kinds.Open ∷ spelled_optional o
+
+abbrev pub spelled_operation : OperationText → List Part
+spelled_operation o = operator (operator_before o.behind) o.operator ∷ spelled_behind o.behind
+
+abbrev pub spelled_optional_operation : Option OperationText → List Part
+spelled_optional_operation None = ahead is_line_stop ∷ []
+spelled_optional_operation (Some o) = spelled_operation o
+
+abbrev pub spelled_content : LineText → List Part
+spelled_content (Labelled t o) = name t ∷ sign kinds.Colon ∷ spelled_optional_operation o
+spelled_content (Plain o) = ahead is_no_label ∷ spelled_operation o
+
 abbrev pub spelled_line : LineText → List Part
-spelled_line l = breaks ∷ operator operator_of l.operator ∷ (spelled_operand l.operand ++ ahead is_line_stop ∷ [])
+spelled_line l = breaks ∷ (spelled_content l ++ ahead is_line_stop ∷ [])
 
 -- ---- declarations
 
@@ -62,8 +103,12 @@ abbrev pub spelled_names : NamesText → List Part
 spelled_names (Located t) = word (codes "AT") ∷ breaks ∷ address t ∷ []
 spelled_names (More ts) = ahead is_not_at ∷ (flat_map spelled_name ts ++ ahead ends_names ∷ [])
 
+abbrev pub spelled_initial : Option Token → List Part
+spelled_initial None = ahead no_value ∷ []
+spelled_initial (Some t) = sign kinds.Assign ∷ breaks ∷ this is_constant t ∷ []
+
 abbrev pub spelled_declaration : DeclarationText → List Part
-spelled_declaration d = breaks ∷ name d.name ∷ breaks ∷ (spelled_names d.names ++ breaks ∷ sign kinds.Colon ∷ breaks ∷ name d.ty ∷ breaks ∷ sign kinds.Semicolon ∷ [])
+spelled_declaration d = breaks ∷ name d.name ∷ breaks ∷ (spelled_names d.names ++ breaks ∷ sign kinds.Colon ∷ breaks ∷ name d.ty ∷ breaks ∷ (spelled_initial d.initial ++ breaks ∷ sign kinds.Semicolon ∷ []))
 
 -- a thing of a list, which does not begin where the list stops
 abbrev pub going : {X : Type 0} → (List Token → Bool) → (X → List Part) → X → List Part

@@ -1,8 +1,9 @@
 -- What stands at the front of a text.
-use Rattle.std.specs.Prelude.{ℕ, zero, suc, ◌+◌, ◌-◌, Bool, true, false, ◌&&◌, ◌||◌, List, [], ◌∷◌, length, take, drop, Option, Some, None, nat_lt, nat_le, ◌==◌, if◌then◌else◌}
+use Rattle.std.specs.Prelude.{ℕ, zero, suc, ◌+◌, ◌-◌, Bool, true, false, ◌&&◌, ◌||◌, List, [], ◌∷◌, length, take, drop, Option, Some, None, is_some, nat_lt, nat_le, ◌==◌, if◌then◌else◌}
 use Rattle.std.specs.List.{prefix_len}
 use Rattle.il_model.specs.Names.{is_well_spelled}
-use Rattle.il_reader.specs.declared.fault.FaultKind.TheVariants.{BadByte, BadToken, UnclosedComment, TooLong}
+use Rattle.il_model.specs.Literals.{literal_of}
+use Rattle.il_reader.specs.declared.fault.FaultKind.TheVariants.{BadByte, BadToken, BadLiteral, UnclosedComment, TooLong}
 use Rattle.il_reader.specs.declared.lexeme.Piece.{Piece}
 use Rattle.il_reader.specs.declared.lexeme.Lexeme.{Lexeme}
 use Rattle.il_reader.specs.declared.lexeme.Kind.{Kind}
@@ -46,10 +47,14 @@ abbrev pub comment_piece : Option ℕ → Piece
 comment_piece None = record { kind = kinds.Broken UnclosedComment; len = 1 }
 comment_piece (Some n) = record { kind = kinds.Blank; len = 2 + n }
 
+-- a literal, where the text is one
+unfoldable pub literal_piece : List ℕ → Piece
+literal_piece text = if is_some (literal_of text) then record { kind = kinds.Literal; len = length text } else record { kind = kinds.Broken BadLiteral; len = 1 }
+
 unfoldable pub word_piece : List ℕ → Piece
 word_piece bytes =
     let n = 1 + prefix_len is_word_byte (drop 1 bytes) in
-    if begins_with 35 (drop n bytes) then record { kind = kinds.Literal; len = 1 + prefix_len is_literal_byte (drop 1 bytes) } else name_of (take n bytes)
+    if begins_with 35 (drop n bytes) then literal_piece (take (1 + prefix_len is_literal_byte (drop 1 bytes)) bytes) else name_of (take n bytes)
 
 abbrev pub sign : Kind → ℕ → Piece
 sign k n = record { kind = k; len = n }
@@ -87,7 +92,7 @@ unfoldable pub solid_piece : List ℕ → Piece
 solid_piece [] = sign kinds.End 0
 solid_piece (b ∷ bs) =
     if is_letter_byte b then word_piece (b ∷ bs)
-    else if is_number_start b then sign kinds.Literal (1 + prefix_len is_literal_byte bs)
+    else if is_number_start b then literal_piece (take (1 + prefix_len is_literal_byte bs) (b ∷ bs))
     else if b == 37 then sign kinds.Address (1 + prefix_len is_address_byte bs)
     else sign_of b bs
 

@@ -1,13 +1,14 @@
 //! Blocks of declarations (IEC 61131-3:2003, B.1.4.3 and 2.4.3).
 
-ghost use Rattle.std.specs.Prelude.{◌≡◌, codes, map};
+ghost use Rattle.std.specs.Prelude.{◌≡◌, codes, map, option_map};
 ghost use Rattle.il_reader.specs.Tokens.{tokens_of, token};
 ghost use Rattle.il_reader.specs.Reading.{Gives, many};
-ghost use Rattle.il_reader.specs.Grammar.{names_of, declaration, declarations, ends_names, name_at, names_at, declaration_at, ends_block, ends_blocks, block_at};
+ghost use Rattle.il_reader.specs.Grammar.{names_of, declaration, declarations, ends_names, name_at, names_at, initial_at, declaration_at, ends_block, ends_blocks, block_at};
 
 use crate::contents::{Declaration, Names};
 use crate::fault::Failure;
 use crate::lexeme::{Kind, Lexeme, next};
+use crate::operations::constant_read;
 use crate::reading::{expected, is, is_word, past_breaks, past_keyword, refused};
 use std::alloc::Global;
 
@@ -78,6 +79,20 @@ fn names(alloc: Global, limit: usize, bytes: &[u8]) -> Result<(Names<'_>, &[u8])
     }
 }
 
+#[tactic(auto, unfolding(crate::specs::Grammar::initial_at))]
+fn initial(bytes: &[u8]) -> Result<(Option<Lexeme<'_>>, &[u8]), Failure>
+    ensures { Gives (λ x. (option_map token x.0, tokens_of x.1.now)) result (initial_at (tokens_of bytes.now)) }
+{
+    let (t, _) = next(bytes);
+    if is(Kind::Assign, t) {
+        let (_, rest) = expected(Kind::Assign, bytes)?;
+        let (value, rest) = constant_read(past_breaks(rest))?;
+        Ok((Some(value), rest))
+    } else {
+        Ok((None, bytes))
+    }
+}
+
 #[tactic(auto, unfolding(crate::specs::Grammar::declaration_at))]
 fn declared(alloc: Global, limit: usize, bytes: &[u8]) -> Result<(Declaration<'_>, &[u8]), Failure>
     ensures { Gives (λ x. (declaration x.0, tokens_of x.1.now)) result (declaration_at limit (tokens_of bytes.now)) }
@@ -86,8 +101,17 @@ fn declared(alloc: Global, limit: usize, bytes: &[u8]) -> Result<(Declaration<'_
     let (names, rest) = names(alloc, limit, past_breaks(rest))?;
     let (_, rest) = expected(Kind::Colon, past_breaks(rest))?;
     let (ty, rest) = expected(Kind::Name, past_breaks(rest))?;
+    let (initial, rest) = initial(past_breaks(rest))?;
     let (_, rest) = expected(Kind::Semicolon, past_breaks(rest))?;
-    Ok((Declaration { name, names, ty }, rest))
+    Ok((
+        Declaration {
+            name,
+            names,
+            ty,
+            initial,
+        },
+        rest,
+    ))
 }
 
 fn block_declarations(

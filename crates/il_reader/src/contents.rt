@@ -10,18 +10,35 @@ pub struct Operator {
     pub left: usize,
 }
 
-/// What an operator is given: a direct address or a variable.
+/// An operand: a literal (or TRUE or FALSE), a direct address or a variable.
 #[derive(Clone, Copy, Debug)]
 pub enum Operand<'a> {
+    Constant(Lexeme<'a>),
     Direct(Lexeme<'a>),
     Named(Lexeme<'a>),
 }
 
-/// An instruction line.
+/// What stands behind an operator: nothing, an operand, the label of a jump, or a parenthesis with an operand or without.
 #[derive(Clone, Copy, Debug)]
-pub struct Line<'a> {
+pub enum Behind<'a> {
+    Nothing,
+    Given(Operand<'a>),
+    Target(Lexeme<'a>),
+    Opened(Option<Operand<'a>>),
+}
+
+/// An operator with what stands behind it.
+#[derive(Clone, Copy, Debug)]
+pub struct Operation<'a> {
     pub operator: Operator,
-    pub operand: Operand<'a>,
+    pub behind: Behind<'a>,
+}
+
+/// An instruction line: with a label, behind which an operation may stand, or without.
+#[derive(Clone, Copy, Debug)]
+pub enum Line<'a> {
+    Labelled(Lexeme<'a>, Option<Operation<'a>>),
+    Plain(Operation<'a>),
 }
 
 /// Behind the first name of a declaration: where it lies, or the other names.
@@ -31,12 +48,13 @@ pub enum Names<'a> {
     More(Vec<Lexeme<'a>>),
 }
 
-/// A declaration: `A, B : BOOL;` or `X AT %IX0.3 : BOOL;`.
+/// A declaration: `A, B : INT := 5;` or `X AT %IX0.3 : BOOL;`.
 #[derive(Debug, Drop)]
 pub struct Declaration<'a> {
     pub name: Lexeme<'a>,
     pub names: Names<'a>,
     pub ty: Lexeme<'a>,
+    pub initial: Option<Lexeme<'a>>,
 }
 
 /// A program as it is written: its name, where it has one, the blocks of declarations, the instruction lines.

@@ -2,10 +2,11 @@
 
 ghost use Rattle.std.specs.Prelude.{◌≡◌, ◌≢◌, ◌≤◌, ◌<◌, ◌+◌, length, drop, IfSome, ◌∷◌, true};
 ghost use Rattle.std.specs.List.{prefix_len};
-ghost use Rattle.il_reader.specs.Tokens.{is_letter_byte, is_number_start, is_blank_byte, solid_piece, is_word_byte, is_literal_byte, is_address_byte, name_of, word_piece, sign_of, comment_len, comment_piece, piece_of, begins_with, is_word_end, is_n, after, tokens_of, token};
+ghost use Rattle.il_reader.specs.Tokens.{is_letter_byte, is_number_start, is_blank_byte, solid_piece, is_word_byte, is_literal_byte, is_address_byte, name_of, literal_piece, word_piece, sign_of, comment_len, comment_piece, piece_of, begins_with, is_word_end, is_n, after, tokens_of, token};
 
 use crate::fault::FaultKind;
 use il_model::name::is_well_spelled;
+use il_model::written::literal;
 
 /// What stands at a place of the text.
 #[derive(Clone, Copy, Debug, PartialEq, Eq)]
@@ -139,6 +140,26 @@ fn name_piece(name: &[u8]) -> Piece
     }
 }
 
+#[tactic(auto, unfolding(crate::specs::Tokens::literal_piece))]
+fn judged_literal(text: &[u8]) -> Piece
+    requires { 0 < length text.now }
+    ensures value { result ≡ literal_piece text.now }
+    ensures fits { result.len ≤ length text.now }
+    ensures moves { 0 < result.len }
+{
+    if literal(text).is_some() {
+        Piece {
+            kind: Kind::Literal,
+            len: text.len(),
+        }
+    } else {
+        Piece {
+            kind: Kind::Broken(FaultKind::BadLiteral),
+            len: 1,
+        }
+    }
+}
+
 #[tactic(auto, unfolding(crate::specs::Tokens::word_piece))]
 fn word_at(bytes: &[u8]) -> Piece
     requires { 0 < length bytes.now }
@@ -148,10 +169,7 @@ fn word_at(bytes: &[u8]) -> Piece
 {
     let (name, others) = bytes.split_at(1 + word_len(&bytes[1..]));
     if starts_with(others, b'#') {
-        Piece {
-            kind: Kind::Literal,
-            len: 1 + literal_len(&bytes[1..]),
-        }
+        judged_literal(&bytes[..1 + literal_len(&bytes[1..])])
     } else {
         name_piece(name)
     }
@@ -226,10 +244,7 @@ fn solid_at(bytes: &[u8]) -> Piece
             if is_letter(*b) {
                 word_at(bytes)
             } else if starts_number(*b) {
-                Piece {
-                    kind: Kind::Literal,
-                    len: 1 + literal_len(others),
-                }
+                judged_literal(&bytes[..1 + literal_len(others)])
             } else if *b == b'%' {
                 Piece {
                     kind: Kind::Address,

@@ -7,12 +7,13 @@ mod contents;
 mod fault;
 mod lexeme;
 mod lines;
+mod operations;
 mod place;
 mod reading;
 mod source;
 mod whole;
 
-pub use contents::{Contents, Declaration, Line, Names, Operand, Operator};
+pub use contents::{Behind, Contents, Declaration, Line, Names, Operand, Operation, Operator};
 pub use fault::{Fault, FaultKind, ReadError};
 pub use lexeme::{Kind, Lexeme};
 pub use place::{Place, place_of};

@@ -1,111 +1,67 @@
 //! Instruction lines (IEC 61131-3:2003, B.2.1).
 
-ghost use Rattle.std.specs.Prelude.{◌≡◌, ◌<◌, map, true, IfSome};
+ghost use Rattle.std.specs.Prelude.{◌≡◌, map};
 ghost use Rattle.il_reader.specs.Tokens.{tokens_of, token};
-ghost use Rattle.il_reader.specs.Reading.{Gives, kind_code, many};
-ghost use Rattle.il_reader.specs.Grammar.{operand, line, is_truth, is_variable, is_read, takes_operand, operator_from, operator_of, operator_at, variable_at, operand_at, is_line_stop, line_at, ends_lines, ends_named};
+ghost use Rattle.il_reader.specs.Reading.{Gives, many};
+ghost use Rattle.il_reader.specs.Grammar.{line, is_line_stop, is_label, labelled_at, plain_at, either_line_at, line_at, ends_lines, ends_named};
 
-use crate::contents::{Line, Operand, Operator};
+use crate::contents::Line;
 use crate::fault::Failure;
-use crate::lexeme::{Kind, Lexeme, next};
+use crate::lexeme::{Kind, next};
+use crate::operations::{at_line_stop, operation_read, optional_operation};
 use crate::reading::{expected, is, is_word, past_breaks, refused};
-use il_model::op::Op;
-use il_model::words::{Mnemonic, is_spelled, mnemonic_from};
+use il_model::words::mnemonic_from;
 use std::alloc::Global;
 
-fn takes(mnemonic: Mnemonic) -> bool
-    ensures { result ≡ takes_operand mnemonic }
-{
-    match mnemonic.op {
-        Op::Ld | Op::St => true,
-        Op::And | Op::Or => !mnemonic.modifier.negated,
-        _ => false,
-    }
-}
-
-#[tactic(auto, unfolding(crate::specs::Grammar::operator_of))]
-fn operator(t: Lexeme) -> Option<Operator>
-    ensures value { result ≡ operator_of (token t.entry) }
-    ensures inner { IfSome result (λ o. kind_code t.entry.kind < 14) }
-{
-    if is(Kind::Name, t) || is(Kind::Ampersand, t) {
-        match mnemonic_from(t.text) {
-            Some(mnemonic) if takes(mnemonic) => Some(Operator {
-                mnemonic,
-                left: t.left,
-            }),
-            _ => None,
-        }
-    } else {
-        None
-    }
-}
-
-fn truth(t: Lexeme) -> bool
-    ensures { result ≡ is_truth (token t.entry) }
-{
-    is_spelled(b"TRUE", t.text) || is_spelled(b"FALSE", t.text)
-}
-
-fn variable(t: Lexeme) -> bool
-    ensures value { result ≡ is_variable (token t.entry) }
-    ensures inner { result ≡ true → kind_code t.entry.kind < 14 }
-{
-    is(Kind::Name, t) && !truth(t)
-}
-
-#[tactic(auto, unfolding(crate::specs::Grammar::operator_at))]
-fn operator_read(bytes: &[u8]) -> Result<(Operator, &[u8]), Failure>
-    ensures { Gives (λ x. (x.0, tokens_of x.1.now)) result (operator_at (tokens_of bytes.now)) }
+#[tactic(auto, unfolding(crate::specs::Grammar::is_label))]
+fn at_label(bytes: &[u8]) -> bool
+    ensures { result ≡ is_label (tokens_of bytes.now) }
 {
     let (t, rest) = next(bytes);
-    match operator(t) {
-        Some(found) => Ok((found, rest)),
-        None => Err(refused(t)),
-    }
-}
-
-#[tactic(auto, unfolding(crate::specs::Grammar::variable_at))]
-fn variable_read(bytes: &[u8]) -> Result<(Lexeme<'_>, &[u8]), Failure>
-    ensures { Gives (λ x. (token x.0, tokens_of x.1.now)) result (variable_at (tokens_of bytes.now)) }
-{
-    let (t, rest) = next(bytes);
-    if variable(t) {
-        Ok((t, rest))
+    if is(Kind::Name, t) {
+        let (u, _) = next(rest);
+        is(Kind::Colon, u) || mnemonic_from(t.text).is_none()
     } else {
-        Err(refused(t))
+        false
     }
 }
 
-#[tactic(auto, unfolding(crate::specs::Grammar::operand_at))]
-fn operand_read(bytes: &[u8]) -> Result<(Operand<'_>, &[u8]), Failure>
-    ensures { Gives (λ x. (operand x.0, tokens_of x.1.now)) result (operand_at (tokens_of bytes.now)) }
+#[tactic(auto, unfolding(crate::specs::Grammar::labelled_at))]
+fn labelled(bytes: &[u8]) -> Result<(Line<'_>, &[u8]), Failure>
+    ensures { Gives (λ x. (line x.0, tokens_of x.1.now)) result (labelled_at (tokens_of bytes.now)) }
 {
-    let (t, _) = next(bytes);
-    if is(Kind::Address, t) {
-        let (t, rest) = expected(Kind::Address, bytes)?;
-        Ok((Operand::Direct(t), rest))
+    let (label, rest) = expected(Kind::Name, bytes)?;
+    let (_, rest) = expected(Kind::Colon, rest)?;
+    let (x, rest) = optional_operation(rest)?;
+    Ok((Line::Labelled(label, x), rest))
+}
+
+#[tactic(auto, unfolding(crate::specs::Grammar::plain_at))]
+fn plain(bytes: &[u8]) -> Result<(Line<'_>, &[u8]), Failure>
+    ensures { Gives (λ x. (line x.0, tokens_of x.1.now)) result (plain_at (tokens_of bytes.now)) }
+{
+    let (x, rest) = operation_read(bytes)?;
+    Ok((Line::Plain(x), rest))
+}
+
+#[tactic(auto, unfolding(crate::specs::Grammar::either_line_at))]
+fn either_line(bytes: &[u8]) -> Result<(Line<'_>, &[u8]), Failure>
+    ensures { Gives (λ x. (line x.0, tokens_of x.1.now)) result (either_line_at (tokens_of bytes.now)) }
+{
+    if at_label(bytes) {
+        labelled(bytes)
     } else {
-        let (t, rest) = variable_read(bytes)?;
-        Ok((Operand::Named(t), rest))
+        plain(bytes)
     }
-}
-
-fn at_line_stop(bytes: &[u8]) -> bool
-    ensures { result ≡ is_line_stop (tokens_of bytes.now) }
-{
-    let (t, _) = next(bytes);
-    is(Kind::Break, t) || is(Kind::End, t)
 }
 
 #[tactic(auto, unfolding(crate::specs::Grammar::line_at))]
 fn line_read(bytes: &[u8]) -> Result<(Line<'_>, &[u8]), Failure>
     ensures { Gives (λ x. (line x.0, tokens_of x.1.now)) result (line_at (tokens_of bytes.now)) }
 {
-    let (operator, rest) = operator_read(past_breaks(bytes))?;
-    let (operand, rest) = operand_read(rest)?;
+    let (x, rest) = either_line(past_breaks(bytes))?;
     if at_line_stop(rest) {
-        Ok((Line { operator, operand }, rest))
+        Ok((x, rest))
     } else {
         Err(refused(next(rest).0))
     }

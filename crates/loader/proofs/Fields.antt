@@ -1,6 +1,6 @@
 -- What is read is spelled so, and what is spelled so is read: fields and records.
 use Rattle.std.proofs.Common.{◌≡◌, ℕ, zero, suc, ◌+◌, ◌^◌, ◌<◌, ◌≤◌, Bool, true, false, cond, ltb, List, [], ◌∷◌, ◌++◌, length, get_or, take, drop, Option, Some, None, Result, Ok, Err, refl, sym, ap, ◌∙◌, append_assoc, arith, inl, inr}
-use Rattle.std.specs.Prelude.{ℤ, pos, negsuc, ◌&&◌, nat_eq}
+use Rattle.std.specs.Prelude.{ℤ, pos, negsuc, ◌&&◌, nat_eq, not}
 use Rattle.std.specs.Option.{option_and_then}
 use Rattle.std.specs.Int.{Width, w8, w16, w32, byte_len, from_be_bytes, to_be_bytes, cast_signed, cast_unsigned}
 use Rattle.std.proofs.lemmas.Bool.{cases_lt, ltb-false, le-ltb, ltb-true, eqb-true}
@@ -13,11 +13,11 @@ use Rattle.il_model.specs.declared.value.Value.{Value}
 use Rattle.il_model.specs.declared.value.Value.TheVariants as values
 use Rattle.il_model.specs.declared.program.Variable.{Variable}
 use Rattle.il_model.specs.declared.program.Loc.{Loc}
-use Rattle.il_model.specs.Values.{made, truth_made, number_of, is_within}
+use Rattle.il_model.specs.Values.{made, truth_made, ty_of, number_of, is_within}
 use Rattle.il_model.specs.Image.{type_code, loc_code, location_code}
 use Rattle.loader.specs.declared.fault.LoadFault.{LoadFault}
 use Rattle.loader.specs.declared.fault.LoadFault.TheVariants.{Truncated}
-use Rattle.il_model.specs.Codes.{tested, length_of, type_of, loc_of, is_free, free_loc, location_of, may_start_with, initial_of}
+use Rattle.il_model.specs.Codes.{tested, length_of, type_of, any_loc, is_free, free_loc, location_of, may_start_with, initial_of, is_known, constant_of}
 use Rattle.loader.specs.Reading.{◌>>=◌, number_at, lawful, agrees}
 
 abbrev pub IsBytes : List ℕ → Type 0
@@ -128,7 +128,10 @@ length_below n m e = lt_of (ltb 0 n) (ltb n 33) n refl (some_yes (ltb 0 n && ltb
 
 pub type_is : (n : ℕ) (t : Ty) → type_of n ≡ Some t → type_code t ≡ n
 type_is zero t e = let is : types.Bool ≡ t = cc in sym (ap type_code is)
-type_is (suc n) t e = absurd cc
+type_is (suc zero) t e = let is : types.Int ≡ t = cc in sym (ap type_code is)
+type_is (suc (suc zero)) t e = let is : types.Dint ≡ t = cc in sym (ap type_code is)
+type_is (suc (suc (suc zero))) t e = let is : types.Time ≡ t = cc in sym (ap type_code is)
+type_is (suc (suc (suc (suc n)))) t e = absurd cc
 
 pub type_small : (t : Ty) → type_code t < 2 ^ 8
 type_small types.Bool = omega arith
@@ -142,9 +145,9 @@ free_is seen t n (Some l) loc e =
     let y = some_yes (is_free seen t n l) (Some l) loc e in
     sym (ap location_code y.1) ∙ eqb-true (loc_code l) n (and_left _ _ (and_left _ _ y.0))
 
-pub location_by : (b : Bool) (seen : List Variable) (t : Ty) (n : ℕ) (loc : Option Loc) → nat_eq n 65535 ≡ b → cond b (Some None) (free_loc seen t n (loc_of n)) ≡ Some loc → location_code loc ≡ n
+pub location_by : (b : Bool) (seen : List Variable) (t : Ty) (n : ℕ) (loc : Option Loc) → nat_eq n 65535 ≡ b → cond b (Some None) (free_loc seen t n (any_loc n)) ≡ Some loc → location_code loc ≡ n
 location_by true seen t n loc e h = let is : None ≡ loc = cc in sym (ap location_code is) ∙ sym (eqb-true n 65535 e)
-location_by false seen t n loc e h = free_is seen t n (loc_of n) loc h
+location_by false seen t n loc e h = free_is seen t n (any_loc n) loc h
 
 pub location_is : (seen : List Variable) (t : Ty) (n : ℕ) (loc : Option Loc) → location_of seen t n ≡ Some loc → location_code loc ≡ n
 location_is seen t n loc e = location_by (nat_eq n 65535) seen t n loc refl e
@@ -174,3 +177,28 @@ made_start loc (Some x) v e = ap (λ (y : Value). Some y) (started_by (may_start
 
 pub initial_is : (t : Ty) (loc : Option Loc) (bits : ℕ) (v : Value) → bits < 2 ^ 32 → initial_of t loc bits ≡ Some v → cast_unsigned w32 (number_of v) ≡ bits
 initial_is t loc bits v lt e = ap (cast_unsigned w32) (made_number t (cast_signed w32 bits) v (made_start loc (made t (cast_signed w32 bits)) v e)) ∙ of_z-to_z w32 bits lt
+
+truth_of : (a b : Bool) (v : Value) → cond a (Some (values.Bool false)) (cond b (Some (values.Bool true)) None) ≡ Some v → ty_of v ≡ types.Bool
+truth_of true b v e = let is : values.Bool false ≡ v = cc in ap ty_of (sym is)
+truth_of false true v e = let is : values.Bool true ≡ v = cc in ap ty_of (sym is)
+truth_of false false v e = absurd cc
+
+truth_ty : (z : ℤ) (v : Value) → truth_made z ≡ Some v → ty_of v ≡ types.Bool
+truth_ty (pos n) v e = truth_of (ltb n 1) (ltb n 2) v e
+truth_ty (negsuc n) v e = absurd cc
+
+made_ty : (t : Ty) (z : ℤ) (v : Value) → made t z ≡ Some v → ty_of v ≡ t
+made_ty types.Bool z v e = truth_ty z v e
+made_ty types.Int z v e = ap ty_of (sym (some_yes (is_within (2 ^ 15) z) (values.Int z) v e).1)
+made_ty types.Dint z v e = ap ty_of (sym (some_yes (is_within (2 ^ 31) z) (values.Dint z) v e).1)
+made_ty types.Time z v e = ap ty_of (sym (some_yes (is_within (2 ^ 31) z) (values.Time z) v e).1)
+
+pub tested_some : {A : Type 0} (test : A → Bool) (o : Option A) (y : A) → option_and_then (tested test) o ≡ Some y → (o ≡ Some y) × (test y ≡ true)
+tested_some test None y e = absurd cc
+tested_some test (Some x) y e = let r = some_yes (test x) x y e in (ap (λ (z : _). Some z) r.1, ap test (sym r.1) ∙ r.0)
+
+-- what a constant that was read is
+pub constant_is : (seen : List Value) (t : Ty) (bits : ℕ) (v : Value) → bits < 2 ^ 32 → constant_of seen t bits ≡ Some v → (ty_of v ≡ t) × (cast_unsigned w32 (number_of v) ≡ bits)
+constant_is seen t bits v lt e =
+    let m = (tested_some (λ v. not (is_known seen v)) (made t (cast_signed w32 bits)) v e).0 in
+    (made_ty t (cast_signed w32 bits) v m, ap (cast_unsigned w32) (made_number t (cast_signed w32 bits) v m) ∙ of_z-to_z w32 bits lt)

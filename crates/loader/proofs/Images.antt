@@ -1,203 +1,299 @@
 -- The two laws: what is read is the spelling of a typed program, and that spelling is read.
-use Rattle.std.proofs.Common.{◌≡◌, ℕ, ◌-◌, ◌^◌, ◌<◌, ◌≤◌, Bool, true, false, cond, List, [], ◌++◌, length, Result, Ok, Err, refl, sym, ap, subst, ◌∙◌, append_assoc, arith}
-use Rattle.std.specs.Prelude.{◌||◌, nat_eq, nat_lt, nat_le}
-use Rattle.std.specs.List.{flat_map}
-use Rattle.std.specs.Int.{w16, w32, to_be_bytes}
-use Rattle.std.proofs.lemmas.Bool.{ltb-false, le-ltb, eqb-true, leb-true, le-leb}
-use Rattle.std.proofs.lemmas.List.{append-nil, nil_from_length}
+use Rattle.std.proofs.Common.{◌≡◌, ℕ, suc, ◌+◌, ◌<◌, ◌≤◌, Bool, true, false, cond, ltb, List, [], ◌∷◌, ◌++◌, length, map, Option, Some, None, Result, Ok, Err, refl, sym, ap, subst, ◌∙◌, append_assoc, arith}
+use Rattle.std.specs.Prelude.{slice_get, nat_eq, nat_lt, nat_le, ◌&&◌, ◌||◌, IfOk}
+use Rattle.std.specs.List.{flat_map, position}
+use Rattle.std.specs.Option.{option_map}
+use Rattle.std.proofs.lemmas.Bool.{ltb-true, ltb-false, lt-ltb, le-ltb, eqb-true, eq-eqb, leb-true, le-leb}
+use Rattle.std.proofs.lemmas.List.{length-append, length-map, take_all}
+use Rattle.std.proofs.lemmas.List.Concat.{flat_map-cons}
+use Rattle.il_model.specs.declared.value.Value.{Value}
 use Rattle.il_model.specs.declared.program.Variable.{Variable}
 use Rattle.il_model.specs.declared.program.Instr.{Instr}
 use Rattle.il_model.specs.declared.typing.TypeFault.{TypeFault}
 use Rattle.il_model.specs.Text.{Text}
+use Rattle.il_model.specs.Limits.{program_of}
 use Rattle.il_model.specs.Typing.{judged, IsTyped}
-use Rattle.il_model.specs.Image.{variable_bytes, plain_word_bytes, header_bytes, spelling}
-use Rattle.loader.specs.declared.counts.Counts.{Counts}
+use Rattle.il_model.specs.Marks.{Mark, marks_from, AreRising}
+use Rattle.il_model.specs.Constants.{same_value, constants_of}
+use Rattle.il_model.specs.Image.{operand_code, coded_word, word_bytes, spelling}
+use Rattle.il_model.specs.Codes.{is_pointless}
+use Rattle.il_model.specs.Fits.{IsMark, IsConstant, IsCoded, IsWord, AreItems, IsText, IsImage}
+use Rattle.il_model.proofs.Positions.{position_first, position_later}
+use Rattle.il_model.proofs.Marks.{AreLabelled, table_again, table_rises, table_labels}
+use Rattle.il_model.proofs.Constants.{AreApart, are_apart}
+use Rattle.loader.specs.declared.word.Word.{Word}
 use Rattle.loader.specs.declared.fault.LoadFault.{LoadFault}
+use Rattle.loader.specs.declared.fault.LoadFault.TheVariants.{BadWord, BadTarget}
 use Rattle.loader.specs.declared.fault.LoadError.{LoadError}
-use Rattle.std.specs.Prelude.{IfOk}
-use Rattle.loader.specs.declared.fault.LoadFault.TheVariants.{BadMagic, BadVersion, BadCount, Trailing}
-use Rattle.loader.specs.Reading.{◌>>=◌, Gives, number_at, agrees, items_from, count_at, counts_at, header_at, variable_at, next_word, ended, text_at, placed, judged_at, judged_program, image_of}
-use Rattle.il_model.specs.Fits.{IsVariable, IsWord, AreItems, IsText, IsImage}
-use Rattle.loader.proofs.Fields.{IsBytes, bind_ok, agrees_ok, ok_is, Takes, Takes-then, wide16, wide32, number_takes, number_again}
-use Rattle.loader.proofs.Plain.{plain_spelling, spelled_plainly}
+use Rattle.loader.specs.Tables.{Tables, lines_of}
+use Rattle.loader.specs.Reading.{◌>>=◌, Gives, tables_at}
+use Rattle.loader.specs.Judging.{constant_place, label_place, risen, used_from, earlier, misspelled, words_fine, all_used, small, judged_tables, image_of}
+use Rattle.loader.proofs.Fields.{IsBytes, bind_ok, agrees_ok, ok_is}
 use Rattle.loader.proofs.Typed.{judged_typed}
-use Rattle.loader.proofs.Records.{variable_takes, variable_again, word_takes, word_again, HasItems, items_take, items_again}
+use Rattle.loader.proofs.Records.{IsNext, read_word_bytes}
+use Rattle.loader.proofs.Spelled.{tables_bytes, AreTables, tables_take, tables_again}
+use Rattle.loader.proofs.Words.{code_again}
+use Rattle.loader.proofs.Used.{AreCoded, used_take, word_of, used_again_all}
 
--- ---- the header
+-- ---- what a judgement tells
 
-count_takes : (limit : ℕ) (bytes : List ℕ) (n : ℕ) (rest : List ℕ) → IsBytes bytes → count_at limit bytes ≡ Ok (n, rest) → Takes bytes (to_be_bytes w16 n) rest × (n ≤ limit)
-count_takes limit bytes n rest fits e =
-    let a = bind_ok (number_at w16 bytes) (λ n. agrees BadCount (nat_le n.0 limit) >>= λ _. Ok n) (n, rest) e in
-    let b = bind_ok (agrees BadCount (nat_le a.0.0 limit)) (λ _. Ok a.0) (n, rest) a.2 in
-    let t = number_takes w16 (2 ^ 16) wide16 bytes a.0.0 a.0.1 fits a.1 in
-    let le : a.0.0 ≤ limit = leb-true a.0.0 limit (agrees_ok BadCount (nat_le a.0.0 limit) b.0 b.1) in
-    subst (λ (y : ℕ × List ℕ). Takes bytes (to_be_bytes w16 y.0) y.1 × (y.0 ≤ limit)) (ok_is a.0 (n, rest) b.2) (t.0, le)
+small_ok : (o : Option Text) (Q : Text) → small o ≡ Ok Q → o ≡ Some Q
+small_ok None Q e = absurd cc
+small_ok (Some P) Q e = let is : P ≡ Q = cc in ap (λ (x : Text). Some x) is
 
-count_again : (limit n : ℕ) (rest : List ℕ) → n ≤ limit → n < 2 ^ 16 → count_at limit (to_be_bytes w16 n ++ rest) ≡ Ok (n, rest)
-count_again limit n rest le lt = rw (number_again w16 (2 ^ 16) wide16 n rest lt, le-leb n limit le) refl
+program_by : (a b : Bool) (P Q : Text) → cond (a || b) None (Some P) ≡ Some Q → (b ≡ false) × (P ≡ Q)
+program_by false false P Q e = (refl, cc)
+program_by true b P Q e = absurd cc
+program_by false true P Q e = absurd cc
 
-regrouped_5 : (a b c d e rest : List ℕ) → (a ++ (b ++ (c ++ (d ++ e)))) ++ rest ≡ a ++ (b ++ (c ++ (d ++ (e ++ rest))))
-regrouped_5 a b c d e rest = append_assoc a (b ++ (c ++ (d ++ e))) rest ∙ ap (λ (x : List ℕ). a ++ x) (append_assoc b (c ++ (d ++ e)) rest ∙ ap (λ (x : List ℕ). b ++ x) (append_assoc c (d ++ e) rest ∙ ap (λ (x : List ℕ). c ++ x) (append_assoc d e rest)))
+risen_by : (a b : Bool) (r : Result Bool LoadFault) (f : LoadFault) (x : Bool) → cond (a && b) r (Err f) ≡ Ok x → (a ≡ true) × (b ≡ true) × (r ≡ Ok x)
+risen_by true true r f x e = (refl, refl, e)
+risen_by false b r f x e = absurd cc
+risen_by true false r f x e = absurd cc
 
-abbrev counts_bytes : ℕ → ℕ → ℕ → ℕ → ℕ → List ℕ
-counts_bytes v i l c w = to_be_bytes w16 v ++ (to_be_bytes w16 i ++ (to_be_bytes w16 l ++ (to_be_bytes w16 c ++ to_be_bytes w16 w)))
+risen_takes : (end n count : ℕ) (ms : List Mark) (x : Bool) → risen end n count ms ≡ Ok x → AreRising n count ms
+risen_takes end n count [] x e = tt
+risen_takes end n count (m ∷ ms) x e =
+    let r = risen_by (nat_le n m.at) (nat_lt m.at count) (risen end (suc m.at) count ms) (BadTarget (label_place end (m ∷ ms))) x e in
+    (leb-true n m.at r.0, ltb-true m.at count r.1, risen_takes end (suc m.at) count ms x r.2)
 
-none_left : (n : ℕ) → n ≤ 0 → n ≡ 0
-none_left n le = omega arith
+risen_again : (end n count : ℕ) (ms : List Mark) → AreRising n count ms → risen end n count ms ≡ Ok true
+risen_again end n count [] rising = refl
+risen_again end n count (m ∷ ms) rising = rw (le-leb n m.at rising.0, lt-ltb m.at count rising.1) (risen_again end (suc m.at) count ms rising.2)
 
-counts_join : (bytes r0 r1 r2 r3 rest : List ℕ) (v i l c w : ℕ) → Takes bytes (to_be_bytes w16 v) r0 → Takes r0 (to_be_bytes w16 i) r1 → Takes r1 (to_be_bytes w16 l) r2 → Takes r2 (to_be_bytes w16 c) r3 → Takes r3 (to_be_bytes w16 w) rest
-    → i ≡ 0 → l ≡ 0 → c ≡ 0 → Takes bytes (counts_bytes v 0 0 0 w) rest
-counts_join bytes r0 r1 r2 r3 rest v i l c w t0 t1 t2 t3 t4 i-is l-is c-is =
-    let s1 = subst (λ (k : ℕ). Takes r0 (to_be_bytes w16 k) r1) i-is t1 in
-    let s2 = subst (λ (k : ℕ). Takes r1 (to_be_bytes w16 k) r2) l-is t2 in
-    let s3 = subst (λ (k : ℕ). Takes r2 (to_be_bytes w16 k) r3) c-is t3 in
-    let e34 = Takes-then r2 (to_be_bytes w16 0) r3 (to_be_bytes w16 w) rest s3 t4 in
-    let e24 = Takes-then r1 (to_be_bytes w16 0) r2 (to_be_bytes w16 0 ++ to_be_bytes w16 w) rest s2 e34 in
-    let e14 = Takes-then r0 (to_be_bytes w16 0) r1 (to_be_bytes w16 0 ++ (to_be_bytes w16 0 ++ to_be_bytes w16 w)) rest s1 e24 in
-    Takes-then bytes (to_be_bytes w16 v) r0 (to_be_bytes w16 0 ++ (to_be_bytes w16 0 ++ (to_be_bytes w16 0 ++ to_be_bytes w16 w))) rest t0 e14
+record IsFine (o : Option ℕ) (j : Result Bool (TypeFault × ℕ)) : Type 0 where
+  none : o ≡ None
+  answer : Bool
+  typed : j ≡ Ok answer
 
-counts_take : (bytes : List ℕ) (x : Counts × List ℕ) → IsBytes bytes → counts_at bytes ≡ Ok x → Takes bytes (counts_bytes x.0.variables 0 0 0 x.0.words) x.1 × (x.0.variables ≤ 512) × (x.0.words ≤ 36864)
-unfolding counts_at
-counts_take bytes x fits e =
-    let b_variables = bind_ok (count_at 512 bytes) (λ variables. count_at 0 variables.1 >>= λ instances. count_at 0 instances.1 >>= λ labels. count_at 0 labels.1 >>= λ constants. count_at 36864 constants.1 >>= λ words. Ok (record { variables = variables.0; words = words.0 }, words.1)) x e in
-    let b_instances = bind_ok (count_at 0 b_variables.0.1) (λ instances. count_at 0 instances.1 >>= λ labels. count_at 0 labels.1 >>= λ constants. count_at 36864 constants.1 >>= λ words. Ok (record { variables = b_variables.0.0; words = words.0 }, words.1)) x b_variables.2 in
-    let b_labels = bind_ok (count_at 0 b_instances.0.1) (λ labels. count_at 0 labels.1 >>= λ constants. count_at 36864 constants.1 >>= λ words. Ok (record { variables = b_variables.0.0; words = words.0 }, words.1)) x b_instances.2 in
-    let b_constants = bind_ok (count_at 0 b_labels.0.1) (λ constants. count_at 36864 constants.1 >>= λ words. Ok (record { variables = b_variables.0.0; words = words.0 }, words.1)) x b_labels.2 in
-    let b_words = bind_ok (count_at 36864 b_constants.0.1) (λ words. Ok (record { variables = b_variables.0.0; words = words.0 }, words.1)) x b_constants.2 in
-    let t0 = count_takes 512 bytes b_variables.0.0 b_variables.0.1 fits b_variables.1 in
-    let t1 = count_takes 0 b_variables.0.1 b_instances.0.0 b_instances.0.1 t0.0.rest_fits b_instances.1 in
-    let t2 = count_takes 0 b_instances.0.1 b_labels.0.0 b_labels.0.1 t1.0.rest_fits b_labels.1 in
-    let t3 = count_takes 0 b_labels.0.1 b_constants.0.0 b_constants.0.1 t2.0.rest_fits b_constants.1 in
-    let t4 = count_takes 36864 b_constants.0.1 b_words.0.0 b_words.0.1 t3.0.rest_fits b_words.1 in
-    let whole = counts_join bytes b_variables.0.1 b_instances.0.1 b_labels.0.1 b_constants.0.1 b_words.0.1 b_variables.0.0 b_instances.0.0 b_labels.0.0 b_constants.0.0 b_words.0.0 t0.0 t1.0 t2.0 t3.0 t4.0 (none_left b_instances.0.0 t1.1) (none_left b_labels.0.0 t2.1) (none_left b_constants.0.0 t3.1) in
-    let made : Counts × List ℕ = (record { variables = b_variables.0.0; words = b_words.0.0 }, b_words.0.1) in
-    subst (λ (y : Counts × List ℕ). Takes bytes (counts_bytes y.0.variables 0 0 0 y.0.words) y.1 × (y.0.variables ≤ 512) × (y.0.words ≤ 36864)) (ok_is made x b_words.2) (whole, t0.1, t4.1)
+later_not : (b : Bool) (f g : LoadFault) (x : Bool) → (let r : Result Bool LoadFault = cond b (Err f) (Err g) in r ≡ Ok x) → ⊥
+later_not true f g x e = cc
+later_not false f g x e = cc
 
-counts_again : (v w : ℕ) (rest : List ℕ) → v ≤ 512 → w ≤ 36864 → counts_at (counts_bytes v 0 0 0 w ++ rest) ≡ Ok (record { variables = v; words = w }, rest)
-unfolding counts_at
-counts_again v w rest v-le w-le =
-    let z = to_be_bytes w16 0 in
-    let last = to_be_bytes w16 w ++ rest in
-    ap counts_at (regrouped_5 (to_be_bytes w16 v) z z z (to_be_bytes w16 w) rest) ∙ rw (count_again 512 v (z ++ (z ++ (z ++ last))) v-le (omega arith), count_again 0 0 (z ++ (z ++ last)) (omega arith) (omega arith), count_again 0 0 (z ++ last) (omega arith) (omega arith), count_again 0 0 last (omega arith) (omega arith), count_again 36864 w rest w-le (omega arith)) refl
+fine_takes : (total count : ℕ) (o : Option ℕ) (j : Result Bool (TypeFault × ℕ)) (x : Bool) → words_fine total count o j ≡ Ok x → IsFine o j
+fine_takes total count None (Ok b) x e = record { none = refl; answer = b; typed = refl }
+fine_takes total count None (Err f) x e = absurd cc
+fine_takes total count (Some n) (Ok b) x e = absurd cc
+fine_takes total count (Some n) (Err f) x e = absurd (later_not (nat_le n f.1) _ _ x e)
 
-header_takes : (bytes : List ℕ) (x : Counts × List ℕ) → IsBytes bytes → header_at bytes ≡ Ok x → Takes bytes (header_bytes x.0.variables 0 0 x.0.words) x.1 × (x.0.variables ≤ 512) × (x.0.words ≤ 36864)
-unfolding header_at
-header_takes bytes x fits e =
-    let b_magic = bind_ok (number_at w32 bytes) (λ magic. agrees BadMagic (nat_eq magic.0 1229738051) >>= λ is. number_at w16 magic.1 >>= λ version. agrees BadVersion (nat_eq version.0 1) >>= λ one. counts_at version.1) x e in
-    let b_is = bind_ok (agrees BadMagic (nat_eq b_magic.0.0 1229738051)) (λ is. number_at w16 b_magic.0.1 >>= λ version. agrees BadVersion (nat_eq version.0 1) >>= λ one. counts_at version.1) x b_magic.2 in
-    let b_version = bind_ok (number_at w16 b_magic.0.1) (λ version. agrees BadVersion (nat_eq version.0 1) >>= λ one. counts_at version.1) x b_is.2 in
-    let b_one = bind_ok (agrees BadVersion (nat_eq b_version.0.0 1)) (λ one. counts_at b_version.0.1) x b_version.2 in
-    let t0 = number_takes w32 (2 ^ 32) wide32 bytes b_magic.0.0 b_magic.0.1 fits b_magic.1 in
-    let t1 = number_takes w16 (2 ^ 16) wide16 b_magic.0.1 b_version.0.0 b_version.0.1 t0.0.rest_fits b_version.1 in
-    let t2 = counts_take b_version.0.1 x t1.0.rest_fits b_one.2 in
-    let magic-is = eqb-true b_magic.0.0 1229738051 (agrees_ok BadMagic (nat_eq b_magic.0.0 1229738051) b_is.0 b_is.1) in
-    let version-is = eqb-true b_version.0.0 1 (agrees_ok BadVersion (nat_eq b_version.0.0 1) b_one.0 b_one.1) in
-    let s0 = subst (λ (k : ℕ). Takes bytes (to_be_bytes w32 k) b_magic.0.1) magic-is t0.0 in
-    let s1 = subst (λ (k : ℕ). Takes b_magic.0.1 (to_be_bytes w16 k) b_version.0.1) version-is t1.0 in
-    let e12 = Takes-then b_magic.0.1 (to_be_bytes w16 1) b_version.0.1 (counts_bytes x.0.variables 0 0 0 x.0.words) x.1 s1 t2.0 in
-    (Takes-then bytes (to_be_bytes w32 1229738051) b_magic.0.1 (to_be_bytes w16 1 ++ counts_bytes x.0.variables 0 0 0 x.0.words) x.1 s0 e12, t2.1, t2.2)
+record IsUsed (o : Option ℕ) (used : Result ℕ ℕ) : Type 0 where
+  none : o ≡ None
+  number : ℕ
+  is : used ≡ Ok number
 
-regrouped_3 : (a b c rest : List ℕ) → (a ++ (b ++ c)) ++ rest ≡ a ++ (b ++ (c ++ rest))
-regrouped_3 a b c rest = append_assoc a (b ++ c) rest ∙ ap (λ (x : List ℕ). a ++ x) (append_assoc b c rest)
+earlier_none : (o : Option ℕ) (used : Result ℕ ℕ) → earlier o used ≡ None → IsUsed o used
+earlier_none o (Ok u) e = record { none = e; number = u; is = refl }
+earlier_none None (Err n) e = absurd cc
+earlier_none (Some m) (Err n) e = absurd cc
 
-header_again : (v w : ℕ) (rest : List ℕ) → v ≤ 512 → w ≤ 36864 → header_at (header_bytes v 0 0 w ++ rest) ≡ Ok (record { variables = v; words = w }, rest)
-unfolding header_at
-header_again v w rest v-le w-le =
-    let counts = counts_bytes v 0 0 0 w ++ rest in
-    ap header_at (regrouped_3 (to_be_bytes w32 1229738051) (to_be_bytes w16 1) (counts_bytes v 0 0 0 w) rest) ∙ rw (number_again w32 (2 ^ 32) wide32 1229738051 (to_be_bytes w16 1 ++ counts) (omega arith), number_again w16 (2 ^ 16) wide16 1 counts (omega arith)) (counts_again v w rest v-le w-le)
+all_takes : (total words count : ℕ) (used : Result ℕ ℕ) (u : ℕ) (x : Bool) → used ≡ Ok u → all_used total words count used ≡ Ok x → u ≡ count
+all_takes total words count used u x is e =
+    let f : all_used total words count (Ok u) ≡ Ok x = ap (all_used total words count) (sym is) ∙ e in
+    eqb-true u count (agrees_ok (BadWord (constant_place total words count u)) (nat_eq u count) x f)
 
--- ---- the whole
+abbrev program_in : Tables → Text
+program_in t = record { variables = t.variables; code = lines_of t.words }
 
-ended_ok : (Q Q' : Text) (rest : List ℕ) → ended (Q, rest) ≡ Ok Q' → (rest ≡ []) × (Q ≡ Q')
-ended_ok Q Q' rest e =
-    let b = bind_ok (agrees Trailing (nat_eq (length rest) 0)) (λ _. Ok Q) Q' e in
-    (nil_from_length rest (eqb-true (length rest) 0 (agrees_ok Trailing (nat_eq (length rest) 0) b.0 b.1)), ok_is Q Q' b.2)
+record IsJudged (t : Tables) : Type 0 where
+  short : length (lines_of t.words) ≤ 4096
+  rising : AreRising 0 (length t.words) t.labels
+  used : used_from 0 0 t.words ≡ Ok (length t.constants)
+  pointed : position is_pointless (lines_of t.words) ≡ None
+  typed : IsTyped (program_in t)
 
--- the parts of a text, each with what was read of it
-text_joins : (bytes r0 r1 rest : List ℕ) (head : Counts) (vs : List Variable) (code : List Instr) → Takes bytes (header_bytes head.variables 0 0 head.words) r0 → head.variables ≤ 512 → head.words ≤ 36864
-    → HasItems variable_bytes IsVariable head.variables [] r0 (vs, r1) → HasItems (plain_word_bytes vs) (λ seen. IsWord vs) head.words [] r1 (code, rest) → rest ≡ []
-    → let Q : Text = record { variables = vs; code = code } in IsText Q × (bytes ≡ plain_spelling Q)
-text_joins bytes r0 r1 rest head vs code t0 few-vs few-words t1 t2 end =
-    let vs-is : t1.new ≡ vs = t1.all in
-    let code-is : t2.new ≡ code = t2.all in
-    let vs-count : length vs ≡ head.variables = ap length (sym vs-is) ∙ t1.count in
-    let code-count : length code ≡ head.words = ap length (sym code-is) ∙ t2.count in
-    let s0 : Takes bytes (header_bytes (length vs) 0 0 (length code)) r0 = subst (λ (k : ℕ). Takes bytes (header_bytes (length vs) 0 0 k) r0) (sym code-count) (subst (λ (k : ℕ). Takes bytes (header_bytes k 0 0 head.words) r0) (sym vs-count) t0) in
-    let s1 : Takes r0 (flat_map variable_bytes vs) r1 = subst (λ (xs : List Variable). Takes r0 (flat_map variable_bytes xs) r1) vs-is t1.takes in
-    let s2 : Takes r1 (flat_map (plain_word_bytes vs) code) rest = subst (λ (xs : List Instr). Takes r1 (flat_map (plain_word_bytes vs) xs) rest) code-is t2.takes in
-    let e12 = Takes-then r0 (flat_map variable_bytes vs) r1 (flat_map (plain_word_bytes vs) code) rest s1 s2 in
-    let e02 = Takes-then bytes (header_bytes (length vs) 0 0 (length code)) r0 (flat_map variable_bytes vs ++ flat_map (plain_word_bytes vs) code) rest s0 e12 in
-    let all = header_bytes (length vs) 0 0 (length code) ++ (flat_map variable_bytes vs ++ flat_map (plain_word_bytes vs) code) in (
+judged_join : (total : ℕ) (t : Tables) (Q : Text) (x y z : Bool) → program_of t.variables (lines_of t.words) ≡ Some Q → risen (constant_place total (length t.words) (length t.constants) 0) 0 (length t.words) t.labels ≡ Ok x
+    → words_fine total (length t.words) (misspelled Q.code (used_from 0 0 t.words)) (judged Q) ≡ Ok y → all_used total (length t.words) (length t.constants) (used_from 0 0 t.words) ≡ Ok z → IsJudged t × (program_in t ≡ Q)
+judged_join total t Q x y z small-is risen-is fine-is used-is =
+    let p = program_by (ltb 512 (length t.variables)) (ltb 4096 (length (lines_of t.words))) (program_in t) Q small-is in
+    let fine = fine_takes total (length t.words) (misspelled Q.code (used_from 0 0 t.words)) (judged Q) y fine-is in
+    let used = earlier_none (position is_pointless Q.code) (used_from 0 0 t.words) fine.none in
+    let all = all_takes total (length t.words) (length t.constants) (used_from 0 0 t.words) used.number z used.is used-is in (
       record {
-        variables = subst (AreItems IsVariable []) vs-is t1.items;
-        variables_few = subst (λ (k : ℕ). k ≤ 512) (sym vs-count) few-vs;
-        words = subst (AreItems (λ seen. IsWord vs) []) code-is t2.items;
-        words_few = subst (λ (k : ℕ). k ≤ 36864) (sym code-count) few-words;
+        short = ltb-false 4096 (length (lines_of t.words)) p.0;
+        rising = risen_takes (constant_place total (length t.words) (length t.constants) 0) 0 (length t.words) t.labels x risen-is;
+        used = used.is ∙ ap (λ (u : ℕ). let r : Result ℕ ℕ = Ok u in r) all;
+        pointed = ap (λ (P : Text). position is_pointless P.code) p.1 ∙ used.none;
+        typed = subst IsTyped (sym p.1) (judged_typed Q fine.answer fine.typed);
       },
-      e02.parts ∙ ap (λ (r : List ℕ). all ++ r) end ∙ append-nil all,
+      p.1,
     )
 
-plain_takes : (bytes : List ℕ) (Q : Text) → IsBytes bytes → text_at bytes ≡ Ok Q → IsText Q × (bytes ≡ plain_spelling Q)
-unfolding text_at
-plain_takes bytes Q fits e =
-    let b_head = bind_ok (header_at bytes) (λ head. items_from (variable_at (length bytes)) head.0.variables [] head.1 >>= λ variables. items_from (next_word (length bytes) variables.0) head.0.words [] variables.1 >>= λ code. ended (record { variables = variables.0; code = code.0 }, code.1)) Q e in
-    let b_variables = bind_ok (items_from (variable_at (length bytes)) b_head.0.0.variables [] b_head.0.1) (λ variables. items_from (next_word (length bytes) variables.0) b_head.0.0.words [] variables.1 >>= λ code. ended (record { variables = variables.0; code = code.0 }, code.1)) Q b_head.2 in
-    let b_code = bind_ok (items_from (next_word (length bytes) b_variables.0.0) b_head.0.0.words [] b_variables.0.1) (λ code. ended (record { variables = b_variables.0.0; code = code.0 }, code.1)) Q b_variables.2 in
-    let total = length bytes in
-    let t0 = header_takes bytes b_head.0 fits b_head.1 in
-    let t1 = items_take (variable_at total) variable_bytes IsVariable (variable_takes total) b_head.0.0.variables [] b_head.0.1 b_variables.0 t0.0.rest_fits b_variables.1 in
-    let t2 = items_take (next_word total b_variables.0.0) (plain_word_bytes b_variables.0.0) (λ seen. IsWord b_variables.0.0) (λ seen bytes x. word_takes (total - length bytes) b_variables.0.0 bytes x) b_head.0.0.words [] b_variables.0.1 b_code.0 t1.takes.rest_fits b_code.1 in
-    let end = ended_ok (record { variables = b_variables.0.0; code = b_code.0.0 }) Q b_code.0.1 b_code.2 in
-    subst (λ (Q : Text). IsText Q × (bytes ≡ plain_spelling Q)) end.1 (text_joins bytes b_head.0.1 b_variables.0.1 b_code.0.1 b_head.0.0 b_variables.0.0 b_code.0.0 t0.0 t0.1 t0.2 t1 t2 end.0)
+judged_takes : (total : ℕ) (t : Tables) (Q : Text) → judged_tables total t ≡ Ok Q → IsJudged t × (program_in t ≡ Q)
+unfolding judged_tables
+judged_takes total t Q e =
+    let end = constant_place total (length t.words) (length t.constants) 0 in
+    let used = used_from 0 0 t.words in
+    let a = bind_ok (small (program_of t.variables (lines_of t.words))) (λ Q. risen end 0 (length t.words) t.labels >>= λ rising. words_fine total (length t.words) (misspelled Q.code used) (judged Q) >>= λ fine. all_used total (length t.words) (length t.constants) used >>= λ used. Ok Q) Q e in
+    let P = a.0 in
+    let b = bind_ok (risen end 0 (length t.words) t.labels) (λ rising. words_fine total (length t.words) (misspelled P.code used) (judged P) >>= λ fine. all_used total (length t.words) (length t.constants) used >>= λ used. Ok P) Q a.2 in
+    let c = bind_ok (words_fine total (length t.words) (misspelled P.code used) (judged P)) (λ fine. all_used total (length t.words) (length t.constants) used >>= λ used. Ok P) Q b.2 in
+    let d = bind_ok (all_used total (length t.words) (length t.constants) used) (λ used. Ok P) Q c.2 in
+    let j = judged_join total t P b.0 c.0 d.0 (small_ok (program_of t.variables (lines_of t.words)) P a.1) b.1 c.1 d.1 in
+    (j.0, j.1 ∙ ok_is P Q d.2)
 
-plain_again : (Q : Text) → IsText Q → text_at (plain_spelling Q) ≡ Ok Q
-unfolding text_at
-plain_again Q is =
-    let total = length (plain_spelling Q) in
-    let vs = flat_map variable_bytes Q.variables in
-    let code = flat_map (plain_word_bytes Q.variables) Q.code in
-    let h1 : items_from (variable_at total) (length Q.variables) [] (vs ++ code) ≡ Ok (Q.variables, code) = items_again (variable_at total) variable_bytes IsVariable (variable_again total) Q.variables [] code is.variables in
-    let h2 : items_from (next_word total Q.variables) (length Q.code) [] code ≡ Ok (Q.code, []) = ap (items_from (next_word total Q.variables) (length Q.code) []) (sym (append-nil code)) ∙ items_again (next_word total Q.variables) (plain_word_bytes Q.variables) (λ seen. IsWord Q.variables) (λ seen line rest. word_again (total - length (plain_word_bytes Q.variables line ++ rest)) Q.variables line rest) Q.code [] [] is.words in
-    rw (header_again (length Q.variables) (length Q.code) (vs ++ code) is.variables_few is.words_few, h1, h2) refl
+-- ---- what is read is spelled so
 
-pub text_takes : (bytes : List ℕ) (Q : Text) → IsBytes bytes → text_at bytes ≡ Ok Q → IsText Q × (bytes ≡ spelling Q)
-text_takes bytes Q fits e = let t = plain_takes bytes Q fits e in (t.0, t.1 ∙ sym (spelled_plainly Q t.0))
+more_seen : {X : Type 0} (seen : List X) (x : X) → length (seen ++ x ∷ []) ≡ suc (length seen)
+more_seen seen x = omega (arith, length-append seen (x ∷ []))
 
-pub text_again : (Q : Text) → IsText Q → text_at (spelling Q) ≡ Ok Q
-text_again Q is = ap text_at (spelled_plainly Q is) ∙ plain_again Q is
+labels_read : (vs : List Variable) (ms : List Mark) (cs : List Value) (seen ws : List Word) → AreItems (IsNext vs ms cs) seen ws → AreLabelled ms (length seen) (lines_of ws)
+labels_read vs ms cs seen [] are = tt
+labels_read vs ms cs seen (w ∷ ws) are = (are.0.label, subst (λ (n : ℕ). AreLabelled ms n (lines_of ws)) (more_seen seen w) (labels_read vs ms cs (seen ++ w ∷ []) ws are.1))
 
--- ---- typed
+codes_read : (vs : List Variable) (ms : List Mark) (cs : List Value) (seen ws : List Word) → AreItems (IsNext vs ms cs) seen ws → AreCoded vs ms cs ws
+codes_read vs ms cs seen [] are = tt
+codes_read vs ms cs seen (w ∷ ws) are = (are.0.coded, codes_read vs ms cs (seen ++ w ∷ []) ws are.1)
 
-placed_ok : (total count : ℕ) (r : Result Bool (TypeFault × ℕ)) (x : Bool) → placed total count r ≡ Ok x → (b : Bool) × (r ≡ Ok b)
-placed_ok total count (Ok b) x e = (b, refl)
-placed_ok total count (Err f) x e = absurd cc
+no_first : (o : Option ℕ) → o ≡ Some 0 → o ≡ None → ⊥
+no_first o e h = cc
 
-few : (a b : Bool) (r : Result Bool LoadFault) (x : Bool) → cond (a || b) (Err BadCount) r ≡ Ok x → (b ≡ false) × (r ≡ Ok x)
-few false false r x e = (refl, e)
-few true b r x e = absurd cc
-few false true r x e = absurd cc
+some_not : (o : Option ℕ) → option_map suc o ≡ None → o ≡ None
+some_not None e = refl
+some_not (Some k) e = absurd cc
 
-pub judged_takes : (total : ℕ) (Q : Text) (x : Bool) → judged_at total Q ≡ Ok x → (length Q.code ≤ 4096) × IsTyped Q
-judged_takes total Q x e =
-    let f = few (nat_lt 512 (length Q.variables)) (nat_lt 4096 (length Q.code)) (placed total (length Q.code) (judged Q)) x e in
-    let r = placed_ok total (length Q.code) (judged Q) x f.1 in
-    (ltb-false 4096 (length Q.code) f.0, judged_typed Q r.0 r.1)
+pointed_by : (b : Bool) (line : Instr) (code : List Instr) → is_pointless line ≡ b → position is_pointless (line ∷ code) ≡ None → (b ≡ false) × (position is_pointless code ≡ None)
+pointed_by true line code e h = absurd (no_first (position is_pointless (line ∷ code)) (position_first is_pointless line code e) h)
+pointed_by false line code e h = (refl, some_not (position is_pointless code) (sym (position_later is_pointless line code e) ∙ h))
 
-pub judged_again : (total : ℕ) (Q : Text) → length Q.variables ≤ 512 → length Q.code ≤ 4096 → IsTyped Q → judged_at total Q ≡ Ok true
-judged_again total Q vs-le code-le typed = rw (le-ltb 512 (length Q.variables) vs-le, le-ltb 4096 (length Q.code) code-le, typed) refl
+line_at : (before : List Instr) (line : Instr) (code : List Instr) → slice_get (before ++ line ∷ code) (length before) ≡ Some line
+line_at [] line code = refl
+line_at (l ∷ before) line code = line_at before line code
+
+-- the words of a program that was read
+words_join : (Q : Text) (seen before : List Instr) (ws : List Word) → AreItems IsMark [] (marks_from 0 Q.code) → AreApart same_value (constants_of Q) → IsTyped Q → Q.code ≡ before ++ lines_of ws → AreCoded Q.variables (marks_from 0 Q.code) (constants_of Q) ws → position is_pointless (lines_of ws) ≡ None
+    → AreItems (λ seen. IsWord Q) seen (lines_of ws) × (flat_map read_word_bytes ws ≡ flat_map (word_bytes Q (constants_of Q)) (lines_of ws))
+words_join Q seen before [] marks apart typed all are pointed = (tt, refl)
+words_join Q seen before (w ∷ ws) marks apart typed all are pointed =
+    let ms = marks_from 0 Q.code in
+    let cs = constants_of Q in
+    let n = length before in
+    let here : slice_get Q.code n ≡ Some w.line = ap (λ (c : List Instr). slice_get c n) all ∙ line_at before w.line (lines_of ws) in
+    let lt : n < length Q.code = omega (arith, ap length all, length-append before (w.line ∷ lines_of ws)) in
+    let code : operand_code Q cs w.line.operand ≡ w.code = code_again Q ms cs n w.line w.code marks apart (table_labels Q.code) typed lt here are.0 in
+    let p = pointed_by (is_pointless w.line) w.line (lines_of ws) refl pointed in
+    let next : Q.code ≡ (before ++ w.line ∷ []) ++ lines_of ws = all ∙ sym (append_assoc before (w.line ∷ []) (lines_of ws)) in
+    let more = words_join Q (seen ++ w.line ∷ []) (before ++ w.line ∷ []) ws marks apart typed next are.1 p.1 in
+    let one : IsWord Q w.line = record { coded = subst (λ (k : ℕ). IsCoded Q.variables ms cs w.line.op w.line.modifier w.line.operand k) (sym code) are.0; labelled = p.0 } in
+    let same : read_word_bytes w ≡ word_bytes Q cs w.line = ap (coded_word w.line) (sym code) in (
+      (one, more.0),
+      flat_map-cons read_word_bytes w ws ∙ ap (λ (b : List ℕ). b ++ flat_map read_word_bytes ws) same ∙ ap (λ (b : List ℕ). word_bytes Q cs w.line ++ b) more.1 ∙ sym (flat_map-cons (word_bytes Q cs) w.line (lines_of ws)),
+    )
+
+lines_long : (ws : List Word) → length (lines_of ws) ≡ length ws
+lines_long ws = length-map ws (λ (w : Word). w.line)
+
+spelled_join : (t : Tables) (Q : Text) → t.variables ≡ Q.variables → t.labels ≡ marks_from 0 Q.code → t.constants ≡ constants_of Q → length t.words ≡ length Q.code → flat_map read_word_bytes t.words ≡ flat_map (word_bytes Q (constants_of Q)) Q.code → tables_bytes t ≡ spelling Q
+spelled_join t Q vs-is ms-is cs-is long ws-is = rw (vs-is, ms-is, cs-is, long, ws-is) refl
+
+tables_spelled : (t : Tables) → AreTables t → IsJudged t → IsImage (program_in t) × (tables_bytes t ≡ spelling (program_in t))
+tables_spelled t are judged =
+    let Q = program_in t in
+    let ms-is : marks_from 0 Q.code ≡ t.labels = table_again t.labels Q.code (labels_read t.variables t.labels t.constants [] t.words are.words) (subst (λ (k : ℕ). AreRising 0 k t.labels) (sym (lines_long t.words)) judged.rising) in
+    let coded = codes_read t.variables t.labels t.constants [] t.words are.words in
+    let apart = are_apart t.constants are.constants in
+    let cs-is : constants_of Q ≡ t.constants = used_take t.variables t.labels t.constants t.words 0 0 (length t.constants) apart coded judged.used ∙ take_all (length t.constants) t.constants (omega arith) in
+    let marks = subst (AreItems IsMark []) (sym ms-is) are.labels in
+    let constants = subst (AreItems IsConstant []) (sym cs-is) are.constants in
+    let coded2 = subst (λ (ms : List Mark). AreCoded t.variables ms (constants_of Q) t.words) (sym ms-is) (subst (λ (cs : List Value). AreCoded t.variables t.labels cs t.words) (sym cs-is) coded) in
+    let w = words_join Q [] [] t.words marks (are_apart (constants_of Q) constants) judged.typed refl coded2 judged.pointed in
+    let few = are.few in
+    let few-vs : length t.variables ≤ 512 = few.variables in
+    let few-ms : length t.labels ≤ 4096 = few.labels in
+    let few-cs : length t.constants ≤ 20480 = few.constants in
+    let few-ws : length t.words ≤ 36864 = few.words in
+    let text : IsText Q = record {
+      variables = are.variables;
+      variables_few = few-vs;
+      labels = marks;
+      labels_few = subst (λ (ms : List Mark). length ms ≤ 4096) (sym ms-is) few-ms;
+      constants = constants;
+      constants_few = subst (λ (cs : List Value). length cs ≤ 20480) (sym cs-is) few-cs;
+      words = w.0;
+      words_few = subst (λ (k : ℕ). k ≤ 36864) (sym (lines_long t.words)) few-ws;
+    } in
+    (record { text = text; short = judged.short; typed = judged.typed }, spelled_join t Q refl (sym ms-is) (sym cs-is) (sym (lines_long t.words)) w.1)
 
 pub image_takes : (bytes : List ℕ) (Q : Text) → IsBytes bytes → image_of bytes ≡ Ok Q → IsImage Q × (bytes ≡ spelling Q)
 unfolding image_of
 image_takes bytes Q fits e =
-    let a = bind_ok (text_at bytes) (λ Q. judged_program (length bytes) Q) Q e in
-    let b = bind_ok (judged_at (length bytes) a.0) (λ fine. Ok a.0) Q a.2 in
-    let t = text_takes bytes a.0 fits a.1 in
-    let j = judged_takes (length bytes) a.0 b.0 b.1 in
-    subst (λ (Q : Text). IsImage Q × (bytes ≡ spelling Q)) (ok_is a.0 Q b.2) (record { text = t.0; short = j.0; typed = j.1 }, t.1)
+    let a = bind_ok (tables_at bytes) (λ t. judged_tables (length bytes) t) Q e in
+    let t = tables_take bytes a.0 fits a.1 in
+    let j = judged_takes (length bytes) a.0 Q a.2 in
+    let s = tables_spelled a.0 t.0 j.0 in
+    subst (λ (Q : Text). IsImage Q × (bytes ≡ spelling Q)) j.1 (s.0, t.1 ∙ s.1)
+
+-- ---- what is spelled so is read
+
+abbrev words_in : Text → List Word
+words_in Q = map (word_of Q (constants_of Q)) Q.code
+
+abbrev tables_of : Text → Tables
+tables_of Q = record { variables = Q.variables; labels = marks_from 0 Q.code; constants = constants_of Q; words = words_in Q }
+
+lines_again : (Q : Text) (cs : List Value) (code : List Instr) → lines_of (map (word_of Q cs) code) ≡ code
+lines_again Q cs [] = refl
+lines_again Q cs (line ∷ code) = ap (λ (c : List Instr). line ∷ c) (lines_again Q cs code)
+
+words_again : (Q : Text) (was : List Instr) (seen : List Word) (code : List Instr) → AreItems (λ seen. IsWord Q) was code → AreLabelled (marks_from 0 Q.code) (length seen) code → AreItems (IsNext Q.variables (marks_from 0 Q.code) (constants_of Q)) seen (map (word_of Q (constants_of Q)) code)
+words_again Q was seen [] are labels = tt
+words_again Q was seen (line ∷ code) are labels =
+    let w = word_of Q (constants_of Q) line in (
+      record { label = labels.0; coded = are.0.coded },
+      words_again Q (was ++ line ∷ []) (seen ++ w ∷ []) code are.1 (subst (λ (n : ℕ). AreLabelled (marks_from 0 Q.code) n code) (sym (more_seen seen w)) labels.1),
+    )
+
+bytes_again : (Q : Text) (cs : List Value) (code : List Instr) → flat_map read_word_bytes (map (word_of Q cs) code) ≡ flat_map (word_bytes Q cs) code
+bytes_again Q cs [] = refl
+bytes_again Q cs (line ∷ code) = flat_map-cons read_word_bytes (word_of Q cs line) (map (word_of Q cs) code) ∙ ap (λ (b : List ℕ). word_bytes Q cs line ++ b) (bytes_again Q cs code) ∙ sym (flat_map-cons (word_bytes Q cs) line code)
+
+pointed_again : (Q : Text) (was code : List Instr) → AreItems (λ seen. IsWord Q) was code → position is_pointless code ≡ None
+pointed_again Q was [] are = refl
+pointed_again Q was (line ∷ code) are = position_later is_pointless line code are.0.labelled ∙ ap (option_map suc) (pointed_again Q (was ++ line ∷ []) code are.1)
+
+words_long : (Q : Text) → length (words_in Q) ≡ length Q.code
+words_long Q = length-map Q.code (word_of Q (constants_of Q))
+
+tables_fit : (Q : Text) → IsImage Q → AreTables (tables_of Q)
+tables_fit Q is =
+    let text = is.text in
+    record {
+      variables = text.variables;
+      labels = text.labels;
+      constants = text.constants;
+      words = words_again Q [] [] Q.code text.words (table_labels Q.code);
+      few = record { variables = text.variables_few; labels = text.labels_few; constants = text.constants_few; words = subst (λ (k : ℕ). k ≤ 36864) (sym (words_long Q)) text.words_few };
+    }
+
+tables_judged : (total : ℕ) (Q : Text) → IsImage Q → judged_tables total (tables_of Q) ≡ Ok Q
+unfolding judged_tables
+tables_judged total Q is =
+    let vs-le : length Q.variables ≤ 512 = is.text.variables_few in
+    let code-le : length Q.code ≤ 4096 = is.short in
+    let lines : lines_of (words_in Q) ≡ Q.code = lines_again Q (constants_of Q) Q.code in
+    let used : used_from 0 0 (words_in Q) ≡ Ok (length (constants_of Q)) = used_again_all Q (constants_of Q) [] Q.code 0 refl in
+    let rising : AreRising 0 (length Q.code) (marks_from 0 Q.code) = subst (λ (k : ℕ). AreRising 0 k (marks_from 0 Q.code)) (let z : 0 + length Q.code ≡ length Q.code = omega arith in z) (table_rises Q.code 0) in
+    let pointed : position is_pointless Q.code ≡ None = pointed_again Q [] Q.code is.text.words in
+    rw (
+      lines,
+      le-ltb 512 (length Q.variables) vs-le,
+      le-ltb 4096 (length Q.code) code-le,
+      words_long Q,
+      risen_again (constant_place total (length Q.code) (length (constants_of Q)) 0) 0 (length Q.code) (marks_from 0 Q.code) rising,
+      used,
+      pointed,
+      is.typed,
+      eq-eqb (length (constants_of Q)) (length (constants_of Q)) refl,
+    ) refl
 
 pub image_again : (Q : Text) → IsImage Q → image_of (spelling Q) ≡ Ok Q
 unfolding image_of
-image_again Q is = rw (text_again Q is.text, judged_again (length (spelling Q)) Q is.text.variables_few is.short is.typed) refl
+image_again Q is =
+    let t = tables_of Q in
+    let spelled : tables_bytes t ≡ spelling Q = spelled_join t Q refl refl refl (words_long Q) (bytes_again Q (constants_of Q) Q.code) in
+    let read : tables_at (spelling Q) ≡ Ok t = ap tables_at (sym spelled) ∙ tables_again t (tables_fit Q is) in
+    rw read (tables_judged (length (spelling Q)) Q is)
+
+-- ---- what a function tells that reads so
 
 pub is_found : {X : Type 0} (view : X → Text) (bytes : List ℕ) (r : Result X LoadError) → IsBytes bytes → Gives view r (image_of bytes) → IfOk r (λ x. IsImage (view x) × (bytes ≡ spelling (view x)))
 is_found view bytes (Ok x) fits given = image_takes bytes (view x) fits given

@@ -2,6 +2,8 @@ pub mod Loop
 pub mod Fields
 pub mod Records
 pub mod Typed
+pub mod Spelled
+pub mod Words
+pub mod Used
 pub mod Images
 pub mod Link
-pub mod Plain

@@ -1,65 +1,78 @@
 -- What is read is spelled so, and what is spelled so is read: records and tables.
-use Rattle.std.proofs.Common.{◌≡◌, ℕ, zero, suc, ◌-◌, ◌^◌, ◌<◌, ◌≤◌, Bool, true, false, cond, ltb, List, [], ◌∷◌, ◌++◌, length, take, drop, Option, Some, None, Result, Ok, Err, refl, sym, ap, subst, ◌∙◌, append_assoc, arith}
-use Rattle.std.specs.Prelude.{nat_eq}
+use Rattle.std.proofs.Common.{◌≡◌, ℕ, zero, suc, ◌-◌, ◌^◌, ◌<◌, ◌≤◌, Bool, true, false, cond, ltb, List, [], ◌∷◌, ◌++◌, length, take, drop, Some, Result, Ok, Err, refl, sym, ap, subst, ◌∙◌, append_assoc, arith}
+use Rattle.std.specs.Prelude.{slice_get, is_some}
 use Rattle.std.specs.List.{flat_map}
-use Rattle.std.specs.Option.{option_and_then}
 use Rattle.std.specs.Int.{w8, w16, w32, to_be_bytes, cast_unsigned}
-use Rattle.std.proofs.lemmas.Bool.{ltb-false, le-ltb, eqb-true}
+use Rattle.std.proofs.lemmas.Bool.{ltb-false, le-ltb}
 use Rattle.std.proofs.lemmas.List.{take_at, drop_at, take-append-drop, length-append, length-take, append-nil}
 use Rattle.std.proofs.lemmas.List.Concat.{flat_map-cons}
 use Rattle.il_model.specs.declared.value.Ty.{Ty}
+use Rattle.il_model.specs.declared.value.Value.{Value}
 use Rattle.il_model.specs.declared.op.Op.{Op}
 use Rattle.il_model.specs.declared.op.Op.TheVariants as ops
 use Rattle.il_model.specs.declared.op.Modifier.{Modifier}
 use Rattle.il_model.specs.declared.program.Variable.{Variable}
-use Rattle.il_model.specs.declared.program.Instr.{Instr}
-use Rattle.il_model.specs.declared.program.Operand.{Operand}
-use Rattle.il_model.specs.Values.{number_of}
-use Rattle.il_model.specs.Image.{type_code, location_code, name_bytes, variable_bytes, op_code, modifier_code, plain_code, plain_word_bytes}
+use Rattle.il_model.specs.Values.{ty_of, number_of}
+use Rattle.il_model.specs.Marks.{Mark}
+use Rattle.il_model.specs.Image.{type_code, location_code, name_bytes, variable_bytes, mark_bytes, constant_bytes, op_code, modifier_code, coded_word}
+use Rattle.il_model.specs.Codes.{is_new_name, is_new_label, length_of, type_of, location_of, initial_of, constant_of, usage_of, allowed_by, op_list, op_of, modifier_of, letters_of, label_there, word_operand}
+use Rattle.il_model.specs.Fits.{IsVariable, IsMark, IsConstant, IsCoded, AreItems}
+use Rattle.loader.specs.declared.word.Word.{Word}
 use Rattle.loader.specs.declared.fault.LoadFault.{LoadFault}
 use Rattle.loader.specs.declared.fault.LoadFault.TheVariants.{Truncated, BadWord}
-use Rattle.il_model.specs.Codes.{tested, is_new_name, length_of, type_of, location_of, initial_of, op_of, modifier_of, raw_operand, operand_of, is_line, line_of}
-use Rattle.loader.specs.Reading.{◌>>=◌, number_at, lawful, agrees, items_from, name_at, variable_at, word_at}
-use Rattle.il_model.specs.Fits.{IsVariable, IsWord, AreItems}
-use Rattle.loader.proofs.Fields.{IsBytes, IsBytes-drop, bind_ok, guard_no, agrees_ok, lawful_ok, some_yes, ok_is, Takes, Takes-then, wide8, wide16, wide32, number_takes, number_again, length_is, length_below, type_is, type_small, location_is, initial_is}
+use Rattle.loader.specs.Reading.{◌>>=◌, number_at, lawful, agrees, items_from, spelled_name_at, name_at, variable_at, mark_at, constant_at, word_at}
+use Rattle.loader.proofs.Fields.{IsBytes, IsBytes-drop, bind_ok, guard_no, agrees_ok, lawful_ok, ok_is, Takes, Takes-then, wide8, wide16, wide32, number_takes, number_again, length_is, length_below, type_is, type_small, location_is, initial_is, tested_some, constant_is}
 
-record IsName (seen : List Variable) (name : List ℕ) : Type 0 where
+record IsName (is_new : List ℕ → Bool) (name : List ℕ) : Type 0 where
   len : length_of (length name) ≡ Some (length name)
-  new : is_new_name seen name ≡ true
+  new : is_new name ≡ true
 
-name_takes : (p : ℕ) (seen : List Variable) (bytes : List ℕ) (x : List ℕ × List ℕ) → IsBytes bytes → name_at p seen bytes ≡ Ok x → Takes bytes (name_bytes x.0) x.1 × IsName seen x.0
-unfolding name_at
-name_takes p seen bytes x fits e =
-    let b_first = bind_ok (number_at w8 bytes) (λ first. lawful p (length_of first.0) >>= λ n. cond (ltb (length first.1) n) (Err Truncated) (agrees (BadWord p) (is_new_name seen (take n first.1)) >>= λ _. Ok (take n first.1, drop n first.1))) x e in
-    let b_n = bind_ok (lawful p (length_of b_first.0.0)) (λ n. cond (ltb (length b_first.0.1) n) (Err Truncated) (agrees (BadWord p) (is_new_name seen (take n b_first.0.1)) >>= λ _. Ok (take n b_first.0.1, drop n b_first.0.1))) x b_first.2 in
+length_read : (m b l : ℕ) → m ≡ l → b ≡ l → length_of m ≡ Some b → length_of l ≡ Some l
+length_read m b l m-is b-is e = ap length_of (sym m-is) ∙ e ∙ ap (λ (k : ℕ). Some k) b-is
+
+spelled_takes : (p : ℕ) (bytes : List ℕ) (x : List ℕ × List ℕ) → IsBytes bytes → spelled_name_at p bytes ≡ Ok x → Takes bytes (name_bytes x.0) x.1 × (length_of (length x.0) ≡ Some (length x.0))
+unfolding spelled_name_at
+spelled_takes p bytes x fits e =
+    let b_first = bind_ok (number_at w8 bytes) (λ first. lawful p (length_of first.0) >>= λ n. cond (ltb (length first.1) n) (Err Truncated) (Ok (take n first.1, drop n first.1))) x e in
+    let b_n = bind_ok (lawful p (length_of b_first.0.0)) (λ n. cond (ltb (length b_first.0.1) n) (Err Truncated) (Ok (take n b_first.0.1, drop n b_first.0.1))) x b_first.2 in
     let m = b_first.0.0 in
     let after = b_first.0.1 in
     let n-is : m ≡ b_n.0 = length_is m b_n.0 (lawful_ok p (length_of m) b_n.0 b_n.1) in
-    let g = guard_no (ltb (length after) b_n.0) Truncated (agrees (BadWord p) (is_new_name seen (take b_n.0 after)) >>= λ _. Ok (take b_n.0 after, drop b_n.0 after)) x b_n.2 in
+    let g = guard_no (ltb (length after) b_n.0) Truncated (Ok (take b_n.0 after, drop b_n.0 after)) x b_n.2 in
     let long : b_n.0 ≤ length after = ltb-false _ _ g.0 in
-    let a = bind_ok (agrees (BadWord p) (is_new_name seen (take b_n.0 after))) (λ _. Ok (take b_n.0 after, drop b_n.0 after)) x g.1 in
-    let new = agrees_ok (BadWord p) (is_new_name seen (take b_n.0 after)) a.0 a.1 in
     let t = number_takes w8 (2 ^ 8) wide8 bytes m after fits b_first.1 in
     let len : m ≡ length (take b_n.0 after) = omega (arith, length-take b_n.0 after) in
-    let len2 : b_n.0 ≡ length (take b_n.0 after) = omega (arith, length-take b_n.0 after) in
-    let read : length_of (length (take b_n.0 after)) ≡ Some (length (take b_n.0 after)) = sym (ap length_of len) ∙ lawful_ok p (length_of m) b_n.0 b_n.1 ∙ ap (λ (k : ℕ). Some k) len2 in
+    let read : length_of (length (take b_n.0 after)) ≡ Some (length (take b_n.0 after)) = length_read m b_n.0 (length (take b_n.0 after)) len (omega (arith, length-take b_n.0 after)) (lawful_ok p (length_of m) b_n.0 b_n.1) in
     let second : Takes after (take b_n.0 after) (drop b_n.0 after) = record { parts = sym (take-append-drop b_n.0 after); rest_fits = IsBytes-drop b_n.0 after t.0.rest_fits } in
     let both = Takes-then bytes (to_be_bytes w8 m) after (take b_n.0 after) (drop b_n.0 after) t.0 second in
     let whole : Takes bytes (name_bytes (take b_n.0 after)) (drop b_n.0 after) = subst (λ (k : ℕ). Takes bytes (to_be_bytes w8 k ++ take b_n.0 after) (drop b_n.0 after)) len both in
-    subst (λ (y : List ℕ × List ℕ). Takes bytes (name_bytes y.0) y.1 × IsName seen y.0) (ok_is (take b_n.0 after, drop b_n.0 after) x a.2) (whole, record { len = read; new = new })
+    subst (λ (y : List ℕ × List ℕ). Takes bytes (name_bytes y.0) y.1 × (length_of (length y.0) ≡ Some (length y.0))) (ok_is (take b_n.0 after, drop b_n.0 after) x g.1) (whole, read)
 
-name_again : (p : ℕ) (seen : List Variable) (name rest : List ℕ) → length_of (length name) ≡ Some (length name) → is_new_name seen name ≡ true → name_at p seen (name_bytes name ++ rest) ≡ Ok (name, rest)
+name_takes : (p : ℕ) (is_new : List ℕ → Bool) (bytes : List ℕ) (x : List ℕ × List ℕ) → IsBytes bytes → name_at p is_new bytes ≡ Ok x → Takes bytes (name_bytes x.0) x.1 × IsName is_new x.0
 unfolding name_at
-name_again p seen name rest len new =
+name_takes p is_new bytes x fits e =
+    let b_name = bind_ok (spelled_name_at p bytes) (λ name. agrees (BadWord p) (is_new name.0) >>= λ new. Ok name) x e in
+    let b_new = bind_ok (agrees (BadWord p) (is_new b_name.0.0)) (λ new. Ok b_name.0) x b_name.2 in
+    let t = spelled_takes p bytes b_name.0 fits b_name.1 in
+    let new = agrees_ok (BadWord p) (is_new b_name.0.0) b_new.0 b_new.1 in
+    subst (λ (y : List ℕ × List ℕ). Takes bytes (name_bytes y.0) y.1 × IsName is_new y.0) (ok_is b_name.0 x b_new.2) (t.0, record { len = t.1; new = new })
+
+spelled_again : (p : ℕ) (name rest : List ℕ) → length_of (length name) ≡ Some (length name) → spelled_name_at p (name_bytes name ++ rest) ≡ Ok (name, rest)
+unfolding spelled_name_at
+spelled_again p name rest len =
     let regrouped : name_bytes name ++ rest ≡ to_be_bytes w8 (length name) ++ (name ++ rest) = append_assoc (to_be_bytes w8 (length name)) name rest in
     let small : length name < 2 ^ 8 = omega (arith, length_below (length name) (length name) len) in
     let long : ltb (length (name ++ rest)) (length name) ≡ false = le-ltb _ _ (omega (arith, length-append name rest)) in
-    ap (name_at p seen) regrouped ∙ rw (number_again w8 (2 ^ 8) wide8 (length name) (name ++ rest) small, len, long, take_at name rest (length name) refl, drop_at name rest (length name) refl, new) refl
+    ap (spelled_name_at p) regrouped ∙ rw (number_again w8 (2 ^ 8) wide8 (length name) (name ++ rest) small, len, long, take_at name rest (length name) refl, drop_at name rest (length name) refl) refl
+
+name_again : (p : ℕ) (is_new : List ℕ → Bool) (name rest : List ℕ) → length_of (length name) ≡ Some (length name) → is_new name ≡ true → name_at p is_new (name_bytes name ++ rest) ≡ Ok (name, rest)
+unfolding name_at
+name_again p is_new name rest len new = rw (spelled_again p name rest len, new) refl
 
 -- the parts of a variable, each with what was read of it
 variable_joins : (seen : List Variable) (bytes r0 r1 r2 rest : List ℕ) (v : Variable) (code place bits : ℕ)
     → Takes bytes (name_bytes v.name) r0 → Takes r0 (to_be_bytes w8 code) r1 → Takes r1 (to_be_bytes w16 place) r2 → Takes r2 (to_be_bytes w32 bits) rest
-    → IsName seen v.name → type_of code ≡ Some v.ty → location_of seen v.ty place ≡ Some v.location → place < 2 ^ 16 → initial_of v.ty v.location bits ≡ Some v.initial → bits < 2 ^ 32
+    → IsName (is_new_name seen) v.name → type_of code ≡ Some v.ty → location_of seen v.ty place ≡ Some v.location → place < 2 ^ 16 → initial_of v.ty v.location bits ≡ Some v.initial → bits < 2 ^ 32
     → Takes bytes (variable_bytes v) rest × IsVariable seen v
 variable_joins seen bytes r0 r1 r2 rest v code place bits t0 t1 t2 t3 name ty-ok loc-ok place-lt value-ok bits-lt =
     let ty-is = sym (type_is code v.ty ty-ok) in
@@ -85,7 +98,7 @@ variable_joins seen bytes r0 r1 r2 rest v code place bits t0 t1 t2 t3 name ty-ok
 
 variable_ends : (seen : List Variable) (bytes r0 r1 r2 rest : List ℕ) (v : Variable) (code place bits : ℕ) (x : Variable × List ℕ)
     → Takes bytes (name_bytes v.name) r0 → Takes r0 (to_be_bytes w8 code) r1 → Takes r1 (to_be_bytes w16 place) r2 → Takes r2 (to_be_bytes w32 bits) rest
-    → IsName seen v.name → type_of code ≡ Some v.ty → location_of seen v.ty place ≡ Some v.location → place < 2 ^ 16 → initial_of v.ty v.location bits ≡ Some v.initial → bits < 2 ^ 32
+    → IsName (is_new_name seen) v.name → type_of code ≡ Some v.ty → location_of seen v.ty place ≡ Some v.location → place < 2 ^ 16 → initial_of v.ty v.location bits ≡ Some v.initial → bits < 2 ^ 32
     → (let r : Result (Variable × List ℕ) LoadFault = Ok (v, rest) in r ≡ Ok x)
     → Takes bytes (variable_bytes x.0) x.1 × IsVariable seen x.0
 variable_ends seen bytes r0 r1 r2 rest v code place bits x t0 t1 t2 t3 name ty-ok loc-ok place-lt value-ok bits-lt e =
@@ -93,7 +106,7 @@ variable_ends seen bytes r0 r1 r2 rest v code place bits x t0 t1 t2 t3 name ty-o
 
 -- a variable behind its name and its type
 variable_tail : (p : ℕ) (seen : List Variable) (bytes r0 r1 name : List ℕ) (code : ℕ) (type : Ty) (x : Variable × List ℕ)
-    → Takes bytes (name_bytes name) r0 → IsName seen name → Takes r0 (to_be_bytes w8 code) r1 → type_of code ≡ Some type
+    → Takes bytes (name_bytes name) r0 → IsName (is_new_name seen) name → Takes r0 (to_be_bytes w8 code) r1 → type_of code ≡ Some type
     → (number_at w16 r1 >>= λ place. lawful p (location_of seen type place.0) >>= λ loc. number_at w32 place.1 >>= λ first. lawful p (initial_of type loc first.0) >>= λ value. Ok (record { name = name; ty = type; location = loc; initial = value }, first.1)) ≡ Ok x
     → Takes bytes (variable_bytes x.0) x.1 × IsVariable seen x.0
 variable_tail p seen bytes r0 r1 name code type x t0 named t1 ty-ok e =
@@ -111,10 +124,10 @@ pub variable_takes : (total : ℕ) (seen : List Variable) (bytes : List ℕ) (x 
 unfolding variable_at
 variable_takes total seen bytes x fits e =
     let p = total - length bytes in
-    let b_name = bind_ok (name_at p seen bytes) (λ name. number_at w8 name.1 >>= λ code. lawful p (type_of code.0) >>= λ type. number_at w16 code.1 >>= λ place. lawful p (location_of seen type place.0) >>= λ loc. number_at w32 place.1 >>= λ first. lawful p (initial_of type loc first.0) >>= λ value. Ok (record { name = name.0; ty = type; location = loc; initial = value }, first.1)) x e in
+    let b_name = bind_ok (name_at p (is_new_name seen) bytes) (λ name. number_at w8 name.1 >>= λ code. lawful p (type_of code.0) >>= λ type. number_at w16 code.1 >>= λ place. lawful p (location_of seen type place.0) >>= λ loc. number_at w32 place.1 >>= λ first. lawful p (initial_of type loc first.0) >>= λ value. Ok (record { name = name.0; ty = type; location = loc; initial = value }, first.1)) x e in
     let b_code = bind_ok (number_at w8 b_name.0.1) (λ code. lawful p (type_of code.0) >>= λ type. number_at w16 code.1 >>= λ place. lawful p (location_of seen type place.0) >>= λ loc. number_at w32 place.1 >>= λ first. lawful p (initial_of type loc first.0) >>= λ value. Ok (record { name = b_name.0.0; ty = type; location = loc; initial = value }, first.1)) x b_name.2 in
     let b_type = bind_ok (lawful p (type_of b_code.0.0)) (λ type. number_at w16 b_code.0.1 >>= λ place. lawful p (location_of seen type place.0) >>= λ loc. number_at w32 place.1 >>= λ first. lawful p (initial_of type loc first.0) >>= λ value. Ok (record { name = b_name.0.0; ty = type; location = loc; initial = value }, first.1)) x b_code.2 in
-    let t0 = name_takes p seen bytes b_name.0 fits b_name.1 in
+    let t0 = name_takes p (is_new_name seen) bytes b_name.0 fits b_name.1 in
     let t1 = number_takes w8 (2 ^ 8) wide8 b_name.0.1 b_code.0.0 b_code.0.1 t0.0.rest_fits b_code.1 in
     let ty-ok = lawful_ok p (type_of b_code.0.0) b_type.0 b_type.1 in
     variable_tail p seen bytes b_name.0.1 b_code.0.1 b_name.0.0 b_code.0.0 b_type.0 x t0.0 t0.1 t1.0 ty-ok b_type.2
@@ -133,18 +146,106 @@ variable_again total seen v rest is =
     let b1 = to_be_bytes w8 (type_code v.ty) in
     let b2 = to_be_bytes w16 (location_code v.location) in
     let b3 = to_be_bytes w32 (cast_unsigned w32 (number_of v.initial)) in
-    let h0 : name_at p seen (variable_bytes v ++ rest) ≡ Ok (v.name, b1 ++ (b2 ++ (b3 ++ rest))) = ap (name_at p seen) (regrouped_4 (name_bytes v.name) b1 b2 b3 rest) ∙ name_again p seen v.name (b1 ++ (b2 ++ (b3 ++ rest))) is.length is.name in
+    let h0 : name_at p (is_new_name seen) (variable_bytes v ++ rest) ≡ Ok (v.name, b1 ++ (b2 ++ (b3 ++ rest))) = ap (name_at p (is_new_name seen)) (regrouped_4 (name_bytes v.name) b1 b2 b3 rest) ∙ name_again p (is_new_name seen) v.name (b1 ++ (b2 ++ (b3 ++ rest))) is.length is.name in
     rw (h0, number_again w8 (2 ^ 8) wide8 (type_code v.ty) (b2 ++ (b3 ++ rest)) (type_small v.ty), is.type, number_again w16 (2 ^ 16) wide16 (location_code v.location) (b3 ++ rest) is.location_small, is.location, number_again w32 (2 ^ 32) wide32 (cast_unsigned w32 (number_of v.initial)) rest is.initial_small, is.initial) refl
 
+-- ---- labels
+
+mark_joins : (seen : List Mark) (bytes r0 rest : List ℕ) (m : Mark) → Takes bytes (name_bytes m.name) r0 → Takes r0 (to_be_bytes w16 m.at) rest → IsName (is_new_label seen) m.name → m.at < 2 ^ 16
+    → Takes bytes (mark_bytes m) rest × IsMark seen m
+mark_joins seen bytes r0 rest m t0 t1 named lt = (Takes-then bytes (name_bytes m.name) r0 (to_be_bytes w16 m.at) rest t0 t1, record { length = named.len; name = named.new; small = lt })
+
+pub mark_takes : (total : ℕ) (seen : List Mark) (bytes : List ℕ) (x : Mark × List ℕ) → IsBytes bytes → mark_at total seen bytes ≡ Ok x → Takes bytes (mark_bytes x.0) x.1 × IsMark seen x.0
+unfolding mark_at
+mark_takes total seen bytes x fits e =
+    let p = total - length bytes in
+    let b_name = bind_ok (name_at p (is_new_label seen) bytes) (λ name. number_at w16 name.1 >>= λ address. Ok (record { name = name.0; at = address.0 }, address.1)) x e in
+    let b_at = bind_ok (number_at w16 b_name.0.1) (λ address. Ok (record { name = b_name.0.0; at = address.0 }, address.1)) x b_name.2 in
+    let t0 = name_takes p (is_new_label seen) bytes b_name.0 fits b_name.1 in
+    let t1 = number_takes w16 (2 ^ 16) wide16 b_name.0.1 b_at.0.0 b_at.0.1 t0.0.rest_fits b_at.1 in
+    let m : Mark = record { name = b_name.0.0; at = b_at.0.0 } in
+    subst (λ (y : Mark × List ℕ). Takes bytes (mark_bytes y.0) y.1 × IsMark seen y.0) (ok_is (m, b_at.0.1) x b_at.2) (mark_joins seen bytes b_name.0.1 b_at.0.1 m t0.0 t1.0 t0.1 t1.1)
+
+pub mark_again : (total : ℕ) (seen : List Mark) (m : Mark) (rest : List ℕ) → IsMark seen m → mark_at total seen (mark_bytes m ++ rest) ≡ Ok (m, rest)
+unfolding mark_at
+mark_again total seen m rest is =
+    let p = total - length (mark_bytes m ++ rest) in
+    let b1 = to_be_bytes w16 m.at in
+    let h0 : name_at p (is_new_label seen) (mark_bytes m ++ rest) ≡ Ok (m.name, b1 ++ rest) = ap (name_at p (is_new_label seen)) (append_assoc (name_bytes m.name) b1 rest) ∙ name_again p (is_new_label seen) m.name (b1 ++ rest) is.length is.name in
+    rw (h0, number_again w16 (2 ^ 16) wide16 m.at rest is.small) refl
+
+-- ---- constants
+
+constant_joins : (seen : List Value) (bytes r0 rest : List ℕ) (v : Value) (code bits : ℕ) (t : Ty) → Takes bytes (to_be_bytes w8 code) r0 → Takes r0 (to_be_bytes w32 bits) rest → type_of code ≡ Some t → constant_of seen t bits ≡ Some v → bits < 2 ^ 32
+    → Takes bytes (constant_bytes v) rest × IsConstant seen v
+constant_joins seen bytes r0 rest v code bits t t0 t1 ty-ok value-ok lt =
+    let is = constant_is seen t bits v lt value-ok in
+    let ty-is : t ≡ ty_of v = sym is.0 in
+    let code-is : code ≡ type_code (ty_of v) = sym (type_is code t ty-ok) ∙ ap type_code ty-is in
+    let bits-is : bits ≡ cast_unsigned w32 (number_of v) = sym is.1 in
+    let s0 = subst (λ (k : ℕ). Takes bytes (to_be_bytes w8 k) r0) code-is t0 in
+    let s1 = subst (λ (k : ℕ). Takes r0 (to_be_bytes w32 k) rest) bits-is t1 in (
+      Takes-then bytes (to_be_bytes w8 (type_code (ty_of v))) r0 (to_be_bytes w32 (cast_unsigned w32 (number_of v))) rest s0 s1,
+      record {
+        type = subst (λ (k : ℕ). type_of k ≡ Some (ty_of v)) code-is (subst (λ (x : Ty). type_of code ≡ Some x) ty-is ty-ok);
+        value = subst (λ (k : ℕ). constant_of seen (ty_of v) k ≡ Some v) bits-is (subst (λ (x : Ty). constant_of seen x bits ≡ Some v) ty-is value-ok);
+        small = subst (λ (k : ℕ). k < 2 ^ 32) bits-is lt;
+      },
+    )
+
+pub constant_takes : (total : ℕ) (seen : List Value) (bytes : List ℕ) (x : Value × List ℕ) → IsBytes bytes → constant_at total seen bytes ≡ Ok x → Takes bytes (constant_bytes x.0) x.1 × IsConstant seen x.0
+unfolding constant_at
+constant_takes total seen bytes x fits e =
+    let p = total - length bytes in
+    let b_code = bind_ok (number_at w8 bytes) (λ code. lawful p (type_of code.0) >>= λ type. number_at w32 code.1 >>= λ bits. lawful p (constant_of seen type bits.0) >>= λ value. Ok (value, bits.1)) x e in
+    let b_type = bind_ok (lawful p (type_of b_code.0.0)) (λ type. number_at w32 b_code.0.1 >>= λ bits. lawful p (constant_of seen type bits.0) >>= λ value. Ok (value, bits.1)) x b_code.2 in
+    let b_bits = bind_ok (number_at w32 b_code.0.1) (λ bits. lawful p (constant_of seen b_type.0 bits.0) >>= λ value. Ok (value, bits.1)) x b_type.2 in
+    let b_value = bind_ok (lawful p (constant_of seen b_type.0 b_bits.0.0)) (λ value. Ok (value, b_bits.0.1)) x b_bits.2 in
+    let t0 = number_takes w8 (2 ^ 8) wide8 bytes b_code.0.0 b_code.0.1 fits b_code.1 in
+    let t1 = number_takes w32 (2 ^ 32) wide32 b_code.0.1 b_bits.0.0 b_bits.0.1 t0.0.rest_fits b_bits.1 in
+    let ty-ok = lawful_ok p (type_of b_code.0.0) b_type.0 b_type.1 in
+    let value-ok = lawful_ok p (constant_of seen b_type.0 b_bits.0.0) b_value.0 b_value.1 in
+    subst (λ (y : Value × List ℕ). Takes bytes (constant_bytes y.0) y.1 × IsConstant seen y.0) (ok_is (b_value.0, b_bits.0.1) x b_value.2) (constant_joins seen bytes b_code.0.1 b_bits.0.1 b_value.0 b_code.0.0 b_bits.0.0 b_type.0 t0.0 t1.0 ty-ok value-ok t1.1)
+
+pub constant_again : (total : ℕ) (seen : List Value) (v : Value) (rest : List ℕ) → IsConstant seen v → constant_at total seen (constant_bytes v ++ rest) ≡ Ok (v, rest)
+unfolding constant_at
+constant_again total seen v rest is =
+    let b1 = to_be_bytes w32 (cast_unsigned w32 (number_of v)) in
+    ap (constant_at total seen) (append_assoc (to_be_bytes w8 (type_code (ty_of v))) b1 rest) ∙ rw (number_again w8 (2 ^ 8) wide8 (type_code (ty_of v)) (b1 ++ rest) (type_small (ty_of v)), is.type, number_again w32 (2 ^ 32) wide32 (cast_unsigned w32 (number_of v)) rest is.small, is.value) refl
+
+-- ---- words
+
+listed_is : (n : ℕ) (op : Op) → slice_get op_list n ≡ Some op → op_code op ≡ n
+listed_is zero op e = let is : ops.Empty ≡ op = cc in sym (ap op_code is)
+listed_is (suc zero) op e = let is : ops.Ld ≡ op = cc in sym (ap op_code is)
+listed_is (suc (suc zero)) op e = let is : ops.St ≡ op = cc in sym (ap op_code is)
+listed_is (suc (suc (suc zero))) op e = let is : ops.S ≡ op = cc in sym (ap op_code is)
+listed_is (suc (suc (suc (suc zero)))) op e = let is : ops.R ≡ op = cc in sym (ap op_code is)
+listed_is (suc (suc (suc (suc (suc zero))))) op e = let is : ops.And ≡ op = cc in sym (ap op_code is)
+listed_is (suc (suc (suc (suc (suc (suc zero)))))) op e = let is : ops.Or ≡ op = cc in sym (ap op_code is)
+listed_is (suc (suc (suc (suc (suc (suc (suc zero))))))) op e = let is : ops.Xor ≡ op = cc in sym (ap op_code is)
+listed_is (suc (suc (suc (suc (suc (suc (suc (suc zero)))))))) op e = let is : ops.Not ≡ op = cc in sym (ap op_code is)
+listed_is (suc (suc (suc (suc (suc (suc (suc (suc (suc zero))))))))) op e = let is : ops.Add ≡ op = cc in sym (ap op_code is)
+listed_is (suc (suc (suc (suc (suc (suc (suc (suc (suc (suc zero)))))))))) op e = let is : ops.Sub ≡ op = cc in sym (ap op_code is)
+listed_is (suc (suc (suc (suc (suc (suc (suc (suc (suc (suc (suc zero))))))))))) op e = let is : ops.Mul ≡ op = cc in sym (ap op_code is)
+listed_is (suc (suc (suc (suc (suc (suc (suc (suc (suc (suc (suc (suc zero)))))))))))) op e = let is : ops.Div ≡ op = cc in sym (ap op_code is)
+listed_is (suc (suc (suc (suc (suc (suc (suc (suc (suc (suc (suc (suc (suc zero))))))))))))) op e = let is : ops.Mod ≡ op = cc in sym (ap op_code is)
+listed_is (suc (suc (suc (suc (suc (suc (suc (suc (suc (suc (suc (suc (suc (suc zero)))))))))))))) op e = let is : ops.Gt ≡ op = cc in sym (ap op_code is)
+listed_is (suc (suc (suc (suc (suc (suc (suc (suc (suc (suc (suc (suc (suc (suc (suc zero))))))))))))))) op e = let is : ops.Ge ≡ op = cc in sym (ap op_code is)
+listed_is (suc (suc (suc (suc (suc (suc (suc (suc (suc (suc (suc (suc (suc (suc (suc (suc zero)))))))))))))))) op e = let is : ops.Eq ≡ op = cc in sym (ap op_code is)
+listed_is (suc (suc (suc (suc (suc (suc (suc (suc (suc (suc (suc (suc (suc (suc (suc (suc (suc zero))))))))))))))))) op e = let is : ops.Ne ≡ op = cc in sym (ap op_code is)
+listed_is (suc (suc (suc (suc (suc (suc (suc (suc (suc (suc (suc (suc (suc (suc (suc (suc (suc (suc zero)))))))))))))))))) op e = let is : ops.Le ≡ op = cc in sym (ap op_code is)
+listed_is (suc (suc (suc (suc (suc (suc (suc (suc (suc (suc (suc (suc (suc (suc (suc (suc (suc (suc (suc zero))))))))))))))))))) op e = let is : ops.Lt ≡ op = cc in sym (ap op_code is)
+listed_is (suc (suc (suc (suc (suc (suc (suc (suc (suc (suc (suc (suc (suc (suc (suc (suc (suc (suc (suc (suc zero)))))))))))))))))))) op e = let is : ops.Jmp ≡ op = cc in sym (ap op_code is)
+listed_is (suc (suc (suc (suc (suc (suc (suc (suc (suc (suc (suc (suc (suc (suc (suc (suc (suc (suc (suc (suc (suc zero))))))))))))))))))))) op e = let is : ops.Cal ≡ op = cc in sym (ap op_code is)
+listed_is (suc (suc (suc (suc (suc (suc (suc (suc (suc (suc (suc (suc (suc (suc (suc (suc (suc (suc (suc (suc (suc (suc zero)))))))))))))))))))))) op e = let is : ops.Ret ≡ op = cc in sym (ap op_code is)
+listed_is (suc (suc (suc (suc (suc (suc (suc (suc (suc (suc (suc (suc (suc (suc (suc (suc (suc (suc (suc (suc (suc (suc (suc zero))))))))))))))))))))))) op e = let is : ops.Close ≡ op = cc in sym (ap op_code is)
+listed_is (suc (suc (suc (suc (suc (suc (suc (suc (suc (suc (suc (suc (suc (suc (suc (suc (suc (suc (suc (suc (suc (suc (suc (suc zero)))))))))))))))))))))))) op e = let is : ops.IntToDint ≡ op = cc in sym (ap op_code is)
+listed_is (suc (suc (suc (suc (suc (suc (suc (suc (suc (suc (suc (suc (suc (suc (suc (suc (suc (suc (suc (suc (suc (suc (suc (suc (suc zero))))))))))))))))))))))))) op e = let is : ops.DintToInt ≡ op = cc in sym (ap op_code is)
+listed_is (suc (suc (suc (suc (suc (suc (suc (suc (suc (suc (suc (suc (suc (suc (suc (suc (suc (suc (suc (suc (suc (suc (suc (suc (suc (suc n)))))))))))))))))))))))))) op e = absurd cc
+
 op_is : (n : ℕ) (op : Op) → op_of n ≡ Some op → op_code op ≡ n
-op_is zero op e = absurd cc
-op_is (suc zero) op e = let is : ops.Ld ≡ op = cc in sym (ap op_code is)
-op_is (suc (suc zero)) op e = let is : ops.St ≡ op = cc in sym (ap op_code is)
-op_is (suc (suc (suc zero))) op e = absurd cc
-op_is (suc (suc (suc (suc zero)))) op e = absurd cc
-op_is (suc (suc (suc (suc (suc zero))))) op e = let is : ops.And ≡ op = cc in sym (ap op_code is)
-op_is (suc (suc (suc (suc (suc (suc zero)))))) op e = let is : ops.Or ≡ op = cc in sym (ap op_code is)
-op_is (suc (suc (suc (suc (suc (suc (suc n))))))) op e = absurd cc
+op_is n op e = listed_is n op (tested_some (λ op. is_some (usage_of op)) (slice_get op_list n) op e).0
 
 modifier_is : (n : ℕ) (m : Modifier) → modifier_of n ≡ Some m → modifier_code m ≡ n
 modifier_is zero m e = let is : (let r : Modifier = record { negated = false; conditional = false; opens = false } in r) ≡ m = cc in sym (ap modifier_code is)
@@ -155,61 +256,70 @@ modifier_is (suc (suc (suc (suc zero)))) m e = let is : (let r : Modifier = reco
 modifier_is (suc (suc (suc (suc (suc zero))))) m e = let is : (let r : Modifier = record { negated = true; conditional = false; opens = true } in r) ≡ m = cc in sym (ap modifier_code is)
 modifier_is (suc (suc (suc (suc (suc (suc n)))))) m e = absurd cc
 
-tested_by : {A : Type 0} (test : A → Bool) (b : Bool) (x y : A) → test x ≡ b → cond b (Some x) None ≡ Some y → test y ≡ true
-tested_by test true x y e h = let is : x ≡ y = cc in sym (ap test is) ∙ e
-tested_by test false x y e h = absurd cc
+letters_is : (op : Op) (n : ℕ) (m : Modifier) → letters_of op n ≡ Some m → modifier_code m ≡ n
+letters_is op n m e = modifier_is n m (tested_some (allowed_by (usage_of op)) (modifier_of n) m e).0
 
-tested_is : {A : Type 0} (test : A → Bool) (o : Option A) (y : A) → option_and_then (tested test) o ≡ Some y → test y ≡ true
-tested_is test None y e = absurd cc
-tested_is test (Some x) y e = tested_by test (test x) x y refl e
+-- a word as it was read, the n-th
+pub record IsRead (vs : List Variable) (marks : List Mark) (constants : List Value) (n : ℕ) (w : Word) : Type 0 where
+  pub label : w.line.label ≡ label_there marks n
+  pub coded : IsCoded vs marks constants w.line.op w.line.modifier w.line.operand w.code
 
-operand_is : (vs : List Variable) (n : ℕ) (o : Operand) → operand_of vs n ≡ Some o → plain_code vs o ≡ n
-operand_is vs n o e = eqb-true (plain_code vs o) n (tested_is (λ o. nat_eq (plain_code vs o) n) (raw_operand vs n) o e)
+abbrev pub IsNext : List Variable → List Mark → List Value → List Word → Word → Type 0
+IsNext vs marks constants seen w = IsRead vs marks constants (length seen) w
 
-pub word_takes : (p : ℕ) (vs : List Variable) (bytes : List ℕ) (x : Instr × List ℕ) → IsBytes bytes → word_at p vs bytes ≡ Ok x → Takes bytes (plain_word_bytes vs x.0) x.1 × IsWord vs x.0
+abbrev pub read_word_bytes : Word → List ℕ
+read_word_bytes w = coded_word w.line w.code
+
+word_joins : (vs : List Variable) (marks : List Mark) (constants : List Value) (n : ℕ) (bytes r0 r1 rest : List ℕ) (a b : ℕ) (w : Word)
+    → Takes bytes (to_be_bytes w8 a) r0 → Takes r0 (to_be_bytes w8 b) r1 → Takes r1 (to_be_bytes w16 w.code) rest
+    → op_of a ≡ Some w.line.op → a < 2 ^ 8 → letters_of w.line.op b ≡ Some w.line.modifier → b < 2 ^ 8
+    → word_operand vs marks constants w.line.op w.line.modifier w.code ≡ Some w.line.operand → w.code < 2 ^ 16 → w.line.label ≡ label_there marks n
+    → Takes bytes (read_word_bytes w) rest × IsRead vs marks constants n w
+word_joins vs marks constants n bytes r0 r1 rest a b w t0 t1 t2 op-ok a-lt m-ok b-lt operand-ok lt label-is =
+    let op-is = sym (op_is a w.line.op op-ok) in
+    let m-is = sym (letters_is w.line.op b w.line.modifier m-ok) in
+    let s0 = subst (λ (k : ℕ). Takes bytes (to_be_bytes w8 k) r0) op-is t0 in
+    let s1 = subst (λ (k : ℕ). Takes r0 (to_be_bytes w8 k) r1) m-is t1 in
+    let e12 = Takes-then r0 (to_be_bytes w8 (modifier_code w.line.modifier)) r1 (to_be_bytes w16 w.code) rest s1 t2 in (
+      Takes-then bytes (to_be_bytes w8 (op_code w.line.op)) r0 (to_be_bytes w8 (modifier_code w.line.modifier) ++ to_be_bytes w16 w.code) rest s0 e12,
+      record {
+        label = label-is;
+        coded = record {
+          op_read = subst (λ (k : ℕ). op_of k ≡ Some w.line.op) op-is op-ok;
+          op_small = subst (λ (k : ℕ). k < 2 ^ 8) op-is a-lt;
+          letters = subst (λ (k : ℕ). letters_of w.line.op k ≡ Some w.line.modifier) m-is m-ok;
+          letters_small = subst (λ (k : ℕ). k < 2 ^ 8) m-is b-lt;
+          operand_read = operand-ok;
+          operand_small = lt;
+        };
+      },
+    )
+
+pub word_takes : (p : ℕ) (vs : List Variable) (marks : List Mark) (constants : List Value) (n : ℕ) (bytes : List ℕ) (x : Word × List ℕ) → IsBytes bytes → word_at p vs marks constants n bytes ≡ Ok x → Takes bytes (read_word_bytes x.0) x.1 × IsRead vs marks constants n x.0
 unfolding word_at
-word_takes p vs bytes x fits e =
-    let b_code = bind_ok (number_at w8 bytes) (λ code. lawful p (op_of code.0) >>= λ op. number_at w8 code.1 >>= λ letters. lawful p (modifier_of letters.0) >>= λ m. number_at w16 letters.1 >>= λ slot. lawful p (operand_of vs slot.0) >>= λ operand. lawful p (line_of op m operand) >>= λ line. Ok (line, slot.1)) x e in
-    let b_op = bind_ok (lawful p (op_of b_code.0.0)) (λ op. number_at w8 b_code.0.1 >>= λ letters. lawful p (modifier_of letters.0) >>= λ m. number_at w16 letters.1 >>= λ slot. lawful p (operand_of vs slot.0) >>= λ operand. lawful p (line_of op m operand) >>= λ line. Ok (line, slot.1)) x b_code.2 in
-    let b_letters = bind_ok (number_at w8 b_code.0.1) (λ letters. lawful p (modifier_of letters.0) >>= λ m. number_at w16 letters.1 >>= λ slot. lawful p (operand_of vs slot.0) >>= λ operand. lawful p (line_of b_op.0 m operand) >>= λ line. Ok (line, slot.1)) x b_op.2 in
-    let b_m = bind_ok (lawful p (modifier_of b_letters.0.0)) (λ m. number_at w16 b_letters.0.1 >>= λ slot. lawful p (operand_of vs slot.0) >>= λ operand. lawful p (line_of b_op.0 m operand) >>= λ line. Ok (line, slot.1)) x b_letters.2 in
-    let b_slot = bind_ok (number_at w16 b_letters.0.1) (λ slot. lawful p (operand_of vs slot.0) >>= λ operand. lawful p (line_of b_op.0 b_m.0 operand) >>= λ line. Ok (line, slot.1)) x b_m.2 in
-    let b_operand = bind_ok (lawful p (operand_of vs b_slot.0.0)) (λ operand. lawful p (line_of b_op.0 b_m.0 operand) >>= λ line. Ok (line, b_slot.0.1)) x b_slot.2 in
-    let b_line = bind_ok (lawful p (line_of b_op.0 b_m.0 b_operand.0)) (λ line. Ok (line, b_slot.0.1)) x b_operand.2 in
+word_takes p vs marks constants n bytes x fits e =
+    let b_code = bind_ok (number_at w8 bytes) (λ code. lawful p (op_of code.0) >>= λ op. number_at w8 code.1 >>= λ letters. lawful p (letters_of op letters.0) >>= λ m. number_at w16 letters.1 >>= λ slot. lawful p (word_operand vs marks constants op m slot.0) >>= λ operand. Ok (record { line = record { label = label_there marks n; op = op; modifier = m; operand = operand }; code = slot.0 }, slot.1)) x e in
+    let b_op = bind_ok (lawful p (op_of b_code.0.0)) (λ op. number_at w8 b_code.0.1 >>= λ letters. lawful p (letters_of op letters.0) >>= λ m. number_at w16 letters.1 >>= λ slot. lawful p (word_operand vs marks constants op m slot.0) >>= λ operand. Ok (record { line = record { label = label_there marks n; op = op; modifier = m; operand = operand }; code = slot.0 }, slot.1)) x b_code.2 in
+    let b_letters = bind_ok (number_at w8 b_code.0.1) (λ letters. lawful p (letters_of b_op.0 letters.0) >>= λ m. number_at w16 letters.1 >>= λ slot. lawful p (word_operand vs marks constants b_op.0 m slot.0) >>= λ operand. Ok (record { line = record { label = label_there marks n; op = b_op.0; modifier = m; operand = operand }; code = slot.0 }, slot.1)) x b_op.2 in
+    let b_m = bind_ok (lawful p (letters_of b_op.0 b_letters.0.0)) (λ m. number_at w16 b_letters.0.1 >>= λ slot. lawful p (word_operand vs marks constants b_op.0 m slot.0) >>= λ operand. Ok (record { line = record { label = label_there marks n; op = b_op.0; modifier = m; operand = operand }; code = slot.0 }, slot.1)) x b_letters.2 in
+    let b_slot = bind_ok (number_at w16 b_letters.0.1) (λ slot. lawful p (word_operand vs marks constants b_op.0 b_m.0 slot.0) >>= λ operand. Ok (record { line = record { label = label_there marks n; op = b_op.0; modifier = b_m.0; operand = operand }; code = slot.0 }, slot.1)) x b_m.2 in
+    let b_operand = bind_ok (lawful p (word_operand vs marks constants b_op.0 b_m.0 b_slot.0.0)) (λ operand. Ok (record { line = record { label = label_there marks n; op = b_op.0; modifier = b_m.0; operand = operand }; code = b_slot.0.0 }, b_slot.0.1)) x b_slot.2 in
     let t0 = number_takes w8 (2 ^ 8) wide8 bytes b_code.0.0 b_code.0.1 fits b_code.1 in
     let t1 = number_takes w8 (2 ^ 8) wide8 b_code.0.1 b_letters.0.0 b_letters.0.1 t0.0.rest_fits b_letters.1 in
     let t2 = number_takes w16 (2 ^ 16) wide16 b_letters.0.1 b_slot.0.0 b_slot.0.1 t1.0.rest_fits b_slot.1 in
     let op-ok = lawful_ok p (op_of b_code.0.0) b_op.0 b_op.1 in
-    let m-ok = lawful_ok p (modifier_of b_letters.0.0) b_m.0 b_m.1 in
-    let operand-ok = lawful_ok p (operand_of vs b_slot.0.0) b_operand.0 b_operand.1 in
-    let line-ok = lawful_ok p (line_of b_op.0 b_m.0 b_operand.0) b_line.0 b_line.1 in
-    let made : Instr = record { label = None; op = b_op.0; modifier = b_m.0; operand = b_operand.0 } in
-    let y = some_yes (is_line b_op.0 b_m.0 b_operand.0) made b_line.0 line-ok in
-    let op-is = sym (op_is b_code.0.0 b_op.0 op-ok) in
-    let m-is = sym (modifier_is b_letters.0.0 b_m.0 m-ok) in
-    let operand-is = sym (operand_is vs b_slot.0.0 b_operand.0 operand-ok) in
-    let s0 = subst (λ (k : ℕ). Takes bytes (to_be_bytes w8 k) b_code.0.1) op-is t0.0 in
-    let s1 = subst (λ (k : ℕ). Takes b_code.0.1 (to_be_bytes w8 k) b_letters.0.1) m-is t1.0 in
-    let s2 = subst (λ (k : ℕ). Takes b_letters.0.1 (to_be_bytes w16 k) b_slot.0.1) operand-is t2.0 in
-    let e12 = Takes-then b_code.0.1 (to_be_bytes w8 (modifier_code b_m.0)) b_letters.0.1 (to_be_bytes w16 (plain_code vs b_operand.0)) b_slot.0.1 s1 s2 in
-    let e02 = Takes-then bytes (to_be_bytes w8 (op_code b_op.0)) b_code.0.1 (to_be_bytes w8 (modifier_code b_m.0) ++ to_be_bytes w16 (plain_code vs b_operand.0)) b_slot.0.1 s0 e12 in
-    let is : IsWord vs made = record {
-      op = subst (λ (k : ℕ). op_of k ≡ Some b_op.0) op-is op-ok;
-      op_small = subst (λ (k : ℕ). k < 2 ^ 8) op-is t0.1;
-      modifier = subst (λ (k : ℕ). modifier_of k ≡ Some b_m.0) m-is m-ok;
-      modifier_small = subst (λ (k : ℕ). k < 2 ^ 8) m-is t1.1;
-      operand = subst (λ (k : ℕ). operand_of vs k ≡ Some b_operand.0) operand-is operand-ok;
-      operand_small = subst (λ (k : ℕ). k < 2 ^ 16) operand-is t2.1;
-      whole = line-ok ∙ ap (λ (l : Instr). Some l) (sym y.1);
-    } in
-    subst (λ (y : Instr × List ℕ). Takes bytes (plain_word_bytes vs y.0) y.1 × IsWord vs y.0) (ap (λ (l : Instr). (l, b_slot.0.1)) y.1 ∙ ok_is (b_line.0, b_slot.0.1) x b_line.2) (e02, is)
+    let m-ok = lawful_ok p (letters_of b_op.0 b_letters.0.0) b_m.0 b_m.1 in
+    let operand-ok = lawful_ok p (word_operand vs marks constants b_op.0 b_m.0 b_slot.0.0) b_operand.0 b_operand.1 in
+    let w : Word = record { line = record { label = label_there marks n; op = b_op.0; modifier = b_m.0; operand = b_operand.0 }; code = b_slot.0.0 } in
+    subst (λ (y : Word × List ℕ). Takes bytes (read_word_bytes y.0) y.1 × IsRead vs marks constants n y.0) (ok_is (w, b_slot.0.1) x b_operand.2) (word_joins vs marks constants n bytes b_code.0.1 b_letters.0.1 b_slot.0.1 b_code.0.0 b_letters.0.0 w t0.0 t1.0 t2.0 op-ok t0.1 m-ok t1.1 operand-ok t2.1 refl)
 
-pub word_again : (p : ℕ) (vs : List Variable) (line : Instr) (rest : List ℕ) → IsWord vs line → word_at p vs (plain_word_bytes vs line ++ rest) ≡ Ok (line, rest)
+pub word_again : (p : ℕ) (vs : List Variable) (marks : List Mark) (constants : List Value) (n : ℕ) (w : Word) (rest : List ℕ) → IsRead vs marks constants n w → word_at p vs marks constants n (read_word_bytes w ++ rest) ≡ Ok (w, rest)
 unfolding word_at
-word_again p vs line rest is =
-    let b1 = to_be_bytes w8 (modifier_code line.modifier) in
-    let b2 = to_be_bytes w16 (plain_code vs line.operand) in
-    ap (word_at p vs) (regrouped_3 (to_be_bytes w8 (op_code line.op)) b1 b2 rest) ∙ rw (number_again w8 (2 ^ 8) wide8 (op_code line.op) (b1 ++ (b2 ++ rest)) is.op_small, is.op, number_again w8 (2 ^ 8) wide8 (modifier_code line.modifier) (b2 ++ rest) is.modifier_small, is.modifier, number_again w16 (2 ^ 16) wide16 (plain_code vs line.operand) rest is.operand_small, is.operand, is.whole) refl
+word_again p vs marks constants n w rest is =
+    let k = is.coded in
+    let b1 = to_be_bytes w8 (modifier_code w.line.modifier) in
+    let b2 = to_be_bytes w16 w.code in
+    ap (word_at p vs marks constants n) (regrouped_3 (to_be_bytes w8 (op_code w.line.op)) b1 b2 rest) ∙ rw (number_again w8 (2 ^ 8) wide8 (op_code w.line.op) (b1 ++ (b2 ++ rest)) k.op_small, k.op_read, number_again w8 (2 ^ 8) wide8 (modifier_code w.line.modifier) (b2 ++ rest) k.letters_small, k.letters, number_again w16 (2 ^ 16) wide16 w.code rest k.operand_small, k.operand_read, ← is.label) refl
 
 -- ---- tables of records
 

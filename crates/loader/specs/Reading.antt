@@ -1,17 +1,15 @@
 -- Reading an image from left to right, with the first fault that is met.
-use Rattle.std.specs.Prelude.{◌≡◌, ℕ, ◌-◌, ◌*◌, zero, suc, Bool, true, false, List, [], ◌∷◌, ◌++◌, length, take, drop, Option, Some, None, Result, Ok, Err, nat_lt, nat_le, nat_eq, if◌then◌else◌}
+use Rattle.std.specs.Prelude.{◌≡◌, ℕ, ◌-◌, zero, suc, Bool, true, false, List, [], ◌∷◌, ◌++◌, length, take, drop, Option, Some, None, Result, Ok, Err, nat_lt, nat_le, nat_eq, if◌then◌else◌}
 use Rattle.std.specs.Int.{Width, w8, w16, w32, byte_len, from_be_bytes}
 use Rattle.il_model.specs.declared.program.Variable.{Variable}
-use Rattle.il_model.specs.declared.program.Instr.{Instr}
-use Rattle.il_model.specs.declared.typing.TypeFault.{TypeFault}
-use Rattle.il_model.specs.declared.typing.TypeFault.TheVariants.{UnknownLabel}
-use Rattle.il_model.specs.Text.{Text}
-use Rattle.il_model.specs.Limits.{is_too_large}
-use Rattle.il_model.specs.Typing.{judged}
-use Rattle.il_model.specs.Codes.{is_new_name, length_of, type_of, location_of, initial_of, modifier_of, op_of, operand_of, line_of}
+use Rattle.il_model.specs.declared.value.Value.{Value}
+use Rattle.il_model.specs.Marks.{Mark}
+use Rattle.il_model.specs.Codes.{is_new_name, is_new_label, length_of, type_of, location_of, initial_of, constant_of, op_of, letters_of, label_there, word_operand}
 use Rattle.loader.specs.declared.counts.Counts.{Counts}
+use Rattle.loader.specs.declared.word.Word.{Word}
+use Rattle.loader.specs.Tables.{Tables}
 use Rattle.loader.specs.declared.fault.LoadFault.{LoadFault}
-use Rattle.loader.specs.declared.fault.LoadFault.TheVariants.{Truncated, BadMagic, BadVersion, BadCount, BadWord, BadType, BadTarget, Trailing}
+use Rattle.loader.specs.declared.fault.LoadFault.TheVariants.{Truncated, BadMagic, BadVersion, BadCount, BadWord, Trailing}
 use Rattle.loader.specs.declared.fault.LoadError.{LoadError}
 use Rattle.loader.specs.declared.fault.LoadError.TheVariants as errors
 
@@ -52,14 +50,15 @@ items_from item (suc n) seen bytes = item seen bytes >>= λ x. items_from item n
 abbrev pub count_at : ℕ → List ℕ → Result (ℕ × List ℕ) LoadFault
 count_at limit bytes = number_at w16 bytes >>= λ n. agrees BadCount (nat_le n.0 limit) >>= λ _. Ok n
 
+-- instances are no part of a program yet
 unfoldable pub counts_at : List ℕ → Result (Counts × List ℕ) LoadFault
 counts_at bytes = do
   variables ← count_at 512 bytes
   instances ← count_at 0 variables.1
-  labels ← count_at 0 instances.1
-  constants ← count_at 0 labels.1
+  labels ← count_at 4096 instances.1
+  constants ← count_at 20480 labels.1
   words ← count_at 36864 constants.1
-  Ok (record { variables = variables.0; words = words.0 }, words.1)
+  Ok (record { variables = variables.0; labels = labels.0; constants = constants.0; words = words.0 }, words.1)
 
 unfoldable pub header_at : List ℕ → Result (Counts × List ℕ) LoadFault
 header_at bytes = do
@@ -69,18 +68,26 @@ header_at bytes = do
   one ← agrees BadVersion (nat_eq version.0 1)
   counts_at version.1
 
--- ---- variables
+-- ---- names
 
-unfoldable pub name_at : ℕ → List Variable → List ℕ → Result (List ℕ × List ℕ) LoadFault
-name_at pos seen bytes = do
+unfoldable pub spelled_name_at : ℕ → List ℕ → Result (List ℕ × List ℕ) LoadFault
+spelled_name_at pos bytes = do
   first ← number_at w8 bytes
   n ← lawful pos (length_of first.0)
-  if nat_lt (length first.1) n then Err Truncated else (agrees (BadWord pos) (is_new_name seen (take n first.1)) >>= λ _. Ok (take n first.1, drop n first.1))
+  if nat_lt (length first.1) n then Err Truncated else Ok (take n first.1, drop n first.1)
 
--- a variable; a fault in it stands where it begins
+-- a name that passes a test
+unfoldable pub name_at : ℕ → (List ℕ → Bool) → List ℕ → Result (List ℕ × List ℕ) LoadFault
+name_at pos is_new bytes = do
+  name ← spelled_name_at pos bytes
+  new ← agrees (BadWord pos) (is_new name.0)
+  Ok name
+
+-- ---- records; a fault in one stands where it begins
+
 unfoldable pub variable_at : ℕ → List Variable → List ℕ → Result (Variable × List ℕ) LoadFault
 variable_at total seen bytes = do
-  name ← name_at (total - length bytes) seen bytes
+  name ← name_at (total - length bytes) (is_new_name seen) bytes
   code ← number_at w8 name.1
   type ← lawful (total - length bytes) (type_of code.0)
   place ← number_at w16 code.1
@@ -89,51 +96,50 @@ variable_at total seen bytes = do
   value ← lawful (total - length bytes) (initial_of type loc first.0)
   Ok (record { name = name.0; ty = type; location = loc; initial = value }, first.1)
 
--- ---- words
+-- a label; whether an instruction begins at its address is judged later
+unfoldable pub mark_at : ℕ → List Mark → List ℕ → Result (Mark × List ℕ) LoadFault
+mark_at total seen bytes = do
+  name ← name_at (total - length bytes) (is_new_label seen) bytes
+  address ← number_at w16 name.1
+  Ok (record { name = name.0; at = address.0 }, address.1)
 
-unfoldable pub word_at : ℕ → List Variable → List ℕ → Result (Instr × List ℕ) LoadFault
-word_at pos vs bytes = do
+unfoldable pub constant_at : ℕ → List Value → List ℕ → Result (Value × List ℕ) LoadFault
+constant_at total seen bytes = do
+  code ← number_at w8 bytes
+  type ← lawful (total - length bytes) (type_of code.0)
+  bits ← number_at w32 code.1
+  value ← lawful (total - length bytes) (constant_of seen type bits.0)
+  Ok (value, bits.1)
+
+-- the n-th word, behind the tables that its number may point to
+unfoldable pub word_at : ℕ → List Variable → List Mark → List Value → ℕ → List ℕ → Result (Word × List ℕ) LoadFault
+word_at pos vs marks constants n bytes = do
   code ← number_at w8 bytes
   op ← lawful pos (op_of code.0)
   letters ← number_at w8 code.1
-  m ← lawful pos (modifier_of letters.0)
+  m ← lawful pos (letters_of op letters.0)
   slot ← number_at w16 letters.1
-  operand ← lawful pos (operand_of vs slot.0)
-  line ← lawful pos (line_of op m operand)
-  Ok (line, slot.1)
+  operand ← lawful pos (word_operand vs marks constants op m slot.0)
+  Ok (record { line = record { label = label_there marks n; op = op; modifier = m; operand = operand }; code = slot.0 }, slot.1)
 
-abbrev pub next_word : ℕ → List Variable → List Instr → List ℕ → Result (Instr × List ℕ) LoadFault
-next_word total vs seen bytes = word_at (total - length bytes) vs bytes
+abbrev pub next_word : ℕ → List Variable → List Mark → List Value → List Word → List ℕ → Result (Word × List ℕ) LoadFault
+next_word total vs marks constants seen bytes = word_at (total - length bytes) vs marks constants (length seen) bytes
 
 -- ---- the whole
 
-abbrev pub ended : Text × List ℕ → Result Text LoadFault
+abbrev pub ended : Tables × List ℕ → Result Tables LoadFault
 ended x = agrees Trailing (nat_eq (length x.1) 0) >>= λ _. Ok x.0
 
-unfoldable pub text_at : List ℕ → Result Text LoadFault
-text_at bytes = do
+-- the tables behind the header
+unfoldable pub bodies_at : ℕ → Counts → List ℕ → Result Tables LoadFault
+bodies_at total counts bytes = do
+  variables ← items_from (variable_at total) counts.variables [] bytes
+  labels ← items_from (mark_at total) counts.labels [] variables.1
+  constants ← items_from (constant_at total) counts.constants [] labels.1
+  words ← items_from (next_word total variables.0 labels.0 constants.0) counts.words [] constants.1
+  ended (record { variables = variables.0; labels = labels.0; constants = constants.0; words = words.0 }, words.1)
+
+unfoldable pub tables_at : List ℕ → Result Tables LoadFault
+tables_at bytes = do
   head ← header_at bytes
-  variables ← items_from (variable_at (length bytes)) head.0.variables [] head.1
-  code ← items_from (next_word (length bytes) variables.0) head.0.words [] variables.1
-  ended (record { variables = variables.0; code = code.0 }, code.1)
-
--- a fault of typing by where its word stands: four bytes for each word up to the end
-abbrev pub type_fault : ℕ → TypeFault → LoadFault
-type_fault pos UnknownLabel = BadTarget pos
-type_fault pos fault = BadType pos
-
-abbrev pub placed : ℕ → ℕ → Result Bool (TypeFault × ℕ) → Result Bool LoadFault
-placed total count (Ok x) = Ok true
-placed total count (Err f) = Err (type_fault (total - 4 * (count - f.1)) f.0)
-
--- a program that was read is short enough and typed
-abbrev pub judged_at : ℕ → Text → Result Bool LoadFault
-judged_at total Q = if is_too_large Q.variables Q.code then Err BadCount else placed total (length Q.code) (judged Q)
-
-abbrev pub judged_program : ℕ → Text → Result Text LoadFault
-judged_program total Q = judged_at total Q >>= λ fine. Ok Q
-
-unfoldable pub image_of : List ℕ → Result Text LoadFault
-image_of bytes = do
-  Q ← text_at bytes
-  judged_program (length bytes) Q
+  bodies_at (length bytes) head.0 head.1

@@ -5,8 +5,11 @@
 mod counts;
 mod fault;
 mod image;
+mod judging;
+mod label;
 mod loading;
 mod reading;
+mod word;
 
 pub use fault::{LoadError, LoadFault};
 pub use image::Image;

@@ -1,17 +1,24 @@
 //! Reading the tables of an image.
 
-ghost use Rattle.std.specs.Prelude.{◌≡◌, Ok, Some, []};
+ghost use Rattle.std.specs.Prelude.{◌≡◌, Ok, Some, [], slice_get};
 ghost use Rattle.std.specs.Int.{w8, w16, w32};
-ghost use Rattle.il_model.specs.Codes.{raw_operand, operand_of, line_of};
-ghost use Rattle.loader.specs.Reading.{Gives, number_at, lawful, agrees, items_from, count_at, counts_at, header_at, name_at, variable_at, word_at, next_word};
+ghost use Rattle.std.specs.List.{position};
+ghost use Rattle.std.specs.Option.{option_map};
+ghost use Rattle.il_model.specs.declared.program.Operand.TheVariants as operands;
+ghost use Rattle.il_model.specs.Names.{same_name};
+ghost use Rattle.il_model.specs.Codes.{is_new_name, is_new_label, label_there, target_name, raw_operand, operand_of, value_operand, numbered_operand, word_operand};
+ghost use Rattle.loader.specs.Reading.{Gives, number_at, lawful, agrees, items_from, count_at, counts_at, header_at, spelled_name_at, name_at, variable_at, mark_at, constant_at, word_at, next_word};
 
 use crate::counts::Counts;
 use crate::fault::{LoadError, LoadFault};
+use crate::label::Label;
+use crate::word::Word;
 use il_model::codes::{
-    initial_of, is_line, is_new_name, length_of, loc_of, location_of, modifier_of, op_of,
-    plain_code, type_of,
+    any_loc, constant_of, initial_of, is_formed, is_new_name, length_of, letters_of, location_of,
+    op_of, plain_code, type_of,
 };
-use il_model::{Instr, Modifier, Name, Op, Operand, Variable};
+use il_model::name::is_lawful_name;
+use il_model::{Instr, Modifier, Name, Op, Operand, Value, Variable};
 use std::alloc::Global;
 
 fn u8_at(bytes: &[u8]) -> Result<(u8, &[u8]), LoadError>
@@ -82,13 +89,20 @@ fn counts_at(bytes: &[u8]) -> Result<(Counts, &[u8]), LoadError>
 {
     let (variables, rest) = count_at(512, bytes)?;
     let (_, rest) = count_at(0, rest)?;
-    let (_, rest) = count_at(0, rest)?;
-    let (_, rest) = count_at(0, rest)?;
+    let (labels, rest) = count_at(4096, rest)?;
+    let (constants, rest) = count_at(20480, rest)?;
     let (words, rest) = count_at(36864, rest)?;
-    Ok((Counts { variables, words }, rest))
+    Ok((
+        Counts {
+            variables,
+            labels,
+            constants,
+            words,
+        },
+        rest,
+    ))
 }
 
-/// The header: magic, version and counts.
 #[tactic(auto, unfolding(crate::specs::Reading::header_at))]
 pub fn header_at(bytes: &[u8]) -> Result<(Counts, &[u8]), LoadError>
     ensures { Gives (λ x. (x.0, x.1.now)) result (header_at bytes.now) }
@@ -100,23 +114,58 @@ pub fn header_at(bytes: &[u8]) -> Result<(Counts, &[u8]), LoadError>
     counts_at(rest)
 }
 
-#[tactic(auto, unfolding(crate::specs::Reading::name_at))]
-fn name_at<'a>(
-    alloc: Global,
-    position: usize,
-    seen: &[Variable],
-    bytes: &'a [u8],
-) -> Result<(Name, &'a [u8]), LoadError>
-    ensures { Gives (λ x. (x.0, x.1.now)) result (name_at position seen.now bytes.entry.now) }
+#[tactic(auto, unfolding(crate::specs::Reading::spelled_name_at))]
+fn spelled_name_at(position: usize, bytes: &[u8]) -> Result<(&[u8], &[u8]), LoadError>
+    ensures { Gives (λ x. (x.0.now, x.1.now)) result (spelled_name_at position bytes.now) }
 {
     let (first, rest) = u8_at(bytes)?;
     let n = lawful(position, length_of(first))? as usize;
     if rest.len() < n {
         return Err(LoadError::Fault(LoadFault::Truncated));
     }
-    let (front, rest) = rest.split_at(n);
-    agrees(LoadFault::BadWord { position }, is_new_name(seen, front))?;
-    Ok((Name::of(Vec::from_slice(alloc, front)?), rest))
+    Ok(rest.split_at(n))
+}
+
+/// The name of a variable that none of these has.
+#[tactic(auto, unfolding(crate::specs::Reading::name_at))]
+fn variable_name_at<'a>(
+    alloc: Global,
+    position: usize,
+    seen: &[Variable],
+    bytes: &'a [u8],
+) -> Result<(Name, &'a [u8]), LoadError>
+    ensures { Gives (λ x. (x.0, x.1.now)) result (name_at position (is_new_name seen.now) bytes.entry.now) }
+{
+    let (name, rest) = spelled_name_at(position, bytes)?;
+    agrees(LoadFault::BadWord { position }, is_new_name(seen, name))?;
+    Ok((Name::of(Vec::from_slice(alloc, name)?), rest))
+}
+
+fn label_named(seen: &[Label], name: &[u8]) -> Option<usize>
+    ensures { result ≡ position (λ m. same_name m.name name.now) seen.now }
+{
+    seen.iter().position(|l| l.name.bytes() == name)
+}
+
+fn is_new_label(seen: &[Label], name: &[u8]) -> bool
+    ensures { result ≡ is_new_label seen.now name.now }
+{
+    is_lawful_name(name) && !label_named(seen, name).is_some()
+}
+
+/// The name of a label that none of these has.
+#[tactic(auto, unfolding(crate::specs::Reading::name_at))]
+fn label_name_at<'a>(
+    alloc: Global,
+    position: usize,
+    seen: &[Label],
+    bytes: &'a [u8],
+) -> Result<(Name, &'a [u8]), LoadError>
+    ensures { Gives (λ x. (x.0, x.1.now)) result (name_at position (is_new_label seen.now) bytes.entry.now) }
+{
+    let (name, rest) = spelled_name_at(position, bytes)?;
+    agrees(LoadFault::BadWord { position }, is_new_label(seen, name))?;
+    Ok((Name::of(Vec::from_slice(alloc, name)?), rest))
 }
 
 /// A variable.
@@ -130,7 +179,7 @@ pub fn variable_at<'a>(
     ensures { Gives (λ x. (x.0, x.1.now)) result (variable_at total seen.now bytes.entry.now) }
 {
     let position = total.saturating_sub(bytes.len());
-    let (name, rest) = name_at(alloc, position, seen, bytes)?;
+    let (name, rest) = variable_name_at(alloc, position, seen, bytes)?;
     let (code, rest) = u8_at(rest)?;
     let ty = lawful(position, type_of(code))?;
     let (place, rest) = u16_at(rest)?;
@@ -148,11 +197,65 @@ pub fn variable_at<'a>(
     ))
 }
 
+/// A label.
+#[tactic(auto, unfolding(crate::specs::Reading::mark_at))]
+fn mark_at<'a>(
+    alloc: Global,
+    total: usize,
+    seen: &[Label],
+    bytes: &'a [u8],
+) -> Result<(Label, &'a [u8]), LoadError>
+    ensures { Gives (λ x. (x.0, x.1.now)) result (mark_at total seen.now bytes.entry.now) }
+{
+    let position = total.saturating_sub(bytes.len());
+    let (name, rest) = label_name_at(alloc, position, seen, bytes)?;
+    let (at, rest) = u16_at(rest)?;
+    Ok((Label { name, at }, rest))
+}
+
+/// A constant.
+#[tactic(auto, unfolding(crate::specs::Reading::constant_at))]
+fn constant_at<'a>(
+    total: usize,
+    seen: &[Value],
+    bytes: &'a [u8],
+) -> Result<(Value, &'a [u8]), LoadError>
+    ensures { Gives (λ x. (x.0, x.1.now)) result (constant_at total seen.now bytes.entry.now) }
+{
+    let position = total.saturating_sub(bytes.len());
+    let (code, rest) = u8_at(bytes)?;
+    let ty = lawful(position, type_of(code))?;
+    let (bits, rest) = u32_at(rest)?;
+    let value = lawful(position, constant_of(seen, ty, bits))?;
+    Ok((value, rest))
+}
+
+/// The name of the first label at an address.
+fn label_there(alloc: Global, labels: &[Label], n: usize) -> Result<Option<Name>, LoadError>
+    ensures { Gives (λ o. o) result (Ok (label_there labels.now n)) }
+{
+    for label in labels {
+        if label.at as usize == n {
+            return Ok(Some(label.name.copy(alloc)?));
+        }
+    }
+    Ok(None)
+}
+
+fn target_name(alloc: Global, labels: &[Label], n: u16) -> Result<Name, LoadError>
+    ensures { Gives (λ name. name) result (Ok (target_name (label_there labels.now n))) }
+{
+    match label_there(alloc, labels, n as usize)? {
+        Some(name) => Ok(name),
+        None => Ok(Name::of(Vec::new(alloc))),
+    }
+}
+
 fn raw_operand(alloc: Global, vs: &[Variable], n: u16) -> Result<Option<Operand>, LoadError>
     ensures { Gives (λ o. o) result (Ok (raw_operand vs.now n)) }
 {
     if n < 16384 {
-        return match loc_of(n) {
+        return match any_loc(n) {
             Some(loc) => Ok(Some(Operand::Direct(loc))),
             None => Ok(None),
         };
@@ -181,18 +284,67 @@ fn operand_of(alloc: Global, vs: &[Variable], n: u16) -> Result<Option<Operand>,
     }
 }
 
-fn line_of(op: Op, modifier: Modifier, operand: Operand) -> Option<Instr>
-    ensures { result ≡ line_of op modifier operand }
+fn literal_at(constants: &[Value], k: usize) -> Option<Operand>
+    ensures { result ≡ option_map operands.Literal (slice_get constants.now k) }
 {
-    if is_line(op, modifier, &operand) {
-        Some(Instr {
-            label: None,
-            op,
-            modifier,
-            operand,
-        })
+    match constants.get(k) {
+        Some(v) => Some(Operand::Literal(*v)),
+        None => None,
+    }
+}
+
+fn value_operand(
+    alloc: Global,
+    vs: &[Variable],
+    constants: &[Value],
+    n: u16,
+) -> Result<Option<Operand>, LoadError>
+    ensures { Gives (λ o. o) result (Ok (value_operand vs.now constants.now n)) }
+{
+    if n < 32768 || n == 65535 {
+        operand_of(alloc, vs, n)
     } else {
-        None
+        Ok(literal_at(constants, n as usize - 32768))
+    }
+}
+
+fn numbered_operand(
+    alloc: Global,
+    vs: &[Variable],
+    labels: &[Label],
+    constants: &[Value],
+    op: Op,
+    n: u16,
+) -> Result<Option<Operand>, LoadError>
+    ensures { Gives (λ o. o) result (Ok (numbered_operand vs.now labels.now constants.now op n)) }
+{
+    if op == Op::Jmp {
+        Ok(Some(Operand::Label(target_name(alloc, labels, n)?)))
+    } else {
+        value_operand(alloc, vs, constants, n)
+    }
+}
+
+fn word_operand(
+    alloc: Global,
+    vs: &[Variable],
+    labels: &[Label],
+    constants: &[Value],
+    op: Op,
+    m: Modifier,
+    n: u16,
+) -> Result<Option<Operand>, LoadError>
+    ensures { Gives (λ o. o) result (Ok (word_operand vs.now labels.now constants.now op m n)) }
+{
+    match numbered_operand(alloc, vs, labels, constants, op, n)? {
+        Some(operand) => {
+            if is_formed(op, m, &operand) {
+                Ok(Some(operand))
+            } else {
+                Ok(None)
+            }
+        }
+        None => Ok(None),
     }
 }
 
@@ -201,21 +353,30 @@ fn word_at<'a>(
     alloc: Global,
     position: usize,
     vs: &[Variable],
+    labels: &[Label],
+    constants: &[Value],
+    n: usize,
     bytes: &'a [u8],
-) -> Result<(Instr, &'a [u8]), LoadError>
-    ensures { Gives (λ x. (x.0, x.1.now)) result (word_at position vs.now bytes.entry.now) }
+) -> Result<(Word, &'a [u8]), LoadError>
+    ensures { Gives (λ x. (x.0, x.1.now)) result (word_at position vs.now labels.now constants.now n bytes.entry.now) }
 {
     let (code, rest) = u8_at(bytes)?;
     let op = lawful(position, op_of(code))?;
     let (letters, rest) = u8_at(rest)?;
-    let m = lawful(position, modifier_of(letters))?;
-    let (slot, rest) = u16_at(rest)?;
-    let operand = lawful(position, operand_of(alloc, vs, slot)?)?;
-    let line = lawful(position, line_of(op, m, operand))?;
-    Ok((line, rest))
+    let modifier = lawful(position, letters_of(op, letters))?;
+    let (code, rest) = u16_at(rest)?;
+    let operand = word_operand(alloc, vs, labels, constants, op, modifier, code)?;
+    let operand = lawful(position, operand)?;
+    let label = label_there(alloc, labels, n)?;
+    let line = Instr {
+        label,
+        op,
+        modifier,
+        operand,
+    };
+    Ok((Word { line, code }, rest))
 }
 
-/// As many variables as the header says, each judged with those before it.
 pub fn variables_of(
     alloc: Global,
     total: usize,
@@ -234,32 +395,73 @@ pub fn variables_of(
     Ok((found, rest))
 }
 
-/// A word, and where it stands.
-fn next_word<'a>(
+pub fn labels_of(
     alloc: Global,
     total: usize,
-    vs: &[Variable],
-    bytes: &'a [u8],
-) -> Result<(Instr, &'a [u8]), LoadError>
-    ensures { Gives (λ x. (x.0, x.1.now)) result (next_word total vs.now [] bytes.entry.now) }
-{
-    word_at(alloc, total.saturating_sub(bytes.len()), vs, bytes)
-}
-
-/// As many words as the header says.
-pub fn words_of<'a>(
-    alloc: Global,
-    total: usize,
-    vs: &[Variable],
     count: u16,
-    bytes: &'a [u8],
-) -> Result<(Vec<Instr>, &'a [u8]), LoadError>
-    ensures { Gives (λ x. (x.0.items, x.1.now)) result (items_from (next_word total vs.now) count [] bytes.entry.now) }
+    bytes: &[u8],
+) -> Result<(Vec<Label>, &[u8]), LoadError>
+    ensures { Gives (λ x. (x.0.items, x.1.now)) result (items_from (mark_at total) count [] bytes.now) }
 {
     let mut found = Vec::new(alloc);
     let mut rest = bytes;
     for _ in 0..count {
-        let (one, after) = next_word(alloc, total, vs, rest)?;
+        let (one, after) = mark_at(alloc, total, found.as_slice(), rest)?;
+        found.push(one)?;
+        rest = after;
+    }
+    Ok((found, rest))
+}
+
+pub fn constants_of(
+    alloc: Global,
+    total: usize,
+    count: u16,
+    bytes: &[u8],
+) -> Result<(Vec<Value>, &[u8]), LoadError>
+    ensures { Gives (λ x. (x.0.items, x.1.now)) result (items_from (constant_at total) count [] bytes.now) }
+{
+    let mut found = Vec::new(alloc);
+    let mut rest = bytes;
+    for _ in 0..count {
+        let (one, after) = constant_at(total, found.as_slice(), rest)?;
+        found.push(one)?;
+        rest = after;
+    }
+    Ok((found, rest))
+}
+
+/// The word behind these.
+fn next_word<'a>(
+    alloc: Global,
+    total: usize,
+    vs: &[Variable],
+    labels: &[Label],
+    constants: &[Value],
+    seen: &[Word],
+    bytes: &'a [u8],
+) -> Result<(Word, &'a [u8]), LoadError>
+    ensures { Gives (λ x. (x.0, x.1.now)) result (next_word total vs.now labels.now constants.now seen.now bytes.entry.now) }
+{
+    let position = total.saturating_sub(bytes.len());
+    word_at(alloc, position, vs, labels, constants, seen.len(), bytes)
+}
+
+pub fn words_of<'a>(
+    alloc: Global,
+    total: usize,
+    vs: &[Variable],
+    labels: &[Label],
+    constants: &[Value],
+    count: u16,
+    bytes: &'a [u8],
+) -> Result<(Vec<Word>, &'a [u8]), LoadError>
+    ensures { Gives (λ x. (x.0.items, x.1.now)) result (items_from (next_word total vs.now labels.now constants.now) count [] bytes.entry.now) }
+{
+    let mut found = Vec::new(alloc);
+    let mut rest = bytes;
+    for _ in 0..count {
+        let (one, after) = next_word(alloc, total, vs, labels, constants, found.as_slice(), rest)?;
         found.push(one)?;
         rest = after;
     }

@@ -1,10 +1,12 @@
 -- What a text means: its program, and the answers to commands.
-use Rattle.std.specs.Prelude.{◌≡◌, ℕ, Bool, List, Option, Some, None, Result, Ok, Err}
+use Rattle.std.specs.Prelude.{◌≡◌, ℕ, List, Option, Some, None, Result, Ok, Err}
 use Rattle.il_model.specs.declared.command.Command.{Command}
 use Rattle.il_model.specs.declared.command.Answer.{Answer}
 use Rattle.il_model.specs.Text.{Text}
 use Rattle.il_model.specs.declared.typing.TypeFault.{TypeFault}
-use Rattle.il_model.specs.Typing.{IsTyped, judged, fault_number}
+use Rattle.il_model.specs.Typing.{IsTyped, fault_number}
+use Rattle.il_model.specs.Settled.{settled}
+use Rattle.il_model.specs.Image.{spelling}
 use Rattle.il_model.specs.Scan.{answers_of}
 use Rattle.il_reader.specs.Faults as Read
 use Rattle.il_reader.specs.Texts.{SourceText, Reads, source_of}
@@ -21,22 +23,34 @@ pub record IsProgramOf (text : List ℕ) (program : Text) : Type 0 where
   pub read : Reads text source
   pub resolved : resolution_of source ≡ Ok program
 
--- what is answered is what the definitions give for the text's program, which is typed, at 10000 instructions a scan
-pub record IsAnswered (text : List ℕ) (commands : List Command) (answers : List Answer) : Type 0 where
+-- the text says a program whose typed program, with a type for each bare number, is this one
+pub record IsTypedProgramOfText (text : List ℕ) (typed : Text) : Type 0 where
   pub program : Text
   pub is : IsProgramOf text program
+  pub settled : settled program ≡ Ok typed
+
+-- the bytes spell the program's typed program
+pub record IsSpelled (program : Text) (bytes : List ℕ) : Type 0 where
+  pub typed : Text
+  pub settled : settled program ≡ Ok typed
+  pub spelled : bytes ≡ spelling typed
+
+-- what is answered is what the definitions give for the text's typed program, at 10000 instructions a scan
+pub record IsAnswered (text : List ℕ) (commands : List Command) (answers : List Answer) : Type 0 where
+  pub program : Text
+  pub is : IsTypedProgramOfText text program
   pub typed : IsTyped program
   pub answers_are : answers_of program 10000 commands ≡ Some answers
 
 -- ---- the same as a function, with the first fault that is told
 
-abbrev pub typed_by : Text → Result Bool (TypeFault × ℕ) → Result Text Fault
-typed_by P (Ok x) = Ok P
-typed_by P (Err f) = Err (faults.Assembly (fault_number f.0) f.1)
+abbrev pub settled_by : Result Text (TypeFault × ℕ) → Result Text Fault
+settled_by (Ok Q) = Ok Q
+settled_by (Err f) = Err (faults.Assembly (fault_number f.0) f.1)
 
--- the program, where it is typed
+-- the typed program of a program
 abbrev pub typed_program : Text → Result Text Fault
-typed_program P = typed_by P (judged P)
+typed_program P = settled_by (settled P)
 
 abbrev pub resolved_by : Result Text declaration_faults.Fault → Result Text Fault
 resolved_by (Ok P) = typed_program P

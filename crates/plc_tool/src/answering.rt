@@ -1,8 +1,9 @@
 //! The answers of a text to commands: reader, names, assembler, loader and machine, one after the other.
 
-ghost use Rattle.std.specs.Prelude.{◌≡◌, IfOk};
-ghost use Rattle.il_model.specs.Fits.{IsText};
-ghost use Rattle.plc_tool.specs.Meaning.{IsProgramOf, IsAnswered, Gives, typed_program, program_of_text, meaning};
+ghost use Rattle.std.specs.Prelude.{◌≡◌, Ok, IfOk, IfErr};
+ghost use Rattle.il_model.specs.Declarable.{IsDeclared};
+ghost use Rattle.il_model.specs.Settled.{settled};
+ghost use Rattle.plc_tool.specs.Meaning.{IsSpelled, IsTypedProgramOfText, IsAnswered, Gives, typed_program, program_of_text, meaning};
 
 use crate::fault::Fault;
 use crate::scan::Scans;
@@ -10,26 +11,39 @@ use assembler::assemble;
 use declarations::resolve;
 use il_model::{Answer, Command, Program};
 use il_reader::read;
-use loader::{Image, load};
+use loader::{Image, LoadError, load};
 use std::alloc::Global;
 
 /// How many instructions a scan may perform.
 const BUDGET: u32 = 10000;
 
-/// The image of a program.
+/// The image that the assembler wrote: the loader takes it back, unless memory runs out.
+fn loaded(alloc: Global, program: &Program, bytes: &[u8]) -> Result<Image, Fault>
+    requires declared { IsDeclared program.now }
+    requires spelled { IsSpelled program.now bytes.now }
+    ensures settled { IfOk result (λ i. settled program.now ≡ Ok i) }
+    ensures fault { IfErr result (λ e. e ≡ Fault.Memory) }
+{
+    match load(alloc, bytes) {
+        Ok(image) => Ok(image),
+        Err(LoadError::Memory) => Err(Fault::Memory),
+        Err(LoadError::Fault(_)) => unreachable!(),
+    }
+}
+
+/// The image of a program: that of its typed program.
 fn image_of(alloc: Global, program: &Program) -> Result<Image, Fault>
-    requires { IsText program.now }
-    ensures same { IfOk result (λ i. i ≡ program.now) }
+    requires { IsDeclared program.now }
+    ensures settled { IfOk result (λ i. settled program.now ≡ Ok i) }
     ensures exact { Gives (λ i. i) result (typed_program program.now) }
 {
-    let _code = &program.code;
     let bytes = assemble(alloc, program)?;
-    Ok(load(alloc, bytes.as_slice())?)
+    loaded(alloc, program, bytes.as_slice())
 }
 
 /// The image of the program of a text, or the first fault of the first layer that refuses it.
 pub fn image(alloc: Global, text: &[u8]) -> Result<Image, Fault>
-    ensures found { IfOk result (λ i. IsProgramOf text.now i) }
+    ensures found { IfOk result (λ i. IsTypedProgramOfText text.now i) }
     ensures exact { Gives (λ i. i) result (program_of_text text.now) }
 {
     let source = read(alloc, text)?;

@@ -65,7 +65,7 @@ fn the_first_fault_is_told(rt: HostRuntime) {
             b"plc: decl 1 at 1:15\n".as_slice(),
         ),
         (
-            b"VAR X : INT; END_VAR\n".as_slice(),
+            b"VAR X : LREAL; END_VAR\n".as_slice(),
             SCAN_0,
             b"plc: decl 2 at 1:9\n".as_slice(),
         ),

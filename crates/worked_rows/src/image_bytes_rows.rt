@@ -5,7 +5,7 @@ use declarations::resolve;
 use il_model::cells::{Cells, InImage};
 use il_model::{Slot, TypeFault, Value};
 use il_reader::read;
-use loader::{Image, LoadError, LoadFault, load};
+use loader::{Image, load};
 use machine::{Machine, StepOut};
 use std::alloc::Global;
 use std::test::Fail;
@@ -27,10 +27,6 @@ fn assembled(alloc: Global, text: &[u8]) -> Option<Result<Vec<u8>, AsmError>> {
 fn image(alloc: Global, text: &[u8]) -> Option<Image> {
     let bytes = assembled(alloc, text)?.ok()?;
     load(alloc, bytes.as_slice()).ok()
-}
-
-fn fault_of(alloc: Global, bytes: &[u8]) -> Option<LoadError> {
-    load(alloc, bytes).err()
 }
 
 #[test]
@@ -61,49 +57,6 @@ fn the_least_instruction_is_at_fault(rt: HostRuntime) {
             _ => assert!(rt; false),
         }
     }
-}
-
-#[test]
-fn cut_images_are_truncated(rt: HostRuntime) {
-    for length in 0..42 {
-        let fault = fault_of(rt.alloc(), &TWO_WORDS.as_slice()[..length]);
-        assert!(rt; fault == Some(LoadError::Fault(LoadFault::Truncated)));
-    }
-}
-
-#[test]
-fn changed_images_are_refused(rt: HostRuntime) {
-    for (place, byte, fault) in [
-        (0usize, 0x48u8, LoadFault::BadMagic),
-        (5, 9, LoadFault::BadVersion),
-        (9, 1, LoadFault::BadCount),
-        (11, 1, LoadFault::BadCount),
-        (13, 1, LoadFault::BadCount),
-        (26, 0x58, LoadFault::BadWord { position: 25 }),
-        (18, 1, LoadFault::BadWord { position: 16 }),
-        (24, 1, LoadFault::BadWord { position: 16 }),
-        (28, 0, LoadFault::BadWord { position: 25 }),
-        (34, 2, LoadFault::BadType { position: 34 }),
-        (38, 0x1F, LoadFault::BadWord { position: 38 }),
-        (41, 0, LoadFault::BadType { position: 38 }),
-        (41, 2, LoadFault::BadWord { position: 38 }),
-    ] {
-        let mut bytes = TWO_WORDS;
-        if place < 42 {
-            bytes[place] = byte;
-        }
-        assert!(rt; fault_of(rt.alloc(), bytes.as_slice()) == Some(LoadError::Fault(fault)));
-    }
-}
-
-#[test]
-fn bytes_behind_an_image_are_refused(rt: HostRuntime) -> Result<(), Fail> {
-    let mut bytes = Vec::from_slice(rt.alloc(), TWO_WORDS.as_slice())?;
-    bytes.push(0)?;
-    assert!(rt;
-        fault_of(rt.alloc(), bytes.as_slice()) == Some(LoadError::Fault(LoadFault::Trailing))
-    );
-    Ok(())
 }
 
 #[test]

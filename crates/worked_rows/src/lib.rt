@@ -11,8 +11,14 @@ mod image_bytes_rows;
 #[cfg(test)]
 mod image_rows;
 #[cfg(test)]
+mod language_rows;
+#[cfg(test)]
+mod loader_rows;
+#[cfg(test)]
 mod plc_rows;
 #[cfg(test)]
 mod replication_rows;
 #[cfg(test)]
 mod text_rows;
+#[cfg(test)]
+mod typing_rows;

@@ -3,6 +3,8 @@
 use declarations::{DeclError, resolve};
 use il_model::op::Op;
 use il_model::program::{Area, Loc, Operand, Program};
+use il_model::written::literal;
+use il_model::{Literal, Value};
 use il_reader::{ReadError, read};
 use std::alloc::{AllocError, Global};
 use std::process::Abort;
@@ -79,7 +81,7 @@ mod tests {
 
     #[test]
     fn each_fault_of_reading_at_its_place(rt: HostRuntime) {
-        let rows: [(&[u8], Outcome); 40] = [
+        let rows: [(&[u8], Outcome); 48] = [
             // bytes
             (b"LD \x80", Outcome::Read(1, 1, 4)),
             (b"LD %IX0.0\n\x00", Outcome::Read(1, 2, 1)),
@@ -103,28 +105,36 @@ mod tests {
             (b"LD  ", Outcome::Read(5, 1, 5)),
             (b"LD\nLD %IX0.0", Outcome::Read(5, 1, 3)),
             (b"LD\t\r\n", Outcome::Read(5, 1, 5)),
-            (b"FOO %IX0.0", Outcome::Read(5, 1, 1)),
+            (b"FOO X", Outcome::Read(5, 1, 5)),
+            (b"FOO", Outcome::Read(5, 1, 4)),
+            (b"LDX 5", Outcome::Read(5, 1, 5)),
             (b"LD %IX0.0 %IX0.1", Outcome::Read(5, 1, 11)),
-            (b"LD 5", Outcome::Read(5, 1, 4)),
-            (b"LD TRUE", Outcome::Read(5, 1, 4)),
-            (b"L: LD %IX0.0", Outcome::Read(5, 1, 1)),
-            (b"LD: LD %IX0.0", Outcome::Read(5, 1, 3)),
-            (b"ANDN %IX0.0", Outcome::Read(5, 1, 1)),
-            (b"ORN %IX0.0", Outcome::Read(5, 1, 1)),
-            (b"LD %IX0.0\nAND( %IX0.1", Outcome::Read(5, 2, 4)),
+            (b"VAR: LD 5", Outcome::Read(5, 1, 4)),
+            (b"L1: L2: LD 5", Outcome::Read(5, 1, 5)),
+            (b"LD TRUE.Q", Outcome::Read(5, 1, 8)),
+            (b"LD TRUE\nNOT TRUE", Outcome::Read(5, 2, 5)),
+            (b"LD TRUE\nAND( TRUE )", Outcome::Read(5, 2, 11)),
+            (b"PROGRAM P\nLD 5 END_PROGRAM", Outcome::Read(5, 2, 6)),
+            (b"LD 5 6 $", Outcome::Read(5, 1, 6)),
+            (b"LD 5 -3", Outcome::Read(5, 1, 6)),
+            (b"JMP", Outcome::Read(5, 1, 4)),
+            (b"JMP 5", Outcome::Read(5, 1, 5)),
+            (b"RET 5", Outcome::Read(5, 1, 5)),
+            (b"ST( %QX0.0", Outcome::Read(5, 1, 3)),
+            (b"S( %QX0.0", Outcome::Read(5, 1, 2)),
+            (b"VAR X : INT := ; END_VAR", Outcome::Read(5, 1, 16)),
+            (b"VAR X : INT := X; END_VAR", Outcome::Read(5, 1, 16)),
             (b"LD A.B", Outcome::Read(5, 1, 5)),
-            (b"S %QX0.0", Outcome::Read(5, 1, 1)),
-            (b"VAR X : BOOL := TRUE; END_VAR", Outcome::Read(5, 1, 14)),
             (
                 b"VAR A, B AT %QX0.0 : BOOL; END_VAR",
                 Outcome::Read(5, 1, 10),
             ),
             (b"VAR X : BOOL; LD X", Outcome::Read(5, 1, 18)),
-            (b"LD %IX0.0\nVAR X : BOOL; END_VAR", Outcome::Read(5, 2, 1)),
+            (b"LD 5\nVAR X : INT; END_VAR", Outcome::Read(5, 2, 5)),
             (b"VAR X : BOOL; END_VAR LD X LD X", Outcome::Read(5, 1, 28)),
             (b"PROGRAM P\nLD %IX0.0\n", Outcome::Read(5, 3, 1)),
             (b"PROGRAM\nP\nEND_PROGRAM", Outcome::Read(5, 1, 8)),
-            (b"LD %IX0.0\nEND_PROGRAM", Outcome::Read(5, 2, 1)),
+            (b"LD 5\nEND_PROGRAM", Outcome::Read(5, 2, 12)),
             (
                 b"PROGRAM P LD %IX0.0\nEND_PROGRAM X",
                 Outcome::Read(5, 2, 13),
@@ -136,7 +146,7 @@ mod tests {
 
     #[test]
     fn each_fault_of_declarations_at_its_place(rt: HostRuntime) {
-        let rows: [(&[u8], Outcome); 33] = [
+        let rows: [(&[u8], Outcome); 53] = [
             // a name twice
             (
                 b"VAR A : BOOL; B : BOOL; a : BOOL; END_VAR",
@@ -150,7 +160,9 @@ mod tests {
             ),
             // no type
             (b"VAR X : FOO; END_VAR", Outcome::Declared(2, 1, 9)),
-            (b"VAR X : INT; END_VAR", Outcome::Declared(2, 1, 9)),
+            (b"VAR X : LINT; END_VAR", Outcome::Declared(2, 1, 9)),
+            (b"VAR X : LD; END_VAR", Outcome::Declared(2, 1, 9)),
+            (b"VAR X : FOO := TRUE; END_VAR", Outcome::Declared(2, 1, 9)),
             (b"VAR X : TON; END_VAR", Outcome::Declared(2, 1, 9)),
             (
                 b"VAR X AT %IX0.0 : FOO; END_VAR",
@@ -166,9 +178,19 @@ mod tests {
             ),
             (b"VAR X AT %FOO : FOO; END_VAR", Outcome::Declared(4, 1, 10)),
             (
-                b"VAR X AT %MX0.0 : BOOL; END_VAR",
+                b"VAR X AT %QW0 : DINT; END_VAR",
                 Outcome::Declared(4, 1, 10),
             ),
+            (
+                b"VAR X AT %QX0.0 : INT; END_VAR",
+                Outcome::Declared(4, 1, 10),
+            ),
+            (b"LD %MW63\nLD %mx63.7\nLD %M0.0", Outcome::Good(0, 3)),
+            (b"LD %IW64", Outcome::Declared(4, 1, 4)),
+            (b"LD %IW0.0", Outcome::Declared(4, 1, 4)),
+            (b"LD %IW", Outcome::Declared(4, 1, 4)),
+            (b"LD %IB0", Outcome::Declared(4, 1, 4)),
+            (b"LD %IX1", Outcome::Declared(4, 1, 4)),
             (b"LD %", Outcome::Declared(4, 1, 4)),
             (b"LD %IX64.0", Outcome::Declared(4, 1, 4)),
             (b"LD %IX0.8", Outcome::Declared(4, 1, 4)),
@@ -187,7 +209,40 @@ mod tests {
                 b"VAR X AT %IX0.0 : BOOL; Y AT %QX0.0 : BOOL; END_VAR",
                 Outcome::Good(2, 0),
             ),
+            (
+                b"VAR X AT %QW0 : INT; Y AT %QW0 : BOOL; END_VAR",
+                Outcome::Declared(4, 1, 27),
+            ),
+            (
+                b"VAR X AT %QW0 : INT; Y AT %QW0 : FOO; END_VAR",
+                Outcome::Declared(5, 1, 27),
+            ),
+            // an initial value that doesn't fit
+            (
+                b"VAR X AT %IX0.0 : BOOL := FALSE; END_VAR",
+                Outcome::Declared(6, 1, 27),
+            ),
+            (b"VAR B : BOOL := 2; END_VAR", Outcome::Declared(6, 1, 17)),
+            (
+                b"VAR W : INT := 32768; END_VAR",
+                Outcome::Declared(6, 1, 16),
+            ),
+            (
+                b"VAR W : INT := DINT#5; END_VAR",
+                Outcome::Declared(6, 1, 16),
+            ),
+            (b"VAR W : INT := TRUE; END_VAR", Outcome::Declared(6, 1, 16)),
+            (
+                b"VAR Z : TIME := INT#5; END_VAR",
+                Outcome::Declared(6, 1, 17),
+            ),
+            (
+                b"VAR A, LD : INT := TRUE; END_VAR",
+                Outcome::Declared(7, 1, 8),
+            ),
             // a word of the language
+            (b"LD: LD 5", Outcome::Declared(7, 1, 1)),
+            (b"TRUE: LD 5", Outcome::Declared(7, 1, 1)),
             (b"VAR LD : BOOL; END_VAR", Outcome::Declared(7, 1, 5)),
             (b"VAR calcn : BOOL; END_VAR", Outcome::Declared(7, 1, 5)),
             (b"VAR Tof : BOOL; END_VAR", Outcome::Declared(7, 1, 5)),
@@ -216,7 +271,7 @@ mod tests {
 
     #[test]
     fn programs(rt: HostRuntime) -> Result<(), Fail> {
-        let rows: [(&[u8], Outcome); 12] = [
+        let rows: [(&[u8], Outcome); 20] = [
             (b"", Outcome::Good(0, 0)),
             (b"\r\n\t (* nothing *)\n", Outcome::Good(0, 0)),
             (b"VAR END_VAR VAR\n\nEND_VAR", Outcome::Good(0, 0)),
@@ -233,7 +288,27 @@ mod tests {
             (b"LD%IX0.0\nST%QX0.0", Outcome::Good(0, 2)),
             (b"LD %ix0_1.07\nLD %i63.7\nLD %Qx0.0", Outcome::Good(0, 3)),
             (b"LD %IX0.0\n& %IX0.1", Outcome::Good(0, 2)),
-            (b"LD %IX0.0\n&N %IX0.1", Outcome::Read(5, 2, 1)),
+            (b"LD TRUE\n&N TRUE", Outcome::Good(0, 2)),
+            (b"LD-5\nST%QW0", Outcome::Good(0, 2)),
+            (
+                b"vAr x : bool; End_Var\nld X\nSt X\nLd t#5MS",
+                Outcome::Good(1, 3),
+            ),
+            (b"VAR A : INT; END_VAR\nA: LD A", Outcome::Good(1, 1)),
+            (b"L: LD 1\nL: LD 2\nL:", Outcome::Good(0, 3)),
+            (b"JMP TRUE\nJMPC L\nRETCN", Outcome::Good(0, 3)),
+            (
+                b"VAR B : BOOL := 1; C : BOOL := 0; Z : TIME := 5; D : DINT := -5; END_VAR",
+                Outcome::Good(4, 0),
+            ),
+            (
+                b"VAR A, B : INT := 5; C AT %QW1 : INT := 7; END_VAR",
+                Outcome::Good(3, 0),
+            ),
+            (
+                b"LD 1\nEQ( 2\nOR(\nLD 3\n)\nL: )\nINT_TO_DINT",
+                Outcome::Good(0, 7),
+            ),
             (
                 b"VAR N : BOOL; END_VAR LD N\n& N\n&%IX0.0",
                 Outcome::Good(1, 3),
@@ -272,6 +347,134 @@ mod tests {
             matches!(&program.code[2].operand, Operand::Variable(name) if name.bytes() == b"YY".as_slice())
         );
         Ok(())
+    }
+
+    #[test]
+    fn values(rt: HostRuntime) -> Result<(), Fail> {
+        let text = b"VAR a, b : INT := -5; t : TIME := T#25h_15m; x AT %QX0.1 : BOOL := 1; END_VAR
+l1: LD 2#1111_0000
+ADD( INT#5
+)
+L2:
+JMPCN l1
+LD T#1.5s
+ST %MW3
+OR(";
+        let program = match resolved(rt.alloc(), text) {
+            Ok(program) => program,
+            Err(fault) => {
+                assert!(rt; false, "{fault:?}");
+                return Ok(());
+            }
+        };
+        assert_eq!(rt; program.variables.len(), 4);
+        assert_eq!(rt; program.variables[0].initial, Value::Int(-5));
+        assert_eq!(rt; program.variables[1].initial, Value::Int(-5));
+        assert_eq!(rt; program.variables[2].initial, Value::Time(90_900_000));
+        assert_eq!(rt; program.variables[3].initial, Value::Bool(true));
+        let code = &program.code;
+        assert_eq!(rt; code.len(), 8);
+        assert!(rt; matches!(&code[0].label, Some(name) if name.bytes() == b"L1".as_slice()));
+        assert!(rt; matches!(code[0].operand, Operand::Bare(240)));
+        assert!(rt; code[1].op == Op::Add && code[1].modifier.opens);
+        assert!(rt; matches!(code[1].operand, Operand::Literal(Value::Int(5))));
+        assert!(rt; code[2].op == Op::Close && matches!(code[2].operand, Operand::Absent));
+        assert!(rt; code[3].op == Op::Empty && code[3].label.is_some());
+        assert!(rt;
+            code[4].op == Op::Jmp && code[4].modifier.conditional && code[4].modifier.negated
+        );
+        assert!(rt;
+            matches!(&code[4].operand, Operand::Label(name) if name.bytes() == b"L1".as_slice())
+        );
+        assert!(rt; matches!(code[5].operand, Operand::Literal(Value::Time(1500))));
+        assert!(rt; matches!(code[6].operand, Operand::Direct(Loc::Word(Area::Memory, 3))));
+        assert!(rt; code[7].modifier.opens && matches!(code[7].operand, Operand::Absent));
+        Ok(())
+    }
+
+    #[test]
+    fn literals(rt: HostRuntime) {
+        let rows: [(&[u8], Option<Literal>); 58] = [
+            (b"0", Some(Literal::Bare(0))),
+            (b"+7", Some(Literal::Bare(7))),
+            (b"-2147483648", Some(Literal::Bare(-2_147_483_648))),
+            (b"2147483648", None),
+            (b"99999999999999999999999999", None),
+            (b"1_000", Some(Literal::Bare(1000))),
+            (b"2#1111_0000", Some(Literal::Bare(240))),
+            (b"8#377", Some(Literal::Bare(255))),
+            (b"16#fF", Some(Literal::Bare(255))),
+            (b"16#80000000", None),
+            (b"INT#-32768", Some(Literal::Typed(Value::Int(-32_768)))),
+            (b"INT#32768", None),
+            (b"int#16#7FFF", Some(Literal::Typed(Value::Int(32_767)))),
+            (b"DINT#-5", Some(Literal::Typed(Value::Dint(-5)))),
+            (b"BOOL#1", Some(Literal::Typed(Value::Bool(true)))),
+            (b"bool#false", Some(Literal::Typed(Value::Bool(false)))),
+            (b"TRUE", Some(Literal::Typed(Value::Bool(true)))),
+            (b"T#25h_15m", Some(Literal::Typed(Value::Time(90_900_000)))),
+            (b"T#1.5s", Some(Literal::Typed(Value::Time(1500)))),
+            (b"T#1.0005s", None),
+            (b"T#1.0005m", Some(Literal::Typed(Value::Time(60_030)))),
+            (b"T#1_000ms", Some(Literal::Typed(Value::Time(1000)))),
+            (b"T#1.0_5s", Some(Literal::Typed(Value::Time(1050)))),
+            (b"T#1.0ms", Some(Literal::Typed(Value::Time(1)))),
+            (b"T#-0.5s", Some(Literal::Typed(Value::Time(-500)))),
+            (
+                b"time#1d1h1m1s1ms",
+                Some(Literal::Typed(Value::Time(90_061_001))),
+            ),
+            (b"T#100m", Some(Literal::Typed(Value::Time(6_000_000)))),
+            (
+                b"T#2147483647ms",
+                Some(Literal::Typed(Value::Time(2_147_483_647))),
+            ),
+            (b"T#2147483648ms", None),
+            (
+                b"T#-2147483648ms",
+                Some(Literal::Typed(Value::Time(-2_147_483_648))),
+            ),
+            (b"T#99999999999999999999d", None),
+            (b"T#1m1m", None),
+            (b"T#1s1m", None),
+            (b"T#1.5m1s", None),
+            (b"T#+5s", None),
+            (b"T#_5s", None),
+            (b"T#5s_", None),
+            (b"T#5s__1ms", None),
+            (b"T#.5s", None),
+            (b"T#5.s", None),
+            (b"T#5", None),
+            (b"T#", None),
+            (b"-16#FF", None),
+            (b"INT#-16#F", None),
+            (b"-INT#5", None),
+            (b"BOOL#01", None),
+            (b"BOOL#2", None),
+            (b"FOO#5", None),
+            (b"INT#", None),
+            (b"16#", None),
+            (b"16#G", None),
+            (b"2#2", None),
+            (b"5X", None),
+            (b"5.", None),
+            (b"1__0", None),
+            (b"1_", None),
+            (b"5-3", None),
+            (b"-", None),
+        ];
+        for (n, (text, wanted)) in rows.iter().enumerate() {
+            assert_eq!(rt; literal(text), *wanted, "in row {n}");
+        }
+        let alloc = rt.alloc();
+        let misspelled: [(&[u8], Outcome); 5] = [
+            (b"LD 5X", Outcome::Read(3, 1, 4)),
+            (b"LD - 5", Outcome::Read(3, 1, 4)),
+            (b"LD A__B#1", Outcome::Read(3, 1, 4)),
+            (b"LD 5 99999999999", Outcome::Read(3, 1, 6)),
+            (b"VAR X : INT := 5-3; END_VAR", Outcome::Read(3, 1, 16)),
+        ];
+        wants(&rt, alloc, &misspelled);
     }
 
     #[test]
@@ -344,6 +547,17 @@ mod tests {
             Outcome::Declared(8, 4097, 3)
         );
 
+        let lines = repeated(alloc, b"L:\n", b"LD 1 (*", b"*)\n", 4095, b"M: LD 1")?;
+        assert_eq!(rt;
+            told(alloc, lines.as_slice()),
+            Outcome::Declared(8, 4097, 1)
+        );
+        let lines = repeated(alloc, b"L:\n", b"LD 1 (*", b"*)\n", 4095, b"LD: LD 1")?;
+        assert_eq!(rt;
+            told(alloc, lines.as_slice()),
+            Outcome::Declared(7, 4097, 1)
+        );
+
         let mut text = vec![in alloc; b' '; 2_097_152]?;
         assert_eq!(rt; told(alloc, text.as_slice()), Outcome::Good(0, 0));
         text.push(b'$')?;
@@ -355,10 +569,10 @@ mod tests {
     #[test]
     fn memory_is_the_only_other_answer(rt: HostRuntime) {
         let text =
-            b"PROGRAM P VAR A, B : BOOL; C AT %IX0.0 : BOOL; END_VAR\nLD A\nAND %IX0.1\nST B\nEND_PROGRAM";
+            b"PROGRAM P VAR A, B : BOOL; C AT %IX0.0 : BOOL; END_VAR\nL: LD A\nJMPC L\nAND( %IX0.1\n)\nST B\nEND_PROGRAM";
         let answer = told(rt.alloc(), text);
         assert!(rt;
-            answer == Outcome::Good(3, 3) || answer == Outcome::Memory,
+            answer == Outcome::Good(3, 5) || answer == Outcome::Memory,
             "{answer:?}"
         );
     }

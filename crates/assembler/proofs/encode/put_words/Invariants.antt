@@ -1,7 +1,6 @@
-use Rattle.std.proofs.Common.{◌≡◌, ◌++◌, take}
-use Rattle.std.specs.List.{flat_map}
-use Rattle.il_model.specs.Image.{word_bytes}
+use Rattle.std.proofs.Common.{◌≡◌, ◌++◌, drop}
+use Rattle.assembler.specs.Encoded.{settled_words}
 use Rattle.assembler.proofs.encode.put_words.Given as goal
 
-abbrev pub invariant-loop-line : goal.invariant-loop-line
-invariant-loop-line l = l.out.items ≡ l.fn.out.items ++ flat_map (word_bytes l.program l.constants) (take l.line-index l.code)
+abbrev pub invariant-loop-n : goal.invariant-loop-n
+invariant-loop-n l = l.out.items ++ settled_words l.program l.constants (drop l.n l.code) (drop l.n l.literals) ≡ l.fn.out.items ++ settled_words l.program l.constants l.code l.literals

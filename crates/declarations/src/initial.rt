@@ -1,0 +1,86 @@
+//! Initial values (IEC 61131-3:2003, 2.4.2).
+
+ghost use Rattle.std.specs.Prelude.{◌≡◌, option_map};
+ghost use Rattle.il_reader.specs.Tokens.{token};
+ghost use Rattle.declarations.specs.Resolution.{Gives, zero_of, same_type, fitting, is_input, written_value, first_value, planned_value};
+
+use crate::fault::{DeclKind, Failure};
+use crate::variables::refused;
+use il_model::literal::Literal;
+use il_model::program::{Area, Loc};
+use il_model::value::{Ty, Value, make};
+use il_model::written::literal;
+use il_reader::Lexeme;
+
+fn zero(ty: Ty) -> Value
+    ensures { result ≡ zero_of ty }
+{
+    match ty {
+        Ty::Bool => Value::Bool(false),
+        Ty::Int => Value::Int(0),
+        Ty::Dint => Value::Dint(0),
+        Ty::Time => Value::Time(0),
+    }
+}
+
+fn same_type(a: Ty, b: Ty) -> bool
+    ensures { result ≡ same_type a b }
+{
+    matches!(
+        (a, b),
+        (Ty::Bool, Ty::Bool) | (Ty::Int, Ty::Int) | (Ty::Dint, Ty::Dint) | (Ty::Time, Ty::Time)
+    )
+}
+
+fn fitting(ty: Ty, given: Option<Literal>) -> Option<Value>
+    ensures { result ≡ fitting ty given }
+{
+    match given? {
+        Literal::Bare(z) => make(ty, i64::from(z)),
+        Literal::Typed(v) => if same_type(v.ty(), ty) {
+            make(ty, v.number())
+        } else {
+            None
+        },
+    }
+}
+
+fn is_input(location: Option<Loc>) -> bool
+    ensures { result ≡ is_input location }
+{
+    matches!(
+        location,
+        Some(Loc::Bit(Area::Input, _)) | Some(Loc::Word(Area::Input, _))
+    )
+}
+
+fn written_value(ty: Ty, location: Option<Loc>, t: Lexeme) -> Option<Value>
+    ensures { result ≡ written_value ty location (token t.entry) }
+{
+    if is_input(location) {
+        None
+    } else {
+        fitting(ty, literal(t.text))
+    }
+}
+
+/// The value that a variable starts with.
+pub fn first_value(ty: Ty, location: Option<Loc>, initial: Option<Lexeme>) -> Result<Value, Failure>
+    ensures { Gives (λ v. v) result (first_value ty location (option_map token initial.entry)) }
+{
+    match initial {
+        None => Ok(zero(ty)),
+        Some(t) => written_value(ty, location, t).ok_or(refused(DeclKind::BadInitial, t)),
+    }
+}
+
+/// The value that the variables of a list start with, where their type and it are good.
+pub fn planned_value(ty: Option<Ty>, initial: Option<Lexeme>) -> Value
+    ensures { result ≡ planned_value ty (option_map token initial.entry) }
+{
+    match (ty, initial) {
+        (None, _) => Value::Bool(false),
+        (Some(ty), None) => zero(ty),
+        (Some(ty), Some(t)) => written_value(ty, None, t).unwrap_or(Value::Bool(false)),
+    }
+}

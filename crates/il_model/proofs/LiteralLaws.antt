@@ -1,0 +1,145 @@
+-- The values of literals and of initial values are in their ranges.
+use Rattle.std.proofs.Common.{◌≡◌, ℕ, ◌+◌, ◌<◌, ◌^◌, Bool, true, false, cond, ltb, List, length, take, drop, Option, Some, None, refl, subst, arith, ◌||◌, codes}
+use Rattle.std.specs.Prelude.{ℤ, pos, negsuc, option_map}
+use Rattle.std.specs.Option.{option_and_then}
+use Rattle.std.specs.Int.{w32, cast_signed, cast_unsigned}
+use Rattle.std.proofs.lemmas.Bool.{ltb-true, lt-ltb}
+use Rattle.std.proofs.Common.{SFits, to_z-of_z}
+use Rattle.std.proofs.Math.Facts.{Fits-of_z}
+use Rattle.il_model.specs.declared.value.Ty.{Ty}
+use Rattle.il_model.specs.declared.value.Ty.TheVariants as types
+use Rattle.il_model.specs.declared.value.Value.{Value}
+use Rattle.il_model.specs.declared.value.Value.TheVariants as values
+use Rattle.il_model.specs.declared.program.Loc.{Loc}
+use Rattle.il_model.specs.declared.literal.Literal.{Literal}
+use Rattle.il_model.specs.declared.literal.Literal.TheVariants.{Bare, Typed}
+use Rattle.il_model.specs.Values.{ty_of, number_of, is_within, truth_made, made}
+use Rattle.il_model.specs.Words.{spells}
+use Rattle.il_model.specs.Codes.{may_start_with, initial_of}
+use Rattle.il_model.specs.Literal.{integer_of}
+use Rattle.il_model.specs.Literals.{hash_at, signed_by, based_by, whole_by, time_by, truth_of, typed, bare, prefixed, is_word, literal_of}
+
+-- a value of its type's range
+abbrev pub IsValue : Value → Type 0
+IsValue v = made (ty_of v) (number_of v) ≡ Some v
+
+abbrev pub IsInRange : Option Literal → Type 0
+IsInRange None = Unit {0}
+IsInRange (Some (Bare z)) = is_within (2 ^ 31) z ≡ true
+IsInRange (Some (Typed v)) = IsValue v
+
+record Good (o : Option Literal) : Type 0 where
+  good : IsInRange o
+
+either : (b : Bool) (p q : Option Literal) → Good p → Good q → Good (cond b p q)
+either true p q x y = x
+either false p q x y = y
+
+truth_good : (bytes : List ℕ) → Good (truth_of bytes)
+truth_good bytes = either (spells (codes "TRUE") bytes || spells (codes "1") bytes) (Some (Typed (values.Bool true))) _ (record { good = refl }) (either (spells (codes "FALSE") bytes || spells (codes "0") bytes) (Some (Typed (values.Bool false))) None (record { good = refl }) (record { good = tt }))
+
+int_good : (b : Bool) (z : ℤ) → is_within (2 ^ 15) z ≡ b → Good (option_map Typed (cond b (Some (values.Int z)) None))
+int_good true z e = record { good = rw e refl }
+int_good false z e = record { good = tt }
+
+dint_good : (b : Bool) (z : ℤ) → is_within (2 ^ 31) z ≡ b → Good (option_map Typed (cond b (Some (values.Dint z)) None))
+dint_good true z e = record { good = rw e refl }
+dint_good false z e = record { good = tt }
+
+time_good : (b : Bool) (z : ℤ) → is_within (2 ^ 31) z ≡ b → Good (option_map Typed (cond b (Some (values.Time z)) None))
+time_good true z e = record { good = rw e refl }
+time_good false z e = record { good = tt }
+
+int_typed : (o : Option ℤ) → Good (typed types.Int o)
+int_typed None = record { good = tt }
+int_typed (Some z) = int_good (is_within (2 ^ 15) z) z refl
+
+dint_typed : (o : Option ℤ) → Good (typed types.Dint o)
+dint_typed None = record { good = tt }
+dint_typed (Some z) = dint_good (is_within (2 ^ 31) z) z refl
+
+time_typed : (o : Option ℤ) → Good (typed types.Time o)
+time_typed None = record { good = tt }
+time_typed (Some z) = time_good (is_within (2 ^ 31) z) z refl
+
+bare_by : (b : Bool) (z : ℤ) → is_within (2 ^ 31) z ≡ b → Good (cond b (Some (Bare z)) None)
+bare_by true z e = record { good = e }
+bare_by false z e = record { good = tt }
+
+bare_good : (o : Option ℤ) → Good (option_and_then bare o)
+bare_good None = record { good = tt }
+bare_good (Some z) = bare_by (is_within (2 ^ 31) z) z refl
+
+prefixed_good : (word bytes : List ℕ) → Good (prefixed integer_of word bytes)
+prefixed_good word bytes =
+    either (spells (codes "BOOL") word) (truth_of bytes) _ (truth_good bytes)
+    (either (spells (codes "INT") word) (typed types.Int (whole_by integer_of bytes)) _ (int_typed (whole_by integer_of bytes))
+    (either (spells (codes "DINT") word) (typed types.Dint (whole_by integer_of bytes)) _ (dint_typed (whole_by integer_of bytes))
+    (either (spells (codes "T") word || spells (codes "TIME") word) (typed types.Time (time_by integer_of bytes)) (option_and_then bare (based_by integer_of word bytes)) (time_typed (time_by integer_of bytes)) (bare_good (based_by integer_of word bytes)))))
+
+good_literal : (bytes : List ℕ) → Good (literal_of bytes)
+unfolding literal_of
+good_literal bytes =
+    either (ltb (hash_at bytes) (length bytes)) (prefixed integer_of (take (hash_at bytes) bytes) (drop (hash_at bytes + 1) bytes)) _ (prefixed_good (take (hash_at bytes) bytes) (drop (hash_at bytes + 1) bytes))
+    (either (is_word bytes) (truth_of bytes) (option_and_then bare (signed_by integer_of bytes)) (truth_good bytes) (bare_good (signed_by integer_of bytes)))
+
+pub literal_good : (bytes : List ℕ) → IsInRange (literal_of bytes)
+literal_good bytes = (good_literal bytes).good
+
+-- ---- initial values
+
+abbrev one_value : Value → Option Value
+one_value v = Some v
+
+value_is : (x y : Value) → one_value x ≡ one_value y → x ≡ y
+value_is x y e = cc
+
+some_of : (b : Bool) (x v : Value) → cond b (Some x) None ≡ one_value v → (b ≡ true) × (x ≡ v)
+some_of true x v e = (refl, value_is x v e)
+some_of false x v e = absurd cc
+
+fits_by : (z : ℤ) → is_within (2 ^ 31) z ≡ true → SFits w32 z
+fits_by (pos n) e = record { sfits = ltb-true n (2 ^ 31) e }
+fits_by (negsuc n) e = record { sfits = ltb-true n (2 ^ 31) e }
+
+wider : (z : ℤ) → is_within (2 ^ 15) z ≡ true → is_within (2 ^ 31) z ≡ true
+wider (pos n) e = let lt = ltb-true n (2 ^ 15) e in lt-ltb n (2 ^ 31) (omega (arith, lt))
+wider (negsuc n) e = let lt = ltb-true n (2 ^ 15) e in lt-ltb n (2 ^ 31) (omega (arith, lt))
+
+record IsMade (type : Ty) (v : Value) : Type 0 where
+  again : made type (number_of v) ≡ Some v
+  within : is_within (2 ^ 31) (number_of v) ≡ true
+
+truth_by : (a b : Bool) (v : Value) → cond a (Some (values.Bool false)) (cond b (Some (values.Bool true)) None) ≡ one_value v → IsMade types.Bool v
+truth_by true b v e = subst (IsMade types.Bool) (value_is (values.Bool false) v e) (record { again = refl; within = refl })
+truth_by false true v e = subst (IsMade types.Bool) (value_is (values.Bool true) v e) (record { again = refl; within = refl })
+truth_by false false v e = absurd cc
+
+truth_is : (z : ℤ) (v : Value) → truth_made z ≡ Some v → IsMade types.Bool v
+truth_is (pos n) v e = truth_by (ltb n 1) (ltb n 2) v e
+truth_is (negsuc n) v e = absurd cc
+
+made_is : (type : Ty) (z : ℤ) (v : Value) → made type z ≡ Some v → IsMade type v
+made_is types.Bool z v e = truth_is z v e
+made_is types.Int z v e =
+    let m = some_of (is_within (2 ^ 15) z) (values.Int z) v e in
+    subst (IsMade types.Int) m.1 (record { again = rw m.0 refl; within = wider z m.0 })
+made_is types.Dint z v e =
+    let m = some_of (is_within (2 ^ 31) z) (values.Dint z) v e in
+    subst (IsMade types.Dint) m.1 (record { again = rw m.0 refl; within = m.0 })
+made_is types.Time z v e =
+    let m = some_of (is_within (2 ^ 31) z) (values.Time z) v e in
+    subst (IsMade types.Time) m.1 (record { again = rw m.0 refl; within = m.0 })
+
+-- an initial value reads back from its bits
+pub record IsStart (type : Ty) (loc : Option Loc) (v : Value) : Type 0 where
+  pub again : initial_of type loc (cast_unsigned w32 (number_of v)) ≡ Some v
+  pub small : cast_unsigned w32 (number_of v) < 2 ^ 32
+
+pub start_again : (type : Ty) (loc : Option Loc) (z : ℤ) (v : Value) → made type z ≡ Some v → may_start_with loc v ≡ true → IsStart type loc v
+start_again type loc z v e may =
+    let m = made_is type z v e in
+    let fits = fits_by (number_of v) m.within in
+    let back : cast_signed w32 (cast_unsigned w32 (number_of v)) ≡ number_of v = to_z-of_z fits in
+    let small = (Fits-of_z fits).fits in
+    record { again = rw (back, m.again, may) refl; small = small }

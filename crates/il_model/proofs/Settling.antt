@@ -1,0 +1,448 @@
+-- A program and its typed program.
+use Rattle.std.proofs.Common.{◌≡◌, ℕ, zero, suc, ◌+◌, ◌-◌, ◌<◌, ◌≤◌, Bool, true, false, cond, List, [], ◌∷◌, length, Option, Some, None, Result, Ok, Err, refl, sym, ap, ◌∙◌, subst, arith}
+use Rattle.std.specs.Prelude.{map, slice_get, nat_lt, ℤ, pos, negsuc, is_some, not, ◌^◌}
+use Rattle.std.specs.List.{position, prefix_len}
+use Rattle.std.proofs.lemmas.List.{length-map}
+use Rattle.std.specs.Option.{option_map, option_and_then}
+use Rattle.std.proofs.lemmas.Bool.{ltb-true, ltb-false, lt-ltb, le-ltb}
+use Rattle.std.proofs.lemmas.Option.{slice_get_within, slice_get_past}
+use Rattle.il_model.specs.declared.value.Ty.{Ty}
+use Rattle.il_model.specs.declared.value.Ty.TheVariants as types
+use Rattle.il_model.specs.declared.value.Value.{Value}
+use Rattle.il_model.specs.declared.value.Value.TheVariants as values
+use Rattle.il_model.specs.declared.op.Op.{Op}
+use Rattle.il_model.specs.declared.op.Modifier.{Modifier}
+use Rattle.il_model.specs.declared.program.Variable.{Variable}
+use Rattle.il_model.specs.declared.program.Place.{Place}
+use Rattle.il_model.specs.declared.program.Operand.{Operand}
+use Rattle.il_model.specs.declared.program.Operand.TheVariants as operands
+use Rattle.il_model.specs.declared.program.Instr.{Instr}
+use Rattle.il_model.specs.declared.fetched.Source.{Source}
+use Rattle.il_model.specs.declared.fetched.Source.TheVariants as sources
+use Rattle.il_model.specs.declared.typing.TypeFault.{TypeFault}
+use Rattle.il_model.specs.declared.typing.Kind.TheVariants as kinds
+use Rattle.il_model.specs.declared.typing.Held.{Held}
+use Rattle.il_model.specs.declared.typing.Effect.{Effect}
+use Rattle.il_model.specs.Text.{Text}
+use Rattle.il_model.specs.Values.{ty_of, number_of, made, truth_made, is_within}
+use Rattle.il_model.specs.Resolved.{has_label, target_of, source_of, place_of, labelled, is_labelled}
+use Rattle.il_model.specs.Constants.{literal_of}
+use Rattle.il_model.specs.Row.{row}
+use Rattle.il_model.proofs.Safe.{some_yes}
+use Rattle.il_model.proofs.NeverStuck.{bind_ok, ok_before, typed_line, sourced}
+use Rattle.il_model.proofs.Loop.{goes_at, fails_at}
+use Rattle.il_model.specs.Typing.{◌>>=◌, Shape, source_kind, place_type, source_row, line_row_of, line_row, label_at, label_row, applied, after_line, after_at, numbered, shape_at, closed, judged, IsTyped, top_of}
+use Rattle.il_model.specs.Settled.{wanted_type, settled_number, settled_as, settled_operand, settled_line, settled_nth, settled_on_arrival, settled_before, settled_text, if_typed, settled, is_bare, HasNoBare, Settles, IsSettling, IsSettledOnArrival, IsTypedProgramOf}
+
+-- ---- programs with the same declarations and labels
+
+abbrev pub labels_of : List Instr → List (Option (List ℕ))
+labels_of code = map (λ (line : Instr). line.label) code
+
+pub record Alike (P Q : Text) : Type 0 where
+  pub variables : Q.variables ≡ P.variables
+  pub labels : labels_of Q.code ≡ labels_of P.code
+
+firsts_alike : (name : List ℕ) (xs ys : List Instr) → labels_of xs ≡ labels_of ys → prefix_len (λ (x : Instr). not (has_label name x)) xs ≡ prefix_len (λ (x : Instr). not (has_label name x)) ys
+firsts_alike name [] [] e = refl
+firsts_alike name [] (y ∷ ys) e = absurd cc
+firsts_alike name (x ∷ xs) [] e = absurd cc
+firsts_alike name (x ∷ xs) (y ∷ ys) e =
+    let head : x.label ≡ y.label = cc in
+    let tail : prefix_len (λ (x : Instr). not (has_label name x)) xs ≡ prefix_len (λ (x : Instr). not (has_label name x)) ys = firsts_alike name xs ys (cc) in
+    ap (λ (o : Option (List ℕ)). cond (not (has_label name (record x { label = o }))) (1 + prefix_len (λ (x : Instr). not (has_label name x)) xs) 0) head
+    ∙ ap (λ (k : ℕ). cond (not (has_label name y)) (1 + k) 0) tail
+
+lengths_alike : (xs ys : List Instr) → labels_of xs ≡ labels_of ys → length xs ≡ length ys
+lengths_alike xs ys e = sym (length-map xs (λ (line : Instr). line.label)) ∙ ap length e ∙ length-map ys (λ (line : Instr). line.label)
+
+targets_alike : (name : List ℕ) (xs ys : List Instr) → labels_of xs ≡ labels_of ys → position (has_label name) xs ≡ position (has_label name) ys
+targets_alike name xs ys e = ap (λ (k : ℕ). cond (nat_lt k (length xs)) (Some k) None) (firsts_alike name xs ys e) ∙ ap (λ (n : ℕ). cond (nat_lt (prefix_len (λ (x : Instr). not (has_label name x)) ys) n) (Some (prefix_len (λ (x : Instr). not (has_label name x)) ys)) None) (lengths_alike xs ys e)
+
+pub target_alike : (P Q : Text) (name : List ℕ) → Alike P Q → target_of Q name ≡ target_of P name
+target_alike P Q name e = targets_alike name Q.code P.code e.labels
+
+labels_at : (n : ℕ) (xs ys : List Instr) → labels_of xs ≡ labels_of ys → labelled (slice_get xs n) ≡ labelled (slice_get ys n)
+labels_at n [] [] e = refl
+labels_at n [] (y ∷ ys) e = absurd cc
+labels_at n (x ∷ xs) [] e = absurd cc
+labels_at zero (x ∷ xs) (y ∷ ys) e = let head : x.label ≡ y.label = cc in ap is_some head
+labels_at (suc n) (x ∷ xs) (y ∷ ys) e = labels_at n xs ys (cc)
+
+labelled_alike : (P Q : Text) (n : ℕ) → Alike P Q → is_labelled Q n ≡ is_labelled P n
+labelled_alike P Q n e = labels_at n Q.code P.code e.labels
+
+abbrev with_variables : List Variable → Text
+with_variables vs = record { variables = vs; code = [] }
+
+place_alike : (P Q : Text) (name : List ℕ) → Alike P Q → place_of Q name ≡ place_of P name
+place_alike P Q name e = ap (λ (vs : List Variable). place_of (with_variables vs) name) e.variables
+
+source_alike : (P Q : Text) (operand : Operand) → Alike P Q → source_of Q operand ≡ source_of P operand
+source_alike P Q operands.Absent e = refl
+source_alike P Q (operands.Literal v) e = refl
+source_alike P Q (operands.Bare z) e = refl
+source_alike P Q (operands.Variable name) e = ap (option_map sources.Of) (place_alike P Q name e)
+source_alike P Q (operands.Direct loc) e = refl
+source_alike P Q (operands.Label name) e = ap (option_map sources.Target) (target_alike P Q name e)
+
+place_type_alike : (P Q : Text) (p : Place) → Alike P Q → place_type Q p ≡ place_type P p
+place_type_alike P Q p e = ap (λ (vs : List Variable). place_type (with_variables vs) p) e.variables
+
+kind_alike : (P Q : Text) (src : Source) → Alike P Q → source_kind Q src ≡ source_kind P src
+kind_alike P Q src e = ap (λ (vs : List Variable). source_kind (with_variables vs) src) e.variables
+
+source_row_alike : (P Q : Text) (cr : Option Ty) (top : Option Held) (depth : ℕ) (line : Instr) (o : Option Source) → Alike P Q → source_row Q cr top depth line o ≡ source_row P cr top depth line o
+source_row_alike P Q cr top depth line (Some src) e = ap (row cr top depth line.op line.modifier) (kind_alike P Q src e)
+source_row_alike P Q cr top depth line None e = refl
+
+line_row_alike : (P Q : Text) (sh : Shape) (line : Instr) → Alike P Q → line_row Q sh line ≡ line_row P sh line
+line_row_alike P Q sh line e =
+    ap (source_row Q sh.cr (top_of sh.kept) (length sh.kept) line) (source_alike P Q line.operand e)
+    ∙ source_row_alike P Q sh.cr (top_of sh.kept) (length sh.kept) line (source_of P line.operand) e
+
+label_row_alike : (P Q : Text) (n depth : ℕ) (label : Option (List ℕ)) → Alike P Q → label_row Q n depth label ≡ label_row P n depth label
+label_row_alike P Q n depth None e = refl
+label_row_alike P Q n depth (Some name) e = ap (λ (o : Option ℕ). label_at o n depth) (target_alike P Q name e)
+
+abbrev after_rows : Shape → Result Bool TypeFault → Result Effect TypeFault → Bool → Result Shape TypeFault
+after_rows sh a b here = a >>= λ _. b >>= λ e. Ok (cond here (record (applied sh e) { cr = None }) (applied sh e))
+
+pub after_alike : (P Q : Text) (n : ℕ) (sh : Shape) (line : Instr) → Alike P Q → after_line Q n sh line ≡ after_line P n sh line
+after_alike P Q n sh line e =
+    ap (λ (a : Result Bool TypeFault). after_rows sh a (line_row Q sh line) (is_labelled Q (n + 1))) (label_row_alike P Q n (length sh.kept) line.label e)
+    ∙ ap (λ (b : Result Effect TypeFault). after_rows sh (label_row P n (length sh.kept) line.label) b (is_labelled Q (n + 1))) (line_row_alike P Q sh line e)
+    ∙ ap (after_rows sh (label_row P n (length sh.kept) line.label) (line_row P sh line)) (labelled_alike P Q (n + 1) e)
+
+after_at_alike : (P Q : Text) (n : ℕ) (sh : Shape) (o : Option Instr) → Alike P Q → after_at Q n sh o ≡ after_at P n sh o
+after_at_alike P Q n sh (Some line) e = ap (numbered n) (after_alike P Q n sh line e)
+after_at_alike P Q n sh None e = refl
+
+turn_alike : (P Q : Text) (n : ℕ) (r : Result Shape (TypeFault × ℕ)) (a b : Option Instr) → a ≡ b → Alike P Q → (r >>= λ sh. after_at Q n sh a) ≡ (r >>= λ sh. after_at P n sh b)
+turn_alike P Q n (Ok sh) a b is e = ap (after_at Q n sh) is ∙ after_at_alike P Q n sh b e
+turn_alike P Q n (Err f) a b is e = refl
+
+-- where the instructions before a position are the same, so are the types on arrival
+shapes_alike : (P Q : Text) (n : ℕ) → Alike P Q → ((k : ℕ) → k < n → slice_get Q.code k ≡ slice_get P.code k) → shape_at Q n ≡ shape_at P n
+shapes_alike P Q zero e same = ap (λ (b : Bool). let r : Result Shape (TypeFault × ℕ) = Ok (cond b (record { cr = None; kept = [] }) (record { cr = None; kept = [] })) in r) (labelled_alike P Q 0 e)
+shapes_alike P Q (suc n) e same =
+    ap (λ (r : Result Shape (TypeFault × ℕ)). r >>= λ sh. after_at Q n sh (slice_get Q.code n)) (shapes_alike P Q n e (λ k lt. same k (omega arith)))
+    ∙ turn_alike P Q n (shape_at P n) (slice_get Q.code n) (slice_get P.code n) (same n (omega arith)) e
+
+-- ---- settling one instruction changes no other, and no label
+
+nth_labels : (cr : Option Ty) (n : ℕ) (code : List Instr) → labels_of (settled_nth cr n code) ≡ labels_of code
+nth_labels cr n [] = refl
+nth_labels cr zero (line ∷ code) = refl
+nth_labels cr (suc n) (line ∷ code) = ap (λ (ls : List (Option (List ℕ))). line.label ∷ ls) (nth_labels cr n code)
+
+nth_other : (cr : Option Ty) (n k : ℕ) (code : List Instr) → (k ≡ n → ⊥) → slice_get (settled_nth cr n code) k ≡ slice_get code k
+nth_other cr n k [] ne = refl
+nth_other cr zero zero (line ∷ code) ne = absurd (ne refl)
+nth_other cr zero (suc k) (line ∷ code) ne = refl
+nth_other cr (suc n) zero (line ∷ code) ne = refl
+nth_other cr (suc n) (suc k) (line ∷ code) ne = nth_other cr n k code (λ e. ne (ap suc e))
+
+nth_own : (cr : Option Ty) (n : ℕ) (code : List Instr) → slice_get (settled_nth cr n code) n ≡ option_map (settled_line cr) (slice_get code n)
+nth_own cr n [] = refl
+nth_own cr zero (line ∷ code) = refl
+nth_own cr (suc n) (line ∷ code) = nth_own cr n code
+
+arrival_other : (Q : Text) (n k : ℕ) (r : Result Shape (TypeFault × ℕ)) → (k ≡ n → ⊥) → slice_get (settled_on_arrival Q n r).code k ≡ slice_get Q.code k
+arrival_other Q n k (Ok sh) ne = nth_other sh.cr n k Q.code ne
+arrival_other Q n k (Err f) ne = refl
+
+arrival_alike : (P Q : Text) (n : ℕ) (r : Result Shape (TypeFault × ℕ)) → Alike P Q → Alike P (settled_on_arrival Q n r)
+arrival_alike P Q n (Ok sh) e = record { variables = e.variables; labels = nth_labels sh.cr n Q.code ∙ e.labels }
+arrival_alike P Q n (Err f) e = e
+
+-- ---- a program settled before a position
+
+before_alike : (P : Text) (n : ℕ) → Alike P (settled_before P n)
+before_alike P zero = record { variables = refl; labels = refl }
+before_alike P (suc n) = arrival_alike P (settled_before P n) n (shape_at (settled_before P n) n) (before_alike P n)
+
+before_past : (P : Text) (n k : ℕ) → n ≤ k → slice_get (settled_before P n).code k ≡ slice_get P.code k
+before_past P zero k le = refl
+before_past P (suc n) k le = arrival_other (settled_before P n) n k (shape_at (settled_before P n) n) (λ e. absurd (omega (arith, e))) ∙ before_past P n k (omega arith)
+
+before_kept : (P : Text) (d n k : ℕ) → k < n → slice_get (settled_before P (d + n)).code k ≡ slice_get (settled_before P n).code k
+before_kept P zero n k lt = let is : 0 + n ≡ n = omega arith in ap (λ (m : ℕ). slice_get (settled_before P m).code k) is
+before_kept P (suc d) n k lt =
+    let is : suc d + n ≡ suc (d + n) = omega arith in
+    ap (λ (m : ℕ). slice_get (settled_before P m).code k) is
+    ∙ arrival_other (settled_before P (d + n)) (d + n) k (shape_at (settled_before P (d + n)) (d + n)) (λ e. absurd (omega (arith, e)))
+    ∙ before_kept P d n k lt
+
+text_kept : (P : Text) (n k : ℕ) → n ≤ length P.code → k < n → slice_get (settled_text P).code k ≡ slice_get (settled_before P n).code k
+text_kept P n k le lt =
+    let is : length P.code ≡ (length P.code - n) + n = omega arith in
+    ap (λ (m : ℕ). slice_get (settled_before P m).code k) is ∙ before_kept P (length P.code - n) n k lt
+
+pub text_alike : (P : Text) → Alike P (settled_text P)
+text_alike P = before_alike P (length P.code)
+
+pub text_count : (P : Text) → length (settled_text P).code ≡ length P.code
+text_count P = lengths_alike (settled_text P).code P.code (text_alike P).labels
+
+-- the types on arrival at a position hang on what stands before it
+text_shape : (P : Text) (n : ℕ) → n ≤ length P.code → shape_at (settled_text P) n ≡ shape_at (settled_before P n) n
+text_shape P n le =
+    let a = text_alike P in
+    let b = before_alike P n in
+    shapes_alike (settled_before P n) (settled_text P) n (record { variables = a.variables ∙ sym b.variables; labels = a.labels ∙ sym b.labels }) (λ k lt. text_kept P n k le lt)
+
+arrival_own : (Q : Text) (n : ℕ) (r : Result Shape (TypeFault × ℕ)) (sh : Shape) → r ≡ Ok sh → slice_get (settled_on_arrival Q n r).code n ≡ option_map (settled_line sh.cr) (slice_get Q.code n)
+arrival_own Q n (Ok s) sh e = let is : s ≡ sh = cc in nth_own s.cr n Q.code ∙ ap (λ (x : Shape). option_map (settled_line x.cr) (slice_get Q.code n)) is
+arrival_own Q n (Err f) sh e = absurd cc
+
+text_within : (P : Text) (n : ℕ) (sh : Shape) → n < length P.code → shape_at (settled_text P) n ≡ Ok sh → slice_get (settled_text P).code n ≡ option_map (settled_line sh.cr) (slice_get P.code n)
+text_within P n sh lt at =
+    text_kept P (suc n) n (omega arith) (omega arith)
+    ∙ arrival_own (settled_before P n) n (shape_at (settled_before P n) n) sh (sym (text_shape P n (omega arith)) ∙ at)
+    ∙ ap (option_map (settled_line sh.cr)) (before_past P n n (omega arith))
+
+pub text_arrival : (P : Text) → IsSettledOnArrival P (settled_text P)
+text_arrival P n sh at =
+    elim (nat_lt n (length P.code)) as (λ v. nat_lt n (length P.code) ≡ v → slice_get (settled_text P).code n ≡ option_map (settled_line sh.cr) (slice_get P.code n)) [
+      | true ↦ λ h. text_within P n sh (ltb-true n (length P.code) h) at
+      | false ↦ λ h.
+          let le : length P.code ≤ n = ltb-false n (length P.code) h in
+          slice_get_past (settled_text P).code n (omega (arith, text_count P)) ∙ sym (ap (option_map (settled_line sh.cr)) (slice_get_past P.code n le))
+    ] refl
+
+-- ---- the literal that a settled operand is
+
+literal_by : (z : ℤ) (o : Option Value) → literal_of (settled_as z o) ≡ None → settled_as z o ≡ operands.Bare z
+literal_by z (Some v) e = absurd cc
+literal_by z None e = refl
+
+-- an operand that is no literal then was none before, and is as it was
+pub settled_none : (cr : Option Ty) (op : Op) (m : Modifier) (o : Operand) → literal_of (settled_operand cr op m o) ≡ None → settled_operand cr op m o ≡ o
+settled_none cr op m operands.Absent e = refl
+settled_none cr op m (operands.Literal v) e = refl
+settled_none cr op m (operands.Bare z) e = literal_by z (settled_number cr op m.opens z) e
+settled_none cr op m (operands.Variable name) e = refl
+settled_none cr op m (operands.Direct loc) e = refl
+settled_none cr op m (operands.Label name) e = refl
+
+pub literal_is : (o : Operand) (v : Value) → literal_of o ≡ Some v → o ≡ operands.Literal v
+literal_is operands.Absent v e = absurd cc
+literal_is (operands.Literal w) v e = let is : w ≡ v = cc in ap operands.Literal is
+literal_is (operands.Bare z) v e = absurd cc
+literal_is (operands.Variable name) v e = absurd cc
+literal_is (operands.Direct loc) v e = absurd cc
+literal_is (operands.Label name) v e = absurd cc
+
+pub literal_row : (Q : Text) (cr : Option Ty) (top : Option Held) (depth : ℕ) (line : Instr) (v : Value) → literal_of (settled_operand cr line.op line.modifier line.operand) ≡ Some v
+    → line_row_of Q cr top depth (settled_line cr line) ≡ row cr top depth line.op line.modifier (kinds.Typed (ty_of v) false)
+literal_row Q cr top depth line v e = ap (λ (o : Operand). line_row_of Q cr top depth (record line { operand = o })) (literal_is (settled_operand cr line.op line.modifier line.operand) v e)
+
+pub other_row : (Q : Text) (cr : Option Ty) (top : Option Held) (depth : ℕ) (line : Instr) → literal_of (settled_operand cr line.op line.modifier line.operand) ≡ None
+    → line_row_of Q cr top depth (settled_line cr line) ≡ line_row_of Q cr top depth line
+other_row Q cr top depth line e = ap (λ (o : Operand). line_row_of Q cr top depth (record line { operand = o })) (settled_none cr line.op line.modifier line.operand e)
+
+-- ---- going over the instructions
+
+-- the typed program's instruction
+pub here_settled : (P : Text) (n : ℕ) (sh : Shape) (line : Instr) → shape_at (settled_text P) n ≡ Ok sh → slice_get P.code n ≡ Some line → slice_get (settled_text P).code n ≡ Some (settled_line sh.cr line)
+here_settled P n sh line at here = text_arrival P n sh at ∙ ap (option_map (settled_line sh.cr)) here
+
+pub goes_settled : (P : Text) (n : ℕ) (sh sh' : Shape) (line : Instr) → shape_at (settled_text P) n ≡ Ok sh → slice_get P.code n ≡ Some line → after_line P n sh (settled_line sh.cr line) ≡ Ok sh' → shape_at (settled_text P) (n + 1) ≡ Ok sh'
+goes_settled P n sh sh' line at here h =
+    goes_at (settled_text P) n sh sh' (settled_line sh.cr line) at (here_settled P n sh line at here) (after_alike P (settled_text P) n sh (settled_line sh.cr line) (text_alike P) ∙ h)
+
+pub fails_settled : (P : Text) (n : ℕ) (sh : Shape) (line : Instr) (fault : TypeFault) → n < length P.code → shape_at (settled_text P) n ≡ Ok sh → slice_get P.code n ≡ Some line → after_line P n sh (settled_line sh.cr line) ≡ Err fault → settled P ≡ Err (fault, n)
+fails_settled P n sh line fault lt at here h =
+    let one = fails_at (settled_text P) n sh (settled_line sh.cr line) fault (omega (arith, text_count P)) at (here_settled P n sh line at here) (after_alike P (settled_text P) n sh (settled_line sh.cr line) (text_alike P) ∙ h) in
+    ap (λ (r : Result Bool (TypeFault × ℕ)). r >>= λ _. Ok (settled_text P)) (sym one)
+
+ends_judged : (P : Text) (sh : Shape) → shape_at (settled_text P) (length P.code) ≡ Ok sh → judged (settled_text P) ≡ closed (settled_text P) sh
+ends_judged P sh at = ap (λ (k : ℕ). shape_at (settled_text P) k >>= closed (settled_text P)) (text_count P) ∙ ap (λ (r : Result Shape (TypeFault × ℕ)). r >>= closed (settled_text P)) at
+
+pub stays_open : (P : Text) (sh : Shape) → shape_at (settled_text P) (length P.code) ≡ Ok sh → 0 < length sh.kept → settled P ≡ Err (TypeFault.Unbalanced, length P.code)
+stays_open P sh at lt =
+    let open_end : closed (settled_text P) sh ≡ Err (TypeFault.Unbalanced, length (settled_text P).code) = ap (λ (b : Bool). let r : Result Bool (TypeFault × ℕ) = cond b (Err (TypeFault.Unbalanced, length (settled_text P).code)) (Ok true) in r) (lt-ltb 0 (length sh.kept) lt) in
+    ap (λ (r : Result Bool (TypeFault × ℕ)). r >>= λ _. Ok (settled_text P)) (ends_judged P sh at ∙ open_end)
+    ∙ ap (λ (k : ℕ). let r : Result Text (TypeFault × ℕ) = Err (TypeFault.Unbalanced, k) in r) (text_count P)
+
+pub ends_settled : (P : Text) (sh : Shape) → shape_at (settled_text P) (length P.code) ≡ Ok sh → length sh.kept ≤ 0 → settled P ≡ Ok (settled_text P)
+ends_settled P sh at le =
+    let closed_end : closed (settled_text P) sh ≡ Ok true = ap (λ (b : Bool). let r : Result Bool (TypeFault × ℕ) = cond b (Err (TypeFault.Unbalanced, length (settled_text P).code)) (Ok true) in r) (le-ltb 0 (length sh.kept) le) in
+    ap (λ (r : Result Bool (TypeFault × ℕ)). r >>= λ _. Ok (settled_text P)) (ends_judged P sh at ∙ closed_end)
+
+-- ---- what holds of a typed program
+
+truth_by : (a b : Bool) (n : ℕ) (v : Value) → nat_lt n 1 ≡ a → nat_lt n 2 ≡ b → cond a (Some (values.Bool false)) (cond b (Some (values.Bool true)) None) ≡ Some v → number_of v ≡ pos n
+truth_by true b n v e f h = let is : values.Bool false ≡ v = cc in let lt : n < 1 = ltb-true n 1 e in let z : 0 ≡ n = omega arith in sym (ap number_of is) ∙ ap pos z
+truth_by false true n v e f h = let is : values.Bool true ≡ v = cc in let lt : n < 2 = ltb-true n 2 f in let le : 1 ≤ n = ltb-false n 1 e in let z : 1 ≡ n = omega arith in sym (ap number_of is) ∙ ap pos z
+truth_by false false n v e f h = absurd cc
+
+truth_number_is : (z : ℤ) (v : Value) → truth_made z ≡ Some v → number_of v ≡ z
+truth_number_is (pos n) v e = truth_by (nat_lt n 1) (nat_lt n 2) n v refl refl e
+truth_number_is (negsuc n) v e = absurd cc
+
+made_number : (t : Ty) (z : ℤ) (v : Value) → made t z ≡ Some v → number_of v ≡ z
+made_number types.Bool z v e = truth_number_is z v e
+made_number types.Int z v e = sym (ap number_of (some_yes (is_within (2 ^ 15) z) (values.Int z) v e).1)
+made_number types.Dint z v e = sym (ap number_of (some_yes (is_within (2 ^ 31) z) (values.Dint z) v e).1)
+made_number types.Time z v e = sym (ap number_of (some_yes (is_within (2 ^ 31) z) (values.Time z) v e).1)
+
+wanted_number : (w : Option Ty) (z : ℤ) (v : Value) → option_and_then (λ (t : Ty). made t z) w ≡ Some v → number_of v ≡ z
+wanted_number (Some t) z v e = made_number t z v e
+wanted_number None z v e = absurd cc
+
+settles_by : (z : ℤ) (x : Option Value) → ((v : Value) → x ≡ Some v → number_of v ≡ z) → is_bare (settled_as z x) ≡ false → Settles (operands.Bare z) (settled_as z x)
+settles_by z (Some v) is e = (v, refl, is v refl)
+settles_by z None is e = absurd cc
+
+settles : (cr : Option Ty) (op : Op) (m : Modifier) (o : Operand) → is_bare (settled_operand cr op m o) ≡ false → Settles o (settled_operand cr op m o)
+settles cr op m operands.Absent e = refl
+settles cr op m (operands.Literal v) e = refl
+settles cr op m (operands.Bare z) e = settles_by z (settled_number cr op m.opens z) (λ v is. wanted_number (wanted_type cr op m.opens z) z v is) e
+settles cr op m (operands.Variable name) e = refl
+settles cr op m (operands.Direct loc) e = refl
+settles cr op m (operands.Label name) e = refl
+
+sourced_plain : (Q : Text) (o : Operand) (src : Source) → source_of Q o ≡ Some src → is_bare o ≡ false
+sourced_plain Q operands.Absent src e = refl
+sourced_plain Q (operands.Literal v) src e = refl
+sourced_plain Q (operands.Bare z) src e = absurd cc
+sourced_plain Q (operands.Variable name) src e = refl
+sourced_plain Q (operands.Direct loc) src e = refl
+sourced_plain Q (operands.Label name) src e = refl
+
+shape_within : (Q : Text) → IsTyped Q → (n : ℕ) → n ≤ length Q.code → (sh : Shape) × (shape_at Q n ≡ Ok sh)
+shape_within Q typed n le = let all = bind_ok (shape_at Q (length Q.code)) (closed Q) true typed in ok_before Q (length Q.code) all.0 all.1 n le
+
+-- a typed program has no bare number
+pub typed_plain : (Q : Text) → IsTyped Q → HasNoBare Q
+typed_plain Q typed n line here =
+    let lt = slice_get_within Q.code n line here in
+    let at = shape_within Q typed n (omega arith) in
+    let is = typed_line Q typed n at.0 line lt at.1 here in
+    let src = sourced Q at.0.cr (top_of at.0.kept) (length at.0.kept) line (source_of Q line.operand) is.effect is.row in
+    sourced_plain Q line.operand src.0 src.1
+
+text_lines : (P : Text) → IsTyped (settled_text P) → (n : ℕ) (line : Instr) → slice_get P.code n ≡ Some line → (o : Operand) × Settles line.operand o × (slice_get (settled_text P).code n ≡ Some (record line { operand = o }))
+text_lines P typed n line here =
+    let lt = slice_get_within P.code n line here in
+    let at = shape_within (settled_text P) typed n (omega (arith, text_count P)) in
+    let there = here_settled P n at.0 line at.1 here in
+    (settled_operand at.0.cr line.op line.modifier line.operand, settles at.0.cr line.op line.modifier line.operand (typed_plain (settled_text P) typed n (settled_line at.0.cr line) there), there)
+
+text_typed : (P : Text) → IsTyped (settled_text P) → IsTypedProgramOf P (settled_text P)
+text_typed P typed = record {
+  typed = typed;
+  plain = typed_plain (settled_text P) typed;
+  same = record { variables = (text_alike P).variables; count = text_count P; lines = text_lines P typed };
+  placed = text_arrival P;
+}
+
+true_by : (b c : Bool) (f : TypeFault × ℕ) → (let r : Result Bool (TypeFault × ℕ) = cond b (Err f) (Ok true) in r) ≡ Ok c → c ≡ true
+true_by true c f e = absurd cc
+true_by false c f e = let is : true ≡ c = cc in sym is
+
+judged_true : (Q : Text) (b : Bool) → judged Q ≡ Ok b → IsTyped Q
+judged_true Q b e =
+    let all = bind_ok (shape_at Q (length Q.code)) (closed Q) b e in
+    e ∙ ap (λ (x : Bool). let r : Result Bool (TypeFault × ℕ) = Ok x in r) (true_by (nat_lt 0 (length all.0.kept)) b (TypeFault.Unbalanced, length Q.code) all.2)
+
+text_is : (P Q : Text) → (let r : Result Text (TypeFault × ℕ) = Ok P in r) ≡ Ok Q → P ≡ Q
+text_is P Q e = cc
+
+-- the typed program of a program is typed, has no bare number, and is otherwise the same
+pub typed_program : (P Q : Text) → settled P ≡ Ok Q → IsTypedProgramOf P Q
+typed_program P Q e =
+    let all = bind_ok (judged (settled_text P)) (λ _. Ok (settled_text P)) Q e in
+    let is : settled_text P ≡ Q = text_is (settled_text P) Q all.2 in
+    subst (IsTypedProgramOf P) is (text_typed P (judged_true (settled_text P) all.0 all.1))
+
+-- ---- there is no other typed program
+
+-- each instruction of the second is that of the first but for a number that has its type
+abbrev pub AreLines : List Instr → List Instr → Type 0
+AreLines ps qs = (n : ℕ) (p : Instr) → slice_get ps n ≡ Some p → (o : Operand) × Settles p.operand o × (slice_get qs n ≡ Some (record p { operand = o }))
+
+pub some_is : (p q : Instr) → Some p ≡ Some q → p ≡ q
+some_is p q e = cc
+
+same_labels : (ps qs : List Instr) → length qs ≡ length ps → AreLines ps qs → labels_of qs ≡ labels_of ps
+same_labels [] [] len are = refl
+same_labels [] (q ∷ qs) len are = absurd (omega (arith, len))
+same_labels (p ∷ ps) [] len are = absurd (omega (arith, len))
+same_labels (p ∷ ps) (q ∷ qs) len are =
+    let here = are zero p refl in
+    ap (λ (x : Instr). x.label ∷ labels_of qs) (some_is q (record p { operand = here.0 }) here.2)
+    ∙ ap (λ (ls : List (Option (List ℕ))). p.label ∷ ls) (same_labels ps qs (omega (arith, len)) (λ n x e. are (suc n) x e))
+
+pub settling_alike : (P Q : Text) → IsSettling P Q → Alike P Q
+settling_alike P Q is = record { variables = is.variables; labels = same_labels P.code Q.code is.count is.lines }
+
+same_list : (xs ys : List Instr) → length xs ≡ length ys → ((k : ℕ) → k < length xs → slice_get xs k ≡ slice_get ys k) → xs ≡ ys
+same_list [] [] len same = refl
+same_list [] (y ∷ ys) len same = absurd (omega (arith, len))
+same_list (x ∷ xs) [] len same = absurd (omega (arith, len))
+same_list (x ∷ xs) (y ∷ ys) len same =
+    ap (λ (z : Instr). z ∷ xs) (some_is x y (same zero (omega arith)))
+    ∙ ap (λ (zs : List Instr). y ∷ zs) (same_list xs ys (omega (arith, len)) (λ k lt. same (suc k) (omega arith)))
+
+text_like : (P Q : Text) → IsTypedProgramOf P Q → Alike (settled_text P) Q
+text_like P Q is =
+    let a = settling_alike P Q is.same in
+    let b = text_alike P in
+    record { variables = a.variables ∙ sym b.variables; labels = a.labels ∙ sym b.labels }
+
+lines_same : (P Q : Text) → IsTypedProgramOf P Q → (n : ℕ) → n ≤ length P.code → (k : ℕ) → k < n → slice_get Q.code k ≡ slice_get (settled_text P).code k
+lines_same P Q is zero le k lt = absurd (omega arith)
+lines_same P Q is (suc n) le k lt =
+    elim (nat_lt k n) as (λ v. nat_lt k n ≡ v → slice_get Q.code k ≡ slice_get (settled_text P).code k) [
+      | true ↦ λ h. lines_same P Q is n (omega arith) k (ltb-true k n h)
+      | false ↦ λ h.
+          let past : n ≤ k = ltb-false k n h in
+          let here : n ≡ k = omega arith in
+          let at = shape_within Q is.typed n (omega (arith, is.same.count)) in
+          let shapes = shapes_alike (settled_text P) Q n (text_like P Q is) (λ j below. lines_same P Q is n (omega arith) j below) in
+          ap (λ (j : ℕ). slice_get Q.code j) (sym here) ∙ is.placed n at.0 at.1 ∙ sym (text_arrival P n at.0 (sym shapes ∙ at.1)) ∙ ap (λ (j : ℕ). slice_get (settled_text P).code j) here
+    ] refl
+
+text_same : (P Q : Text) → IsTypedProgramOf P Q → Q ≡ settled_text P
+text_same P Q is =
+    let codes : Q.code ≡ (settled_text P).code = same_list Q.code (settled_text P).code (is.same.count ∙ sym (text_count P)) (λ k lt. lines_same P Q is (length P.code) (omega arith) k (omega (arith, is.same.count))) in
+    let like = text_like P Q is in
+    ap (λ (vs : List Variable). let R : Text = record { variables = vs; code = Q.code } in R) like.variables
+    ∙ ap (λ (code : List Instr). let R : Text = record { variables = (settled_text P).variables; code = code } in R) codes
+
+-- a typed program of a program is the one that settling gives
+pub typed_only : (P Q : Text) → IsTypedProgramOf P Q → settled P ≡ Ok Q
+typed_only P Q is =
+    let same = text_same P Q is in
+    ap (λ (r : Result Bool (TypeFault × ℕ)). r >>= λ _. Ok (settled_text P)) (ap judged (sym same) ∙ is.typed)
+    ∙ ap (λ (R : Text). let r : Result Text (TypeFault × ℕ) = Ok R in r) (sym same)
+
+-- ---- a program without bare numbers
+
+operand_plain : (cr : Option Ty) (op : Op) (m : Modifier) (o : Operand) → is_bare o ≡ false → settled_operand cr op m o ≡ o
+operand_plain cr op m operands.Absent e = refl
+operand_plain cr op m (operands.Literal v) e = refl
+operand_plain cr op m (operands.Bare z) e = absurd cc
+operand_plain cr op m (operands.Variable name) e = refl
+operand_plain cr op m (operands.Direct loc) e = refl
+operand_plain cr op m (operands.Label name) e = refl
+
+nth_plain : (cr : Option Ty) (n : ℕ) (code : List Instr) → ((line : Instr) → slice_get code n ≡ Some line → is_bare line.operand ≡ false) → settled_nth cr n code ≡ code
+nth_plain cr n [] plain = refl
+nth_plain cr zero (line ∷ code) plain = ap (λ (o : Operand). record line { operand = o } ∷ code) (operand_plain cr line.op line.modifier line.operand (plain line refl))
+nth_plain cr (suc n) (line ∷ code) plain = ap (λ (ls : List Instr). line ∷ ls) (nth_plain cr n code plain)
+
+arrival_plain : (P : Text) (n : ℕ) (r : Result Shape (TypeFault × ℕ)) → HasNoBare P → settled_on_arrival P n r ≡ P
+arrival_plain P n (Ok sh) plain = ap (λ (code : List Instr). let Q : Text = record { variables = P.variables; code = code } in Q) (nth_plain sh.cr n P.code (plain n))
+arrival_plain P n (Err f) plain = refl
+
+before_plain : (P : Text) (n : ℕ) → HasNoBare P → settled_before P n ≡ P
+before_plain P zero plain = refl
+before_plain P (suc n) plain = ap (λ (Q : Text). settled_on_arrival Q n (shape_at Q n)) (before_plain P n plain) ∙ arrival_plain P n (shape_at P n) plain
+
+-- a program without bare numbers is its own typed program exactly where it is typed, with the same fault otherwise
+pub settled_plain : (P : Text) → HasNoBare P → settled P ≡ if_typed P
+settled_plain P plain = ap if_typed (before_plain P (length P.code) plain)

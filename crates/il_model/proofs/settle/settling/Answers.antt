@@ -1,0 +1,11 @@
+use Rattle.il_model.proofs.Settling.{typed_program, typed_only, settled_plain}
+use Rattle.il_model.proofs.settle.settling.Goals as goal
+
+pub returns-clause-typed : goal.returns-clause-typed
+returns-clause-typed c = λ Q e. typed_program c.args.program.now Q e
+
+pub returns-clause-only : goal.returns-clause-only
+returns-clause-only c = λ Q is. typed_only c.args.program.now Q is
+
+pub returns-clause-plain : goal.returns-clause-plain
+returns-clause-plain c = λ plain. settled_plain c.args.program.now plain

@@ -1,0 +1,106 @@
+//! Bare numbers in a program: each takes the type that its place asks for, by the type of the current result on arrival.
+
+ghost use Rattle.std.specs.Prelude.{◌≡◌, ◌<◌, length, OnOk, OnErr, IfOk, IfErr, Ok, Err};
+ghost use Rattle.il_model.specs.Constants.{literal_of};
+ghost use Rattle.il_model.specs.Text.{Text};
+ghost use Rattle.il_model.specs.Typing.{line_row_of, label_row};
+ghost use Rattle.il_model.specs.Settled.{settled_operand, settled_line, if_typed, settled, HasNoBare, IsTypedProgramOf};
+
+use crate::check::{Types, label_at, source_row};
+use crate::indexed::IndexedProgram;
+use crate::typing::{row_of, settle};
+use crate::{Effect, Held, Instr, Kind, Name, Operand, Program, Ty, TypeFault, Value};
+
+/// The literal that an operand is, once a bare number has the type that its place asks for.
+fn settled_literal(cr: Option<Ty>, line: &Instr) -> Option<Value>
+    ensures { result ≡ literal_of (settled_operand cr line.now.op line.now.modifier line.now.operand) }
+{
+    match &line.operand {
+        Operand::Literal(v) => Some(*v),
+        Operand::Bare(z) => settle(cr, line.op, line.modifier.opens, *z),
+        Operand::Absent | Operand::Variable(_) | Operand::Direct(_) | Operand::Label(_) => None,
+    }
+}
+
+fn label_row(
+    program: &IndexedProgram,
+    n: usize,
+    depth: usize,
+    label: &Option<Name>,
+) -> Result<bool, TypeFault>
+    ensures { result ≡ label_row program.now n depth label.now }
+{
+    match label {
+        Some(name) => label_at(program.target_of(name), n, depth),
+        None => Ok(true),
+    }
+}
+
+fn settled_row(
+    program: &IndexedProgram,
+    cr: Option<Ty>,
+    top: Option<Held>,
+    depth: usize,
+    line: &Instr,
+    literal: Option<Value>,
+) -> Result<Effect, TypeFault>
+    requires { literal ≡ literal_of (settled_operand cr line.now.op line.now.modifier line.now.operand) }
+    ensures { result ≡ line_row_of program.now cr top depth (settled_line cr line.now) }
+{
+    match literal {
+        Some(v) => row_of(
+            cr,
+            top,
+            depth,
+            line.op,
+            line.modifier,
+            Kind::Typed(v.ty(), false),
+        ),
+        None => source_row(
+            program.program(),
+            cr,
+            top,
+            depth,
+            line,
+            program.source_of(&line.operand),
+        ),
+    }
+}
+
+impl Types {
+    ghost use Rattle.il_model.specs.Typing.{after_line};
+
+    /// Goes past an instruction, in which a bare number takes the type that its place asks for. Gives the literal that the
+    /// operand then is, if it is one, or the instruction's first fault and leaves the types as they were.
+    pub fn settle(
+        &mut self,
+        program: &IndexedProgram,
+        n: usize,
+        line: &Instr,
+    ) -> Result<Option<Value>, TypeFault>
+        requires n { n < length program.now.code }
+        ensures ok { OnOk result (after_line program.now n self.old (settled_line self.old.cr line.now) ≡ Ok self.new) }
+        ensures literal { IfOk result (λ v. v ≡ literal_of (settled_operand self.old.cr line.now.op line.now.modifier line.now.operand)) }
+        ensures err { IfErr result (λ f. after_line program.now n self.old (settled_line self.old.cr line.now) ≡ Err f) }
+        ensures unchanged { OnErr result (self.new ≡ self.old) }
+    {
+        let _count = program.program().code.len();
+        let depth = self.depth();
+        label_row(program, n, depth, &line.label)?;
+        let cr = self.cr();
+        let literal = settled_literal(cr, line);
+        let effect = settled_row(program, cr, self.top(), depth, line, literal)?;
+        self.apply(effect);
+        self.arrive(program.program(), n + 1);
+        Ok(literal)
+    }
+}
+
+/// What holds of a program and its typed program. For proofs; it does nothing.
+pub fn settling(program: &Program)
+    ensures typed { (Q : Text) → settled program.now ≡ Ok Q → IsTypedProgramOf program.now Q }
+    ensures only { (Q : Text) → IsTypedProgramOf program.now Q → settled program.now ≡ Ok Q }
+    ensures plain { HasNoBare program.now → settled program.now ≡ if_typed program.now }
+{
+    let _code = &program.code;
+}

@@ -1,0 +1,154 @@
+//! Literals as they are written (IEC 61131-3:2003, B.1.2).
+
+ghost use Rattle.std.specs.Prelude.{◌≡◌, ◌≤◌, ◌<◌, ◌^◌, length, option_map, IfSome};
+ghost use Rattle.il_model.specs.Literal.{held_integer};
+ghost use Rattle.il_model.specs.Literals.{positive, minus, signed_by, is_no_hash, hash_at, based_by, whole_by, time_by, truth_of, typed, bare, prefixed, is_word, literal_by, literal_of};
+
+use crate::duration::duration;
+use crate::literal::{Literal, integer};
+use crate::value::{Ty, Value, make};
+use crate::words::is_spelled;
+
+fn above(n: Option<u64>) -> Option<i64>
+    requires { IfSome n (λ n. n < 2 ^ 63) }
+    ensures { result ≡ option_map positive n }
+{
+    match n {
+        Some(n) => Some(n as i64),
+        None => None,
+    }
+}
+
+fn below(n: Option<u64>) -> Option<i64>
+    requires { IfSome n (λ n. n < 2 ^ 63) }
+    ensures { result ≡ option_map minus n }
+{
+    match n {
+        Some(n) => Some(-(n as i64)),
+        None => None,
+    }
+}
+
+fn signed(bytes: &[u8]) -> Option<i64>
+    ensures { result ≡ signed_by held_integer bytes.now }
+{
+    match bytes {
+        [] => None,
+        [b'-', others @ ..] => below(integer(10, others)),
+        [b'+', others @ ..] => above(integer(10, others)),
+        _ => above(integer(10, bytes)),
+    }
+}
+
+fn hash(bytes: &[u8]) -> usize
+    ensures value { result ≡ hash_at bytes.now }
+    ensures fits { result ≤ length bytes.now }
+{
+    bytes.iter().take_while(|b| **b != b'#').count()
+}
+
+fn based(base: &[u8], bytes: &[u8]) -> Option<i64>
+    ensures { result ≡ based_by held_integer base.now bytes.now }
+{
+    if is_spelled(b"2", base) {
+        above(integer(2, bytes))
+    } else if is_spelled(b"8", base) {
+        above(integer(8, bytes))
+    } else if is_spelled(b"16", base) {
+        above(integer(16, bytes))
+    } else {
+        None
+    }
+}
+
+fn whole(bytes: &[u8]) -> Option<i64>
+    ensures { result ≡ whole_by held_integer bytes.now }
+{
+    let hash = hash(bytes);
+    if hash < bytes.len() {
+        based(&bytes[..hash], &bytes[hash + 1..])
+    } else {
+        signed(bytes)
+    }
+}
+
+fn time(bytes: &[u8]) -> Option<i64>
+    ensures { result ≡ time_by held_integer bytes.now }
+{
+    match bytes {
+        [] => None,
+        [b'-', others @ ..] => below(duration(others)),
+        _ => above(duration(bytes)),
+    }
+}
+
+fn truth(bytes: &[u8]) -> Option<Literal>
+    ensures { result ≡ truth_of bytes.now }
+{
+    if is_spelled(b"TRUE", bytes) || is_spelled(b"1", bytes) {
+        Some(Literal::Typed(Value::Bool(true)))
+    } else if is_spelled(b"FALSE", bytes) || is_spelled(b"0", bytes) {
+        Some(Literal::Typed(Value::Bool(false)))
+    } else {
+        None
+    }
+}
+
+fn typed(ty: Ty, z: Option<i64>) -> Option<Literal>
+    ensures { result ≡ typed ty z }
+{
+    Some(Literal::Typed(make(ty, z?)?))
+}
+
+fn bare(z: i64) -> Option<Literal>
+    ensures { result ≡ bare z }
+{
+    if -2147483648 <= z && z < 2147483648 {
+        Some(Literal::Bare(z as i32))
+    } else {
+        None
+    }
+}
+
+fn prefixed(word: &[u8], bytes: &[u8]) -> Option<Literal>
+    ensures { result ≡ prefixed held_integer word.now bytes.now }
+{
+    if is_spelled(b"BOOL", word) {
+        truth(bytes)
+    } else if is_spelled(b"INT", word) {
+        typed(Ty::Int, whole(bytes))
+    } else if is_spelled(b"DINT", word) {
+        typed(Ty::Dint, whole(bytes))
+    } else if is_spelled(b"T", word) || is_spelled(b"TIME", word) {
+        typed(Ty::Time, time(bytes))
+    } else {
+        bare(based(word, bytes)?)
+    }
+}
+
+fn is_truth(bytes: &[u8]) -> bool
+    ensures { result ≡ is_word bytes.now }
+{
+    is_spelled(b"TRUE", bytes) || is_spelled(b"FALSE", bytes)
+}
+
+fn judged(bytes: &[u8]) -> Option<Literal>
+    ensures { result ≡ literal_by held_integer bytes.now }
+{
+    let hash = hash(bytes);
+    if hash < bytes.len() {
+        prefixed(&bytes[..hash], &bytes[hash + 1..])
+    } else if is_truth(bytes) {
+        truth(bytes)
+    } else {
+        bare(signed(bytes)?)
+    }
+}
+
+/// The literal that a text is: a number with or without a base or a type, TRUE, FALSE, or a duration, in the range of its type
+/// (IEC 61131-3:2003, B.1.2; a bare number has 32 bits). Without regard to case. None where it is none.
+pub fn literal(bytes: &[u8]) -> Option<Literal>
+    ensures { result ≡ literal_of bytes.now }
+{
+    judged(bytes)
+}

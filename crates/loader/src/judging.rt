@@ -1,0 +1,174 @@
+//! The first fault of tables that were read.
+
+ghost use Rattle.std.specs.Prelude.{◌≡◌, ◌+◌, ◌<◌, ◌^◌, Ok, Some};
+ghost use Rattle.std.specs.List.{position};
+ghost use Rattle.il_model.specs.Codes.{is_pointless};
+ghost use Rattle.il_model.specs.Constants.{step_used};
+ghost use Rattle.il_model.specs.Checked.{told};
+ghost use Rattle.loader.specs.Reading.{Gives};
+ghost use Rattle.loader.specs.Judging.{word_place, constant_place, label_place, risen, constant_in, used_from, earlier, misspelled, type_fault, words_fine, all_used};
+
+use crate::fault::{LoadError, LoadFault};
+use crate::label::Label;
+use crate::reading::agrees;
+use crate::word::Word;
+use il_model::codes::is_pointless;
+use il_model::{Instr, Operand, TypeFault};
+
+fn word_place(total: usize, count: usize, n: usize) -> usize
+    ensures { result ≡ word_place total count n }
+{
+    total.saturating_sub(count.saturating_sub(n).saturating_mul(4))
+}
+
+/// Where the constant of a number stands.
+pub fn constant_place(total: usize, words: usize, count: usize, k: usize) -> usize
+    ensures { result ≡ constant_place total words count k }
+{
+    let behind = total.saturating_sub(words.saturating_mul(4));
+    behind.saturating_sub(count.saturating_sub(k).saturating_mul(5))
+}
+
+/// Where the first of these labels stands, if the last ends there.
+fn label_place(end: usize, labels: &[Label]) -> usize
+    ensures { result ≡ label_place end labels.now }
+{
+    let mut place = end;
+    for label in labels {
+        place = place
+            .saturating_sub(label.name.bytes().len())
+            .saturating_sub(3);
+    }
+    place
+}
+
+/// Whether the addresses rise, each an instruction's; the fault stands at the label.
+pub fn check_labels(end: usize, count: usize, labels: &[Label]) -> Result<bool, LoadError>
+    ensures { Gives (λ b. b) result (risen end 0 count labels.now) }
+{
+    let mut least = 0;
+    let mut rest = labels;
+    while let [label, others @ ..] = rest {
+        let at = label.at as usize;
+        if at < least || at >= count {
+            let position = label_place(end, rest);
+            return Err(LoadError::Fault(LoadFault::BadTarget { position }));
+        }
+        least = at + 1;
+        rest = others;
+    }
+    Ok(true)
+}
+
+fn constant_in(word: &Word) -> Option<usize>
+    ensures { result ≡ constant_in word.now.line.operand word.now.code }
+{
+    match &word.line.operand {
+        Operand::Literal(_) => Some((word.code as usize).saturating_sub(32768)),
+        _ => None,
+    }
+}
+
+fn step_used(constant: Option<usize>, used: usize) -> Option<usize>
+    requires { used + 1 < 2 ^ 64 }
+    ensures { result ≡ step_used constant used }
+{
+    match constant {
+        Some(k) => {
+            if k < used {
+                Some(used)
+            } else if k == used {
+                Some(used + 1)
+            } else {
+                None
+            }
+        }
+        None => Some(used),
+    }
+}
+
+/// How many of the constants the words use, or the first word that uses one before a lower one.
+pub fn used_by(words: &[Word]) -> Result<usize, usize>
+    ensures { result ≡ used_from 0 0 words.now }
+{
+    let mut used = 0;
+    for n in 0..words.len() {
+        match step_used(constant_in(&words[n]), used) {
+            Some(more) => used = more,
+            None => return Err(n),
+        }
+    }
+    Ok(used)
+}
+
+fn pointless_at(code: &[Instr]) -> Option<usize>
+    ensures { result ≡ position is_pointless code.now }
+{
+    code.iter().position(|line| is_pointless(line))
+}
+
+/// The first word that no spelling has there.
+pub fn misspelled(code: &[Instr], used: Result<usize, usize>) -> Option<usize>
+    ensures { result ≡ misspelled code.now used }
+{
+    let empty = pointless_at(code);
+    match used {
+        Ok(_) => empty,
+        Err(n) => match empty {
+            Some(m) => if m < n { Some(m) } else { Some(n) },
+            None => Some(n),
+        },
+    }
+}
+
+fn type_fault(position: usize, fault: TypeFault) -> LoadFault
+    ensures { result ≡ type_fault position fault }
+{
+    match fault {
+        TypeFault::UnknownLabel => LoadFault::BadTarget { position },
+        _ => LoadFault::BadType { position },
+    }
+}
+
+/// The first fault of the words: of their spelling or of their types.
+pub fn check_words(
+    total: usize,
+    count: usize,
+    misspelled: Option<usize>,
+    typed: Result<(), (TypeFault, usize)>,
+) -> Result<bool, LoadError>
+    ensures { Gives (λ b. b) result (words_fine total count misspelled (told typed)) }
+{
+    if let Some(n) = misspelled {
+        let before = match typed {
+            Ok(_) => true,
+            Err((_, m)) => n <= m,
+        };
+        if before {
+            let position = word_place(total, count, n);
+            return Err(LoadError::Fault(LoadFault::BadWord { position }));
+        }
+    }
+    match typed {
+        Ok(_) => Ok(true),
+        Err((fault, n)) => Err(LoadError::Fault(type_fault(word_place(total, count, n), fault))),
+    }
+}
+
+/// Whether all of the constants are used.
+pub fn check_used(
+    total: usize,
+    words: usize,
+    count: usize,
+    used: Result<usize, usize>,
+) -> Result<bool, LoadError>
+    ensures { Gives (λ b. b) result (all_used total words count used) }
+{
+    match used {
+        Ok(k) => {
+            let position = constant_place(total, words, count, k);
+            agrees(LoadFault::BadWord { position }, k == count)
+        }
+        Err(_) => Ok(true),
+    }
+}
