@@ -1,4 +1,3 @@
 pub mod Encoding
 pub mod Literals
 pub mod Labels
-pub mod Keys

@@ -6,10 +6,11 @@ ghost use Rattle.std.specs.Int.{w8, w16, w32, to_be_bytes};
 ghost use Rattle.std.specs.List.{flat_map, position};
 ghost use Rattle.il_model.specs.Marks.{with_mark, marks_from};
 ghost use Rattle.il_model.specs.Constants.{same_value};
-ghost use Rattle.il_model.specs.Image.{name_bytes, variable_bytes, mark_bytes, constant_bytes, constant_code, target_code, operand_code, counts_bytes};
+ghost use Rattle.il_model.specs.Image.{name_bytes, variable_bytes, mark_bytes, constant_bytes, constant_code, operand_code, counts_bytes};
 
-use crate::constants::Constants;
+use crate::constants::constants_of;
 use il_model::codes::{bits, location_code, modifier_code, op_code, plain_code, type_code};
+use il_model::constant_table::Constants;
 use il_model::indexed::IndexedProgram;
 use il_model::{Instr, Name, Operand, Value, Variable};
 use std::alloc::{AllocError, Global};
@@ -219,7 +220,7 @@ pub fn encode(
 {
     let variables = program.program().variables.as_slice();
     let code = program.code();
-    let constants = Constants::of(alloc, literals)?;
+    let constants = constants_of(alloc, literals)?;
     let mut out = Vec::new(alloc);
     put_u32(&mut out, 1229738051)?;
     put_u16(&mut out, 1)?;

@@ -1,11 +1,11 @@
 -- The first element that passes a test, found from behind.
-use Rattle.std.proofs.Common.{◌≡◌, ℕ, zero, suc, ◌+◌, ◌<◌, ◌≤◌, Bool, true, false, cond, List, [], ◌∷◌, length, drop, Option, Some, None, refl, sym, ap, ◌∙◌, arith}
-use Rattle.std.specs.Prelude.{nat_lt, not, slice_get}
+use Rattle.std.proofs.Common.{◌≡◌, ℕ, zero, suc, ◌+◌, ◌<◌, ◌≤◌, Bool, true, false, cond, List, [], ◌∷◌, ◌++◌, length, drop, Option, Some, None, refl, sym, ap, ◌∙◌, arith}
+use Rattle.std.specs.Prelude.{nat_lt, not, is_some, slice_get}
 use Rattle.std.specs.List.{position, prefix_len}
 use Rattle.std.specs.Str.{bytes_eq}
 use Rattle.std.specs.BTreeMap.{BTreeMap}
 use Rattle.std.specs.BTreeMap as tree
-use Rattle.std.specs.Cmp.Lexicographic.{slice_cmp}
+use Rattle.std.specs.Cmp.Lexicographic.{slice_cmp, bytes_decides}
 use Rattle.std.specs.Ordering.{nat_cmp}
 use Rattle.std.proofs.lemmas.Bool.{ltb-true, ltb-false, lt-ltb, le-ltb}
 use Rattle.std.proofs.lemmas.Map.Text.{btree_map_updates_str}
@@ -13,6 +13,7 @@ use denote.Ref.{Bor}
 use Rattle.il_model.specs.declared.program.Instr.{Instr}
 use Rattle.il_model.specs.Resolved.{has_label}
 use Rattle.il_model.specs.NameTables.{first_in}
+use Rattle.il_model.proofs.Positions.{position_behind, position_past, position_kept}
 
 -- the number of the first that passes, where they are numbered from n on
 abbrev pub first_where : {X : Type 0} → (X → Bool) → ℕ → List X → Option ℕ
@@ -69,3 +70,38 @@ put_first p m new xs n k x key name updates has is here rest =
 -- an instruction with a label has that one
 pub labelled_so : (line : Instr) (label name : List ℕ) → line.label ≡ Some label → bytes_eq label name ≡ has_label name line
 labelled_so line label name is = ap (λ (o : Option (List ℕ)). has_label name (record line { label = o })) (sym is)
+
+-- ---- a table of names to which one more is put behind the others
+
+behind_by : {X : Type 0} (p : List ℕ → X → Bool) (seen : List X) (x : X) (key name : List ℕ) (o : Option ℕ) (b : Bool) → bytes_eq key name ≡ b → p name x ≡ b → position (p key) seen ≡ None → o ≡ position (p name) seen
+    → cond b (Some (length seen)) o ≡ position (p name) (seen ++ x ∷ [])
+behind_by p seen x key name o true e has none is =
+    let same : key ≡ name = (bytes_decides key name).0 e in
+    let gone : position (p name) seen ≡ None = ap (λ (n : List ℕ). position (p n) seen) (sym same) ∙ none in
+    sym (position_behind (p name) seen x [] gone has)
+behind_by p seen x key name o false e has none is = is ∙ sym (position_past (p name) seen x has)
+
+none_of : (o : Option ℕ) → is_some o ≡ false → o ≡ None
+none_of None e = refl
+none_of (Some k) e = absurd cc
+
+-- a name that is new
+pub put_behind : {X : Type 0} (p : List ℕ → X → Bool) (m new : BTreeMap (Bor (List ℕ)) ℕ) (seen : List X) (x : X) (k : ℕ) (key name : List ℕ)
+    → tree.UpdatesBy (λ x y. slice_cmp nat_cmp x.now y.now) (λ k. slice_cmp nat_cmp key k.now) m new (Some k)
+    → bytes_eq key name ≡ p name x → k ≡ length seen → is_some (first_in m key) ≡ false → ((n : List ℕ) → first_in m n ≡ position (p n) seen) → first_in new name ≡ position (p name) (seen ++ x ∷ [])
+put_behind p m new seen x k key name updates has is free table =
+    btree_map_updates_str key m new (Some k) updates name
+    ∙ ap (λ (i : ℕ). cond (bytes_eq key name) (Some i) (first_in m name)) is
+    ∙ behind_by p seen x key name (first_in m name) (bytes_eq key name) refl (sym has) (none_of (position (p key) seen) (ap is_some (sym (table key)) ∙ free)) (table name)
+
+kept_by : {X : Type 0} (p : List ℕ → X → Bool) (seen : List X) (x : X) (key name : List ℕ) (b : Bool) → bytes_eq key name ≡ b → p name x ≡ b → is_some (position (p key) seen) ≡ true → position (p name) seen ≡ position (p name) (seen ++ x ∷ [])
+kept_by p seen x key name true e has known =
+    let same : key ≡ name = (bytes_decides key name).0 e in
+    sym (position_kept (p name) seen (x ∷ []) (ap (λ (n : List ℕ). is_some (position (p n) seen)) (sym same) ∙ known))
+kept_by p seen x key name false e has known = sym (position_past (p name) seen x has)
+
+-- a name that one before has
+pub keep_behind : {X : Type 0} (p : List ℕ → X → Bool) (m : BTreeMap (Bor (List ℕ)) ℕ) (seen : List X) (x : X) (key name : List ℕ)
+    → bytes_eq key name ≡ p name x → is_some (first_in m key) ≡ true → ((n : List ℕ) → first_in m n ≡ position (p n) seen) → first_in m name ≡ position (p name) (seen ++ x ∷ [])
+keep_behind p m seen x key name has known table =
+    table name ∙ kept_by p seen x key name (bytes_eq key name) refl (sym has) (ap is_some (sym (table key)) ∙ known)

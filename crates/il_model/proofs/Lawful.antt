@@ -39,8 +39,8 @@ use Rattle.il_model.specs.Typing.{shape_at, closed, top_of, label_at, label_row,
 use Rattle.il_model.specs.declared.typing.TypeFault.TheVariants.{Unbalanced, DuplicateLabel}
 use Rattle.il_model.specs.Marks.{Mark, with_mark, marks_from}
 use Rattle.il_model.specs.Constants.{same_value, literal_of, joined_constants, constants_from, constants_of}
-use Rattle.il_model.specs.Image.{type_code, loc_code, location_code, op_code, flag, modifier_code, plain_code, numbered_code, constant_code, target_code, operand_code}
-use Rattle.il_model.specs.Codes.{tested, type_of, area_loc, any_loc, location_of, may_start_with, is_known, usage_of, allows, allowed_by, formed_by, op_list, op_of, modifier_of, letters_of, raw_operand, operand_of, value_operand, label_there, is_jump, numbered_operand}
+use Rattle.il_model.specs.Image.{type_code, loc_code, op_code, flag, modifier_code, plain_code, numbered_code, constant_code, target_code, operand_code}
+use Rattle.il_model.specs.Codes.{tested, type_of, area_loc, any_loc, is_known, usage_of, allows, allowed_by, formed_by, op_list, op_of, modifier_of, letters_of, raw_operand, operand_of, value_operand, label_there, is_jump, numbered_operand}
 use Rattle.il_model.specs.Fits.{IsVariable, IsMark, IsConstant, IsWord, AreItems, IsImage}
 use Rattle.il_model.specs.Lawful.{IsOperand, IsLabel, IsLawful, AreLawful}
 use Rattle.il_model.proofs.NeverStuck.{bind_ok, ok_before, typed_line, sourced}

@@ -17,3 +17,4 @@ pub mod Decimals
 pub mod Declaring
 pub mod LiteralLaws
 pub mod HeldNumbers
+pub mod ConstantKeys

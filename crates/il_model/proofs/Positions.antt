@@ -77,3 +77,20 @@ not_by p xs ys false e h = refl
 
 pub not_in_front : {X : Type 0} (p : X → Bool) (xs ys : List X) → is_some (position p (xs ++ ys)) ≡ false → is_some (position p xs) ≡ false
 not_in_front p xs ys h = not_by p xs ys (is_some (position p xs)) refl h
+
+past_by : {X : Type 0} (p : X → Bool) (x : X) (xs : List X) (v : X) (b : Bool) → p x ≡ b → position p (xs ++ v ∷ []) ≡ position p xs → position p (x ∷ (xs ++ v ∷ [])) ≡ position p (x ∷ xs)
+past_by p x xs v true e ih = position_first p x (xs ++ v ∷ []) e ∙ sym (position_first p x xs e)
+past_by p x xs v false e ih = position_later p x (xs ++ v ∷ []) e ∙ ap (option_map suc) ih ∙ sym (position_later p x xs e)
+
+-- what doesn't pass changes nothing behind the others
+pub position_past : {X : Type 0} (p : X → Bool) (xs : List X) (v : X) → p v ≡ false → position p (xs ++ v ∷ []) ≡ position p xs
+position_past p [] v e = position_later p v [] e
+position_past p (x ∷ xs) v e = past_by p x xs v (p x) refl (position_past p xs v e)
+
+kept_by : {X : Type 0} (p : X → Bool) (xs ys : List X) (o : Option ℕ) → position p xs ≡ o → is_some o ≡ true → position p (xs ++ ys) ≡ position p xs
+kept_by p xs ys None e h = absurd cc
+kept_by p xs ys (Some k) e h = (position_front p xs ys k e).there ∙ sym e
+
+-- what is found stays where it is
+pub position_kept : {X : Type 0} (p : X → Bool) (xs ys : List X) → is_some (position p xs) ≡ true → position p (xs ++ ys) ≡ position p xs
+position_kept p xs ys h = kept_by p xs ys (position p xs) refl h

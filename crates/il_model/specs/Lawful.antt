@@ -1,8 +1,6 @@
 -- What a program is whose parts are lawful each for itself. Once it is typed it has an image.
 use Rattle.std.specs.Prelude.{◌≡◌, ℕ, true, false, List, [], ◌∷◌, length, Option, Some, None, is_some}
 use Rattle.std.specs.List.{position}
-use Rattle.il_model.specs.declared.value.Ty.{Ty}
-use Rattle.il_model.specs.declared.program.Loc.{Loc}
 use Rattle.il_model.specs.declared.program.Variable.{Variable}
 use Rattle.il_model.specs.declared.program.Operand.{Operand}
 use Rattle.il_model.specs.declared.program.Operand.TheVariants as operands
@@ -10,7 +8,7 @@ use Rattle.il_model.specs.declared.program.Instr.{Instr}
 use Rattle.il_model.specs.Values.{made, ty_of, number_of}
 use Rattle.il_model.specs.Names.{same_name, is_lawful_name}
 use Rattle.il_model.specs.Image.{loc_code}
-use Rattle.il_model.specs.Codes.{length_of, is_new_name, any_loc, is_free, may_start_with, usage_of, allowed_by, formed_by, is_pointless}
+use Rattle.il_model.specs.Codes.{length_of, any_loc, usage_of, allowed_by, formed_by, is_pointless}
 
 -- a value that fits its type, a variable that is declared, a location that is there; labels are judged with the types
 abbrev pub IsOperand : List Variable → Operand → Type 0

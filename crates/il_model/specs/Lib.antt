@@ -11,6 +11,7 @@ pub mod Suits
 pub mod Settled
 pub mod Checked
 pub mod Image
+pub mod ConstantTables
 pub mod Marks
 pub mod Constants
 pub mod Cells

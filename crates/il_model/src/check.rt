@@ -1,19 +1,20 @@
 //! The types on arrival at each instruction, and whether a program is typed.
 
-ghost use Rattle.std.specs.Prelude.{◌≡◌, ◌<◌, ◌≤◌, length, reverse, IfOk, OnErr, Ok, Err, slice_get, Some};
+ghost use Rattle.std.specs.Prelude.{◌≡◌, ◌<◌, length, reverse, Ok, Err, Some};
 ghost use Rattle.il_model.specs.Typing.{judged, shape_at, source_row, line_row, line_row_of, label_at, label_row, applied, arrived, top_of, Shape, after_line};
 ghost use Rattle.il_model.specs.Resolved.{is_labelled};
 ghost use Rattle.il_model.specs.Row.{HasRoom};
 ghost use Rattle.il_model.specs.Checked.{told};
 ghost use Rattle.std.specs.Prelude.{OnOk, IfErr};
 
-use crate::resolve::{kind_of, missing_kind, source_of, target_of};
+use crate::indexed::IndexedProgram;
+use crate::resolve::{kind_of, missing_kind};
 use crate::typing::row_of;
 use crate::{Effect, Held, Instr, Name, Program, Source, Ty, TypeFault};
 use arrayvec::ArrayVec;
 use std::marker::Model;
 
-pub(crate) fn label_at(first: Option<u16>, n: usize, depth: usize) -> Result<bool, TypeFault>
+fn label_at(first: Option<u16>, n: usize, depth: usize) -> Result<bool, TypeFault>
     ensures { result ≡ label_at first n depth }
 {
     match first {
@@ -31,8 +32,8 @@ pub(crate) fn label_at(first: Option<u16>, n: usize, depth: usize) -> Result<boo
     }
 }
 
-fn label_row(
-    program: &Program,
+pub(crate) fn label_row(
+    program: &IndexedProgram,
     n: usize,
     depth: usize,
     label: &Option<Name>,
@@ -40,7 +41,7 @@ fn label_row(
     ensures { result ≡ label_row program.now n depth label.now }
 {
     match label {
-        Some(name) => label_at(target_of(program, name), n, depth),
+        Some(name) => label_at(program.target_of(name), n, depth),
         None => Ok(true),
     }
 }
@@ -79,7 +80,7 @@ pub(crate) fn source_row(
 }
 
 fn line_row(
-    program: &Program,
+    program: &IndexedProgram,
     cr: Option<Ty>,
     top: Option<Held>,
     depth: usize,
@@ -88,12 +89,12 @@ fn line_row(
     ensures { result ≡ line_row_of program.now cr top depth line.now }
 {
     source_row(
-        program,
+        program.program(),
         cr,
         top,
         depth,
         line,
-        source_of(program, &line.operand),
+        program.source_of(&line.operand),
     )
 }
 
@@ -172,17 +173,17 @@ impl Types {
     }
 
     /// Goes past an instruction, or gives its fault.
-    fn pass(&mut self, program: &Program, n: usize, line: &Instr) -> Result<(), TypeFault>
+    fn pass(&mut self, program: &IndexedProgram, n: usize, line: &Instr) -> Result<(), TypeFault>
         requires n { n < length program.now.code }
         ensures ok { OnOk result (after_line program.now n self.old line.now ≡ Ok self.new) }
         ensures err { IfErr result (λ f. after_line program.now n self.old line.now ≡ Err f) }
     {
-        let _count = program.code.len();
+        let _count = program.code().len();
         let depth = self.depth();
         label_row(program, n, depth, &line.label)?;
         let effect = line_row(program, self.cr, self.top(), depth, line)?;
         self.apply(effect);
-        self.arrive(program, n + 1);
+        self.arrive(program.program(), n + 1);
         Ok(())
     }
 }
@@ -197,13 +198,14 @@ fn is_labelled(program: &Program, n: usize) -> bool
 }
 
 /// Whether a program is typed, or the first fault with the instruction's number.
-pub fn check(program: &Program) -> Result<(), (TypeFault, usize)>
+pub fn check(program: &IndexedProgram) -> Result<(), (TypeFault, usize)>
     ensures { told result ≡ judged program.now }
 {
-    let mut types = Types::start(program);
-    let count = program.code.len();
+    let mut types = Types::start(program.program());
+    let code = program.code();
+    let count = code.len();
     for n in 0..count {
-        if let Err(fault) = types.pass(program, n, &program.code[n]) {
+        if let Err(fault) = types.pass(program, n, &code[n]) {
             return Err((fault, n));
         }
     }

@@ -5,15 +5,14 @@ ghost use Rattle.std.specs.Int.{w32, cast_signed, cast_unsigned};
 ghost use Rattle.std.specs.List.{position};
 ghost use Rattle.il_model.specs.Names.{same_name};
 ghost use Rattle.il_model.specs.Values.{number_of};
-ghost use Rattle.il_model.specs.Constants.{same_value};
 ghost use Rattle.il_model.specs.Image.{type_code, base_of, loc_code, location_code, op_code, flag, modifier_code, numbered_code, plain_code};
-ghost use Rattle.il_model.specs.Codes.{is_number, is_new_name, length_of, type_of, area_loc, any_loc, has_code, is_type, is_free, location_of, may_start_with, initial_of, constant_of, op_of, modifier_of, usage_of, allows, has_form, allowed_by, formed_by, letters_of, is_pointless};
+ghost use Rattle.il_model.specs.Codes.{length_of, type_of, area_loc, any_loc, is_type, may_start_with, initial_of, op_of, modifier_of, usage_of, allows, has_form, allowed_by, formed_by, letters_of, is_pointless};
 
-use crate::name::{Name, is_lawful_name};
+use crate::name::Name;
 use crate::op::{Modifier, Op};
 use crate::program::{Area, Instr, Loc, Operand, Variable};
-use crate::resolve::{is_output, loc_type, variable_named};
-use crate::value::{Ty, Value, make, same_value};
+use crate::resolve::{is_output, variable_named};
+use crate::value::{Ty, Value, make};
 
 pub fn type_code(ty: Ty) -> usize
     ensures { result ≡ type_code ty }
@@ -93,51 +92,14 @@ pub fn any_loc(n: u16) -> Option<Loc>
     }
 }
 
-fn has_code(n: u16, location: Option<Loc>) -> bool
-    ensures { result ≡ has_code n location }
-{
-    match location {
-        Some(loc) => loc_code(loc) == n as usize,
-        None => false,
-    }
-}
-
-fn number_with(seen: &[Variable], n: u16) -> Option<usize>
-    ensures { result ≡ position (λ v. has_code n v.location) seen.now }
-{
-    seen.iter().position(|v| has_code(n, v.location))
-}
-
-fn is_type(ty: Ty, other: Option<Ty>) -> bool
+/// Whether a type is that of a location.
+pub fn is_type(ty: Ty, other: Option<Ty>) -> bool
     ensures { result ≡ is_type ty other }
 {
     match (ty, other) {
         (Ty::Bool, Some(Ty::Bool)) => true,
         (Ty::Int, Some(Ty::Int)) => true,
         _ => false,
-    }
-}
-
-fn is_free(seen: &[Variable], ty: Ty, n: u16, loc: Loc) -> bool
-    ensures { result ≡ is_free seen.now ty n loc }
-{
-    loc_code(loc) == n as usize && is_type(ty, loc_type(loc)) && !number_with(seen, n).is_some()
-}
-
-/// The location with a code, of the type, that no other variable has; none at the code for none.
-pub fn location_of(seen: &[Variable], ty: Ty, n: u16) -> Option<Option<Loc>>
-    ensures { result ≡ location_of seen.now ty n }
-{
-    if n == 65535 {
-        return Some(None);
-    }
-    match any_loc(n) {
-        Some(loc) => if is_free(seen, ty, n, loc) {
-            Some(Some(loc))
-        } else {
-            None
-        },
-        None => None,
     }
 }
 
@@ -171,24 +133,6 @@ pub fn initial_of(ty: Ty, location: Option<Loc>, bits: u32) -> Option<Value>
         Some(first)
     } else {
         None
-    }
-}
-
-fn constant_named(seen: &[Value], v: Value) -> Option<usize>
-    ensures { result ≡ position (same_value v) seen.now }
-{
-    seen.iter().position(|w| same_value(v, *w))
-}
-
-/// The constant that bits stand for, if none of these is the same.
-pub fn constant_of(seen: &[Value], ty: Ty, bits: u32) -> Option<Value>
-    ensures { result ≡ constant_of seen.now ty bits }
-{
-    let v = make(ty, i64::from(bits.cast_signed()))?;
-    if constant_named(seen, v).is_some() {
-        None
-    } else {
-        Some(v)
     }
 }
 
@@ -381,19 +325,6 @@ pub fn plain_code(vs: &[Variable], operand: &Operand) -> usize
         Operand::Variable(name) => variable_code(vs, name),
         _ => 65535,
     }
-}
-
-fn is_number(seen: &[Variable], name: &[u8]) -> Option<usize>
-    ensures { result ≡ is_number seen.now name.now }
-{
-    seen.iter().position(|v| v.name.bytes() == name)
-}
-
-/// Whether a name is lawful and none of these variables has it.
-pub fn is_new_name(seen: &[Variable], name: &[u8]) -> bool
-    ensures { result ≡ is_new_name seen.now name.now }
-{
-    is_lawful_name(name) && !is_number(seen, name).is_some()
 }
 
 /// The length of a name, if it is one.

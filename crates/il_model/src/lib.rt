@@ -7,6 +7,7 @@ pub mod cells;
 pub mod check;
 pub mod codes;
 pub mod command;
+pub mod constant_table;
 mod duration;
 pub mod fetched;
 pub mod indexed;

@@ -3,13 +3,13 @@
 ghost use Rattle.std.specs.Prelude.{◌≡◌, ◌<◌, length, OnOk, OnErr, IfOk, IfErr, Ok, Err};
 ghost use Rattle.il_model.specs.Constants.{literal_of};
 ghost use Rattle.il_model.specs.Text.{Text};
-ghost use Rattle.il_model.specs.Typing.{line_row_of, label_row};
+ghost use Rattle.il_model.specs.Typing.{line_row_of};
 ghost use Rattle.il_model.specs.Settled.{settled_operand, settled_line, if_typed, settled, HasNoBare, IsTypedProgramOf};
 
-use crate::check::{Types, label_at, source_row};
+use crate::check::{Types, label_row, source_row};
 use crate::indexed::IndexedProgram;
 use crate::typing::{row_of, settle};
-use crate::{Effect, Held, Instr, Kind, Name, Operand, Program, Ty, TypeFault, Value};
+use crate::{Effect, Held, Instr, Kind, Operand, Program, Ty, TypeFault, Value};
 
 /// The literal that an operand is, once a bare number has the type that its place asks for.
 fn settled_literal(cr: Option<Ty>, line: &Instr) -> Option<Value>
@@ -19,20 +19,6 @@ fn settled_literal(cr: Option<Ty>, line: &Instr) -> Option<Value>
         Operand::Literal(v) => Some(*v),
         Operand::Bare(z) => settle(cr, line.op, line.modifier.opens, *z),
         Operand::Absent | Operand::Variable(_) | Operand::Direct(_) | Operand::Label(_) => None,
-    }
-}
-
-fn label_row(
-    program: &IndexedProgram,
-    n: usize,
-    depth: usize,
-    label: &Option<Name>,
-) -> Result<bool, TypeFault>
-    ensures { result ≡ label_row program.now n depth label.now }
-{
-    match label {
-        Some(name) => label_at(program.target_of(name), n, depth),
-        None => Ok(true),
     }
 }
 

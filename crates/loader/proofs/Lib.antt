@@ -7,3 +7,5 @@ pub mod Words
 pub mod Used
 pub mod Images
 pub mod Link
+pub mod LabelTables
+pub mod VariableTables

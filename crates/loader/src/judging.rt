@@ -35,9 +35,7 @@ fn label_place(end: usize, labels: &[Label]) -> usize
 {
     let mut place = end;
     for label in labels {
-        place = place
-            .saturating_sub(label.name.bytes().len())
-            .saturating_sub(3);
+        place = place.saturating_sub(label.name.len()).saturating_sub(3);
     }
     place
 }

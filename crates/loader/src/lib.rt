@@ -9,6 +9,7 @@ mod judging;
 mod label;
 mod loading;
 mod reading;
+mod variable;
 mod word;
 
 pub use fault::{LoadError, LoadFault};

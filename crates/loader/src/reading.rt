@@ -1,24 +1,25 @@
 //! Reading the tables of an image.
 
-ghost use Rattle.std.specs.Prelude.{◌≡◌, Ok, Some, [], slice_get};
+ghost use Rattle.std.specs.Prelude.{◌≡◌, Ok, Some, [], slice_get, IfOk};
 ghost use Rattle.std.specs.Int.{w8, w16, w32};
-ghost use Rattle.std.specs.List.{position};
 ghost use Rattle.std.specs.Option.{option_map};
 ghost use Rattle.il_model.specs.declared.program.Operand.TheVariants as operands;
-ghost use Rattle.il_model.specs.Names.{same_name};
-ghost use Rattle.il_model.specs.Codes.{is_new_name, is_new_label, label_there, target_name, raw_operand, operand_of, value_operand, numbered_operand, word_operand};
+ghost use Rattle.il_model.specs.Codes.{is_new_name, is_new_label, label_there, target_name, raw_operand, operand_of, value_operand, numbered_operand, word_operand, constant_of, is_free, location_of};
+ghost use Rattle.il_model.specs.Image.{plain_code};
 ghost use Rattle.loader.specs.Reading.{Gives, number_at, lawful, agrees, items_from, count_at, counts_at, header_at, spelled_name_at, name_at, variable_at, mark_at, constant_at, word_at, next_word};
 
 use crate::counts::Counts;
 use crate::fault::{LoadError, LoadFault};
-use crate::label::Label;
+use crate::label::{Label, Labels};
+use crate::variable::Variables;
 use crate::word::Word;
 use il_model::codes::{
-    any_loc, constant_of, initial_of, is_formed, is_new_name, length_of, letters_of, location_of,
-    op_of, plain_code, type_of,
+    any_loc, initial_of, is_formed, is_type, length_of, letters_of, location_code, op_of, type_of,
 };
-use il_model::name::is_lawful_name;
-use il_model::{Instr, Modifier, Name, Op, Operand, Value, Variable};
+use il_model::constant_table::Constants;
+use il_model::resolve::loc_type;
+use il_model::value::make;
+use il_model::{Instr, Loc, Modifier, Name, Op, Operand, Ty, Value, Variable};
 use std::alloc::Global;
 
 fn u8_at(bytes: &[u8]) -> Result<(u8, &[u8]), LoadError>
@@ -129,95 +130,114 @@ fn spelled_name_at(position: usize, bytes: &[u8]) -> Result<(&[u8], &[u8]), Load
 /// The name of a variable that none of these has.
 #[tactic(auto, unfolding(crate::specs::Reading::name_at))]
 fn variable_name_at<'a>(
-    alloc: Global,
     position: usize,
-    seen: &[Variable],
+    seen: &Variables,
     bytes: &'a [u8],
-) -> Result<(Name, &'a [u8]), LoadError>
-    ensures { Gives (λ x. (x.0, x.1.now)) result (name_at position (is_new_name seen.now) bytes.entry.now) }
+) -> Result<(&'a [u8], &'a [u8]), LoadError>
+    ensures { Gives (λ x. (x.0.now, x.1.now)) result (name_at position (is_new_name seen.now) bytes.entry.now) }
 {
     let (name, rest) = spelled_name_at(position, bytes)?;
-    agrees(LoadFault::BadWord { position }, is_new_name(seen, name))?;
-    Ok((Name::of(Vec::from_slice(alloc, name)?), rest))
-}
-
-fn label_named(seen: &[Label], name: &[u8]) -> Option<usize>
-    ensures { result ≡ position (λ m. same_name m.name name.now) seen.now }
-{
-    seen.iter().position(|l| l.name.bytes() == name)
-}
-
-fn is_new_label(seen: &[Label], name: &[u8]) -> bool
-    ensures { result ≡ is_new_label seen.now name.now }
-{
-    is_lawful_name(name) && !label_named(seen, name).is_some()
+    agrees(LoadFault::BadWord { position }, seen.is_new(name))?;
+    Ok((name, rest))
 }
 
 /// The name of a label that none of these has.
 #[tactic(auto, unfolding(crate::specs::Reading::name_at))]
 fn label_name_at<'a>(
-    alloc: Global,
     position: usize,
-    seen: &[Label],
+    seen: &Labels,
     bytes: &'a [u8],
-) -> Result<(Name, &'a [u8]), LoadError>
-    ensures { Gives (λ x. (x.0, x.1.now)) result (name_at position (is_new_label seen.now) bytes.entry.now) }
+) -> Result<(&'a [u8], &'a [u8]), LoadError>
+    ensures { Gives (λ x. (x.0.now, x.1.now)) result (name_at position (is_new_label seen.now) bytes.entry.now) }
 {
     let (name, rest) = spelled_name_at(position, bytes)?;
-    agrees(LoadFault::BadWord { position }, is_new_label(seen, name))?;
-    Ok((Name::of(Vec::from_slice(alloc, name)?), rest))
+    agrees(LoadFault::BadWord { position }, seen.is_new(name))?;
+    Ok((name, rest))
 }
 
-/// A variable.
+fn is_free(seen: &Variables, ty: Ty, n: u16, loc: Loc) -> bool
+    ensures { result ≡ is_free seen.now ty n loc }
+{
+    location_code(Some(loc)) == n as usize && is_type(ty, loc_type(loc)) && !seen.is_taken(n)
+}
+
+/// The location with a code, of the type, that no other variable has; none at the code for none.
+fn location_of(seen: &Variables, ty: Ty, n: u16) -> Option<Option<Loc>>
+    ensures { result ≡ location_of seen.now ty n }
+{
+    if n == 65535 {
+        return Some(None);
+    }
+    match any_loc(n) {
+        Some(loc) => if is_free(seen, ty, n, loc) {
+            Some(Some(loc))
+        } else {
+            None
+        },
+        None => None,
+    }
+}
+
+/// A variable, and the bytes of its name.
 #[tactic(auto, unfolding(crate::specs::Reading::variable_at))]
-pub fn variable_at<'a>(
+fn variable_at<'a>(
     alloc: Global,
     total: usize,
-    seen: &[Variable],
+    seen: &Variables,
     bytes: &'a [u8],
-) -> Result<(Variable, &'a [u8]), LoadError>
-    ensures { Gives (λ x. (x.0, x.1.now)) result (variable_at total seen.now bytes.entry.now) }
+) -> Result<(Variable, &'a [u8], &'a [u8]), LoadError>
+    ensures found { Gives (λ x. (x.0, x.2.now)) result (variable_at total seen.now bytes.entry.now) }
+    ensures name { IfOk result (λ x. x.1.now ≡ x.0.name) }
 {
     let position = total.saturating_sub(bytes.len());
-    let (name, rest) = variable_name_at(alloc, position, seen, bytes)?;
+    let (name, rest) = variable_name_at(position, seen, bytes)?;
     let (code, rest) = u8_at(rest)?;
     let ty = lawful(position, type_of(code))?;
     let (place, rest) = u16_at(rest)?;
     let location = lawful(position, location_of(seen, ty, place))?;
     let (first, rest) = u32_at(rest)?;
     let initial = lawful(position, initial_of(ty, location, first))?;
-    Ok((
-        Variable {
-            name,
-            ty,
-            location,
-            initial,
-        },
-        rest,
-    ))
+    let found = Variable {
+        name: Name::of(Vec::from_slice(alloc, name)?),
+        ty,
+        location,
+        initial,
+    };
+    Ok((found, name, rest))
 }
 
 /// A label.
 #[tactic(auto, unfolding(crate::specs::Reading::mark_at))]
 fn mark_at<'a>(
-    alloc: Global,
     total: usize,
-    seen: &[Label],
+    seen: &Labels,
     bytes: &'a [u8],
-) -> Result<(Label, &'a [u8]), LoadError>
+) -> Result<(Label<'a>, &'a [u8]), LoadError>
     ensures { Gives (λ x. (x.0, x.1.now)) result (mark_at total seen.now bytes.entry.now) }
 {
     let position = total.saturating_sub(bytes.len());
-    let (name, rest) = label_name_at(alloc, position, seen, bytes)?;
+    let (name, rest) = label_name_at(position, seen, bytes)?;
     let (at, rest) = u16_at(rest)?;
     Ok((Label { name, at }, rest))
+}
+
+/// The constant that bits stand for, if none of these is the same.
+fn constant_of(seen: &Constants, ty: Ty, bits: u32) -> Option<Value>
+    ensures { result ≡ constant_of seen.now ty bits }
+{
+    let v = make(ty, i64::from(bits.cast_signed()))?;
+    if seen.place(v).is_some() {
+        None
+    } else {
+        Some(v)
+    }
 }
 
 /// A constant.
 #[tactic(auto, unfolding(crate::specs::Reading::constant_at))]
 fn constant_at<'a>(
     total: usize,
-    seen: &[Value],
+    seen: &Constants,
     bytes: &'a [u8],
 ) -> Result<(Value, &'a [u8]), LoadError>
     ensures { Gives (λ x. (x.0, x.1.now)) result (constant_at total seen.now bytes.entry.now) }
@@ -231,18 +251,16 @@ fn constant_at<'a>(
 }
 
 /// The name of the first label at an address.
-fn label_there(alloc: Global, labels: &[Label], n: usize) -> Result<Option<Name>, LoadError>
+fn label_there(alloc: Global, labels: &Labels, n: usize) -> Result<Option<Name>, LoadError>
     ensures { Gives (λ o. o) result (Ok (label_there labels.now n)) }
 {
-    for label in labels {
-        if label.at as usize == n {
-            return Ok(Some(label.name.copy(alloc)?));
-        }
+    match labels.name_at(n) {
+        Some(name) => Ok(Some(Name::of(Vec::from_slice(alloc, name)?))),
+        None => Ok(None),
     }
-    Ok(None)
 }
 
-fn target_name(alloc: Global, labels: &[Label], n: u16) -> Result<Name, LoadError>
+fn target_name(alloc: Global, labels: &Labels, n: u16) -> Result<Name, LoadError>
     ensures { Gives (λ name. name) result (Ok (target_name (label_there labels.now n))) }
 {
     match label_there(alloc, labels, n as usize)? {
@@ -251,7 +269,7 @@ fn target_name(alloc: Global, labels: &[Label], n: u16) -> Result<Name, LoadErro
     }
 }
 
-fn raw_operand(alloc: Global, vs: &[Variable], n: u16) -> Result<Option<Operand>, LoadError>
+fn raw_operand(alloc: Global, vs: &Variables, n: u16) -> Result<Option<Operand>, LoadError>
     ensures { Gives (λ o. o) result (Ok (raw_operand vs.now n)) }
 {
     if n < 16384 {
@@ -263,13 +281,26 @@ fn raw_operand(alloc: Global, vs: &[Variable], n: u16) -> Result<Option<Operand>
     if n == 65535 {
         return Ok(Some(Operand::Absent));
     }
-    match vs.get(n as usize - 16384) {
+    match vs.as_slice().get(n as usize - 16384) {
         Some(v) => Ok(Some(Operand::Variable(v.name.copy(alloc)?))),
         None => Ok(None),
     }
 }
 
-fn operand_of(alloc: Global, vs: &[Variable], n: u16) -> Result<Option<Operand>, LoadError>
+fn plain_code(vs: &Variables, operand: &Operand) -> usize
+    ensures { result ≡ plain_code vs.now operand.now }
+{
+    match operand {
+        Operand::Direct(loc) => location_code(Some(*loc)),
+        Operand::Variable(name) => match vs.number_of(name.bytes()) {
+            Some(i) => 16384 + i,
+            None => 65535,
+        },
+        _ => 65535,
+    }
+}
+
+fn operand_of(alloc: Global, vs: &Variables, n: u16) -> Result<Option<Operand>, LoadError>
     ensures { Gives (λ o. o) result (Ok (operand_of vs.now n)) }
 {
     match raw_operand(alloc, vs, n)? {
@@ -295,7 +326,7 @@ fn literal_at(constants: &[Value], k: usize) -> Option<Operand>
 
 fn value_operand(
     alloc: Global,
-    vs: &[Variable],
+    vs: &Variables,
     constants: &[Value],
     n: u16,
 ) -> Result<Option<Operand>, LoadError>
@@ -310,8 +341,8 @@ fn value_operand(
 
 fn numbered_operand(
     alloc: Global,
-    vs: &[Variable],
-    labels: &[Label],
+    vs: &Variables,
+    labels: &Labels,
     constants: &[Value],
     op: Op,
     n: u16,
@@ -327,8 +358,8 @@ fn numbered_operand(
 
 fn word_operand(
     alloc: Global,
-    vs: &[Variable],
-    labels: &[Label],
+    vs: &Variables,
+    labels: &Labels,
     constants: &[Value],
     op: Op,
     m: Modifier,
@@ -352,8 +383,8 @@ fn word_operand(
 fn word_at<'a>(
     alloc: Global,
     position: usize,
-    vs: &[Variable],
-    labels: &[Label],
+    vs: &Variables,
+    labels: &Labels,
     constants: &[Value],
     n: usize,
     bytes: &'a [u8],
@@ -377,40 +408,40 @@ fn word_at<'a>(
     Ok((Word { line, code }, rest))
 }
 
-pub fn variables_of(
+pub fn variables_of<'a>(
     alloc: Global,
     total: usize,
     count: u16,
-    bytes: &[u8],
-) -> Result<(Vec<Variable>, &[u8]), LoadError>
-    ensures { Gives (λ x. (x.0.items, x.1.now)) result (items_from (variable_at total) count [] bytes.now) }
+    bytes: &'a [u8],
+) -> Result<(Variables<'a>, &'a [u8]), LoadError>
+    ensures { Gives (λ x. (x.0, x.1.now)) result (items_from (variable_at total) count [] bytes.entry.now) }
 {
-    let mut found = Vec::new(alloc);
+    let mut seen = Variables::new(alloc);
     let mut rest = bytes;
     for _ in 0..count {
-        let (one, after) = variable_at(alloc, total, found.as_slice(), rest)?;
-        found.push(one)?;
+        let (one, name, after) = variable_at(alloc, total, &seen, rest)?;
+        seen = seen.with(one, name)?;
         rest = after;
     }
-    Ok((found, rest))
+    Ok((seen, rest))
 }
 
-pub fn labels_of(
+pub fn labels_of<'a>(
     alloc: Global,
     total: usize,
     count: u16,
-    bytes: &[u8],
-) -> Result<(Vec<Label>, &[u8]), LoadError>
-    ensures { Gives (λ x. (x.0.items, x.1.now)) result (items_from (mark_at total) count [] bytes.now) }
+    bytes: &'a [u8],
+) -> Result<(Labels<'a>, &'a [u8]), LoadError>
+    ensures { Gives (λ x. (x.0, x.1.now)) result (items_from (mark_at total) count [] bytes.entry.now) }
 {
-    let mut found = Vec::new(alloc);
+    let mut seen = Labels::new(alloc);
     let mut rest = bytes;
     for _ in 0..count {
-        let (one, after) = mark_at(alloc, total, found.as_slice(), rest)?;
-        found.push(one)?;
+        let (one, after) = mark_at(total, &seen, rest)?;
+        seen = seen.with(one)?;
         rest = after;
     }
-    Ok((found, rest))
+    Ok((seen, rest))
 }
 
 pub fn constants_of(
@@ -418,25 +449,25 @@ pub fn constants_of(
     total: usize,
     count: u16,
     bytes: &[u8],
-) -> Result<(Vec<Value>, &[u8]), LoadError>
-    ensures { Gives (λ x. (x.0.items, x.1.now)) result (items_from (constant_at total) count [] bytes.now) }
+) -> Result<(Constants, &[u8]), LoadError>
+    ensures { Gives (λ x. (x.0, x.1.now)) result (items_from (constant_at total) count [] bytes.now) }
 {
-    let mut found = Vec::new(alloc);
+    let mut seen = Constants::new(alloc);
     let mut rest = bytes;
     for _ in 0..count {
-        let (one, after) = constant_at(total, found.as_slice(), rest)?;
-        found.push(one)?;
+        let (one, after) = constant_at(total, &seen, rest)?;
+        seen = seen.with(one)?;
         rest = after;
     }
-    Ok((found, rest))
+    Ok((seen, rest))
 }
 
 /// The word behind these.
 fn next_word<'a>(
     alloc: Global,
     total: usize,
-    vs: &[Variable],
-    labels: &[Label],
+    vs: &Variables,
+    labels: &Labels,
     constants: &[Value],
     seen: &[Word],
     bytes: &'a [u8],
@@ -450,8 +481,8 @@ fn next_word<'a>(
 pub fn words_of<'a>(
     alloc: Global,
     total: usize,
-    vs: &[Variable],
-    labels: &[Label],
+    vs: &Variables,
+    labels: &Labels,
     constants: &[Value],
     count: u16,
     bytes: &'a [u8],

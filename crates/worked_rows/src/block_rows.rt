@@ -291,7 +291,7 @@ fn ctud_counts_both_ways(rt: HostRuntime) {
 
 /// At the ends of INT a counter stays where it is.
 #[test]
-fn counters_stay_within_int(rt: HostRuntime) {
+fn ctud_stays_within_int(rt: HostRuntime) {
     assert_eq!(rt;
         run::<Ctud>(
             &rt,
@@ -345,6 +345,11 @@ fn counters_stay_within_int(rt: HostRuntime) {
         ),
         [0x1d, 0xffff8001, 0, 0]
     );
+}
+
+/// At the lower end of INT a counter that only counts down stays where it is, too.
+#[test]
+fn ctd_stays_within_int(rt: HostRuntime) {
     assert_eq!(rt;
         run::<Ctd>(
             &rt,

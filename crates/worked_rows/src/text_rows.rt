@@ -80,9 +80,8 @@ mod tests {
     use super::*;
 
     #[test]
-    fn each_fault_of_reading_at_its_place(rt: HostRuntime) {
-        let rows: [(&[u8], Outcome); 48] = [
-            // bytes
+    fn faults_of_bytes_tokens_and_comments(rt: HostRuntime) {
+        let rows: [(&[u8], Outcome); 15] = [
             (b"LD \x80", Outcome::Read(1, 1, 4)),
             (b"LD %IX0.0\n\x00", Outcome::Read(1, 2, 1)),
             (b"(* \x80\x00 *) LD %IX0.0", Outcome::Good(0, 1)),
@@ -100,7 +99,13 @@ mod tests {
             (b"LD %IX0.0 (*)", Outcome::Read(4, 1, 11)),
             (b"LD %IX0.0 (**)", Outcome::Good(0, 1)),
             (b"LD (* a\nb *) %IX0.0 X", Outcome::Read(5, 2, 13)),
-            // tokens that no case allows
+        ];
+        wants(&rt, rt.alloc(), &rows);
+    }
+
+    #[test]
+    fn tokens_that_no_case_allows(rt: HostRuntime) {
+        let rows: [(&[u8], Outcome); 33] = [
             (b"LD", Outcome::Read(5, 1, 3)),
             (b"LD  ", Outcome::Read(5, 1, 5)),
             (b"LD\nLD %IX0.0", Outcome::Read(5, 1, 3)),
@@ -145,9 +150,8 @@ mod tests {
     }
 
     #[test]
-    fn each_fault_of_declarations_at_its_place(rt: HostRuntime) {
-        let rows: [(&[u8], Outcome); 53] = [
-            // a name twice
+    fn names_twice(rt: HostRuntime) {
+        let rows: [(&[u8], Outcome); 4] = [
             (
                 b"VAR A : BOOL; B : BOOL; a : BOOL; END_VAR",
                 Outcome::Declared(1, 1, 25),
@@ -158,7 +162,13 @@ mod tests {
                 b"VAR A : BOOL; END_VAR\nVAR A AT %QX9.9 : FOO; END_VAR",
                 Outcome::Declared(1, 2, 5),
             ),
-            // no type
+        ];
+        wants(&rt, rt.alloc(), &rows);
+    }
+
+    #[test]
+    fn names_of_no_type(rt: HostRuntime) {
+        let rows: [(&[u8], Outcome); 6] = [
             (b"VAR X : FOO; END_VAR", Outcome::Declared(2, 1, 9)),
             (b"VAR X : LINT; END_VAR", Outcome::Declared(2, 1, 9)),
             (b"VAR X : LD; END_VAR", Outcome::Declared(2, 1, 9)),
@@ -168,10 +178,22 @@ mod tests {
                 b"VAR X AT %IX0.0 : FOO; END_VAR",
                 Outcome::Declared(2, 1, 19),
             ),
-            // no such variable
+        ];
+        wants(&rt, rt.alloc(), &rows);
+    }
+
+    #[test]
+    fn names_of_no_variable(rt: HostRuntime) {
+        let rows: [(&[u8], Outcome); 2] = [
             (b"VAR X : BOOL; END_VAR\nLD Z", Outcome::Declared(3, 2, 4)),
             (b"LD ST", Outcome::Declared(3, 1, 4)),
-            // no location
+        ];
+        wants(&rt, rt.alloc(), &rows);
+    }
+
+    #[test]
+    fn locations_that_are_none(rt: HostRuntime) {
+        let rows: [(&[u8], Outcome); 19] = [
             (
                 b"VAR X AT %IW0 : BOOL; END_VAR",
                 Outcome::Declared(4, 1, 10),
@@ -200,7 +222,13 @@ mod tests {
             (b"LD %IX0_.0", Outcome::Declared(4, 1, 4)),
             (b"LD %IXX0.0", Outcome::Declared(4, 1, 4)),
             (b"LD %IX99999999999999999999.0", Outcome::Declared(4, 1, 4)),
-            // a location twice
+        ];
+        wants(&rt, rt.alloc(), &rows);
+    }
+
+    #[test]
+    fn locations_twice(rt: HostRuntime) {
+        let rows: [(&[u8], Outcome); 4] = [
             (
                 b"VAR X AT %QX0.0 : BOOL; Y AT %q00.0 : BOOL; END_VAR",
                 Outcome::Declared(5, 1, 30),
@@ -217,7 +245,13 @@ mod tests {
                 b"VAR X AT %QW0 : INT; Y AT %QW0 : FOO; END_VAR",
                 Outcome::Declared(5, 1, 27),
             ),
-            // an initial value that doesn't fit
+        ];
+        wants(&rt, rt.alloc(), &rows);
+    }
+
+    #[test]
+    fn initial_values_that_do_not_fit(rt: HostRuntime) {
+        let rows: [(&[u8], Outcome); 6] = [
             (
                 b"VAR X AT %IX0.0 : BOOL := FALSE; END_VAR",
                 Outcome::Declared(6, 1, 27),
@@ -236,11 +270,17 @@ mod tests {
                 b"VAR Z : TIME := INT#5; END_VAR",
                 Outcome::Declared(6, 1, 17),
             ),
+        ];
+        wants(&rt, rt.alloc(), &rows);
+    }
+
+    #[test]
+    fn words_of_the_language_as_names(rt: HostRuntime) {
+        let rows: [(&[u8], Outcome); 9] = [
             (
                 b"VAR A, LD : INT := TRUE; END_VAR",
                 Outcome::Declared(7, 1, 8),
             ),
-            // a word of the language
             (b"LD: LD 5", Outcome::Declared(7, 1, 1)),
             (b"TRUE: LD 5", Outcome::Declared(7, 1, 1)),
             (b"VAR LD : BOOL; END_VAR", Outcome::Declared(7, 1, 5)),
@@ -255,7 +295,14 @@ mod tests {
                 b"VAR T, I, Q, M, N, C, LINT, IN, PT, CLK : BOOL; END_VAR LD t",
                 Outcome::Good(10, 1),
             ),
-            // a fault further left wins, but all is read before any name is looked up
+        ];
+        wants(&rt, rt.alloc(), &rows);
+    }
+
+    /// The leftmost fault wins, but all is read before any name is looked up.
+    #[test]
+    fn the_first_fault_of_all_wins(rt: HostRuntime) {
+        let rows: [(&[u8], Outcome); 3] = [
             (
                 b"VAR A : FOO; A : BOOL; END_VAR LD Z",
                 Outcome::Declared(2, 1, 9),
@@ -270,7 +317,7 @@ mod tests {
     }
 
     #[test]
-    fn programs(rt: HostRuntime) -> Result<(), Fail> {
+    fn programs(rt: HostRuntime) {
         let rows: [(&[u8], Outcome); 20] = [
             (b"", Outcome::Good(0, 0)),
             (b"\r\n\t (* nothing *)\n", Outcome::Good(0, 0)),
@@ -315,7 +362,10 @@ mod tests {
             ),
         ];
         wants(&rt, rt.alloc(), &rows);
+    }
 
+    #[test]
+    fn names_and_operands(rt: HostRuntime) -> Result<(), Fail> {
         let text = b"VAR x AT %IX0.1 : BOOL; yy : BOOL; END_VAR\nLDN X\nor %Qx63.7\nST YY";
         let program = match resolved(rt.alloc(), text) {
             Ok(program) => program,
@@ -466,7 +516,10 @@ OR(";
         for (n, (text, wanted)) in rows.iter().enumerate() {
             assert_eq!(rt; literal(text), *wanted, "in row {n}");
         }
-        let alloc = rt.alloc();
+    }
+
+    #[test]
+    fn misspelled_literals_at_their_place(rt: HostRuntime) {
         let misspelled: [(&[u8], Outcome); 5] = [
             (b"LD 5X", Outcome::Read(3, 1, 4)),
             (b"LD - 5", Outcome::Read(3, 1, 4)),
@@ -474,7 +527,7 @@ OR(";
             (b"LD 5 99999999999", Outcome::Read(3, 1, 6)),
             (b"VAR X : INT := 5-3; END_VAR", Outcome::Read(3, 1, 16)),
         ];
-        wants(&rt, alloc, &misspelled);
+        wants(&rt, rt.alloc(), &misspelled);
     }
 
     #[test]

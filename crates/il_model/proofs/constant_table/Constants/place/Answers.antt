@@ -2,8 +2,8 @@ use Rattle.std.proofs.Common.{ap, ◌∙◌, arith, List, length}
 use Rattle.std.specs.List.{position}
 use Rattle.il_model.specs.declared.value.Value.{Value}
 use Rattle.il_model.specs.Constants.{same_value}
-use Rattle.assembler.proofs.Keys.{small_place}
-use Rattle.assembler.proofs.constants.Constants.place.Goals as goal
+use Rattle.il_model.proofs.ConstantKeys.{small_place}
+use Rattle.il_model.proofs.constant_table.Constants.place.Goals as goal
 
 pub returns-clause-small : goal.returns-clause-small
 returns-clause-small c =
