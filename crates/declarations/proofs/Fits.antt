@@ -553,14 +553,12 @@ lines_fine vs ls z words e = each_keeps (FineCode vs) IsOperator (instruct vs) (
 -- ---- the whole
 
 -- the parts that a text's program is made of
-pub parts_fit : (p : ProgramText) (bs : List (List DeclarationText)) (ls : List LineText) (vs known : List Variable) (code : List Instr) → AreWords p → bs ≡ p.blocks → ls ≡ p.lines → known ≡ vs
-    → each declare_block [] bs ≡ Ok vs → each (instruct known) [] ls ≡ Ok code → IsDeclared (record { variables = vs; code = code })
-parts_fit p bs ls vs known code words b l k e f =
-    let variables = blocks_fine p.blocks vs words.blocks (subst (λ (x : List (List DeclarationText)). each declare_block [] x ≡ Ok vs) b e) in
-    let g = subst (λ (x : List LineText). each (instruct known) [] x ≡ Ok code) l f in
-    let h = subst (λ (x : List Variable). each (instruct x) [] p.lines ≡ Ok code) k g in
-    let lines = lines_fine vs p.lines code words.lines h in
-    record { variables = variables.all; variables_few = variables.few; lines = lines.all; lines_few = lines.few }
+pub parts_fit : (p : ProgramText) (bs : List (List DeclarationText)) (ls : List LineText) (known vs : List Variable) (code : List Instr) → AreWords p → bs ≡ p.blocks → ls ≡ p.lines → vs ≡ known
+    → each declare_block [] bs ≡ Ok known → each (instruct known) [] ls ≡ Ok code → IsDeclared (record { variables = vs; code = code })
+parts_fit p bs ls known vs code words b l v e f =
+    let variables = blocks_fine p.blocks known words.blocks (subst (λ (x : List (List DeclarationText)). each declare_block [] x ≡ Ok known) b e) in
+    let lines = lines_fine known p.lines code words.lines (subst (λ (x : List LineText). each (instruct known) [] x ≡ Ok code) l f) in
+    subst (λ (x : List Variable). IsDeclared (record { variables = x; code = code })) (sym v) (record { variables = variables.all; variables_few = variables.few; lines = lines.all; lines_few = lines.few })
 
 abbrev pub some_text : Text → Option Text
 some_text Q = Some Q

@@ -1,3 +1,4 @@
+pub mod DeclaredTables
 pub mod Faults
 pub mod Locations
 pub mod Resolution

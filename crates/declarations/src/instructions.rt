@@ -5,13 +5,14 @@ ghost use Rattle.il_reader.specs.Tokens.{token};
 ghost use Rattle.il_reader.specs.Grammar.{operand, behind, operation, line};
 ghost use Rattle.declarations.specs.Resolution.{Gives, constant, operand_of, optional_operand_of, behind_of, opens, with_opening, instruction_of, room, label_of, instruct_labelled, instruct_plain, instruct, each};
 
+use crate::declared::Declared;
 use crate::fault::{DeclKind, Failure, Refusal};
 use crate::location::location;
-use crate::variables::{capital_name, is_known, refused};
+use crate::variables::{capital_name, refused};
 use il_model::literal::Literal;
 use il_model::name::{Name, is_reserved};
 use il_model::op::{Modifier, Op};
-use il_model::program::{Instr, Operand, Variable};
+use il_model::program::{Instr, Operand};
 use il_model::written::literal;
 use il_reader::{Behind, Lexeme, Line, Operation};
 use std::alloc::Global;
@@ -28,7 +29,7 @@ fn constant(t: Lexeme, given: Option<Literal>) -> Result<Operand, Failure>
 
 fn given_operand(
     alloc: Global,
-    known: &[Variable],
+    known: &Declared,
     written: il_reader::Operand,
 ) -> Result<Operand, Failure>
     ensures { Gives (λ x. x) result (operand_of known.now (operand written.entry)) }
@@ -41,7 +42,7 @@ fn given_operand(
         },
         il_reader::Operand::Named(t) => {
             let name = capital_name(alloc, t.text)?;
-            if is_known(known, &name) {
+            if known.is_known(&name) {
                 Ok(Operand::Variable(name))
             } else {
                 Err(refused(DeclKind::UnknownName, t))
@@ -52,7 +53,7 @@ fn given_operand(
 
 fn optional_operand(
     alloc: Global,
-    known: &[Variable],
+    known: &Declared,
     written: Option<il_reader::Operand>,
 ) -> Result<Operand, Failure>
     ensures { Gives (λ x. x) result (optional_operand_of known.now (option_map operand written.entry)) }
@@ -63,7 +64,7 @@ fn optional_operand(
     }
 }
 
-fn operand_behind(alloc: Global, known: &[Variable], written: Behind) -> Result<Operand, Failure>
+fn operand_behind(alloc: Global, known: &Declared, written: Behind) -> Result<Operand, Failure>
     ensures { Gives (λ x. x) result (behind_of known.now (behind written.entry)) }
 {
     match written {
@@ -93,7 +94,7 @@ fn with_opening(opens: bool, m: Modifier) -> Modifier
 #[tactic(auto, unfolding(crate::specs::Resolution::instruction_of))]
 fn instruction(
     alloc: Global,
-    known: &[Variable],
+    known: &Declared,
     label: Option<Name>,
     written: Option<Operation>,
 ) -> Result<Instr, Failure>
@@ -149,7 +150,7 @@ fn lawful_label(alloc: Global, t: Lexeme) -> Result<Name, Failure>
 #[tactic(auto, unfolding(crate::specs::Resolution::instruct_labelled))]
 fn push_labelled(
     alloc: Global,
-    known: &[Variable],
+    known: &Declared,
     code: &mut Vec<Instr>,
     t: Lexeme,
     written: Option<Operation>,
@@ -165,7 +166,7 @@ fn push_labelled(
 #[tactic(auto, unfolding(crate::specs::Resolution::instruct_plain))]
 fn push_plain(
     alloc: Global,
-    known: &[Variable],
+    known: &Declared,
     code: &mut Vec<Instr>,
     written: Operation,
 ) -> Result<(), Failure>
@@ -178,7 +179,7 @@ fn push_plain(
 
 fn push_line(
     alloc: Global,
-    known: &[Variable],
+    known: &Declared,
     code: &mut Vec<Instr>,
     written: Line,
 ) -> Result<(), Failure>
@@ -191,11 +192,7 @@ fn push_line(
 }
 
 /// The instructions of the lines.
-pub fn instructions(
-    alloc: Global,
-    known: &[Variable],
-    lines: &[Line],
-) -> Result<Vec<Instr>, Failure>
+pub fn instructions(alloc: Global, known: &Declared, lines: &[Line]) -> Result<Vec<Instr>, Failure>
     ensures { Gives (λ v. v.items) result (each (instruct known.now) [] (map line lines.now)) }
 {
     let mut code = Vec::new(alloc);

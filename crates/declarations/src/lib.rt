@@ -2,6 +2,7 @@
 //! It stands on `il_reader` (what a text says) and `il_model` (programs); it judges no types of operands.
 #![tactic(auto)]
 
+mod declared;
 mod fault;
 mod initial;
 mod instructions;

@@ -5,17 +5,18 @@ ghost use Rattle.il_model.specs.Declarable.{IsDeclared};
 ghost use Rattle.il_reader.specs.Grammar.{declarations};
 ghost use Rattle.declarations.specs.Resolution.{Gives, Answers, declare_block, program_at, resolution_of, each};
 
+use crate::declared::Declared;
 use crate::fault::{DeclError, Failure, Fault};
 use crate::instructions::instructions;
 use crate::variables::declare_each;
-use il_model::program::{Program, Variable};
+use il_model::program::Program;
 use il_reader::{Declaration, Source};
 use std::alloc::Global;
 
-fn variables(alloc: Global, blocks: &[Vec<Declaration>]) -> Result<Vec<Variable>, Failure>
-    ensures { Gives (λ v. v.items) result (each declare_block [] (map (λ ds. declarations ds.items) blocks.now)) }
+fn declared(alloc: Global, blocks: &[Vec<Declaration>]) -> Result<Declared, Failure>
+    ensures { Gives (λ d. d) result (each declare_block [] (map (λ ds. declarations ds.items) blocks.now)) }
 {
-    let mut known = Vec::new(alloc);
+    let mut known = Declared::new(alloc);
     for block in blocks {
         declare_each(alloc, &mut known, block.as_slice())?;
     }
@@ -28,9 +29,9 @@ fn program(alloc: Global, source: &Source) -> Result<Program, Failure>
     ensures exact { Gives (λ p. p) result (program_at source.now.says) }
 {
     source.is_read();
-    let variables = variables(alloc, source.blocks())?;
-    let code = instructions(alloc, variables.as_slice(), source.lines())?;
-    match Program::new(variables, code) {
+    let known = declared(alloc, source.blocks())?;
+    let code = instructions(alloc, &known, source.lines())?;
+    match Program::new(known.into_vec(), code) {
         Some(program) => Ok(program),
         None => unreachable!(),
     }

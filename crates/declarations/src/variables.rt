@@ -1,17 +1,14 @@
 //! Declarations of variables.
 
 ghost use Rattle.std.specs.Prelude.{◌≡◌, IfOk, map};
-ghost use Rattle.std.specs.List.{position};
-ghost use Rattle.il_model.specs.Image.{loc_code};
-ghost use Rattle.il_model.specs.Codes.{has_code, is_number, is_taken};
 ghost use Rattle.il_reader.specs.Tokens.{token};
 ghost use Rattle.il_reader.specs.Grammar.{declaration, declarations};
-ghost use Rattle.declarations.specs.Resolution.{Gives, capitals, type_of, has_name, is_full, suits, new_name, free_location, known_type, variable, plan_of, name_variable, declare_located, declare_listed, declare, declare_block, each};
+ghost use Rattle.declarations.specs.Resolution.{Gives, capitals, type_of, is_full, suits, new_name, free_location, known_type, variable, plan_of, name_variable, declare_located, declare_listed, declare, declare_block, each};
 
+use crate::declared::Declared;
 use crate::fault::{DeclKind, Failure, Refusal};
 use crate::initial::{first_value, planned_value};
 use crate::location::location;
-use il_model::codes::location_code;
 use il_model::name::{Name, is_reserved};
 use il_model::program::{Loc, Variable};
 use il_model::resolve::loc_type;
@@ -38,40 +35,6 @@ pub fn capital_name(alloc: Global, text: &[u8]) -> Result<Name, AllocError>
     Ok(Name::of(bytes))
 }
 
-fn number_of(known: &[Variable], name: &Name) -> Option<usize>
-    ensures { result ≡ is_number known.now name.now }
-{
-    known.iter().position(|v| v.name.is(name))
-}
-
-/// Whether one of these variables has the name.
-pub fn is_known(known: &[Variable], name: &Name) -> bool
-    ensures { result ≡ has_name known.now name.now }
-{
-    number_of(known, name).is_some()
-}
-
-fn lies_at(place: Option<Loc>, loc: Loc) -> bool
-    ensures { result ≡ has_code (loc_code loc) place }
-{
-    match place {
-        Some(_) => location_code(place) == location_code(Some(loc)),
-        None => false,
-    }
-}
-
-fn occupier(known: &[Variable], loc: Loc) -> Option<usize>
-    ensures { result ≡ position (λ v. has_code (loc_code loc) v.location) known.now }
-{
-    known.iter().position(|v| lies_at(v.location, loc))
-}
-
-fn is_occupied(known: &[Variable], loc: Loc) -> bool
-    ensures { result ≡ is_taken known.now (loc_code loc) }
-{
-    occupier(known, loc).is_some()
-}
-
 fn elementary(word: &[u8]) -> Option<Ty>
     ensures { result ≡ type_of word.now }
 {
@@ -88,7 +51,7 @@ fn elementary(word: &[u8]) -> Option<Ty>
     }
 }
 
-fn has_no_room(ty: Option<Ty>, known: &[Variable]) -> bool
+fn has_no_room(ty: Option<Ty>, known: &Declared) -> bool
     ensures { result ≡ is_full ty known.now }
 {
     match ty {
@@ -98,16 +61,11 @@ fn has_no_room(ty: Option<Ty>, known: &[Variable]) -> bool
 }
 
 #[tactic(auto, unfolding(crate::specs::Resolution::new_name))]
-fn lawful_name(
-    alloc: Global,
-    ty: Option<Ty>,
-    known: &[Variable],
-    t: Lexeme,
-) -> Result<Name, Failure>
+fn lawful_name(alloc: Global, ty: Option<Ty>, known: &Declared, t: Lexeme) -> Result<Name, Failure>
     ensures { Gives (λ n. n) result (new_name ty known.now (token t.entry)) }
 {
     let name = capital_name(alloc, t.text)?;
-    if is_known(known, &name) {
+    if known.is_known(&name) {
         Err(refused(DeclKind::Duplicate, t))
     } else if is_reserved(name.bytes()) {
         Err(refused(DeclKind::ReservedName, t))
@@ -129,7 +87,7 @@ fn location_suits(ty: Option<Ty>, loc: Loc) -> bool
     }
 }
 
-fn unoccupied(ty: Option<Ty>, known: &[Variable], t: Lexeme) -> Result<Loc, Failure>
+fn unoccupied(ty: Option<Ty>, known: &Declared, t: Lexeme) -> Result<Loc, Failure>
     ensures { Gives (λ loc. loc) result (free_location ty known.now (token t.entry)) }
 {
     match location(t.text) {
@@ -137,7 +95,7 @@ fn unoccupied(ty: Option<Ty>, known: &[Variable], t: Lexeme) -> Result<Loc, Fail
         Some(loc) => {
             if !location_suits(ty, loc) {
                 Err(refused(DeclKind::BadLocation, t))
-            } else if is_occupied(known, loc) {
+            } else if known.is_taken(loc) {
                 Err(refused(DeclKind::Overlap, t))
             } else {
                 Ok(loc)
@@ -181,21 +139,24 @@ fn fresh(name: Name, ty: Ty, location: Option<Loc>, initial: Value) -> Variable
 }
 
 #[tactic(auto, unfolding(crate::specs::Resolution::name_variable))]
-fn push_name(alloc: Global, plan: Plan, known: &mut Vec<Variable>, t: Lexeme) -> Result<(), Failure>
-    ensures { Gives (λ u. known.new.items) result (name_variable plan known.old.items (token t.entry)) }
+fn push_name(alloc: Global, plan: Plan, known: &mut Declared, t: Lexeme) -> Result<(), Failure>
+    ensures { Gives (λ u. known.new) result (name_variable plan known.old (token t.entry)) }
 {
-    let name = lawful_name(alloc, plan.ty, known.as_slice(), t)?;
-    known.push(fresh(name, plan.ty.unwrap_or(Ty::Bool), None, plan.initial))?;
+    let name = lawful_name(alloc, plan.ty, known, t)?;
+    known.push(
+        alloc,
+        fresh(name, plan.ty.unwrap_or(Ty::Bool), None, plan.initial),
+    )?;
     Ok(())
 }
 
 fn push_names(
     alloc: Global,
     plan: Plan,
-    known: &mut Vec<Variable>,
+    known: &mut Declared,
     names: &[Lexeme],
 ) -> Result<(), Failure>
-    ensures { Gives (λ u. known.new.items) result (each (name_variable plan) known.old.items (map token names.now)) }
+    ensures { Gives (λ u. known.new) result (each (name_variable plan) known.old (map token names.now)) }
 {
     for name in names {
         push_name(alloc, plan, known, *name)?;
@@ -206,28 +167,28 @@ fn push_names(
 #[tactic(auto, unfolding(crate::specs::Resolution::declare_located))]
 fn declare_at(
     alloc: Global,
-    known: &mut Vec<Variable>,
+    known: &mut Declared,
     d: &Declaration,
     at: Lexeme,
 ) -> Result<(), Failure>
-    ensures { Gives (λ u. known.new.items) result (declare_located known.old.items (declaration d.now) (token at.entry)) }
+    ensures { Gives (λ u. known.new) result (declare_located known.old (declaration d.now) (token at.entry)) }
 {
-    let name = lawful_name(alloc, elementary(d.ty.text), known.as_slice(), d.name)?;
-    let loc = unoccupied(elementary(d.ty.text), known.as_slice(), at)?;
+    let name = lawful_name(alloc, elementary(d.ty.text), known, d.name)?;
+    let loc = unoccupied(elementary(d.ty.text), known, at)?;
     let ty = named_type(d.ty)?;
     let initial = first_value(ty, Some(loc), d.initial)?;
-    known.push(fresh(name, ty, Some(loc), initial))?;
+    known.push(alloc, fresh(name, ty, Some(loc), initial))?;
     Ok(())
 }
 
 #[tactic(auto, unfolding(crate::specs::Resolution::declare_listed))]
 fn declare_names(
     alloc: Global,
-    known: &mut Vec<Variable>,
+    known: &mut Declared,
     d: &Declaration,
     more: &[Lexeme],
 ) -> Result<(), Failure>
-    ensures { Gives (λ u. known.new.items) result (declare_listed known.old.items (declaration d.now) (map token more.now)) }
+    ensures { Gives (λ u. known.new) result (declare_listed known.old (declaration d.now) (map token more.now)) }
 {
     let plan = planned(d);
     push_name(alloc, plan, known, d.name)?;
@@ -237,8 +198,8 @@ fn declare_names(
     Ok(())
 }
 
-fn declare_one(alloc: Global, known: &mut Vec<Variable>, d: &Declaration) -> Result<(), Failure>
-    ensures { Gives (λ u. known.new.items) result (declare known.old.items (declaration d.now)) }
+fn declare_one(alloc: Global, known: &mut Declared, d: &Declaration) -> Result<(), Failure>
+    ensures { Gives (λ u. known.new) result (declare known.old (declaration d.now)) }
 {
     match &d.names {
         Names::Located(at) => declare_at(alloc, known, d, *at),
@@ -249,10 +210,10 @@ fn declare_one(alloc: Global, known: &mut Vec<Variable>, d: &Declaration) -> Res
 /// The variables of a block, behind those before it.
 pub fn declare_each(
     alloc: Global,
-    known: &mut Vec<Variable>,
+    known: &mut Declared,
     block: &[Declaration],
 ) -> Result<(), Failure>
-    ensures { Gives (λ u. known.new.items) result (declare_block known.old.items (declarations block.now)) }
+    ensures { Gives (λ u. known.new) result (declare_block known.old (declarations block.now)) }
 {
     for d in block {
         declare_one(alloc, known, d)?;

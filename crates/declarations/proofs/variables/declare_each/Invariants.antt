@@ -4,4 +4,4 @@ use Rattle.declarations.specs.Resolution.{declare, each}
 use Rattle.declarations.proofs.variables.declare_each.Given as goal
 
 abbrev pub invariant-loop-d : goal.invariant-loop-d
-invariant-loop-d l = each declare l.known.items (drop l.d-index (map declaration l.block)) ≡ each declare l.fn.known.items (map declaration l.block)
+invariant-loop-d l = each declare l.known (drop l.d-index (map declaration l.block)) ≡ each declare l.fn.known (map declaration l.block)
