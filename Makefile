@@ -1,8 +1,8 @@
-# make demo [EXAMPLE=motor|tank|pumps|interlock]   runs plc on a real program, and prints a line for each scan
+# make demo [EXAMPLE=crossing|bottles|motor|tank|pumps|interlock]   runs plc on a real program, and prints a line for each scan
 # make plc                                    proves the program and builds it: build/plc
 # make test                                   the whole gate
 
-EXAMPLE ?= motor
+EXAMPLE ?= crossing
 IL = examples/$(EXAMPLE).il
 COMMANDS = examples/$(EXAMPLE).json
 

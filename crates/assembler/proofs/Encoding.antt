@@ -1,70 +1,144 @@
 -- The bytes told by a program and the literals of its typed program are the typed program's spelling.
-use Rattle.std.proofs.Common.{◌≡◌, ℕ, zero, suc, List, [], ◌∷◌, ◌++◌, length, Option, Ok, refl, sym, ap, ◌∙◌, arith}
+use Rattle.std.proofs.Common.{◌≡◌, ℕ, List, [], ◌∷◌, ◌++◌, length, Option, Some, None, Ok, refl, sym, ap, ◌∙◌}
+use Rattle.std.specs.Prelude.{map}
 use Rattle.std.specs.List.{flat_map}
+use Rattle.std.specs.Option.{option_map, option_and_then}
+use Rattle.std.proofs.lemmas.List.{map-append}
+use Rattle.il_model.specs.declared.value.Ty.{Ty}
 use Rattle.il_model.specs.declared.value.Value.{Value}
+use Rattle.il_model.specs.declared.kind.BlockKind.{BlockKind}
 use Rattle.il_model.specs.declared.program.Variable.{Variable}
+use Rattle.il_model.specs.declared.program.Instance.{Instance}
+use Rattle.il_model.specs.declared.program.Argument.{Argument}
 use Rattle.il_model.specs.declared.program.Operand.{Operand}
 use Rattle.il_model.specs.declared.program.Operand.TheVariants as operands
 use Rattle.il_model.specs.declared.program.Instr.{Instr}
-use Rattle.il_model.specs.Text.{Text}
-use Rattle.il_model.specs.Marks.{Mark, with_mark, marks_from}
-use Rattle.il_model.specs.Constants.{same_value, literal_of, joined_constants, constants_from}
-use Rattle.il_model.specs.Image.{target_code, plain_code, operand_code, coded_word, word_bytes, header_bytes, variable_bytes, mark_bytes, constant_bytes, spelling}
-use Rattle.il_model.specs.Settled.{settled, Settles, IsSettling}
-use Rattle.il_model.proofs.Settling.{labels_of, Alike, AreLines, some_is, settling_alike, target_alike, typed_program}
-use Rattle.assembler.specs.Encoded.{literals_of, constants_in, settled_code, settled_word, settled_words, settled_bytes}
+use Rattle.il_model.specs.Text.{Text, Declarations, declared_by}
+use Rattle.il_model.specs.Kinds.{field_number}
+use Rattle.il_model.specs.Resolved.{target_of, kind_in, called_kind}
+use Rattle.il_model.specs.Marks.{Mark, marks_from, words_in, address_of}
+use Rattle.il_model.specs.Constants.{same_value, literal_of, joined_constants, constants_from, operands_in, operands_of}
+use Rattle.il_model.specs.Image.{target_code, plain_code, operand_code, coded_word, op_code, modifier_code, side_code, field_number_code, word_bytes, argument_bytes, instruction_bytes, header_bytes, variable_bytes, instance_bytes, mark_bytes, constant_bytes, spelling}
+use Rattle.il_model.specs.Settled.{settled_argument, settled_line, settled}
+use Rattle.il_model.proofs.ArgumentFaults.{settled_argument_none}
+use Rattle.il_model.proofs.Settling.{Alike, literal_is, settled_none, called_settled, settling_alike, target_alike, typed_program}
+use Rattle.assembler.specs.Encoded.{literals_of, constants_in, literals_in, all_literals, settled_code, settled_passing_word, settled_instruction, settled_words, settled_bytes}
+use Rattle.assembler.proofs.Gathered.{passing_literals}
+use Rattle.assembler.proofs.SettledLines.{AreSettledLines, settled_lines, same_words, same_address, same_marks}
 
-same_marks : (n : ℕ) (ps qs : List Instr) → labels_of qs ≡ labels_of ps → marks_from n qs ≡ marks_from n ps
-same_marks n [] [] e = refl
-same_marks n [] (q ∷ qs) e = absurd cc
-same_marks n (p ∷ ps) [] e = absurd cc
-same_marks n (p ∷ ps) (q ∷ qs) e =
-    let head : q.label ≡ p.label = cc in
-    ap (λ (o : Option (List ℕ)). with_mark n o (marks_from (suc n) qs)) head ∙ ap (with_mark n p.label) (same_marks (suc n) ps qs (cc))
+-- ---- constants
 
-same_constants : (seen : List Value) (code : List Instr) → constants_in seen (literals_of code) ≡ constants_from same_value seen code
-same_constants seen [] = refl
-same_constants seen (line ∷ code) = same_constants (joined_constants same_value seen (literal_of line.operand)) code
+settled_literals : (args : List Argument) → passing_literals args ≡ map literal_of (map (λ (a : Argument). a.operand) (map settled_argument args))
+settled_literals [] = refl
+settled_literals (a ∷ args) = ap (λ (ls : List (Option Value)). literal_of (settled_argument a).operand ∷ ls) (settled_literals args)
 
-plain_alike : (P Q : Text) (o : Operand) → Alike P Q → plain_code P.variables o ≡ plain_code Q.variables o
-plain_alike P Q o is = ap (λ (vs : List Variable). plain_code vs o) (sym is.variables)
+line_literals : (cr : Option Ty) (p q : Instr) → q ≡ settled_line cr p → literals_in p (literal_of q.operand) ≡ map literal_of (operands_in q)
+line_literals cr p q e =
+    ap (λ (x : Instr). literals_in p (literal_of x.operand)) e
+    ∙ ap (λ (ls : List (Option Value)). literal_of (settled_line cr p).operand ∷ ls) (settled_literals p.arguments)
+    ∙ ap (λ (x : Instr). map literal_of (operands_in x)) (sym e)
 
-same_code : (P Q : Text) (constants : List Value) (p o : Operand) → Alike P Q → Settles p o → settled_code P constants p (literal_of o) ≡ operand_code Q constants o
-same_code P Q constants operands.Absent o is e = ap (λ (x : Operand). settled_code P constants operands.Absent (literal_of x)) e ∙ plain_alike P Q operands.Absent is ∙ ap (operand_code Q constants) (sym e)
-same_code P Q constants (operands.Literal v) o is e = ap (λ (x : Operand). settled_code P constants (operands.Literal v) (literal_of x)) e ∙ ap (operand_code Q constants) (sym e)
-same_code P Q constants (operands.Bare z) o is e = ap (λ (x : Operand). settled_code P constants (operands.Bare z) (literal_of x)) e.1 ∙ ap (operand_code Q constants) (sym e.1)
-same_code P Q constants (operands.Variable name) o is e = ap (λ (x : Operand). settled_code P constants (operands.Variable name) (literal_of x)) e ∙ plain_alike P Q (operands.Variable name) is ∙ ap (operand_code Q constants) (sym e)
-same_code P Q constants (operands.Direct loc) o is e = ap (λ (x : Operand). settled_code P constants (operands.Direct loc) (literal_of x)) e ∙ plain_alike P Q (operands.Direct loc) is ∙ ap (operand_code Q constants) (sym e)
-same_code P Q constants (operands.Label name) o is e = ap (λ (x : Operand). settled_code P constants (operands.Label name) (literal_of x)) e ∙ ap target_code (sym (target_alike P Q name is)) ∙ ap (operand_code Q constants) (sym e)
+same_literals : (ps qs : List Instr) → AreSettledLines ps qs → all_literals ps (literals_of qs) ≡ map literal_of (operands_of qs)
+same_literals [] [] are = refl
+same_literals [] (q ∷ qs) are = absurd are
+same_literals (p ∷ ps) [] are = absurd are
+same_literals (p ∷ ps) (q ∷ qs) are =
+    ap (λ (ls : List (Option Value)). ls ++ all_literals ps (literals_of qs)) (line_literals are.0.0 p q are.0.1)
+    ∙ ap (λ (ls : List (Option Value)). map literal_of (operands_in q) ++ ls) (same_literals ps qs are.1)
+    ∙ sym (map-append literal_of (operands_in q) (operands_of qs))
 
-same_words : (P Q : Text) (constants : List Value) (ps qs : List Instr) → Alike P Q → length qs ≡ length ps → AreLines ps qs → settled_words P constants ps (literals_of qs) ≡ flat_map (word_bytes Q constants) qs
-same_words P Q constants [] [] is len are = refl
-same_words P Q constants [] (q ∷ qs) is len are = absurd (omega (arith, len))
-same_words P Q constants (p ∷ ps) [] is len are = absurd (omega (arith, len))
-same_words P Q constants (p ∷ ps) (q ∷ qs) is len are =
-    let here = are zero p refl in
-    let q-is = some_is q (record p { operand = here.0 }) here.2 in
-    ap (λ (x : Instr). settled_word P constants p (literal_of x.operand) ++ settled_words P constants ps (literals_of qs)) q-is
-    ∙ ap (λ (k : ℕ). coded_word p k ++ settled_words P constants ps (literals_of qs)) (same_code P Q constants p.operand here.0 is here.1)
-    ∙ ap (λ (x : Instr). word_bytes Q constants x ++ settled_words P constants ps (literals_of qs)) (sym q-is)
-    ∙ ap (λ (bytes : List ℕ). word_bytes Q constants q ++ bytes) (same_words P Q constants ps qs is (omega (arith, len)) (λ n x e. are (suc n) x e))
+gathered : (seen : List Value) (os : List Operand) → constants_in seen (map literal_of os) ≡ constants_from same_value seen os
+gathered seen [] = refl
+gathered seen (o ∷ os) = gathered (joined_constants same_value seen (literal_of o)) os
 
-abbrev parts : List Variable → List Mark → List Value → ℕ → List ℕ → List ℕ
-parts variables marks constants count words =
-    header_bytes (length variables) (length marks) (length constants) count
-    ++ (flat_map variable_bytes variables ++ (flat_map mark_bytes marks ++ (flat_map constant_bytes constants ++ words)))
+same_constants : (ps qs : List Instr) → AreSettledLines ps qs → constants_in [] (all_literals ps (literals_of qs)) ≡ constants_from same_value [] (operands_of qs)
+same_constants ps qs are = ap (constants_in []) (same_literals ps qs are) ∙ gathered [] (operands_of qs)
 
-spelled : (P Q : Text) → IsSettling P Q → settled_bytes P (constants_in [] (literals_of Q.code)) (literals_of Q.code) ≡ spelling Q
-spelled P Q is =
-    let a = settling_alike P Q is in
-    let cs : List Value = constants_in [] (literals_of Q.code) in
+-- ---- words
+
+-- programs with the same declarations, and the same labels at the same addresses
+record AreAlike (P Q : Text) : Type 0 where
+  alike : Alike P Q
+  address : (n : ℕ) → address_of P.code n ≡ address_of Q.code n
+
+declared_alike : (P Q : Text) → Alike P Q → declared_by P ≡ declared_by Q
+declared_alike P Q a =
+    ap (λ (vs : List Variable). let ds : Declarations = record { variables = vs; instances = P.instances } in ds) (sym a.variables)
+    ∙ ap (λ (xs : List Instance). let ds : Declarations = record { variables = Q.variables; instances = xs } in ds) (sym a.instances)
+
+plain_alike : (P Q : Text) (o : Operand) → AreAlike P Q → plain_code (declared_by P) o ≡ plain_code (declared_by Q) o
+plain_alike P Q o a = ap (λ (ds : Declarations). plain_code ds o) (declared_alike P Q a.alike)
+
+address_by : (P Q : Text) (o : Option ℕ) → AreAlike P Q → option_map (address_of P.code) o ≡ option_map (address_of Q.code) o
+address_by P Q None a = refl
+address_by P Q (Some n) a = ap (λ (k : ℕ). Some k) (a.address n)
+
+code_alike : (P Q : Text) (constants : List Value) (o : Operand) → AreAlike P Q → operand_code P constants o ≡ operand_code Q constants o
+code_alike P Q constants operands.Absent a = plain_alike P Q operands.Absent a
+code_alike P Q constants (operands.Literal v) a = refl
+code_alike P Q constants (operands.Bare z) a = refl
+code_alike P Q constants (operands.Variable name) a = plain_alike P Q (operands.Variable name) a
+code_alike P Q constants (operands.Direct loc) a = refl
+code_alike P Q constants (operands.Label name) a =
+    ap target_code (address_by P Q (target_of P name) a ∙ ap (option_map (address_of Q.code)) (sym (target_alike P Q name a.alike)))
+code_alike P Q constants (operands.Field name field) a = plain_alike P Q (operands.Field name field) a
+code_alike P Q constants (operands.Instance name) a = plain_alike P Q (operands.Instance name) a
+
+-- an operand that is no literal now stands in the program as it is
+code_by : (P Q : Text) (constants : List Value) (p q : Operand) (literal : Option Value) → AreAlike P Q → literal_of q ≡ literal → (literal_of q ≡ None → q ≡ p) → settled_code P constants p literal ≡ operand_code Q constants q
+code_by P Q constants p q (Some v) a e same = sym (ap (operand_code Q constants) (literal_is q v e))
+code_by P Q constants p q None a e same = code_alike P Q constants p a ∙ sym (ap (operand_code Q constants) (same e))
+
+same_code : (P Q : Text) (constants : List Value) (p q : Operand) → AreAlike P Q → (literal_of q ≡ None → q ≡ p) → settled_code P constants p (literal_of q) ≡ operand_code Q constants q
+same_code P Q constants p q a same = code_by P Q constants p q (literal_of q) a refl same
+
+same_passing : (P Q : Text) (constants : List Value) (kind : Option BlockKind) (args : List Argument) → AreAlike P Q → flat_map (settled_passing_word P constants kind) args ≡ flat_map (argument_bytes Q constants kind) (map settled_argument args)
+same_passing P Q constants kind [] a = refl
+same_passing P Q constants kind (x ∷ args) a =
+    let number = field_number_code (option_and_then (λ (k : BlockKind). field_number k x.field) kind) in
+    ap (λ (k : ℕ). coded_word (side_code x.side) number k ++ flat_map (settled_passing_word P constants kind) args) (same_code P Q constants x.operand (settled_argument x).operand a (settled_argument_none x))
+    ∙ ap (λ (bytes : List ℕ). argument_bytes Q constants kind (settled_argument x) ++ bytes) (same_passing P Q constants kind args a)
+
+same_kind : (P Q : Text) (cr : Option Ty) (p : Instr) → Alike P Q → called_kind P p.operand ≡ called_kind Q (settled_line cr p).operand
+same_kind P Q cr p a = sym (called_settled Q cr p.op p.modifier p.operand ∙ ap (λ (xs : List Instance). kind_in xs p.operand) a.instances)
+
+same_instruction : (P Q : Text) (constants : List Value) (cr : Option Ty) (p q : Instr) → AreAlike P Q → q ≡ settled_line cr p → settled_instruction P constants p (literal_of q.operand) ≡ instruction_bytes Q constants q
+same_instruction P Q constants cr p q a e =
+    let line = settled_line cr p in
+    ap (λ (x : Instr). settled_instruction P constants p (literal_of x.operand)) e
+    ∙ ap (λ (k : ℕ). coded_word (op_code p.op) (modifier_code p.modifier) k ++ flat_map (settled_passing_word P constants (called_kind P p.operand)) p.arguments) (same_code P Q constants p.operand line.operand a (settled_none cr p.op p.modifier p.operand))
+    ∙ ap (λ (kind : Option BlockKind). word_bytes Q constants line ++ flat_map (settled_passing_word P constants kind) p.arguments) (same_kind P Q cr p a.alike)
+    ∙ ap (λ (bytes : List ℕ). word_bytes Q constants line ++ bytes) (same_passing P Q constants (called_kind Q line.operand) p.arguments a)
+    ∙ ap (instruction_bytes Q constants) (sym e)
+
+same_code_words : (P Q : Text) (constants : List Value) (ps qs : List Instr) → AreAlike P Q → AreSettledLines ps qs → settled_words P constants ps (literals_of qs) ≡ flat_map (instruction_bytes Q constants) qs
+same_code_words P Q constants [] [] a are = refl
+same_code_words P Q constants [] (q ∷ qs) a are = absurd are
+same_code_words P Q constants (p ∷ ps) [] a are = absurd are
+same_code_words P Q constants (p ∷ ps) (q ∷ qs) a are =
+    ap (λ (bytes : List ℕ). bytes ++ settled_words P constants ps (literals_of qs)) (same_instruction P Q constants are.0.0 p q a are.0.1)
+    ∙ ap (λ (bytes : List ℕ). instruction_bytes Q constants q ++ bytes) (same_code_words P Q constants ps qs a are.1)
+
+-- ---- all of it
+
+abbrev parts : List Variable → List Instance → List Mark → List Value → ℕ → List ℕ → List ℕ
+parts variables instances marks constants count words =
+    header_bytes (length variables) (length instances) (length marks) (length constants) count
+    ++ (flat_map variable_bytes variables ++ (flat_map instance_bytes instances ++ (flat_map mark_bytes marks ++ (flat_map constant_bytes constants ++ words))))
+
+spelled : (P Q : Text) → Alike P Q → AreSettledLines P.code Q.code → settled_bytes P (constants_in [] (all_literals P.code (literals_of Q.code))) (literals_of Q.code) ≡ spelling Q
+spelled P Q a are =
+    let cs : List Value = constants_in [] (all_literals P.code (literals_of Q.code)) in
     let words = settled_words P cs P.code (literals_of Q.code) in
-    ap (λ (vs : List Variable). parts vs (marks_from 0 P.code) cs (length P.code) words) (sym is.variables)
-    ∙ ap (λ (ms : List Mark). parts Q.variables ms cs (length P.code) words) (sym (same_marks 0 P.code Q.code a.labels))
-    ∙ ap (λ (k : ℕ). parts Q.variables (marks_from 0 Q.code) cs k words) (sym is.count)
-    ∙ ap (parts Q.variables (marks_from 0 Q.code) cs (length Q.code)) (same_words P Q cs P.code Q.code a is.count is.lines)
-    ∙ ap (λ (ks : List Value). parts Q.variables (marks_from 0 Q.code) ks (length Q.code) (flat_map (word_bytes Q ks) Q.code)) (same_constants [] Q.code)
+    ap (λ (vs : List Variable). parts vs P.instances (marks_from 0 P.code) cs (words_in P.code) words) (sym a.variables)
+    ∙ ap (λ (xs : List Instance). parts Q.variables xs (marks_from 0 P.code) cs (words_in P.code) words) (sym a.instances)
+    ∙ ap (λ (ms : List Mark). parts Q.variables Q.instances ms cs (words_in P.code) words) (same_marks 0 P.code Q.code are)
+    ∙ ap (λ (k : ℕ). parts Q.variables Q.instances (marks_from 0 Q.code) cs k words) (same_words P.code Q.code are)
+    ∙ ap (parts Q.variables Q.instances (marks_from 0 Q.code) cs (words_in Q.code)) (same_code_words P Q cs P.code Q.code (record { alike = a; address = λ n. same_address P.code Q.code n are }) are)
+    ∙ ap (λ (ks : List Value). parts Q.variables Q.instances (marks_from 0 Q.code) ks (words_in Q.code) (flat_map (instruction_bytes Q ks) Q.code)) (same_constants P.code Q.code are)
 
 -- the literals of a typed program tell its spelling
-pub settled_spelling : (P Q : Text) (literals : List (Option Value)) → settled P ≡ Ok Q → literals ≡ literals_of Q.code → settled_bytes P (constants_in [] literals) literals ≡ spelling Q
-settled_spelling P Q literals e is = ap (λ (ls : List (Option Value)). settled_bytes P (constants_in [] ls) ls) is ∙ spelled P Q (typed_program P Q e).same
+pub settled_spelling : (P Q : Text) (literals : List (Option Value)) → settled P ≡ Ok Q → literals ≡ literals_of Q.code → settled_bytes P (constants_in [] (all_literals P.code literals)) literals ≡ spelling Q
+settled_spelling P Q literals e is =
+    ap (λ (ls : List (Option Value)). settled_bytes P (constants_in [] (all_literals P.code ls)) ls) is
+    ∙ spelled P Q (settling_alike P Q (typed_program P Q e).same) (settled_lines P Q e)

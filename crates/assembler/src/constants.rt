@@ -1,11 +1,12 @@
 //! The constants of a program.
 
-ghost use Rattle.std.specs.Prelude.{◌≡◌, IfOk, []};
+ghost use Rattle.std.specs.Prelude.{◌≡◌, IfOk, [], length};
 ghost use Rattle.il_model.specs.Constants.{same_value, joined_constants};
-ghost use Rattle.assembler.specs.Encoded.{constants_in};
+ghost use Rattle.assembler.specs.Encoded.{constants_in, literals_in, all_literals};
 
-use il_model::Value;
+use il_model::arguments::argument_literal;
 use il_model::constant_table::Constants;
+use il_model::{Instr, Value};
 use std::alloc::{AllocError, Global};
 
 /// The constants with a literal behind them, where there is one and it is new.
@@ -21,13 +22,33 @@ fn joined(found: Constants, literal: Option<Value>) -> Result<Constants, AllocEr
     found.with(v)
 }
 
-/// The constants that the literals of a program are, in the order of their first use.
-pub fn constants_of(alloc: Global, literals: &[Option<Value>]) -> Result<Constants, AllocError>
-    ensures { IfOk result (λ c. c ≡ constants_in [] literals.now) }
+/// The constants with the literals of an instruction behind them: its operand's, then its arguments'.
+fn with_line(
+    found: Constants,
+    line: &Instr,
+    literal: Option<Value>,
+) -> Result<Constants, AllocError>
+    ensures { IfOk result (λ c. c ≡ constants_in found (literals_in line.now literal)) }
+{
+    let mut found = joined(found, literal)?;
+    for argument in line.arguments.as_slice() {
+        found = joined(found, argument_literal(argument))?;
+    }
+    Ok(found)
+}
+
+/// The constants of a program, in the order of their first use; the literals are those of the instructions' own operands.
+pub fn constants_of(
+    alloc: Global,
+    code: &[Instr],
+    literals: &[Option<Value>],
+) -> Result<Constants, AllocError>
+    requires { length literals.now ≡ length code.now }
+    ensures { IfOk result (λ c. c ≡ constants_in [] (all_literals code.now literals.now)) }
 {
     let mut found = Constants::new(alloc);
-    for literal in literals {
-        found = joined(found, *literal)?;
+    for n in 0..code.len() {
+        found = with_line(found, &code[n], literals[n])?;
     }
     Ok(found)
 }

@@ -1,18 +1,21 @@
 //! The bytes of a program.
 
-ghost use Rattle.std.specs.Prelude.{◌≡◌, ◌++◌, OnOk, IfOk, length, count_by, is_some, []};
-ghost use Rattle.assembler.specs.Encoded.{constants_in, settled_code, settled_word, settled_words, settled_bytes};
+ghost use Rattle.std.specs.Prelude.{◌≡◌, ◌≤◌, ◌++◌, OnOk, IfOk, length, count_by, is_some, [], slice_get};
+ghost use Rattle.std.specs.Option.{option_and_then};
+ghost use Rattle.assembler.specs.Encoded.{constants_in, all_literals, settled_code, settled_passing_word, settled_instruction, settled_words, settled_bytes, HasFewArguments, addresses_from};
 ghost use Rattle.std.specs.Int.{w8, w16, w32, to_be_bytes};
-ghost use Rattle.std.specs.List.{flat_map, position};
-ghost use Rattle.il_model.specs.Marks.{with_mark, marks_from};
+ghost use Rattle.std.specs.List.{AllByRecursion, flat_map, position};
+ghost use Rattle.il_model.specs.Kinds.{field_number};
+ghost use Rattle.il_model.specs.Marks.{with_mark, marks_from, words_in};
 ghost use Rattle.il_model.specs.Constants.{same_value};
-ghost use Rattle.il_model.specs.Image.{name_bytes, variable_bytes, mark_bytes, constant_bytes, constant_code, operand_code, counts_bytes};
+ghost use Rattle.il_model.specs.Image.{name_bytes, variable_bytes, instance_bytes, mark_bytes, constant_bytes, constant_code, target_code, field_code, field_number_code, operand_code, coded_word, counts_bytes};
 
 use crate::constants::constants_of;
-use il_model::codes::{bits, location_code, modifier_code, op_code, plain_code, type_code};
+use il_model::arguments::argument_literal;
+use il_model::codes::{bits, location_code, modifier_code, op_code, side_code, type_code};
 use il_model::constant_table::Constants;
 use il_model::indexed::IndexedProgram;
-use il_model::{Instr, Name, Operand, Value, Variable};
+use il_model::{Argument, BlockKind, Instance, Instr, Name, Operand, Place, Value, Variable};
 use std::alloc::{AllocError, Global};
 
 fn put_u8(out: &mut Vec<u8>, n: usize) -> Result<(), AllocError>
@@ -70,67 +73,159 @@ fn constant_number(constants: &Constants, v: Value) -> usize
     }
 }
 
+fn put_instance(out: &mut Vec<u8>, x: &Instance) -> Result<(), AllocError>
+    ensures { OnOk result (out.new.items ≡ out.old.items ++ instance_bytes x.now) }
+{
+    put_name(out, &x.name)?;
+    put_u8(out, usize::from(x.kind.code()))
+}
+
+fn target_address(addresses: &[usize], target: Option<u16>) -> usize
+    ensures { result ≡ target_code (option_and_then (slice_get addresses.now) target) }
+{
+    match target {
+        Some(n) => match addresses.get(n as usize) {
+            Some(address) => *address,
+            None => 65535,
+        },
+        None => 65535,
+    }
+}
+
+fn field_code(place: Option<Place>) -> usize
+    ensures { result ≡ field_code place }
+{
+    match place {
+        Some(Place::Field(i, n)) => 20480 + (8 * i as usize + n as usize),
+        _ => 65535,
+    }
+}
+
 /// The number of an operand: a constant's by its place in the table, a label's by where it stands.
-fn operand_code(program: &IndexedProgram, constants: &Constants, operand: &Operand) -> usize
+fn operand_code(
+    program: &IndexedProgram,
+    addresses: &[usize],
+    constants: &Constants,
+    operand: &Operand,
+) -> usize
+    requires { addresses.now ≡ addresses_from 0 program.now.code }
     ensures { result ≡ operand_code program.now constants.now operand.now }
 {
     match operand {
         Operand::Literal(v) => constant_number(constants, *v),
-        Operand::Label(name) => match program.target_of(name) {
-            Some(n) => n as usize,
-            None => 65535,
-        },
+        Operand::Label(name) => target_address(addresses, program.target_of(name)),
         Operand::Variable(name) => match program.variable_named(name) {
             Some(i) => 16384 + i as usize,
             None => 65535,
         },
-        _ => plain_code(program.program().variables.as_slice(), operand),
+        Operand::Field(name, field) => field_code(program.field_of(name, field)),
+        Operand::Instance(name) => match program.instance_named(name) {
+            Some(i) => i as usize,
+            None => 65535,
+        },
+        Operand::Direct(loc) => location_code(Some(*loc)),
+        Operand::Absent | Operand::Bare(_) => 65535,
     }
 }
 
 /// The number of an operand that is this literal, or none and then stands in the program as it is.
 fn settled_code(
     program: &IndexedProgram,
+    addresses: &[usize],
     constants: &Constants,
     operand: &Operand,
     literal: Option<Value>,
 ) -> usize
+    requires { addresses.now ≡ addresses_from 0 program.now.code }
     ensures { result ≡ settled_code program.now constants.now operand.now literal }
 {
     match literal {
         Some(v) => constant_number(constants, v),
-        None => operand_code(program, constants, operand),
+        None => operand_code(program, addresses, constants, operand),
     }
 }
 
-fn put_word(
+fn put_word(out: &mut Vec<u8>, op: usize, letters: usize, operand: usize) -> Result<(), AllocError>
+    ensures { OnOk result (out.new.items ≡ out.old.items ++ coded_word op letters operand) }
+{
+    put_u8(out, op)?;
+    put_u8(out, letters)?;
+    put_u16(out, operand)
+}
+
+/// The number of an argument's field in the kind of the block that is called.
+fn field_number(kind: Option<BlockKind>, argument: &Argument) -> usize
+    ensures { result ≡ field_number_code (option_and_then (λ k. field_number k argument.now.field) kind) }
+{
+    match kind {
+        Some(kind) => match kind.field_number(argument.field.bytes()) {
+            Some(n) => n as usize,
+            None => 255,
+        },
+        None => 255,
+    }
+}
+
+fn put_arguments(
     out: &mut Vec<u8>,
     program: &IndexedProgram,
+    addresses: &[usize],
+    constants: &Constants,
+    kind: Option<BlockKind>,
+    arguments: &[Argument],
+) -> Result<(), AllocError>
+    requires { addresses.now ≡ addresses_from 0 program.now.code }
+    ensures { OnOk result (out.new.items ≡ out.old.items ++ flat_map (settled_passing_word program.now constants.now kind) arguments.now) }
+{
+    for a in arguments {
+        let code = settled_code(
+            program,
+            addresses,
+            constants,
+            &a.operand,
+            argument_literal(a),
+        );
+        put_word(out, side_code(a.side), field_number(kind, a), code)?;
+    }
+    Ok(())
+}
+
+fn put_instruction(
+    out: &mut Vec<u8>,
+    program: &IndexedProgram,
+    addresses: &[usize],
     constants: &Constants,
     line: &Instr,
     literal: Option<Value>,
 ) -> Result<(), AllocError>
-    ensures { OnOk result (out.new.items ≡ out.old.items ++ settled_word program.now constants.now line.now literal) }
+    requires { addresses.now ≡ addresses_from 0 program.now.code }
+    ensures { OnOk result (out.new.items ≡ out.old.items ++ settled_instruction program.now constants.now line.now literal) }
 {
-    put_u8(out, op_code(line.op))?;
-    put_u8(out, modifier_code(line.modifier))?;
-    put_u16(
+    let code = settled_code(program, addresses, constants, &line.operand, literal);
+    put_word(out, op_code(line.op), modifier_code(line.modifier), code)?;
+    let kind = program.called_kind(&line.operand);
+    put_arguments(
         out,
-        settled_code(program, constants, &line.operand, literal),
+        program,
+        addresses,
+        constants,
+        kind,
+        line.arguments.as_slice(),
     )
 }
 
 fn put_counts(
     out: &mut Vec<u8>,
     variables: usize,
+    instances: usize,
     labels: usize,
     constants: usize,
     words: usize,
 ) -> Result<(), AllocError>
-    ensures { OnOk result (out.new.items ≡ out.old.items ++ counts_bytes variables labels constants words) }
+    ensures { OnOk result (out.new.items ≡ out.old.items ++ counts_bytes variables instances labels constants words) }
 {
     put_u16(out, variables)?;
-    put_u16(out, 0)?;
+    put_u16(out, instances)?;
     put_u16(out, labels)?;
     put_u16(out, constants)?;
     put_u16(out, words)
@@ -141,6 +236,15 @@ fn put_variables(out: &mut Vec<u8>, vs: &[Variable]) -> Result<(), AllocError>
 {
     for v in vs {
         put_variable(out, v)?;
+    }
+    Ok(())
+}
+
+fn put_instances(out: &mut Vec<u8>, xs: &[Instance]) -> Result<(), AllocError>
+    ensures { OnOk result (out.new.items ≡ out.old.items ++ flat_map instance_bytes xs.now) }
+{
+    for x in xs {
+        put_instance(out, x)?;
     }
     Ok(())
 }
@@ -163,13 +267,31 @@ fn put_label(out: &mut Vec<u8>, n: usize, label: &Name) -> Result<(), AllocError
     put_u16(out, n)
 }
 
-fn put_labels(out: &mut Vec<u8>, code: &[Instr]) -> Result<(), AllocError>
+/// The labels, each with the address of its instruction.
+fn put_labels(out: &mut Vec<u8>, addresses: &[usize], code: &[Instr]) -> Result<(), AllocError>
+    requires { addresses.now ≡ addresses_from 0 code.now }
     ensures { OnOk result (out.new.items ≡ out.old.items ++ flat_map mark_bytes (marks_from 0 code.now)) }
 {
     for n in 0..code.len() {
-        put_label_of(out, n, &code[n])?;
+        put_label_of(out, addresses[n], &code[n])?;
     }
     Ok(())
+}
+
+/// The addresses of the instructions, and how many words they have in all.
+fn addresses_of(alloc: Global, code: &[Instr]) -> Result<(Vec<usize>, usize), AllocError>
+    requires short { length code.now ≤ 4096 }
+    requires few { AllByRecursion HasFewArguments code.now }
+    ensures addresses { IfOk result (λ x. x.0.items ≡ addresses_from 0 code.now) }
+    ensures count { IfOk result (λ x. x.1 ≡ words_in code.now) }
+{
+    let mut found = Vec::new(alloc);
+    let mut at = 0;
+    for line in code {
+        found.push(at)?;
+        at += 1 + line.arguments.as_slice().len();
+    }
+    Ok((found, at))
 }
 
 fn labelled_count(code: &[Instr]) -> usize
@@ -196,15 +318,17 @@ fn put_constants(out: &mut Vec<u8>, constants: &[Value]) -> Result<(), AllocErro
 fn put_words(
     out: &mut Vec<u8>,
     program: &IndexedProgram,
+    addresses: &[usize],
     constants: &Constants,
     code: &[Instr],
     literals: &[Option<Value>],
 ) -> Result<(), AllocError>
-    requires { length literals.now ≡ length code.now }
+    requires addresses { addresses.now ≡ addresses_from 0 program.now.code }
+    requires literals { length literals.now ≡ length code.now }
     ensures { OnOk result (out.new.items ≡ out.old.items ++ settled_words program.now constants.now code.now literals.now) }
 {
     for n in 0..code.len() {
-        put_word(out, program, constants, &code[n], literals[n])?;
+        put_instruction(out, program, addresses, constants, &code[n], literals[n])?;
     }
     Ok(())
 }
@@ -215,25 +339,32 @@ pub fn encode(
     program: &IndexedProgram,
     literals: &[Option<Value>],
 ) -> Result<Vec<u8>, AllocError>
-    requires { length literals.now ≡ length program.now.code }
-    ensures { IfOk result (λ v. v.items ≡ settled_bytes program.now (constants_in [] literals.now) literals.now) }
+    requires literals { length literals.now ≡ length program.now.code }
+    requires few { AllByRecursion HasFewArguments program.now.code }
+    ensures { IfOk result (λ v. v.items ≡ settled_bytes program.now (constants_in [] (all_literals program.now.code literals.now)) literals.now) }
 {
-    let variables = program.program().variables.as_slice();
+    let declared = program.program();
+    let variables = declared.variables.as_slice();
+    let instances = declared.instances.as_slice();
     let code = program.code();
-    let constants = constants_of(alloc, literals)?;
+    let constants = constants_of(alloc, code, literals)?;
+    let (addresses, words) = addresses_of(alloc, code)?;
+    let addresses = addresses.as_slice();
     let mut out = Vec::new(alloc);
     put_u32(&mut out, 1229738051)?;
     put_u16(&mut out, 1)?;
     put_counts(
         &mut out,
         variables.len(),
+        instances.len(),
         label_count(code),
         constants.values().len(),
-        code.len(),
+        words,
     )?;
     put_variables(&mut out, variables)?;
-    put_labels(&mut out, code)?;
+    put_instances(&mut out, instances)?;
+    put_labels(&mut out, addresses, code)?;
     put_constants(&mut out, constants.values())?;
-    put_words(&mut out, program, &constants, code, literals)?;
+    put_words(&mut out, program, addresses, &constants, code, literals)?;
     Ok(out)
 }

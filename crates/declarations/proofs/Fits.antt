@@ -1,7 +1,9 @@
--- What a text declares has lawful forms: names, locations, initial values, operators with their letters and operands.
-use Rattle.std.proofs.Common.{◌≡◌, ℕ, ◌<◌, ◌≤◌, Bool, true, false, cond, leb, ltb, List, [], ◌∷◌, ◌++◌, length, Option, Some, None, Result, Ok, Err, refl, sym, ap, subst, ◌∙◌, arith, ◌&&◌, ◌||◌, not, append_assoc}
-use Rattle.std.specs.Prelude.{ℤ, pos}
-use Rattle.std.specs.List.{AllByRecursion, list_all}
+-- What a text declares has lawful forms: names, locations, initial values, operators with their letters, operands and arguments.
+use Rattle.std.proofs.Common.{◌≡◌, ℕ, suc, ◌<◌, ◌≤◌, Bool, true, false, cond, leb, ltb, List, [], ◌∷◌, ◌++◌, length, Option, Some, None, Result, Ok, Err, refl, sym, ap, subst, ◌∙◌, arith, ◌&&◌, ◌||◌, not, append_assoc}
+use Rattle.std.specs.Prelude.{ℤ, pos, is_some}
+use Rattle.std.specs.List.{AllByRecursion, list_all, position}
+use Rattle.std.specs.Option.{option_map}
+use Rattle.std.specs.Cmp.Lexicographic.{nat_list_eq_equiv}
 use Rattle.std.proofs.lemmas.List.{length-append, append-nil}
 use Rattle.std.proofs.lemmas.Bool.{lt-ltb, le-ltb, leb-false}
 use Rattle.il_model.specs.Limits.{program_of}
@@ -17,39 +19,46 @@ use Rattle.il_model.specs.declared.op.Modifier.{Modifier}
 use Rattle.il_model.specs.declared.words.Mnemonic.{Mnemonic}
 use Rattle.il_model.specs.declared.program.Loc.{Loc}
 use Rattle.il_model.specs.declared.program.Variable.{Variable}
+use Rattle.il_model.specs.declared.program.Instance.{Instance}
+use Rattle.il_model.specs.declared.program.Argument.{Argument}
+use Rattle.il_model.specs.declared.kind.BlockKind.{BlockKind}
 use Rattle.il_model.specs.declared.program.Operand.{Operand}
 use Rattle.il_model.specs.declared.program.Operand.TheVariants as operands
 use Rattle.il_model.specs.declared.program.Instr.{Instr}
 use Rattle.il_model.specs.declared.codes.Usage.{Usage}
 use Rattle.il_model.specs.declared.codes.Form as usage
 use Rattle.il_model.specs.declared.codes.Form.TheVariants as usages
-use Rattle.il_model.specs.Text.{Text}
+use Rattle.il_model.specs.Text.{Text, Declarations}
 use Rattle.il_model.specs.Values.{ty_of, number_of, made}
 use Rattle.il_model.specs.Literals.{literal_of}
-use Rattle.il_model.specs.Names.{is_reserved, is_lawful_name}
+use Rattle.il_model.specs.Names.{same_name, is_reserved, is_lawful_name}
+use Rattle.il_model.specs.Resolved.{instance_in}
 use Rattle.il_model.specs.Words.{spells, look, mnemonic_of, mnemonic_table}
 use Rattle.il_model.specs.Image.{loc_code, type_code}
-use Rattle.il_model.specs.State.{area_of}
-use Rattle.il_model.specs.Typing.{loc_type, is_output}
+use Rattle.il_model.specs.Areas.{area_of}
+use Rattle.il_model.specs.Typing.{is_output}
 use Rattle.il_model.specs.Codes as codes_of
 use Rattle.il_model.specs.Codes.{is_number, is_new_name, is_taken, is_type, length_of, may_start_with, usage_of, has_form, allowed_by, formed_by, is_empty}
-use Rattle.il_model.specs.Fits.{IsVariable, AreItems}
-use Rattle.il_model.specs.Declarable.{IsLabel, IsOperand, as_value, IsInstruction, IsDeclared}
+use Rattle.il_model.specs.Fits.{IsVariable, IsInstance, AreItems}
+use Rattle.il_model.specs.Declarable.{IsLabel, IsOperand, as_value, IsArgument, IsInstruction, IsDeclared}
 use Rattle.il_model.proofs.LiteralLaws.{IsInRange, literal_good, IsStart, start_again}
+use Rattle.il_model.proofs.Positions.{position_first, position_later, position_past}
 use Rattle.il_reader.specs.declared.contents.Operator.{Operator}
 use Rattle.il_reader.specs.declared.operations.Form.{Form}
 use Rattle.il_reader.specs.declared.operations.Form.TheVariants as forms
 use Rattle.il_reader.specs.declared.lexeme.Kind.TheVariants as tokens
 use Rattle.il_reader.specs.Tokens.{Token}
 use Rattle.il_reader.specs.Reading.{is_kind}
-use Rattle.il_reader.specs.Grammar.{OperandText, Constant, Direct, Named, BehindText, Nothing, Given, Target, Opened, OperationText, LineText, Labelled, Plain, NamesText, Located, More, DeclarationText, ProgramText, form_of, is_call, closing, operator_of, operator_from}
+use Rattle.il_reader.specs.Grammar.{OperandText, Constant, Direct, Named, Field, ArgumentText, arguments_of, BehindText, Nothing, Given, Target, Opened, Called, OperationText, LineText, Labelled, Plain, NamesText, Located, More, DeclarationText, ProgramText, form_of, closing, operator_of, operator_from}
 use Rattle.il_reader.specs.Spelling.{accepts, accepting, operator_before}
 use Rattle.il_reader.proofs.WordTexts.{IsWordText, IsWordName, AreWordNames, IsWordDeclaration, IsOperation, IsOptionalOperation, IsOperator, AreWords}
 use Rattle.declarations.specs.declared.fault.DeclKind.TheVariants as kinds
 use Rattle.declarations.specs.declared.fault.Refusal.{Refusal}
 use Rattle.declarations.specs.declared.variables.Plan.{Plan}
+use Rattle.declarations.specs.declared.variables.DeclaredType.{DeclaredType}
+use Rattle.declarations.specs.declared.variables.DeclaredType.TheVariants.{Elementary, Block}
 use Rattle.declarations.specs.Locations as written
-use Rattle.declarations.specs.Resolution.{◌>>=◌, each, refused, capitals, type_of, has_name, is_full, new_name, suits, free_loc, free_location, found_type, known_type, variable, zero_of, same_type, fitting, fitted, is_input, written_value, first_value, planned_value, name_variable, declare_located, declare_listed, declare_by, declare, declare_block, direct, constant, optional_operand_of, behind_of, opens, with_opening, instruction_of, room, label_of, instruct_labelled, instruct_plain, instruct}
+use Rattle.declarations.specs.Resolution.{◌>>=◌, each, refused, capitals, declared_type, nothing, has_name, has_instance, is_full, new_name, suits, free_loc, free_location, found_type, known_type, variable, zero_of, same_type, fitting, fitted, is_input, written_value, elementary_value, first_value, planned_value, with_declared, declare_name, declare_located, declare_listed, declare_by, declare, declare_block, direct, constant, argument_of, pushed_argument, behind_arguments, behind_of, opens, with_opening, instruction_of, room, label_of, instruct_labelled, instruct_plain, instruct}
 use Rattle.declarations.specs.Resolution as resolution
 use Rattle.declarations.proofs.Capitals.{capitals_lawful, capitals_length}
 use Rattle.declarations.proofs.Places.{IsPlace, location_place, code_again, code_small, located_again}
@@ -78,32 +87,39 @@ items_push : {X : Type 0} (I : List X → X → Type 0) (seen xs : List X) (x : 
 items_push {X} I seen [] x all here = (subst (λ (s : List X). I s x) (append-nil seen) here, tt)
 items_push {X} I seen (y ∷ ys) x all here = (all.0, items_push I (seen ++ y ∷ []) ys x all.1 (subst (λ (s : List X). I s x) (sym (append_assoc seen (y ∷ []) ys)) here))
 
--- ---- variables
+-- ---- variables and instances
 
-pub record Fine (vs : List Variable) : Type 0 where
-  pub all : AreItems IsVariable [] vs
-  pub few : length vs ≤ 512
+pub record Fine (known : Declarations) : Type 0 where
+  pub variables : AreItems IsVariable [] known.variables
+  pub variables_few : length known.variables ≤ 512
+  pub instances : AreItems (IsInstance known.variables) [] known.instances
+  pub instances_few : length known.instances ≤ 128
 
 -- what a name is that was not refused
-record IsNew (type : Option Ty) (known : List Variable) (t : Token) (name : List ℕ) : Type 0 where
+record IsNew (type : Option DeclaredType) (known : Declarations) (t : Token) (name : List ℕ) : Type 0 where
   is : capitals t.text ≡ name
-  unknown : has_name known (capitals t.text) ≡ false
+  no_variable : has_name known (capitals t.text) ≡ false
+  no_instance : has_instance known (capitals t.text) ≡ false
   free : is_reserved (capitals t.text) ≡ false
   room : is_full type known ≡ false
 
-new_is : (type : Option Ty) (known : List Variable) (t : Token) (name : List ℕ) → new_name type known t ≡ Ok name → IsNew type known t name
+new_is : (type : Option DeclaredType) (known : Declarations) (t : Token) (name : List ℕ) → new_name type known t ≡ Ok name → IsNew type known t name
 unfolding new_name
-new_is type known t name e = chosen (has_name known (capitals t.text)) (is_reserved (capitals t.text)) (is_full type known) refl refl refl e
+new_is type known t name e = chosen (has_name known (capitals t.text)) (has_instance known (capitals t.text)) (is_reserved (capitals t.text)) (is_full type known) refl refl refl refl e
   where
-    chosen : (a b c : Bool) → has_name known (capitals t.text) ≡ a → is_reserved (capitals t.text) ≡ b → is_full type known ≡ c
-        → cond a (refused kinds.Duplicate t) (cond b (refused kinds.ReservedName t) (cond c (refused kinds.TooMany t) (Ok (capitals t.text)))) ≡ Ok name → IsNew type known t name
-    chosen true b c f g h e = absurd cc
-    chosen false true c f g h e = absurd cc
-    chosen false false true f g h e = absurd cc
-    chosen false false false f g h e = record { is = ok_is (capitals t.text) name e; unknown = f; free = g; room = h }
+    chosen : (a i b c : Bool) → has_name known (capitals t.text) ≡ a → has_instance known (capitals t.text) ≡ i → is_reserved (capitals t.text) ≡ b → is_full type known ≡ c
+        → cond (a || i) (refused kinds.Duplicate t) (cond b (refused kinds.ReservedName t) (cond c (refused kinds.TooMany t) (Ok (capitals t.text)))) ≡ Ok name → IsNew type known t name
+    chosen true i b c f j g h e = absurd cc
+    chosen false true b c f j g h e = absurd cc
+    chosen false false true c f j g h e = absurd cc
+    chosen false false false true f j g h e = absurd cc
+    chosen false false false false f j g h e = record { is = ok_is (capitals t.text) name e; no_variable = f; no_instance = j; free = g; room = h }
 
-few_more : (type : Ty) (known : List Variable) → is_full (Some type) known ≡ false → length known < 512
-few_more type known e = leb-false 512 (length known) e
+more_variables : (type : Ty) (known : Declarations) → is_full (Some (Elementary type)) known ≡ false → length known.variables < 512
+more_variables type known e = leb-false 512 (length known.variables) e
+
+more_instances : (kind : BlockKind) (known : Declarations) → is_full (Some (Block kind)) known ≡ false → length known.instances < 128
+more_instances kind known e = leb-false 128 (length known.instances) e
 
 type_again : (type : Ty) → codes_of.type_of (type_code type) ≡ Some type
 type_again types.Bool = refl
@@ -111,34 +127,64 @@ type_again types.Int = refl
 type_again types.Dint = refl
 type_again types.Time = refl
 
-record IsFreePlace (type : Ty) (known : List Variable) (loc : Loc) : Type 0 where
+record IsFreePlace (type : DeclaredType) (known : Declarations) (loc : Loc) : Type 0 where
   place : IsPlace loc
-  suits : is_type type (loc_type loc) ≡ true
-  free : is_taken known (loc_code loc) ≡ false
+  suits : suits (Some type) loc ≡ true
+  free : is_taken known.variables (loc_code loc) ≡ false
+
+long_enough : (t : Token) → IsWordText t.text → length_of (length (capitals t.text)) ≡ Some (length (capitals t.text))
+long_enough t word = let l = capitals_length t.text word in rw (lt-ltb 0 (length (capitals t.text)) l.0, lt-ltb (length (capitals t.text)) 33 l.1) refl
 
 -- a lawful name at a place that none has, with a first value
-variable_fits : (known : List Variable) (t : Token) (name : List ℕ) (type : Ty) (o : Option Loc) (v : Value) → IsWordText t.text → IsNew (Some type) known t name
-    → ((loc : Loc) → o ≡ Some loc → IsFreePlace type known loc) → IsStart type o v → IsVariable known (variable name type o v)
+variable_fits : (known : Declarations) (t : Token) (name : List ℕ) (type : Ty) (o : Option Loc) (v : Value) → IsWordText t.text → IsNew (Some (Elementary type)) known t name
+    → ((loc : Loc) → o ≡ Some loc → IsFreePlace (Elementary type) known loc) → IsStart type o v → IsVariable known.variables (variable name type o v)
 variable_fits known t name type o v word new place start =
-    subst (λ (n : List ℕ). IsVariable known (variable n type o v)) new.is (by_place o place start)
+    subst (λ (n : List ℕ). IsVariable known.variables (variable n type o v)) new.is (by_place o place start)
   where
     lawful : is_lawful_name (capitals t.text) ≡ true
     lawful = capitals_lawful t.text word new.free
 
-    long : length_of (length (capitals t.text)) ≡ Some (length (capitals t.text))
-    long = let l = capitals_length t.text word in rw (lt-ltb 0 (length (capitals t.text)) l.0, lt-ltb (length (capitals t.text)) 33 l.1) refl
+    fresh : is_new_name known.variables (capitals t.text) ≡ true
+    fresh = rw (lawful, new.no_variable) refl
 
-    fresh : is_new_name known (capitals t.text) ≡ true
-    fresh = rw (lawful, new.unknown) refl
-
-    by_place : (o : Option Loc) → ((loc : Loc) → o ≡ Some loc → IsFreePlace type known loc) → IsStart type o v → IsVariable known (variable (capitals t.text) type o v)
-    by_place None place start = record { length = long; name = fresh; type = type_again type; location = refl; location_small = omega arith; initial = start.again; initial_small = start.small }
+    by_place : (o : Option Loc) → ((loc : Loc) → o ≡ Some loc → IsFreePlace (Elementary type) known loc) → IsStart type o v → IsVariable known.variables (variable (capitals t.text) type o v)
+    by_place None place start = record { length = long_enough t word; name = fresh; type = type_again type; location = refl; location_small = omega arith; initial = start.again; initial_small = start.small }
     by_place (Some loc) place start =
         let p = place loc refl in
-        record { length = long; name = fresh; type = type_again type; location = located_again known type loc p.place p.suits p.free; location_small = omega (arith, code_small loc p.place); initial = start.again; initial_small = start.small }
+        record { length = long_enough t word; name = fresh; type = type_again type; location = located_again known.variables type loc p.place p.suits p.free; location_small = omega (arith, code_small loc p.place); initial = start.again; initial_small = start.small }
 
-fine_push : (known : List Variable) (v : Variable) → Fine known → length known < 512 → IsVariable known v → Fine (known ++ v ∷ [])
-fine_push known v fine few is = record { all = items_push IsVariable [] known v fine.all is; few = omega (arith, few, length-append known (v ∷ [])) }
+abbrev instance : List ℕ → BlockKind → Instance
+instance name kind = record { name = name; kind = kind }
+
+-- a lawful name that no variable and no instance has
+instance_fits : (type : Option DeclaredType) (known : Declarations) (t : Token) (name : List ℕ) (kind : BlockKind) → IsWordText t.text → IsNew type known t name → IsInstance known.variables known.instances (instance name kind)
+instance_fits type known t name kind word new =
+    let lawful = capitals_lawful t.text word new.free in
+    subst (λ (n : List ℕ). IsInstance known.variables known.instances (instance n kind)) new.is (record { length = long_enough t word; name = rw (lawful, new.no_variable, new.no_instance) refl })
+
+-- what is found nowhere isn't the first, nor behind it
+not_found : {X : Type 0} (p : X → Bool) (x : X) (xs : List X) → is_some (position p (x ∷ xs)) ≡ false → (p x ≡ false) × (is_some (position p xs) ≡ false)
+not_found p x xs e = by_test (p x) refl
+  where
+    none_later : (o : Option ℕ) → is_some (option_map suc o) ≡ false → is_some o ≡ false
+    none_later None h = refl
+    none_later (Some k) h = absurd cc
+
+    by_test : (b : Bool) → p x ≡ b → (p x ≡ false) × (is_some (position p xs) ≡ false)
+    by_test true f = let found : true ≡ false = ap is_some (sym (position_first p x xs f)) ∙ e in absurd cc
+    by_test false f = (f, none_later (position p xs) (ap is_some (sym (position_later p x xs f)) ∙ e))
+
+-- an instance stays new beside one variable more, which has another name
+instance_stays : (vs : List Variable) (v : Variable) (seen : List Instance) (x : Instance) → same_name x.name v.name ≡ false → IsInstance vs seen x → IsInstance (vs ++ v ∷ []) seen x
+instance_stays vs v seen x differs is =
+    let other : same_name v.name x.name ≡ false = nat_list_eq_equiv.symm v.name x.name ∙ differs in
+    record { length = is.length; name = ap (λ (o : Option ℕ). (is_lawful_name x.name && not (is_some o)) && not (is_some (instance_in seen x.name))) (position_past (λ (w : Variable). same_name w.name x.name) vs v other) ∙ is.name }
+
+instances_stay : (vs : List Variable) (v : Variable) (seen xs : List Instance) → is_some (instance_in xs v.name) ≡ false → AreItems (IsInstance vs) seen xs → AreItems (IsInstance (vs ++ v ∷ [])) seen xs
+instances_stay vs v seen [] none all = tt
+instances_stay vs v seen (x ∷ xs) none all =
+    let apart = not_found (λ (w : Instance). same_name w.name v.name) x xs none in
+    (instance_stays vs v seen x apart.0 all.0, instances_stay vs v (seen ++ x ∷ []) xs apart.1 all.1)
 
 abbrev nowhere : Option Loc
 nowhere = None
@@ -205,88 +251,129 @@ fitted_is : (t : Token) (o : Option Value) (v : Value) → fitted t o ≡ Ok v �
 fitted_is t None v e = absurd cc
 fitted_is t (Some x) v e = ap one_value (ok_is x v e)
 
-first_start : (type : Ty) (loc : Option Loc) (o : Option Token) (v : Value) → first_value type loc o ≡ Ok v → IsStart type loc v
-first_start type loc None v e = subst (IsStart type loc) (ok_is (zero_of type) v e) (start_again type loc (pos 0) (zero_of type) (zero_made type) (zero_may type loc))
-first_start type loc (Some t) v e = written_start type loc t v (fitted_is t (written_value type loc t) v e)
+elementary_start : (type : Ty) (loc : Option Loc) (o : Option Token) (v : Value) → elementary_value type loc o ≡ Ok v → IsStart type loc v
+elementary_start type loc None v e = subst (IsStart type loc) (ok_is (zero_of type) v e) (start_again type loc (pos 0) (zero_of type) (zero_made type) (zero_may type loc))
+elementary_start type loc (Some t) v e = written_start type loc t v (fitted_is t (written_value type loc t) v e)
+
+-- what a variable may start with; an instance starts with nothing
+abbrev Starts : DeclaredType → Option Loc → Value → Type 0
+Starts (Elementary type) loc v = IsStart type loc v
+Starts (Block kind) loc v = Unit {0}
+
+first_start : (type : DeclaredType) (loc : Option Loc) (o : Option Token) (v : Value) → first_value type loc o ≡ Ok v → Starts type loc v
+first_start (Elementary type) loc o v e = elementary_start type loc o v e
+first_start (Block kind) loc o v e = tt
 
 -- the value that was planned is the first value
-planned_is : (type : Ty) (o : Option Token) (v : Value) → first_value type None o ≡ Ok v → planned_value (Some type) o ≡ v
+planned_is : (type : Ty) (o : Option Token) (v : Value) → elementary_value type None o ≡ Ok v → planned_value (Some (Elementary type)) o ≡ v
 planned_is type None v e = ok_is (zero_of type) v e
 planned_is type (Some t) v e = rw (fitted_is t (written_value type None t) v e) refl
 
+planned_start : (type : DeclaredType) (o : Option Token) (v : Value) → first_value type None o ≡ Ok v → Starts type None (planned_value (Some type) o)
+planned_start (Elementary type) o v e = subst (IsStart type None) (sym (planned_is type o v e)) (elementary_start type None o v e)
+planned_start (Block kind) o v e = tt
+
 -- ---- declarations
 
-abbrev plan : Option Ty → Value → Plan
+abbrev plan : Option DeclaredType → Value → Plan
 plan type v = record { ty = type; initial = v }
 
-name_keeps : (type : Ty) (v : Value) (known : List Variable) (t : Token) (z : List Variable) → IsStart type None v → Fine known → IsWordText t.text → name_variable (plan (Some type) v) known t ≡ Ok z → Fine z
-unfolding name_variable
+declared_fine : (type : DeclaredType) (v : Value) (known : Declarations) (t : Token) (name : List ℕ) (loc : Option Loc) → Fine known → IsWordText t.text → IsNew (Some type) known t name
+    → ((l : Loc) → loc ≡ Some l → IsFreePlace type known l) → Starts type loc v → Fine (with_declared (plan (Some type) v) known name loc (Some type))
+declared_fine (Elementary type) v known t name loc fine word new place start =
+    let more = more_variables type known new.room in
+    let none : is_some (instance_in known.instances name) ≡ false = subst (λ (n : List ℕ). is_some (instance_in known.instances n) ≡ false) new.is new.no_instance in
+    record {
+      variables = items_push IsVariable [] known.variables (variable name type loc v) fine.variables (variable_fits known t name type loc v word new place start);
+      variables_few = omega (arith, more, length-append known.variables (variable name type loc v ∷ []));
+      instances = instances_stay known.variables (variable name type loc v) [] known.instances none fine.instances;
+      instances_few = fine.instances_few;
+    }
+declared_fine (Block kind) v known t name loc fine word new place start =
+    let more = more_instances kind known new.room in
+    record {
+      variables = fine.variables;
+      variables_few = fine.variables_few;
+      instances = items_push (IsInstance known.variables) [] known.instances (instance name kind) fine.instances (instance_fits (Some (Block kind)) known t name kind word new);
+      instances_few = omega (arith, more, length-append known.instances (instance name kind ∷ []));
+    }
+
+name_keeps : (type : DeclaredType) (v : Value) (known : Declarations) (t : Token) (z : Declarations) → Starts type None v → Fine known → IsWordText t.text → declare_name (plan (Some type) v) known t ≡ Ok z → Fine z
+unfolding declare_name
 name_keeps type v known t z start fine word e =
-    let m = bind_ok (new_name (Some type) known t) (λ name. Ok (known ++ variable name type None v ∷ [])) z e in
-    let new = new_is (Some type) known t m.0 m.1 in
-    subst Fine (ok_is (known ++ variable m.0 type None v ∷ []) z m.2)
-    (fine_push known (variable m.0 type None v) fine (few_more type known new.room) (variable_fits known t m.0 type None v word new (λ loc none. absurd (no_place loc none)) start))
+    let m = bind_ok (new_name (Some type) known t) (λ name. Ok (with_declared (plan (Some type) v) known name None (Some type))) z e in
+    subst Fine (ok_is (with_declared (plan (Some type) v) known m.0 None (Some type)) z m.2)
+    (declared_fine type v known t m.0 None fine word (new_is (Some type) known t m.0 m.1) (λ loc none. absurd (no_place loc none)) start)
 
-type_is : (t : Token) (type : Ty) → known_type t ≡ Ok type → type_of t.text ≡ Some type
-type_is t type e = found (type_of t.text) e
+type_is : (t : Token) (type : DeclaredType) → known_type t ≡ Ok type → declared_type t.text ≡ Some type
+type_is t type e = found (declared_type t.text) e
   where
-    found : (o : Option Ty) → found_type t o ≡ Ok type → o ≡ Some type
+    found : (o : Option DeclaredType) → found_type t o ≡ Ok type → o ≡ Some type
     found None h = absurd cc
-    found (Some x) h = ap (λ (y : Ty). Some y) (ok_is x type h)
+    found (Some x) h = ap (λ (y : DeclaredType). Some y) (ok_is x type h)
 
-place_is : (type : Ty) (known : List Variable) (t : Token) (loc : Loc) → free_location (Some type) known t ≡ Ok loc → IsFreePlace type known loc
+place_is : (type : DeclaredType) (known : Declarations) (t : Token) (loc : Loc) → free_location (Some type) known t ≡ Ok loc → IsFreePlace type known loc
 place_is type known t loc e = by_location (written.location_of t.text) refl e
   where
     by_location : (o : Option Loc) → written.location_of t.text ≡ o → free_loc (Some type) known t o ≡ Ok loc → IsFreePlace type known loc
     by_location None f h = absurd cc
-    by_location (Some x) f h = chosen (is_type type (loc_type x)) (is_taken known (loc_code x)) refl refl h
+    by_location (Some x) f h = chosen (suits (Some type) x) (is_taken known.variables (loc_code x)) refl refl h
       where
-        chosen : (a b : Bool) → is_type type (loc_type x) ≡ a → is_taken known (loc_code x) ≡ b → cond a (cond b (refused kinds.Overlap t) (Ok x)) (refused kinds.BadLocation t) ≡ Ok loc → IsFreePlace type known loc
+        chosen : (a b : Bool) → suits (Some type) x ≡ a → is_taken known.variables (loc_code x) ≡ b → cond a (cond b (refused kinds.Overlap t) (Ok x)) (refused kinds.BadLocation t) ≡ Ok loc → IsFreePlace type known loc
         chosen false b g k h = absurd cc
         chosen true true g k h = absurd cc
         chosen true false g k h = subst (IsFreePlace type known) (ok_is x loc h) (record { place = location_place t.text x f; suits = g; free = k })
 
-located_keeps : (known : List Variable) (d : DeclarationText) (at : Token) (z : List Variable) → Fine known → IsWordText d.name.text → declare_located known d at ≡ Ok z → Fine z
+becomes : (z known : Declarations) → done known ≡ done z → Fine known → Fine z
+becomes z known e fine = subst Fine (ok_is known z e) fine
+
+abbrev located : Declarations → List ℕ → Loc → DeclaredType → Value → Declarations
+located known name loc type v = with_declared (plan (Some type) v) known name (Some loc) (Some type)
+
+located_fine : (known : Declarations) (d : DeclarationText) (at : Token) (name : List ℕ) (loc : Loc) (type : DeclaredType) (v : Value) → Fine known → IsWordText d.name.text → new_name (declared_type d.ty.text) known d.name ≡ Ok name
+    → free_location (declared_type d.ty.text) known at ≡ Ok loc → known_type d.ty ≡ Ok type → first_value type (Some loc) d.initial ≡ Ok v → Fine (located known name loc type v)
+located_fine known d at name loc type v fine word named free typed first =
+    let known-type = type_is d.ty type typed in
+    let new = new_is (Some type) known d.name name (subst (λ (o : Option DeclaredType). new_name o known d.name ≡ Ok name) known-type named) in
+    let place = place_is type known at loc (subst (λ (o : Option DeclaredType). free_location o known at ≡ Ok loc) known-type free) in
+    declared_fine type v known d.name name (Some loc) fine word new (λ l is. subst (IsFreePlace type known) (same_loc loc l is) place) (first_start type (Some loc) d.initial v first)
+
+located_keeps : (known : Declarations) (d : DeclarationText) (at : Token) (z : Declarations) → Fine known → IsWordText d.name.text → declare_located known d at ≡ Ok z → Fine z
 unfolding declare_located
 located_keeps known d at z fine word e =
-    let a = bind_ok (new_name (type_of d.ty.text) known d.name) (λ name. free_location (type_of d.ty.text) known at >>= λ loc. known_type d.ty >>= λ type. first_value type (Some loc) d.initial >>= λ v. Ok (known ++ variable name type (Some loc) v ∷ [])) z e in
-    let b = bind_ok (free_location (type_of d.ty.text) known at) (λ loc. known_type d.ty >>= λ type. first_value type (Some loc) d.initial >>= λ v. Ok (known ++ variable a.0 type (Some loc) v ∷ [])) z a.2 in
-    let c = bind_ok (known_type d.ty) (λ type. first_value type (Some b.0) d.initial >>= λ v. Ok (known ++ variable a.0 type (Some b.0) v ∷ [])) z b.2 in
-    let f = bind_ok (first_value c.0 (Some b.0) d.initial) (λ v. Ok (known ++ variable a.0 c.0 (Some b.0) v ∷ [])) z c.2 in
-    let type = type_is d.ty c.0 c.1 in
-    let new = new_is (Some c.0) known d.name a.0 (subst (λ (o : Option Ty). new_name o known d.name ≡ Ok a.0) type a.1) in
-    let place = place_is c.0 known at b.0 (subst (λ (o : Option Ty). free_location o known at ≡ Ok b.0) type b.1) in
-    let start = first_start c.0 (Some b.0) d.initial f.0 f.1 in
-    subst Fine (ok_is (known ++ variable a.0 c.0 (Some b.0) f.0 ∷ []) z f.2)
-    (fine_push known (variable a.0 c.0 (Some b.0) f.0) fine (few_more c.0 known new.room) (variable_fits known d.name a.0 c.0 (Some b.0) f.0 word new (λ loc is. subst (IsFreePlace c.0 known) (same_loc b.0 loc is) place) start))
+    let a = bind_ok (new_name (declared_type d.ty.text) known d.name) (λ name. free_location (declared_type d.ty.text) known at >>= λ loc. known_type d.ty >>= λ type. first_value type (Some loc) d.initial >>= λ v. Ok (located known name loc type v)) z e in
+    let b = bind_ok (free_location (declared_type d.ty.text) known at) (λ loc. known_type d.ty >>= λ type. first_value type (Some loc) d.initial >>= λ v. Ok (located known a.0 loc type v)) z a.2 in
+    let c = bind_ok (known_type d.ty) (λ type. first_value type (Some b.0) d.initial >>= λ v. Ok (located known a.0 b.0 type v)) z b.2 in
+    let f = bind_ok (first_value c.0 (Some b.0) d.initial) (λ v. Ok (located known a.0 b.0 c.0 v)) z c.2 in
+    becomes z (located known a.0 b.0 c.0 f.0) f.2 (located_fine known d at a.0 b.0 c.0 f.0 fine word a.1 b.1 c.1 f.1)
 
-listed_keeps : (known : List Variable) (d : DeclarationText) (more : List Token) (z : List Variable) → Fine known → IsWordText d.name.text → AllByRecursion IsWordName more → declare_listed known d more ≡ Ok z → Fine z
+listed_keeps : (known : Declarations) (d : DeclarationText) (more : List Token) (z : Declarations) → Fine known → IsWordText d.name.text → AllByRecursion IsWordName more → declare_listed known d more ≡ Ok z → Fine z
 unfolding declare_listed
 listed_keeps known d more z fine word words e =
-    let made : Option Ty → Plan = λ o. plan o (planned_value o d.initial) in
-    let a = bind_ok (name_variable (made (type_of d.ty.text)) known d.name) (λ first. each (name_variable (made (type_of d.ty.text))) first more >>= λ named. known_type d.ty >>= λ type. first_value type None d.initial >>= λ v. Ok named) z e in
-    let b = bind_ok (each (name_variable (made (type_of d.ty.text))) a.0 more) (λ named. known_type d.ty >>= λ type. first_value type None d.initial >>= λ v. Ok named) z a.2 in
+    let made : Option DeclaredType → Plan = λ o. plan o (planned_value o d.initial) in
+    let a = bind_ok (declare_name (made (declared_type d.ty.text)) known d.name) (λ first. each (declare_name (made (declared_type d.ty.text))) first more >>= λ named. known_type d.ty >>= λ type. first_value type None d.initial >>= λ v. Ok named) z e in
+    let b = bind_ok (each (declare_name (made (declared_type d.ty.text))) a.0 more) (λ named. known_type d.ty >>= λ type. first_value type None d.initial >>= λ v. Ok named) z a.2 in
     let c = bind_ok (known_type d.ty) (λ type. first_value type None d.initial >>= λ v. Ok b.0) z b.2 in
     let f = bind_ok (first_value c.0 None d.initial) (λ v. Ok b.0) z c.2 in
     let type = type_is d.ty c.0 c.1 in
-    let start : IsStart c.0 None (planned_value (Some c.0) d.initial) = subst (IsStart c.0 None) (sym (planned_is c.0 d.initial f.0 f.1)) (first_start c.0 None d.initial f.0 f.1) in
     let v = planned_value (Some c.0) d.initial in
-    let first : Fine a.0 = name_keeps c.0 v known d.name a.0 start fine word (subst (λ (o : Option Ty). name_variable (made o) known d.name ≡ Ok a.0) type a.1) in
-    let rest : Fine b.0 = each_keeps Fine IsWordName (name_variable (made (Some c.0))) (λ y t w p q h. name_keeps c.0 v y t w start p q h) a.0 more b.0 first words (subst (λ (o : Option Ty). each (name_variable (made o)) a.0 more ≡ Ok b.0) type b.1) in
+    let start : Starts c.0 None v = planned_start c.0 d.initial f.0 f.1 in
+    let first : Fine a.0 = name_keeps c.0 v known d.name a.0 start fine word (subst (λ (o : Option DeclaredType). declare_name (made o) known d.name ≡ Ok a.0) type a.1) in
+    let rest : Fine b.0 = each_keeps Fine IsWordName (declare_name (made (Some c.0))) (λ y t w p q h. name_keeps c.0 v y t w start p q h) a.0 more b.0 first words (subst (λ (o : Option DeclaredType). each (declare_name (made o)) a.0 more ≡ Ok b.0) type b.1) in
     subst Fine (ok_is b.0 z f.2) rest
 
-by_names : (known : List Variable) (d : DeclarationText) (x : NamesText) (z : List Variable) → Fine known → IsWordText d.name.text → AreWordNames x → declare_by known d x ≡ Ok z → Fine z
+by_names : (known : Declarations) (d : DeclarationText) (x : NamesText) (z : Declarations) → Fine known → IsWordText d.name.text → AreWordNames x → declare_by known d x ≡ Ok z → Fine z
 by_names known d (Located at) z fine word words e = located_keeps known d at z fine word e
 by_names known d (More more) z fine word words e = listed_keeps known d more z fine word words e
 
-declare_keeps : (known : List Variable) (d : DeclarationText) (z : List Variable) → Fine known → IsWordDeclaration d → declare known d ≡ Ok z → Fine z
+declare_keeps : (known : Declarations) (d : DeclarationText) (z : Declarations) → Fine known → IsWordDeclaration d → declare known d ≡ Ok z → Fine z
 declare_keeps known d z fine words e = by_names known d d.names z fine words.name words.names e
 
-block_keeps : (known : List Variable) (ds : List DeclarationText) (z : List Variable) → Fine known → AllByRecursion IsWordDeclaration ds → declare_block known ds ≡ Ok z → Fine z
+block_keeps : (known : Declarations) (ds : List DeclarationText) (z : Declarations) → Fine known → AllByRecursion IsWordDeclaration ds → declare_block known ds ≡ Ok z → Fine z
 block_keeps known ds z fine words e = each_keeps Fine IsWordDeclaration declare declare_keeps known ds z fine words e
 
-pub blocks_fine : (bs : List (List DeclarationText)) (z : List Variable) → AllByRecursion (AllByRecursion IsWordDeclaration) bs → each declare_block [] bs ≡ Ok z → Fine z
-blocks_fine bs z words e = each_keeps Fine (AllByRecursion IsWordDeclaration) declare_block block_keeps [] bs z (record { all = tt; few = omega arith }) words e
+pub blocks_fine : (bs : List (List DeclarationText)) (z : Declarations) → AllByRecursion (AllByRecursion IsWordDeclaration) bs → each declare_block nothing bs ≡ Ok z → Fine z
+blocks_fine bs z words e = each_keeps Fine (AllByRecursion IsWordDeclaration) declare_block block_keeps nothing bs z (record { variables = tt; variables_few = omega arith; instances = tt; instances_few = omega arith }) words e
 
 -- ---- operators
 
@@ -299,7 +386,7 @@ takes forms.Operand op m = allowed_by (usage_of op) (with_opening false m) && fo
 takes forms.Nothing op m = allowed_by (usage_of op) (with_opening false m) && formed_by (usage_of op) (with_opening false m) operands.Absent
 takes forms.Label op m = allowed_by (usage_of op) (with_opening false m) && formed_by (usage_of op) (with_opening false m) (operands.Label [])
 takes forms.Either op m = (allowed_by (usage_of op) (with_opening false m) && formed_by (usage_of op) (with_opening false m) value_operand) && (allowed_by (usage_of op) (with_opening true m) && (formed_by (usage_of op) (with_opening true m) value_operand && formed_by (usage_of op) (with_opening true m) operands.Absent))
-takes forms.Call op m = true
+takes forms.Call op m = allowed_by (usage_of op) (with_opening false m) && formed_by (usage_of op) (with_opening false m) (operands.Instance [])
 
 abbrev fits : Op → Modifier → Bool
 fits op m = not (is_empty op) && takes (form_of op) op m
@@ -340,11 +427,7 @@ operator_fits t x e = chosen (is_kind tokens.Name t || is_kind tokens.Ampersand 
   where
     by_mnemonic : (o : Option Mnemonic) → mnemonic_of t.text ≡ o → operator_from t.left o ≡ Some x → fits x.mnemonic.op x.mnemonic.modifier ≡ true
     by_mnemonic None f h = absurd cc
-    by_mnemonic (Some m) f h = called (is_call (form_of m.op)) h
-      where
-        called : (b : Bool) → cond b None (Some (record { mnemonic = m; left = t.left })) ≡ Some x → fits x.mnemonic.op x.mnemonic.modifier ≡ true
-        called true h = absurd cc
-        called false h = subst (λ (y : Operator). fits y.mnemonic.op y.mnemonic.modifier ≡ true) (operator_is (record { mnemonic = m; left = t.left }) x h) (mnemonic_fits t.text m f)
+    by_mnemonic (Some m) f h = subst (λ (y : Operator). fits y.mnemonic.op y.mnemonic.modifier ≡ true) (operator_is (record { mnemonic = m; left = t.left }) x h) (mnemonic_fits t.text m f)
 
     chosen : (b c : Bool) → cond b (operator_from t.left (mnemonic_of t.text)) (cond c (Some (record { mnemonic = closing; left = t.left })) None) ≡ Some x → fits x.mnemonic.op x.mnemonic.modifier ≡ true
     chosen true c h = by_mnemonic (mnemonic_of t.text) refl h
@@ -377,12 +460,13 @@ not_true : (b : Bool) → not b ≡ true → b ≡ false
 not_true true e = absurd cc
 not_true false e = refl
 
--- a value, a bare number, a variable or a location
+-- a value, a bare number, a variable, a location or a field
 abbrev is_value : Operand → Bool
 is_value (operands.Literal v) = true
 is_value (operands.Bare z) = true
 is_value (operands.Variable name) = true
 is_value (operands.Direct loc) = true
+is_value (operands.Field name field) = true
 is_value operand = false
 
 value_form : (o : Bool) (x : Operand) → is_value x ≡ true → has_form usages.Value o (as_value x) ≡ true
@@ -394,8 +478,11 @@ value_form true (operands.Variable name) e = refl
 value_form false (operands.Variable name) e = refl
 value_form true (operands.Direct loc) e = refl
 value_form false (operands.Direct loc) e = refl
+value_form true (operands.Field name field) e = refl
+value_form false (operands.Field name field) e = refl
 value_form o operands.Absent e = absurd cc
 value_form o (operands.Label name) e = absurd cc
+value_form o (operands.Instance name) e = absurd cc
 
 any_value : (f : usage.Form) (o : Bool) (x : Operand) → is_value x ≡ true → has_form f o value_operand ≡ true → has_form f o (as_value x) ≡ true
 any_value usages.Absent true x v e = absurd cc
@@ -403,6 +490,8 @@ any_value usages.Absent false x v e = absurd cc
 any_value usages.Value o x v e = value_form o x v
 any_value usages.Label true x v e = absurd cc
 any_value usages.Label false x v e = absurd cc
+any_value usages.Instance true x v e = absurd cc
+any_value usages.Instance false x v e = absurd cc
 
 any_label : (f : usage.Form) (o : Bool) (name : List ℕ) → has_form f o (operands.Label []) ≡ true → has_form f o (operands.Label name) ≡ true
 any_label usages.Absent true name e = absurd cc
@@ -411,70 +500,128 @@ any_label usages.Value true name e = absurd cc
 any_label usages.Value false name e = absurd cc
 any_label usages.Label true name e = refl
 any_label usages.Label false name e = refl
+any_label usages.Instance true name e = absurd cc
+any_label usages.Instance false name e = absurd cc
 
-value_formed : (u : Option Usage) (m : Modifier) (x : Operand) → is_value x ≡ true → formed_by u m value_operand ≡ true → formed_by u m (as_value x) ≡ true
-value_formed None m x v e = absurd cc
-value_formed (Some u) m x v e = any_value u.form m.opens x v e
+any_instance : (f : usage.Form) (o : Bool) (name : List ℕ) → has_form f o (operands.Instance []) ≡ true → has_form f o (operands.Instance name) ≡ true
+any_instance usages.Absent true name e = absurd cc
+any_instance usages.Absent false name e = absurd cc
+any_instance usages.Value true name e = absurd cc
+any_instance usages.Value false name e = absurd cc
+any_instance usages.Label true name e = absurd cc
+any_instance usages.Label false name e = absurd cc
+any_instance usages.Instance true name e = refl
+any_instance usages.Instance false name e = refl
 
-label_formed : (u : Option Usage) (m : Modifier) (name : List ℕ) → formed_by u m (operands.Label []) ≡ true → formed_by u m (operands.Label name) ≡ true
-label_formed None m name e = absurd cc
-label_formed (Some u) m name e = any_label u.form m.opens name e
+value_formed : (u : Usage) (m : Modifier) (x : Operand) → is_value x ≡ true → formed_by u m value_operand ≡ true → formed_by u m (as_value x) ≡ true
+value_formed u m x v e = any_value u.form m.opens x v e
 
-record IsGiven (vs : List Variable) (x : Operand) : Type 0 where
+label_formed : (u : Usage) (m : Modifier) (name : List ℕ) → formed_by u m (operands.Label []) ≡ true → formed_by u m (operands.Label name) ≡ true
+label_formed u m name e = any_label u.form m.opens name e
+
+instance_formed : (u : Usage) (m : Modifier) (name : List ℕ) → formed_by u m (operands.Instance []) ≡ true → formed_by u m (operands.Instance name) ≡ true
+instance_formed u m name e = any_instance u.form m.opens name e
+
+record IsGiven (ds : Declarations) (x : Operand) : Type 0 where
   value : is_value x ≡ true
-  lawful : IsOperand vs x
+  lawful : IsOperand ds x
 
-given_is : (vs : List Variable) (y : OperandText) (x : Operand) → resolution.operand_of vs y ≡ Ok x → IsGiven vs x
-given_is vs (Constant t) x e = by_literal (literal_of t.text) (literal_good t.text) e
+given_is : (ds : Declarations) (y : OperandText) (x : Operand) → resolution.operand_of ds y ≡ Ok x → IsGiven ds x
+given_is ds (Constant t) x e = by_literal (literal_of t.text) (literal_good t.text) e
   where
-    by_literal : (o : Option Literal) → IsInRange o → constant t o ≡ Ok x → IsGiven vs x
+    by_literal : (o : Option Literal) → IsInRange o → constant t o ≡ Ok x → IsGiven ds x
     by_literal None r h = absurd cc
-    by_literal (Some (Bare z)) r h = subst (IsGiven vs) (ok_is (operands.Bare z) x h) (record { value = refl; lawful = r })
-    by_literal (Some (Typed v)) r h = subst (IsGiven vs) (ok_is (operands.Literal v) x h) (record { value = refl; lawful = r })
-given_is vs (Direct t) x e = by_location (written.location_of t.text) refl e
+    by_literal (Some (Bare z)) r h = subst (IsGiven ds) (ok_is (operands.Bare z) x h) (record { value = refl; lawful = r })
+    by_literal (Some (Typed v)) r h = subst (IsGiven ds) (ok_is (operands.Literal v) x h) (record { value = refl; lawful = r })
+given_is ds (Direct t) x e = by_location (written.location_of t.text) refl e
   where
-    by_location : (o : Option Loc) → written.location_of t.text ≡ o → direct t o ≡ Ok x → IsGiven vs x
+    by_location : (o : Option Loc) → written.location_of t.text ≡ o → direct t o ≡ Ok x → IsGiven ds x
     by_location None f h = absurd cc
     by_location (Some loc) f h =
         let p = location_place t.text loc f in
-        subst (IsGiven vs) (ok_is (operands.Direct loc) x h) (record { value = refl; lawful = (code_again loc p, code_small loc p) })
-given_is vs (Named t) x e = chosen (has_name vs (capitals t.text)) refl e
+        subst (IsGiven ds) (ok_is (operands.Direct loc) x h) (record { value = refl; lawful = (code_again loc p, code_small loc p) })
+given_is ds (Named t) x e = chosen (has_name ds (capitals t.text)) refl e
   where
-    chosen : (b : Bool) → has_name vs (capitals t.text) ≡ b → cond b (Ok (operands.Variable (capitals t.text))) (refused kinds.UnknownName t) ≡ Ok x → IsGiven vs x
-    chosen true f h = subst (IsGiven vs) (ok_is (operands.Variable (capitals t.text)) x h) (record { value = refl; lawful = f })
+    chosen : (b : Bool) → has_name ds (capitals t.text) ≡ b → cond b (Ok (operands.Variable (capitals t.text))) (refused kinds.UnknownName t) ≡ Ok x → IsGiven ds x
+    chosen true f h = subst (IsGiven ds) (ok_is (operands.Variable (capitals t.text)) x h) (record { value = refl; lawful = f })
     chosen false f h = absurd cc
+given_is ds (Field t f) x e = chosen (has_instance ds (capitals t.text)) refl e
+  where
+    chosen : (b : Bool) → has_instance ds (capitals t.text) ≡ b → cond b (Ok (operands.Field (capitals t.text) (capitals f.text))) (refused kinds.UnknownName t) ≡ Ok x → IsGiven ds x
+    chosen true g h = subst (IsGiven ds) (ok_is (operands.Field (capitals t.text) (capitals f.text)) x h) (record { value = refl; lawful = g })
+    chosen false g h = absurd cc
 
 -- what an operator takes, with its letters
-record IsBehind (vs : List Variable) (op : Op) (m : Modifier) (x : Operand) : Type 0 where
+record IsBehind (ds : Declarations) (op : Op) (m : Modifier) (x : Operand) : Type 0 where
   letters : allowed_by (usage_of op) m ≡ true
   formed : formed_by (usage_of op) m (as_value x) ≡ true
-  lawful : IsOperand vs x
+  lawful : IsOperand ds x
 
-behind_is : (vs : List Variable) (f : Form) (op : Op) (m : Modifier) (b : BehindText) (x : Operand) → accepts f b ≡ true → takes f op m ≡ true → behind_of vs b ≡ Ok x → IsBehind vs op (with_opening (opens b) m) x
-behind_is vs forms.Operand op m (Given y) x a k e =
-    let g = given_is vs y x e in
+behind_is : (ds : Declarations) (f : Form) (op : Op) (m : Modifier) (b : BehindText) (x : Operand) → accepts f b ≡ true → takes f op m ≡ true → behind_of ds b ≡ Ok x → IsBehind ds op (with_opening (opens b) m) x
+behind_is ds forms.Operand op m (Given y) x a k e =
+    let g = given_is ds y x e in
     let p = and_both _ _ k in
     record { letters = p.0; formed = value_formed (usage_of op) (with_opening false m) x g.value p.1; lawful = g.lawful }
-behind_is vs forms.Nothing op m Nothing x a k e =
+behind_is ds forms.Nothing op m Nothing x a k e =
     let p = and_both _ _ k in
-    subst (IsBehind vs op (with_opening false m)) (ok_is operands.Absent x e) (record { letters = p.0; formed = p.1; lawful = tt })
-behind_is vs forms.Label op m (Target t) x a k e =
+    subst (IsBehind ds op (with_opening false m)) (ok_is operands.Absent x e) (record { letters = p.0; formed = p.1; lawful = tt })
+behind_is ds forms.Label op m (Target t) x a k e =
     let p = and_both _ _ k in
-    subst (IsBehind vs op (with_opening false m)) (ok_is (operands.Label (capitals t.text)) x e) (record { letters = p.0; formed = label_formed (usage_of op) (with_opening false m) (capitals t.text) p.1; lawful = tt })
-behind_is vs forms.Either op m (Given y) x a k e =
-    let g = given_is vs y x e in
+    subst (IsBehind ds op (with_opening false m)) (ok_is (operands.Label (capitals t.text)) x e) (record { letters = p.0; formed = label_formed (usage_of op) (with_opening false m) (capitals t.text) p.1; lawful = tt })
+behind_is ds forms.Either op m (Given y) x a k e =
+    let g = given_is ds y x e in
     let p = and_both _ _ (and_both _ _ k).0 in
     record { letters = p.0; formed = value_formed (usage_of op) (with_opening false m) x g.value p.1; lawful = g.lawful }
-behind_is vs forms.Either op m (Opened None) x a k e =
+behind_is ds forms.Either op m (Opened None) x a k e =
     let p = and_both _ _ (and_both _ _ k).1 in
     let q = and_both _ _ p.1 in
-    subst (IsBehind vs op (with_opening true m)) (ok_is operands.Absent x e) (record { letters = p.0; formed = q.1; lawful = tt })
-behind_is vs forms.Either op m (Opened (Some y)) x a k e =
-    let g = given_is vs y x e in
+    subst (IsBehind ds op (with_opening true m)) (ok_is operands.Absent x e) (record { letters = p.0; formed = q.1; lawful = tt })
+behind_is ds forms.Either op m (Opened (Some y)) x a k e =
+    let g = given_is ds y x e in
     let p = and_both _ _ (and_both _ _ k).1 in
     let q = and_both _ _ p.1 in
     record { letters = p.0; formed = value_formed (usage_of op) (with_opening true m) x g.value q.0; lawful = g.lawful }
-behind_is vs f op m b x a k e = absurd cc
+behind_is ds forms.Call op m (Called c) x a k e = chosen (has_instance ds (capitals c.instance.text)) refl e
+  where
+    chosen : (b : Bool) → has_instance ds (capitals c.instance.text) ≡ b → cond b (Ok (operands.Instance (capitals c.instance.text))) (refused kinds.UnknownName c.instance) ≡ Ok x → IsBehind ds op (with_opening false m) x
+    chosen true f h =
+        let p = and_both _ _ k in
+        subst (IsBehind ds op (with_opening false m)) (ok_is (operands.Instance (capitals c.instance.text)) x h)
+        (record { letters = p.0; formed = instance_formed (usage_of op) (with_opening false m) (capitals c.instance.text) p.1; lawful = f })
+    chosen false f h = absurd cc
+behind_is ds f op m b x a k e = absurd cc
+
+-- ---- arguments
+
+all_push : {X : Type 0} (F : X → Type 0) (xs : List X) (x : X) → AllByRecursion F xs → F x → AllByRecursion F (xs ++ x ∷ [])
+all_push F [] x all here = (here, tt)
+all_push F (y ∷ ys) x all here = (all.0, all_push F ys x all.1 here)
+
+abbrev Anything : ArgumentText → Type 0
+Anything a = Unit {0}
+
+all_anything : (xs : List ArgumentText) → AllByRecursion Anything xs
+all_anything [] = tt
+all_anything (x ∷ xs) = (tt, all_anything xs)
+
+abbrev argument : ArgumentText → Operand → Argument
+argument a x = record { field = capitals a.field.text; side = a.side; operand = x }
+
+argument_is : (ds : Declarations) (a : ArgumentText) (x : Argument) → argument_of ds a ≡ Ok x → IsArgument ds x
+unfolding argument_of
+argument_is ds a x e =
+    let m = bind_ok (resolution.operand_of ds a.operand) (λ o. Ok (argument a o)) x e in
+    let g = given_is ds a.operand m.0 m.1 in
+    subst (IsArgument ds) (ok_is (argument a m.0) x m.2) (record { operand = g.lawful; formed = value_form false m.0 g.value })
+
+argument_keeps : (ds : Declarations) (found : List Argument) (a : ArgumentText) (z : List Argument) → AllByRecursion (IsArgument ds) found → Anything a → pushed_argument ds found a ≡ Ok z → AllByRecursion (IsArgument ds) z
+argument_keeps ds found a z all any e =
+    let m = bind_ok (argument_of ds a) (λ x. Ok (found ++ x ∷ [])) z e in
+    subst (λ (xs : List Argument). AllByRecursion (IsArgument ds) xs) (ok_is (found ++ m.0 ∷ []) z m.2) (all_push (IsArgument ds) found m.0 all (argument_is ds a m.0 m.1))
+
+arguments_are : (ds : Declarations) (b : BehindText) (xs : List Argument) → behind_arguments ds b ≡ Ok xs → AllByRecursion (IsArgument ds) xs
+arguments_are ds (Called c) xs e = each_keeps (λ (found : List Argument). AllByRecursion (IsArgument ds) found) Anything (pushed_argument ds) (argument_keeps ds) [] (arguments_of c) xs tt (all_anything (arguments_of c)) e
+arguments_are ds b xs e = subst (λ (found : List Argument). AllByRecursion (IsArgument ds) found) (ok_is [] xs e) tt
 
 -- ---- lines
 
@@ -484,81 +631,81 @@ label_is t name word e = chosen (is_reserved (capitals t.text)) refl e
     chosen : (b : Bool) → is_reserved (capitals t.text) ≡ b → cond b (refused kinds.ReservedName t) (Ok (capitals t.text)) ≡ Ok name → IsLabel (Some name)
     chosen true f h = absurd cc
     chosen false f h =
-        let l = capitals_length t.text word in
-        let long : length_of (length (capitals t.text)) ≡ Some (length (capitals t.text)) = rw (lt-ltb 0 (length (capitals t.text)) l.0, lt-ltb (length (capitals t.text)) 33 l.1) refl in
-        subst (λ (n : List ℕ). IsLabel (Some n)) (ok_is (capitals t.text) name h) (long, capitals_lawful t.text word f)
+        subst (λ (n : List ℕ). IsLabel (Some n)) (ok_is (capitals t.text) name h) (long_enough t word, capitals_lawful t.text word f)
 
-abbrev instruction : Option (List ℕ) → Op → Modifier → Operand → Instr
-instruction label op m x = record { label = label; op = op; modifier = m; operand = x }
+abbrev instruction : Option (List ℕ) → Op → Modifier → Operand → List Argument → Instr
+instruction label op m x arguments = record { label = label; op = op; modifier = m; operand = x; arguments = arguments }
 
-operation_is : (vs : List Variable) (label : Option (List ℕ)) (o : OperationText) (line : Instr) → IsLabel label → IsOperation o → instruction_of vs label (Some o) ≡ Ok line → IsInstruction vs line
+abbrev operated : Option (List ℕ) → OperationText → Operand → List Argument → Instr
+operated label o x arguments = instruction label o.operator.mnemonic.op (with_opening (opens o.behind) o.operator.mnemonic.modifier) x arguments
+
+operation_is : (ds : Declarations) (label : Option (List ℕ)) (o : OperationText) (line : Instr) → IsLabel label → IsOperation o → instruction_of ds label (Some o) ≡ Ok line → IsInstruction ds line
 unfolding instruction_of
-operation_is vs label o line labelled is e =
+operation_is ds label o line labelled is e =
     let op = o.operator.mnemonic.op in
     let m = o.operator.mnemonic.modifier in
-    let a = bind_ok (behind_of vs o.behind) (λ x. Ok (instruction label op (with_opening (opens o.behind) m) x)) line e in
+    let a = bind_ok (behind_of ds o.behind) (λ x. behind_arguments ds o.behind >>= λ arguments. Ok (operated label o x arguments)) line e in
+    let c = bind_ok (behind_arguments ds o.behind) (λ arguments. Ok (operated label o a.0 arguments)) line a.2 in
     let t = taken o.behind is.0 o.operator is.1 in
     let p = and_both _ _ t.fits in
-    let b = behind_is vs (form_of op) op m o.behind a.0 t.takes p.1 a.1 in
+    let b = behind_is ds (form_of op) op m o.behind a.0 t.takes p.1 a.1 in
     let full : is_empty op ≡ false = not_true (is_empty op) p.0 in
-    subst (IsInstruction vs) (ok_is (instruction label op (with_opening (opens o.behind) m) a.0) line a.2)
-    (record { label = labelled; letters = b.letters; operand = b.lawful; formed = b.formed; placed = rw full refl })
+    subst (IsInstruction ds) (ok_is (operated label o a.0 c.0) line c.2)
+    (record { label = labelled; letters = b.letters; operand = b.lawful; formed = b.formed; arguments = arguments_are ds o.behind c.0 c.1; placed = rw full refl })
 
-optional_is : (vs : List Variable) (name : List ℕ) (o : Option OperationText) (line : Instr) → IsLabel (Some name) → IsOptionalOperation o → instruction_of vs (Some name) o ≡ Ok line → IsInstruction vs line
+optional_is : (ds : Declarations) (name : List ℕ) (o : Option OperationText) (line : Instr) → IsLabel (Some name) → IsOptionalOperation o → instruction_of ds (Some name) o ≡ Ok line → IsInstruction ds line
 unfolding instruction_of
-optional_is vs name None line labelled is e =
-    subst (IsInstruction vs) (ok_is (instruction (Some name) ops.Empty resolution.plain operands.Absent) line e)
-    (record { label = labelled; letters = refl; operand = tt; formed = refl; placed = refl })
-optional_is vs name (Some o) line labelled is e = operation_is vs (Some name) o line labelled is e
+optional_is ds name None line labelled is e =
+    subst (IsInstruction ds) (ok_is (instruction (Some name) ops.Empty resolution.plain operands.Absent []) line e)
+    (record { label = labelled; letters = refl; operand = tt; formed = refl; arguments = tt; placed = refl })
+optional_is ds name (Some o) line labelled is e = operation_is ds (Some name) o line labelled is e
 
-pub record FineCode (vs : List Variable) (code : List Instr) : Type 0 where
-  pub all : AllByRecursion (IsInstruction vs) code
+pub record FineCode (ds : Declarations) (code : List Instr) : Type 0 where
+  pub all : AllByRecursion (IsInstruction ds) code
   pub few : length code ≤ 4096
 
-all_push : {X : Type 0} (F : X → Type 0) (xs : List X) (x : X) → AllByRecursion F xs → F x → AllByRecursion F (xs ++ x ∷ [])
-all_push F [] x all here = (here, tt)
-all_push F (y ∷ ys) x all here = (all.0, all_push F ys x all.1 here)
-
-code_push : (vs : List Variable) (code : List Instr) (line : Instr) (left : ℕ) (u : Unit {0}) → FineCode vs code → room code left ≡ Ok u → IsInstruction vs line → FineCode vs (code ++ line ∷ [])
-code_push vs code line left u fine free is =
+code_push : (ds : Declarations) (code : List Instr) (line : Instr) (left : ℕ) (u : Unit {0}) → FineCode ds code → room code left ≡ Ok u → IsInstruction ds line → FineCode ds (code ++ line ∷ [])
+code_push ds code line left u fine free is =
     let lt = has_room (leb 4096 (length code)) refl free in
-    record { all = all_push (IsInstruction vs) code line fine.all is; few = omega (arith, lt, length-append code (line ∷ [])) }
+    record { all = all_push (IsInstruction ds) code line fine.all is; few = omega (arith, lt, length-append code (line ∷ [])) }
   where
     has_room : (t : Bool) → leb 4096 (length code) ≡ t → cond {A = Result (Unit {0}) Refusal} t (Err (record { kind = kinds.TooMany; left = left })) (Ok tt) ≡ Ok u → length code < 4096
     has_room true f h = absurd cc
     has_room false f h = leb-false 4096 (length code) f
 
-labelled_keeps : (vs : List Variable) (code : List Instr) (t : Token) (o : Option OperationText) (z : List Instr) → FineCode vs code → IsWordText t.text → IsOptionalOperation o → instruct_labelled vs code t o ≡ Ok z → FineCode vs z
+labelled_keeps : (ds : Declarations) (code : List Instr) (t : Token) (o : Option OperationText) (z : List Instr) → FineCode ds code → IsWordText t.text → IsOptionalOperation o → instruct_labelled ds code t o ≡ Ok z → FineCode ds z
 unfolding instruct_labelled
-labelled_keeps vs code t o z fine word is e =
-    let a = bind_ok (label_of t) (λ label. room code t.left >>= λ here. instruction_of vs (Some label) o >>= λ line. Ok (code ++ line ∷ [])) z e in
-    let b = bind_ok (room code t.left) (λ here. instruction_of vs (Some a.0) o >>= λ line. Ok (code ++ line ∷ [])) z a.2 in
-    let c = bind_ok (instruction_of vs (Some a.0) o) (λ line. Ok (code ++ line ∷ [])) z b.2 in
-    subst (FineCode vs) (ok_is (code ++ c.0 ∷ []) z c.2) (code_push vs code c.0 t.left b.0 fine b.1 (optional_is vs a.0 o c.0 (label_is t a.0 word a.1) is c.1))
+labelled_keeps ds code t o z fine word is e =
+    let a = bind_ok (label_of t) (λ label. room code t.left >>= λ here. instruction_of ds (Some label) o >>= λ line. Ok (code ++ line ∷ [])) z e in
+    let b = bind_ok (room code t.left) (λ here. instruction_of ds (Some a.0) o >>= λ line. Ok (code ++ line ∷ [])) z a.2 in
+    let c = bind_ok (instruction_of ds (Some a.0) o) (λ line. Ok (code ++ line ∷ [])) z b.2 in
+    subst (FineCode ds) (ok_is (code ++ c.0 ∷ []) z c.2) (code_push ds code c.0 t.left b.0 fine b.1 (optional_is ds a.0 o c.0 (label_is t a.0 word a.1) is c.1))
 
-plain_keeps : (vs : List Variable) (code : List Instr) (o : OperationText) (z : List Instr) → FineCode vs code → IsOperation o → instruct_plain vs code o ≡ Ok z → FineCode vs z
+plain_keeps : (ds : Declarations) (code : List Instr) (o : OperationText) (z : List Instr) → FineCode ds code → IsOperation o → instruct_plain ds code o ≡ Ok z → FineCode ds z
 unfolding instruct_plain
-plain_keeps vs code o z fine is e =
-    let b = bind_ok (room code o.operator.left) (λ here. instruction_of vs None (Some o) >>= λ line. Ok (code ++ line ∷ [])) z e in
-    let c = bind_ok (instruction_of vs None (Some o)) (λ line. Ok (code ++ line ∷ [])) z b.2 in
-    subst (FineCode vs) (ok_is (code ++ c.0 ∷ []) z c.2) (code_push vs code c.0 o.operator.left b.0 fine b.1 (operation_is vs None o c.0 tt is c.1))
+plain_keeps ds code o z fine is e =
+    let b = bind_ok (room code o.operator.left) (λ here. instruction_of ds None (Some o) >>= λ line. Ok (code ++ line ∷ [])) z e in
+    let c = bind_ok (instruction_of ds None (Some o)) (λ line. Ok (code ++ line ∷ [])) z b.2 in
+    subst (FineCode ds) (ok_is (code ++ c.0 ∷ []) z c.2) (code_push ds code c.0 o.operator.left b.0 fine b.1 (operation_is ds None o c.0 tt is c.1))
 
-line_keeps : (vs : List Variable) (code : List Instr) (l : LineText) (z : List Instr) → FineCode vs code → IsOperator l → instruct vs code l ≡ Ok z → FineCode vs z
-line_keeps vs code (Labelled t o) z fine is e = labelled_keeps vs code t o z fine is.0 is.1 e
-line_keeps vs code (Plain o) z fine is e = plain_keeps vs code o z fine is e
+line_keeps : (ds : Declarations) (code : List Instr) (l : LineText) (z : List Instr) → FineCode ds code → IsOperator l → instruct ds code l ≡ Ok z → FineCode ds z
+line_keeps ds code (Labelled t o) z fine is e = labelled_keeps ds code t o z fine is.0 is.1 e
+line_keeps ds code (Plain o) z fine is e = plain_keeps ds code o z fine is e
 
-pub lines_fine : (vs : List Variable) (ls : List LineText) (z : List Instr) → AllByRecursion IsOperator ls → each (instruct vs) [] ls ≡ Ok z → FineCode vs z
-lines_fine vs ls z words e = each_keeps (FineCode vs) IsOperator (instruct vs) (line_keeps vs) [] ls z (record { all = tt; few = omega arith }) words e
+pub lines_fine : (ds : Declarations) (ls : List LineText) (z : List Instr) → AllByRecursion IsOperator ls → each (instruct ds) [] ls ≡ Ok z → FineCode ds z
+lines_fine ds ls z words e = each_keeps (FineCode ds) IsOperator (instruct ds) (line_keeps ds) [] ls z (record { all = tt; few = omega arith }) words e
 
 -- ---- the whole
 
 -- the parts that a text's program is made of
-pub parts_fit : (p : ProgramText) (bs : List (List DeclarationText)) (ls : List LineText) (known vs : List Variable) (code : List Instr) → AreWords p → bs ≡ p.blocks → ls ≡ p.lines → vs ≡ known
-    → each declare_block [] bs ≡ Ok known → each (instruct known) [] ls ≡ Ok code → IsDeclared (record { variables = vs; code = code })
-parts_fit p bs ls known vs code words b l v e f =
-    let variables = blocks_fine p.blocks known words.blocks (subst (λ (x : List (List DeclarationText)). each declare_block [] x ≡ Ok known) b e) in
-    let lines = lines_fine known p.lines code words.lines (subst (λ (x : List LineText). each (instruct known) [] x ≡ Ok code) l f) in
-    subst (λ (x : List Variable). IsDeclared (record { variables = x; code = code })) (sym v) (record { variables = variables.all; variables_few = variables.few; lines = lines.all; lines_few = lines.few })
+pub parts_fit : (p : ProgramText) (bs : List (List DeclarationText)) (ls : List LineText) (known : Declarations) (vs : List Variable) (xs : List Instance) (code : List Instr) → AreWords p → bs ≡ p.blocks → ls ≡ p.lines
+    → vs ≡ known.variables → xs ≡ known.instances → each declare_block nothing bs ≡ Ok known → each (instruct known) [] ls ≡ Ok code → IsDeclared (record { variables = vs; instances = xs; code = code })
+parts_fit p bs ls known vs xs code words b l v x e f =
+    let declared = blocks_fine p.blocks known words.blocks (subst (λ (y : List (List DeclarationText)). each declare_block nothing y ≡ Ok known) b e) in
+    let lines = lines_fine known p.lines code words.lines (subst (λ (y : List LineText). each (instruct known) [] y ≡ Ok code) l f) in
+    subst (λ (ws : List Variable). IsDeclared (record { variables = ws; instances = xs; code = code })) (sym v)
+    (subst (λ (ys : List Instance). IsDeclared (record { variables = known.variables; instances = ys; code = code })) (sym x)
+    (record { variables = declared.variables; variables_few = declared.variables_few; instances = declared.instances; instances_few = declared.instances_few; lines = lines.all; lines_few = lines.few }))
 
 abbrev pub some_text : Text → Option Text
 some_text Q = Some Q
@@ -566,15 +713,16 @@ some_text Q = Some Q
 text_is : (P Q : Text) → some_text P ≡ some_text Q → P ≡ Q
 text_is P Q e = cc
 
-pub is_made : (Q : Text) (r : Option Text) → IsDeclared Q → r ≡ program_of Q.variables Q.code → r ≡ Some Q
+pub is_made : (Q : Text) (r : Option Text) → IsDeclared Q → r ≡ program_of Q.variables Q.instances Q.code → r ≡ Some Q
 is_made Q r is e =
     let few = is.variables_few in
     let a : ltb 512 (length Q.variables) ≡ false = le-ltb 512 (length Q.variables) few in
-    let b : ltb 4096 (length Q.code) ≡ false = le-ltb 4096 (length Q.code) is.lines_few in
-    e ∙ rw (a, b) refl
+    let b : ltb 128 (length Q.instances) ≡ false = le-ltb 128 (length Q.instances) is.instances_few in
+    let c : ltb 4096 (length Q.code) ≡ false = le-ltb 4096 (length Q.code) is.lines_few in
+    e ∙ rw (a, b, c) refl
 
-pub never_none : (Q : Text) (r : Option Text) → IsDeclared Q → r ≡ program_of Q.variables Q.code → r ≡ None → ⊥
+pub never_none : (Q : Text) (r : Option Text) → IsDeclared Q → r ≡ program_of Q.variables Q.instances Q.code → r ≡ None → ⊥
 never_none Q r is e none = let f : None ≡ some_text Q = sym none ∙ is_made Q r is e in absurd cc
 
-pub is_text : (Q P : Text) (r : Option Text) → IsDeclared Q → r ≡ program_of Q.variables Q.code → r ≡ Some P → IsDeclared P
+pub is_text : (Q P : Text) (r : Option Text) → IsDeclared Q → r ≡ program_of Q.variables Q.instances Q.code → r ≡ Some P → IsDeclared P
 is_text Q P r is e some = subst IsDeclared (text_is Q P (sym (is_made Q r is e) ∙ some)) is

@@ -1,29 +1,28 @@
--- Tables that tell the number of each variable by its name, and the codes of their locations.
-use Rattle.std.specs.Prelude.{◌≡◌, ℕ, List, Option, Vec}
-use Rattle.std.specs.BTreeMap as tree
-use Rattle.std.specs.BTreeMap.{BTreeMap}
+-- Tables that tell which names variables and instances have, and the codes of the variables' locations.
+use Rattle.std.specs.Prelude.{◌≡◌, ℕ, List, Bool, true, is_some, if◌then◌else◌, Vec}
 use Rattle.std.specs.BTreeSet as sorted
 use Rattle.std.specs.BTreeSet.{BTreeSet}
 use Rattle.std.specs.Cmp.Lexicographic.{slice_cmp}
 use Rattle.std.specs.Ordering.{nat_cmp}
 use Rattle.std.specs.Global.{Global}
 use Rattle.il_model.specs.declared.program.Variable.{Variable}
+use Rattle.il_model.specs.declared.program.Instance.{Instance}
+use Rattle.il_model.specs.Names.{same_name}
+use Rattle.il_model.specs.Resolved.{instance_in}
 use Rattle.il_model.specs.Codes.{is_number, is_taken}
 
--- the variables that are declared so far
-abbrev pub VariableList : Type 0
-VariableList = List Variable
+-- whether a table has a name
+abbrev pub is_in : BTreeSet (Vec ℕ Global) → List ℕ → Bool
+is_in names name = sorted.contains_by (λ k. slice_cmp nat_cmp name k.items) names
 
--- what a table has for a name
-abbrev pub number_in : BTreeMap (Vec ℕ Global) ℕ → List ℕ → Option ℕ
-number_in m name = tree.get_by (λ k. slice_cmp nat_cmp name k.items) m
-
-abbrev pub AreNumbers : List Variable → BTreeMap (Vec ℕ Global) ℕ → Type 0
-AreNumbers seen m = (name : List ℕ) → number_in m name ≡ is_number seen name
+-- a table has one name more
+abbrev pub AddsName : BTreeSet (Vec ℕ Global) → BTreeSet (Vec ℕ Global) → List ℕ → Type 0
+AddsName old new name = (other : List ℕ) → is_in new other ≡ (if same_name name other then true else is_in old other)
 
 abbrev pub AreCodes : List Variable → BTreeSet ℕ → Type 0
 AreCodes seen s = (n : ℕ) → sorted.contains nat_cmp s n ≡ is_taken seen n
 
-pub record AreDeclaredTables (seen : List Variable) (numbered : BTreeMap (Vec ℕ Global) ℕ) (placed : BTreeSet ℕ) : Type 0 where
-  pub numbers : AreNumbers seen numbered
-  pub codes : AreCodes seen placed
+pub record AreDeclaredTables (vs : List Variable) (xs : List Instance) (variable_names instance_names : BTreeSet (Vec ℕ Global)) (placed : BTreeSet ℕ) : Type 0 where
+  pub variables : (name : List ℕ) → is_in variable_names name ≡ is_some (is_number vs name)
+  pub instances : (name : List ℕ) → is_in instance_names name ≡ is_some (instance_in xs name)
+  pub codes : AreCodes vs placed

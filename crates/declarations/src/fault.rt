@@ -13,25 +13,25 @@ pub enum DeclKind {
     /// A name that was declared before.
     #[error("duplicate name")]
     Duplicate,
-    /// A type that is none.
+    /// A type that is neither an elementary one nor the kind of a function block.
     #[error("unknown type")]
     UnknownType,
-    /// An operand that is no declared variable.
+    /// An operand that is no declared variable, or the name of an instance that is none.
     #[error("unknown name")]
     UnknownName,
-    /// A direct address that is no location.
+    /// A direct address that is no location, or a location that a declaration cannot have.
     #[error("bad location")]
     BadLocation,
     /// A location that another variable has.
     #[error("overlap")]
     Overlap,
-    /// An initial value that its variable cannot have.
+    /// An initial value that its variable cannot have; an instance can have none.
     #[error("bad initial value")]
     BadInitial,
     /// A word of the language as a name.
     #[error("reserved name")]
     ReservedName,
-    /// One variable or instruction more than a program may have.
+    /// One variable, instance or instruction more than a program may have.
     #[error("too many")]
     TooMany,
 }

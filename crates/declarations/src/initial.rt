@@ -2,10 +2,10 @@
 
 ghost use Rattle.std.specs.Prelude.{◌≡◌, option_map};
 ghost use Rattle.il_reader.specs.Tokens.{token};
-ghost use Rattle.declarations.specs.Resolution.{Gives, zero_of, same_type, fitting, is_input, written_value, first_value, planned_value};
+ghost use Rattle.declarations.specs.Resolution.{Gives, zero_of, same_type, fitting, is_input, written_value, elementary_value, first_value, planned_value};
 
 use crate::fault::{DeclKind, Failure};
-use crate::variables::refused;
+use crate::variables::{DeclaredType, refused};
 use il_model::literal::Literal;
 use il_model::program::{Area, Loc};
 use il_model::value::{Ty, Value, make};
@@ -64,9 +64,12 @@ fn written_value(ty: Ty, location: Option<Loc>, t: Lexeme) -> Option<Value>
     }
 }
 
-/// The value that a variable starts with.
-pub fn first_value(ty: Ty, location: Option<Loc>, initial: Option<Lexeme>) -> Result<Value, Failure>
-    ensures { Gives (λ v. v) result (first_value ty location (option_map token initial.entry)) }
+fn elementary_value(
+    ty: Ty,
+    location: Option<Loc>,
+    initial: Option<Lexeme>,
+) -> Result<Value, Failure>
+    ensures { Gives (λ v. v) result (elementary_value ty location (option_map token initial.entry)) }
 {
     match initial {
         None => Ok(zero(ty)),
@@ -74,13 +77,30 @@ pub fn first_value(ty: Ty, location: Option<Loc>, initial: Option<Lexeme>) -> Re
     }
 }
 
+/// The value that a variable starts with; an instance has none, and FALSE stands for it.
+pub fn first_value(
+    ty: DeclaredType,
+    location: Option<Loc>,
+    initial: Option<Lexeme>,
+) -> Result<Value, Failure>
+    ensures { Gives (λ v. v) result (first_value ty location (option_map token initial.entry)) }
+{
+    match (ty, initial) {
+        (DeclaredType::Elementary(ty), _) => elementary_value(ty, location, initial),
+        (DeclaredType::Block(_), None) => Ok(Value::Bool(false)),
+        (DeclaredType::Block(_), Some(t)) => Err(refused(DeclKind::BadInitial, t)),
+    }
+}
+
 /// The value that the variables of a list start with, where their type and it are good.
-pub fn planned_value(ty: Option<Ty>, initial: Option<Lexeme>) -> Value
+pub fn planned_value(ty: Option<DeclaredType>, initial: Option<Lexeme>) -> Value
     ensures { result ≡ planned_value ty (option_map token initial.entry) }
 {
     match (ty, initial) {
-        (None, _) => Value::Bool(false),
-        (Some(ty), None) => zero(ty),
-        (Some(ty), Some(t)) => written_value(ty, None, t).unwrap_or(Value::Bool(false)),
+        (Some(DeclaredType::Elementary(ty)), None) => zero(ty),
+        (Some(DeclaredType::Elementary(ty)), Some(t)) => {
+            written_value(ty, None, t).unwrap_or(Value::Bool(false))
+        }
+        _ => Value::Bool(false),
     }
 }

@@ -1,9 +1,9 @@
-//! Instructions: labels, operators with their letters, operands by name, location or value.
+//! Instructions: labels, operators with their letters, operands by name, location, value or field, arguments of calls.
 
 ghost use Rattle.std.specs.Prelude.{◌≡◌, [], map, option_map};
 ghost use Rattle.il_reader.specs.Tokens.{token};
-ghost use Rattle.il_reader.specs.Grammar.{operand, behind, operation, line};
-ghost use Rattle.declarations.specs.Resolution.{Gives, constant, operand_of, optional_operand_of, behind_of, opens, with_opening, instruction_of, room, label_of, instruct_labelled, instruct_plain, instruct, each};
+ghost use Rattle.il_reader.specs.Grammar.{Named, Field, Called, operand, argument, call, behind, operation, line};
+ghost use Rattle.declarations.specs.Resolution.{Gives, constant, operand_of, optional_operand_of, behind_of, argument_of, pushed_argument, behind_arguments, opens, with_opening, instruction_of, room, label_of, instruct_labelled, instruct_plain, instruct, each};
 
 use crate::declared::Declared;
 use crate::fault::{DeclKind, Failure, Refusal};
@@ -12,9 +12,9 @@ use crate::variables::{capital_name, refused};
 use il_model::literal::Literal;
 use il_model::name::{Name, is_reserved};
 use il_model::op::{Modifier, Op};
-use il_model::program::{Instr, Operand};
+use il_model::program::{Argument, Arguments, Instr, Operand};
 use il_model::written::literal;
-use il_reader::{Behind, Lexeme, Line, Operation};
+use il_reader::{Behind, Call, Lexeme, Line, Operation};
 use std::alloc::Global;
 
 fn constant(t: Lexeme, given: Option<Literal>) -> Result<Operand, Failure>
@@ -24,6 +24,28 @@ fn constant(t: Lexeme, given: Option<Literal>) -> Result<Operand, Failure>
         Some(Literal::Bare(z)) => Ok(Operand::Bare(z)),
         Some(Literal::Typed(v)) => Ok(Operand::Literal(v)),
         None => Err(refused(DeclKind::UnknownName, t)),
+    }
+}
+
+fn variable(alloc: Global, known: &Declared, t: Lexeme) -> Result<Operand, Failure>
+    ensures { Gives (λ x. x) result (operand_of known.now (Named (token t.entry))) }
+{
+    let name = capital_name(alloc, t.text)?;
+    if known.is_variable(&name) {
+        Ok(Operand::Variable(name))
+    } else {
+        Err(refused(DeclKind::UnknownName, t))
+    }
+}
+
+fn field_of(alloc: Global, known: &Declared, t: Lexeme, field: Lexeme) -> Result<Operand, Failure>
+    ensures { Gives (λ x. x) result (operand_of known.now (Field (token t.entry) (token field.entry))) }
+{
+    let name = capital_name(alloc, t.text)?;
+    if known.is_instance(&name) {
+        Ok(Operand::Field(name, capital_name(alloc, field.text)?))
+    } else {
+        Err(refused(DeclKind::UnknownName, t))
     }
 }
 
@@ -40,14 +62,8 @@ fn given_operand(
             Some(loc) => Ok(Operand::Direct(loc)),
             None => Err(refused(DeclKind::BadLocation, t)),
         },
-        il_reader::Operand::Named(t) => {
-            let name = capital_name(alloc, t.text)?;
-            if known.is_known(&name) {
-                Ok(Operand::Variable(name))
-            } else {
-                Err(refused(DeclKind::UnknownName, t))
-            }
-        }
+        il_reader::Operand::Named(t) => variable(alloc, known, t),
+        il_reader::Operand::Field(t, f) => field_of(alloc, known, t, f),
     }
 }
 
@@ -64,19 +80,84 @@ fn optional_operand(
     }
 }
 
-fn operand_behind(alloc: Global, known: &Declared, written: Behind) -> Result<Operand, Failure>
-    ensures { Gives (λ x. x) result (behind_of known.now (behind written.entry)) }
+fn called_instance(alloc: Global, known: &Declared, written: &Call) -> Result<Operand, Failure>
+    ensures { Gives (λ x. x) result (behind_of known.now (Called (call written.now))) }
 {
-    match written {
-        Behind::Nothing => Ok(Operand::Absent),
-        Behind::Given(x) => given_operand(alloc, known, x),
-        Behind::Target(t) => Ok(Operand::Label(capital_name(alloc, t.text)?)),
-        Behind::Opened(x) => optional_operand(alloc, known, x),
+    let instance = capital_name(alloc, written.instance.text)?;
+    if known.is_instance(&instance) {
+        Ok(Operand::Instance(instance))
+    } else {
+        Err(refused(DeclKind::UnknownName, written.instance))
     }
 }
 
-fn opens(written: Behind) -> bool
-    ensures { result ≡ opens (behind written.entry) }
+fn operand_behind(alloc: Global, known: &Declared, written: &Behind) -> Result<Operand, Failure>
+    ensures { Gives (λ x. x) result (behind_of known.now (behind written.now)) }
+{
+    match written {
+        Behind::Nothing => Ok(Operand::Absent),
+        Behind::Given(x) => given_operand(alloc, known, *x),
+        Behind::Target(t) => Ok(Operand::Label(capital_name(alloc, t.text)?)),
+        Behind::Opened(x) => optional_operand(alloc, known, *x),
+        Behind::Called(call) => called_instance(alloc, known, call),
+    }
+}
+
+#[tactic(auto, unfolding(crate::specs::Resolution::argument_of))]
+fn given_argument(
+    alloc: Global,
+    known: &Declared,
+    written: il_reader::Argument,
+) -> Result<Argument, Failure>
+    ensures { Gives (λ x. x) result (argument_of known.now (argument written.entry)) }
+{
+    let operand = given_operand(alloc, known, written.operand)?;
+    Ok(Argument {
+        field: capital_name(alloc, written.field.text)?,
+        side: written.side,
+        operand,
+    })
+}
+
+fn push_argument(
+    alloc: Global,
+    known: &Declared,
+    found: &mut Vec<Argument>,
+    written: il_reader::Argument,
+) -> Result<(), Failure>
+    ensures { Gives (λ u. found.new.items) result (pushed_argument known.now found.old.items (argument written.entry)) }
+{
+    let one = given_argument(alloc, known, written)?;
+    found.push(one)?;
+    Ok(())
+}
+
+fn given_arguments(
+    alloc: Global,
+    known: &Declared,
+    given: &[il_reader::Argument],
+) -> Result<Vec<Argument>, Failure>
+    ensures { Gives (λ v. v.items) result (each (pushed_argument known.now) [] (map argument given.now)) }
+{
+    let mut found = Vec::new(alloc);
+    for written in given {
+        push_argument(alloc, known, &mut found, *written)?;
+    }
+    Ok(found)
+}
+
+fn arguments_behind(alloc: Global, known: &Declared, written: &Behind) -> Result<Arguments, Failure>
+    ensures { Gives (λ v. v) result (behind_arguments known.now (behind written.now)) }
+{
+    let given = match written {
+        Behind::Called(call) => given_arguments(alloc, known, call.arguments())?,
+        _ => Vec::new(alloc),
+    };
+    Ok(Arguments::of(given))
+}
+
+fn opens(written: &Behind) -> bool
+    ensures { result ≡ opens (behind written.now) }
 {
     matches!(written, Behind::Opened(_))
 }
@@ -96,22 +177,35 @@ fn instruction(
     alloc: Global,
     known: &Declared,
     label: Option<Name>,
-    written: Option<Operation>,
+    written: &Operation,
 ) -> Result<Instr, Failure>
-    ensures { Gives (λ x. x) result (instruction_of known.now label (option_map operation written.entry)) }
+    ensures { Gives (λ x. x) result (instruction_of known.now label (Some (operation written.now))) }
+{
+    let operand = operand_behind(alloc, known, &written.behind)?;
+    let arguments = arguments_behind(alloc, known, &written.behind)?;
+    let mnemonic = written.operator.mnemonic;
+    Ok(Instr {
+        label,
+        op: mnemonic.op,
+        modifier: with_opening(opens(&written.behind), mnemonic.modifier),
+        operand,
+        arguments,
+    })
+}
+
+#[tactic(auto, unfolding(crate::specs::Resolution::instruction_of))]
+fn labelled(
+    alloc: Global,
+    known: &Declared,
+    label: Name,
+    written: Option<&Operation>,
+) -> Result<Instr, Failure>
+    ensures { Gives (λ x. x) result (instruction_of known.now (Some label) (option_map (λ o. operation o.now) written.entry)) }
 {
     match written {
-        Some(o) => {
-            let operand = operand_behind(alloc, known, o.behind)?;
-            Ok(Instr {
-                label,
-                op: o.operator.mnemonic.op,
-                modifier: with_opening(opens(o.behind), o.operator.mnemonic.modifier),
-                operand,
-            })
-        }
+        Some(o) => instruction(alloc, known, Some(label), o),
         None => Ok(Instr {
-            label,
+            label: Some(label),
             op: Op::Empty,
             modifier: Modifier {
                 negated: false,
@@ -119,6 +213,7 @@ fn instruction(
                 opens: false,
             },
             operand: Operand::Absent,
+            arguments: Arguments::of(Vec::new(alloc)),
         }),
     }
 }
@@ -153,13 +248,13 @@ fn push_labelled(
     known: &Declared,
     code: &mut Vec<Instr>,
     t: Lexeme,
-    written: Option<Operation>,
+    written: Option<&Operation>,
 ) -> Result<(), Failure>
-    ensures { Gives (λ u. code.new.items) result (instruct_labelled known.now code.old.items (token t.entry) (option_map operation written.entry)) }
+    ensures { Gives (λ u. code.new.items) result (instruct_labelled known.now code.old.items (token t.entry) (option_map (λ o. operation o.now) written.entry)) }
 {
     let label = lawful_label(alloc, t)?;
     has_room(code.as_slice(), t.left)?;
-    code.push(instruction(alloc, known, Some(label), written)?)?;
+    code.push(labelled(alloc, known, label, written)?)?;
     Ok(())
 }
 
@@ -168,12 +263,12 @@ fn push_plain(
     alloc: Global,
     known: &Declared,
     code: &mut Vec<Instr>,
-    written: Operation,
+    written: &Operation,
 ) -> Result<(), Failure>
-    ensures { Gives (λ u. code.new.items) result (instruct_plain known.now code.old.items (operation written.entry)) }
+    ensures { Gives (λ u. code.new.items) result (instruct_plain known.now code.old.items (operation written.now)) }
 {
     has_room(code.as_slice(), written.operator.left)?;
-    code.push(instruction(alloc, known, None, Some(written))?)?;
+    code.push(instruction(alloc, known, None, written)?)?;
     Ok(())
 }
 
@@ -181,12 +276,12 @@ fn push_line(
     alloc: Global,
     known: &Declared,
     code: &mut Vec<Instr>,
-    written: Line,
+    written: &Line,
 ) -> Result<(), Failure>
-    ensures { Gives (λ u. code.new.items) result (instruct known.now code.old.items (line written.entry)) }
+    ensures { Gives (λ u. code.new.items) result (instruct known.now code.old.items (line written.now)) }
 {
     match written {
-        Line::Labelled(t, o) => push_labelled(alloc, known, code, t, o),
+        Line::Labelled(t, o) => push_labelled(alloc, known, code, *t, o.as_ref()),
         Line::Plain(o) => push_plain(alloc, known, code, o),
     }
 }
@@ -197,7 +292,7 @@ pub fn instructions(alloc: Global, known: &Declared, lines: &[Line]) -> Result<V
 {
     let mut code = Vec::new(alloc);
     for written in lines {
-        push_line(alloc, known, &mut code, *written)?;
+        push_line(alloc, known, &mut code, written)?;
     }
     Ok(code)
 }

@@ -1,9 +1,9 @@
 //! From a text that was read to its program.
 
-ghost use Rattle.std.specs.Prelude.{◌≡◌, [], map, IfOk};
+ghost use Rattle.std.specs.Prelude.{map, IfOk};
 ghost use Rattle.il_model.specs.Declarable.{IsDeclared};
 ghost use Rattle.il_reader.specs.Grammar.{declarations};
-ghost use Rattle.declarations.specs.Resolution.{Gives, Answers, declare_block, program_at, resolution_of, each};
+ghost use Rattle.declarations.specs.Resolution.{Gives, Answers, nothing, declare_block, program_at, resolution_of, each};
 
 use crate::declared::Declared;
 use crate::fault::{DeclError, Failure, Fault};
@@ -14,7 +14,7 @@ use il_reader::{Declaration, Source};
 use std::alloc::Global;
 
 fn declared(alloc: Global, blocks: &[Vec<Declaration>]) -> Result<Declared, Failure>
-    ensures { Gives (λ d. d) result (each declare_block [] (map (λ ds. declarations ds.items) blocks.now)) }
+    ensures { Gives (λ d. d) result (each declare_block nothing (map (λ ds. declarations ds.items) blocks.now)) }
 {
     let mut known = Declared::new(alloc);
     for block in blocks {
@@ -31,18 +31,21 @@ fn program(alloc: Global, source: &Source) -> Result<Program, Failure>
     source.is_read();
     let known = declared(alloc, source.blocks())?;
     let code = instructions(alloc, &known, source.lines())?;
-    match Program::new(known.into_vec(), code) {
+    let (variables, instances) = known.into_parts();
+    match Program::new(variables, instances, code) {
         Some(program) => Ok(program),
         None => unreachable!(),
     }
 }
 
-/// The program of a text that was read: its variables in the order of their declarations, with their first values, and its
-/// instructions, one for a label alone too, all names in capital letters. Numbers without a type stay bare, labels of jumps are not looked up. Else the first fault in the text with its line and column; of two at one place the one with the least
-/// number. Or memory ran out.
+/// The program of a text that was read: its variables and its function block instances in the order of their declarations, the
+/// variables with their first values, and its instructions, one for a label alone too, all names in capital letters. Numbers
+/// without a type stay bare; labels of jumps and fields of instances are not looked up. Else the first fault in the text with
+/// its line and column; of two at one place the one with the least number. Or memory ran out.
 pub fn resolve(alloc: Global, source: Source<'_>) -> Result<Program, DeclError>
     // Each part of the program has a lawful form: names are lawful and distinct, so are locations; values are in their ranges; an
-    // operator has letters and an operand that it takes.
+    // operator has letters and an operand that it takes; an operand, of a call's arguments too, is a variable or an instance
+    // that is declared, a location or a value.
     ensures text { IfOk result (λ p. IsDeclared p) }
     // The program is what the text declares, and a fault is the first one.
     ensures exact { Answers (λ p. p) result (resolution_of source.entry) }

@@ -1,21 +1,36 @@
-//! Declarations of variables.
+//! Declarations of variables and function block instances.
 
-ghost use Rattle.std.specs.Prelude.{◌≡◌, IfOk, map};
+ghost use Rattle.std.specs.Prelude.{◌≡◌, IfOk, OnOk, map};
 ghost use Rattle.il_reader.specs.Tokens.{token};
 ghost use Rattle.il_reader.specs.Grammar.{declaration, declarations};
-ghost use Rattle.declarations.specs.Resolution.{Gives, capitals, type_of, is_full, suits, new_name, free_location, known_type, variable, plan_of, name_variable, declare_located, declare_listed, declare, declare_block, each};
+ghost use Rattle.declarations.specs.Resolution.{Gives, capitals, type_of, declared_type, is_full, suits, new_name, free_location, found_type, variable, plan_of, with_declared, declare_name, declare_located, declare_listed, declare, declare_block, each};
 
 use crate::declared::Declared;
 use crate::fault::{DeclKind, Failure, Refusal};
 use crate::initial::{first_value, planned_value};
 use crate::location::location;
+use il_model::kind::BlockKind;
 use il_model::name::{Name, is_reserved};
-use il_model::program::{Loc, Variable};
+use il_model::program::{Instance, Loc, Variable};
 use il_model::resolve::loc_type;
 use il_model::value::{Ty, Value};
 use il_model::words::{capital, is_spelled};
 use il_reader::{Declaration, Lexeme, Names};
 use std::alloc::{AllocError, Global};
+
+/// What a type word stands for.
+#[derive(Clone, Copy, Debug, PartialEq, Eq)]
+pub enum DeclaredType {
+    Elementary(Ty),
+    Block(BlockKind),
+}
+
+/// What the names of a list are: their type and their first value, where both are good.
+#[derive(Clone, Copy, Debug)]
+pub struct Plan {
+    pub ty: Option<DeclaredType>,
+    pub initial: Value,
+}
 
 /// The fault of a token.
 pub fn refused(kind: DeclKind, t: Lexeme) -> Failure
@@ -51,21 +66,38 @@ fn elementary(word: &[u8]) -> Option<Ty>
     }
 }
 
-fn has_no_room(ty: Option<Ty>, known: &Declared) -> bool
+/// The type that a word stands for, an elementary one or the kind of a function block; None where it is neither.
+fn declared_type(alloc: Global, word: &[u8]) -> Result<Option<DeclaredType>, AllocError>
+    ensures { IfOk result (λ ty. ty ≡ declared_type word.now) }
+{
+    if let Some(ty) = elementary(word) {
+        return Ok(Some(DeclaredType::Elementary(ty)));
+    }
+    let name = capital_name(alloc, word)?;
+    Ok(BlockKind::of_name(name.bytes()).map(DeclaredType::Block))
+}
+
+fn has_no_room(ty: Option<DeclaredType>, known: &Declared) -> bool
     ensures { result ≡ is_full ty known.now }
 {
     match ty {
-        Some(_) => known.len() >= 512,
+        Some(DeclaredType::Elementary(_)) => known.variable_count() >= 512,
+        Some(DeclaredType::Block(_)) => known.instance_count() >= 128,
         None => false,
     }
 }
 
 #[tactic(auto, unfolding(crate::specs::Resolution::new_name))]
-fn lawful_name(alloc: Global, ty: Option<Ty>, known: &Declared, t: Lexeme) -> Result<Name, Failure>
+fn lawful_name(
+    alloc: Global,
+    ty: Option<DeclaredType>,
+    known: &Declared,
+    t: Lexeme,
+) -> Result<Name, Failure>
     ensures { Gives (λ n. n) result (new_name ty known.now (token t.entry)) }
 {
     let name = capital_name(alloc, t.text)?;
-    if known.is_known(&name) {
+    if known.is_variable(&name) || known.is_instance(&name) {
         Err(refused(DeclKind::Duplicate, t))
     } else if is_reserved(name.bytes()) {
         Err(refused(DeclKind::ReservedName, t))
@@ -76,18 +108,18 @@ fn lawful_name(alloc: Global, ty: Option<Ty>, known: &Declared, t: Lexeme) -> Re
     }
 }
 
-fn location_suits(ty: Option<Ty>, loc: Loc) -> bool
+fn location_suits(ty: Option<DeclaredType>, loc: Loc) -> bool
     ensures { result ≡ suits ty loc }
 {
     match ty {
-        Some(Ty::Bool) => matches!(loc_type(loc), Some(Ty::Bool)),
-        Some(Ty::Int) => matches!(loc_type(loc), Some(Ty::Int)),
+        Some(DeclaredType::Elementary(Ty::Bool)) => matches!(loc_type(loc), Some(Ty::Bool)),
+        Some(DeclaredType::Elementary(Ty::Int)) => matches!(loc_type(loc), Some(Ty::Int)),
         Some(_) => false,
         None => true,
     }
 }
 
-fn unoccupied(ty: Option<Ty>, known: &Declared, t: Lexeme) -> Result<Loc, Failure>
+fn unoccupied(ty: Option<DeclaredType>, known: &Declared, t: Lexeme) -> Result<Loc, Failure>
     ensures { Gives (λ loc. loc) result (free_location ty known.now (token t.entry)) }
 {
     match location(t.text) {
@@ -104,27 +136,20 @@ fn unoccupied(ty: Option<Ty>, known: &Declared, t: Lexeme) -> Result<Loc, Failur
     }
 }
 
-/// What the variables of a list are: their type and their first value, where both are good.
-#[derive(Clone, Copy, Debug)]
-pub struct Plan {
-    pub ty: Option<Ty>,
-    pub initial: Value,
-}
-
-fn planned(d: &Declaration) -> Plan
+fn planned(ty: Option<DeclaredType>, d: &Declaration) -> Plan
+    requires { ty ≡ declared_type (declaration d.now).ty.text }
     ensures { result ≡ plan_of (declaration d.now) }
 {
-    let ty = elementary(d.ty.text);
     Plan {
         ty,
         initial: planned_value(ty, d.initial),
     }
 }
 
-fn named_type(t: Lexeme) -> Result<Ty, Failure>
-    ensures { Gives (λ ty. ty) result (known_type (token t.entry)) }
+fn known_type(ty: Option<DeclaredType>, t: Lexeme) -> Result<DeclaredType, Failure>
+    ensures { Gives (λ x. x) result (found_type (token t.entry) ty) }
 {
-    elementary(t.text).ok_or(refused(DeclKind::UnknownType, t))
+    ty.ok_or(refused(DeclKind::UnknownType, t))
 }
 
 fn fresh(name: Name, ty: Ty, location: Option<Loc>, initial: Value) -> Variable
@@ -138,15 +163,30 @@ fn fresh(name: Name, ty: Ty, location: Option<Loc>, initial: Value) -> Variable
     }
 }
 
-#[tactic(auto, unfolding(crate::specs::Resolution::name_variable))]
+fn push_declared(
+    alloc: Global,
+    plan: Plan,
+    known: &mut Declared,
+    name: Name,
+    location: Option<Loc>,
+) -> Result<(), AllocError>
+    ensures { OnOk result (known.new ≡ with_declared plan known.old name location plan.ty) }
+{
+    match plan.ty {
+        Some(DeclaredType::Elementary(ty)) => {
+            known.push_variable(alloc, fresh(name, ty, location, plan.initial))
+        }
+        Some(DeclaredType::Block(kind)) => known.push_instance(alloc, Instance { name, kind }),
+        None => known.push_variable(alloc, fresh(name, Ty::Bool, location, plan.initial)),
+    }
+}
+
+#[tactic(auto, unfolding(crate::specs::Resolution::declare_name))]
 fn push_name(alloc: Global, plan: Plan, known: &mut Declared, t: Lexeme) -> Result<(), Failure>
-    ensures { Gives (λ u. known.new) result (name_variable plan known.old (token t.entry)) }
+    ensures { Gives (λ u. known.new) result (declare_name plan known.old (token t.entry)) }
 {
     let name = lawful_name(alloc, plan.ty, known, t)?;
-    known.push(
-        alloc,
-        fresh(name, plan.ty.unwrap_or(Ty::Bool), None, plan.initial),
-    )?;
+    push_declared(alloc, plan, known, name, None)?;
     Ok(())
 }
 
@@ -156,7 +196,7 @@ fn push_names(
     known: &mut Declared,
     names: &[Lexeme],
 ) -> Result<(), Failure>
-    ensures { Gives (λ u. known.new) result (each (name_variable plan) known.old (map token names.now)) }
+    ensures { Gives (λ u. known.new) result (each (declare_name plan) known.old (map token names.now)) }
 {
     for name in names {
         push_name(alloc, plan, known, *name)?;
@@ -173,11 +213,16 @@ fn declare_at(
 ) -> Result<(), Failure>
     ensures { Gives (λ u. known.new) result (declare_located known.old (declaration d.now) (token at.entry)) }
 {
-    let name = lawful_name(alloc, elementary(d.ty.text), known, d.name)?;
-    let loc = unoccupied(elementary(d.ty.text), known, at)?;
-    let ty = named_type(d.ty)?;
+    let written = declared_type(alloc, d.ty.text)?;
+    let name = lawful_name(alloc, written, known, d.name)?;
+    let loc = unoccupied(written, known, at)?;
+    let ty = known_type(written, d.ty)?;
     let initial = first_value(ty, Some(loc), d.initial)?;
-    known.push(alloc, fresh(name, ty, Some(loc), initial))?;
+    let plan = Plan {
+        ty: Some(ty),
+        initial,
+    };
+    push_declared(alloc, plan, known, name, Some(loc))?;
     Ok(())
 }
 
@@ -190,10 +235,11 @@ fn declare_names(
 ) -> Result<(), Failure>
     ensures { Gives (λ u. known.new) result (declare_listed known.old (declaration d.now) (map token more.now)) }
 {
-    let plan = planned(d);
+    let written = declared_type(alloc, d.ty.text)?;
+    let plan = planned(written, d);
     push_name(alloc, plan, known, d.name)?;
     push_names(alloc, plan, known, more)?;
-    let ty = named_type(d.ty)?;
+    let ty = known_type(written, d.ty)?;
     first_value(ty, None, d.initial)?;
     Ok(())
 }
@@ -207,7 +253,7 @@ fn declare_one(alloc: Global, known: &mut Declared, d: &Declaration) -> Result<(
     }
 }
 
-/// The variables of a block, behind those before it.
+/// The variables and instances of a block, behind those before it.
 pub fn declare_each(
     alloc: Global,
     known: &mut Declared,

@@ -5,3 +5,4 @@ pub mod Edges
 pub mod Counters
 pub mod Timers
 pub mod Outputs
+pub mod KindLaws

@@ -1,8 +1,6 @@
 -- A block of any kind: called with the list of its inputs' values, and its fields by their numbers.
 use Rattle.std.specs.Prelude.{ℕ, ◌-◌, Bool, false, nat_lt, List, [], ◌∷◌, Option, Some, None, ℤ, pos, slice_get, if◌then◌else◌}
 use Rattle.il_model.specs.Kinds.{kind_fields, input_count}
-use Rattle.il_model.specs.declared.value.Ty.{Ty}
-use Rattle.il_model.specs.declared.value.Ty.TheVariants as types
 use Rattle.il_model.specs.declared.value.Value.{Value}
 use Rattle.il_model.specs.declared.value.Value.TheVariants as values
 use Rattle.il_model.specs.declared.kind.Field.{Field}
@@ -125,12 +123,6 @@ outputs_of (blocks.Ctud s) = ctud_values (ctud_outs s)
 outputs_of (blocks.Tp s) = timer_values (timer_outs s)
 outputs_of (blocks.Ton s) = timer_values (timer_outs s)
 outputs_of (blocks.Tof s) = timer_values (timer_outs s)
-
-abbrev pub value_type : Value → Ty
-value_type (values.Bool b) = types.Bool
-value_type (values.Int z) = types.Int
-value_type (values.Dint z) = types.Dint
-value_type (values.Time z) = types.Time
 
 -- the output with that number among all fields; None at an input
 abbrev pub output_field : BlockKind → ℕ → Option Field

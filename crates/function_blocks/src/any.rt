@@ -2,7 +2,8 @@
 
 ghost use Rattle.std.specs.Prelude.{◌≡◌, true, ℕ, List, Option, Some, IfSome, slice_get, option_map};
 ghost use Rattle.il_model.specs.Kinds.{field_type};
-ghost use Rattle.function_blocks.specs.Blocks.{truth_of, int_of, time_of, sr_inputs, rs_inputs, edge_inputs, ctu_inputs, ctd_inputs, ctud_inputs, timer_inputs, bistable_values, edge_values, counter_values, ctud_values, timer_values, kind_of, cold_block, block_after, outputs_of, value_type, output_field, output_value, is_block, block_words};
+ghost use Rattle.il_model.specs.Values.{ty_of};
+ghost use Rattle.function_blocks.specs.Blocks.{truth_of, int_of, time_of, sr_inputs, rs_inputs, edge_inputs, ctu_inputs, ctd_inputs, ctud_inputs, timer_inputs, bistable_values, edge_values, counter_values, ctud_values, timer_values, kind_of, cold_block, block_after, outputs_of, output_field, output_value, is_block, block_words};
 
 use crate::bistable::{BistableOut, Rs, RsIn, Sr, SrIn};
 use crate::block::FunctionBlock;
@@ -262,7 +263,7 @@ impl Block {
     /// where the kind has fewer fields.
     pub fn output(&self, number: u8) -> Option<Value>
         ensures value { result ≡ output_value self.now number }
-        ensures typed { option_map value_type result ≡ option_map field_type (output_field (kind_of self.now) number) }
+        ensures typed { option_map ty_of result ≡ option_map field_type (output_field (kind_of self.now) number) }
     {
         let inputs = self.kind().input_count();
         if number < inputs {

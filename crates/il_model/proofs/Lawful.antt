@@ -1,10 +1,10 @@
 -- A typed program whose parts are lawful each for itself has an image.
-use Rattle.std.proofs.Common.{inl, inr, ◌⊎◌, ◌≡◌, ℕ, zero, suc, ◌+◌, ◌-◌, ◌^◌, ◌<◌, ◌≤◌, Bool, true, false, cond, ltb, eqb, List, [], ◌∷◌, ◌++◌, length, get_or, Option, Some, None, Ok, Err, refl, sym, ap, subst, ◌∙◌, append_assoc, arith}
-use Rattle.std.specs.Prelude.{ℤ, pos, negsuc, slice_get, is_some, not, nat_eq, ◌&&◌, ◌||◌}
-use Rattle.std.specs.List.{position}
+use Rattle.std.proofs.Common.{inl, inr, ◌⊎◌, ◌≡◌, ℕ, suc, ◌+◌, ◌-◌, ◌^◌, ◌<◌, ◌≤◌, Bool, true, false, cond, ltb, eqb, List, [], ◌∷◌, ◌++◌, length, get_or, Option, Some, None, Ok, Err, refl, sym, ap, subst, ◌∙◌, append_assoc, arith}
+use Rattle.std.specs.Prelude.{ℤ, pos, negsuc, map, slice_get, is_some, not, nat_eq, ◌&&◌, ◌||◌}
+use Rattle.std.specs.List.{position, AllByRecursion}
 use Rattle.std.specs.Option.{option_map, option_and_then}
 use Rattle.std.specs.Int.{w32, cast_signed, cast_unsigned}
-use Rattle.std.proofs.lemmas.Bool.{eqb-true, ltb-true, ltb-false, lt-ltb, le-ltb, eq-eqb, ne_eqb}
+use Rattle.std.proofs.lemmas.Bool.{eqb-true, ltb-true, ltb-false, lt-ltb, le-ltb, eq-eqb, ne_eqb, or_left, or_right}
 use Rattle.std.proofs.lemmas.Int.{ints, to_z-of_z}
 use Rattle.std.proofs.lemmas.List.{length-append, append-nil}
 use Rattle.std.proofs.lemmas.Option.{slice_get-get_or}
@@ -17,11 +17,15 @@ use Rattle.il_model.specs.declared.value.Value.TheVariants as values
 use Rattle.il_model.specs.declared.op.Op.{Op}
 use Rattle.il_model.specs.declared.op.Op.TheVariants as ops
 use Rattle.il_model.specs.declared.op.Modifier.{Modifier}
+use Rattle.il_model.specs.declared.kind.BlockKind.{BlockKind}
+use Rattle.il_model.specs.declared.kind.Field.{Field}
 use Rattle.il_model.specs.declared.program.Area.{Area}
 use Rattle.il_model.specs.declared.program.Area.TheVariants as areas
 use Rattle.il_model.specs.declared.program.Loc.{Loc}
 use Rattle.il_model.specs.declared.program.Loc.TheVariants.{Bit, Word}
 use Rattle.il_model.specs.declared.program.Variable.{Variable}
+use Rattle.il_model.specs.declared.program.Instance.{Instance}
+use Rattle.il_model.specs.declared.program.Argument.{Argument}
 use Rattle.il_model.specs.declared.program.Operand.{Operand}
 use Rattle.il_model.specs.declared.program.Operand.TheVariants as operands
 use Rattle.il_model.specs.declared.program.Instr.{Instr}
@@ -29,25 +33,28 @@ use Rattle.il_model.specs.declared.fetched.Source.{Source}
 use Rattle.il_model.specs.declared.fetched.Source.TheVariants as sources
 use Rattle.il_model.specs.declared.codes.LetterSet.{LetterSet}
 use Rattle.il_model.specs.declared.codes.LetterSet.TheVariants as letters
-use Rattle.il_model.specs.declared.codes.Usage.{Usage}
-use Rattle.il_model.specs.Values.{ty_of, number_of, made, truth_made, is_within}
+use Rattle.il_model.specs.declared.codes.Form.{Form}
+use Rattle.il_model.specs.declared.codes.Form.TheVariants as forms
+use Rattle.il_model.specs.declared.typing.TypeFault.TheVariants.{Unbalanced, DuplicateLabel}
+use Rattle.il_model.specs.Values.{ty_of, number_of, made, is_within}
 use Rattle.il_model.specs.Operators.{same_truth, same_number}
 use Rattle.il_model.specs.Names.{same_name, is_lawful_name}
-use Rattle.il_model.specs.Text.{Text}
-use Rattle.il_model.specs.Resolved.{has_label, target_of, source_of}
-use Rattle.il_model.specs.Typing.{shape_at, closed, top_of, label_at, label_row, IsTyped}
-use Rattle.il_model.specs.declared.typing.TypeFault.TheVariants.{Unbalanced, DuplicateLabel}
-use Rattle.il_model.specs.Marks.{Mark, with_mark, marks_from}
-use Rattle.il_model.specs.Constants.{same_value, literal_of, joined_constants, constants_from, constants_of}
-use Rattle.il_model.specs.Image.{type_code, loc_code, op_code, flag, modifier_code, plain_code, numbered_code, constant_code, target_code, operand_code}
-use Rattle.il_model.specs.Codes.{tested, type_of, area_loc, any_loc, is_known, usage_of, allows, allowed_by, formed_by, op_list, op_of, modifier_of, letters_of, raw_operand, operand_of, value_operand, label_there, is_jump, numbered_operand}
-use Rattle.il_model.specs.Fits.{IsVariable, IsMark, IsConstant, IsWord, AreItems, IsImage}
-use Rattle.il_model.specs.Lawful.{IsOperand, IsLabel, IsLawful, AreLawful}
-use Rattle.il_model.proofs.NeverStuck.{bind_ok, ok_before, typed_line, sourced}
+use Rattle.il_model.specs.Kinds.{field_name}
+use Rattle.il_model.specs.Text.{Text, Declarations, declared_by}
+use Rattle.il_model.specs.Resolved.{has_label, target_of, instance_in, field_of, source_of, called_kind}
+use Rattle.il_model.specs.Typing.{shape_at, closed, label_at, label_row, arguments_fault, IsTyped}
+use Rattle.il_model.specs.Marks.{Mark, with_mark, word_count, words_in, address_of, marks_from}
+use Rattle.il_model.specs.Constants.{same_value, literal_of, joined_constants, constants_from, operands_in, operands_of, constants_of}
+use Rattle.il_model.specs.Image.{type_code, loc_code, op_code, flag, modifier_code, plain_code, numbered_code, instance_code, constant_code, target_code, operand_code}
+use Rattle.il_model.specs.Codes.{tested, type_of, area_loc, any_loc, is_known, usage_of, allows, has_form, allowed_by, formed_by, op_list, modifier_of, letters_of, raw_operand, operand_of, value_operand, label_there, is_jump, is_call, numbered_operand}
+use Rattle.il_model.specs.Fits.{IsVariable, IsInstance, IsMark, IsConstant, IsPassing, IsWord, AreItems, IsImage}
+use Rattle.il_model.specs.Lawful.{IsOperand, IsLabel, IsPassed, IsLawful, AreLawful}
+use Rattle.il_model.proofs.TypedLines.{bind_ok, ok_before, typed_line, IsArgumentOf, arguments_typed, no_arguments}
 use Rattle.il_model.proofs.Positions.{position_front, found_in_front, found_last, position_later, position_first}
-use Rattle.il_model.proofs.Marks.{table_labels, label_in}
+use Rattle.il_model.proofs.Marks.{words_in-append, address_small, table_labels, label_in}
 use Rattle.il_model.proofs.Constants.{same_self, constants_grow}
-use Rattle.il_model.proofs.Declared.{operand_again}
+use Rattle.il_model.proofs.Declared.{map_some, operand_again, instance_again, field_so, field_again}
+use Rattle.il_model.proofs.Calls.{IsTypedLine, typed_lines, words_few, literal_count, literals_few}
 
 again : {A : Type 0} (test : A → Bool) (o : Option A) (x : A) → o ≡ Some x → test x ≡ true → option_and_then (tested test) o ≡ Some x
 again test o x e h = rw (e, h) refl
@@ -110,13 +117,6 @@ op_below ops.Close = omega arith
 op_below ops.IntToDint = omega arith
 op_below ops.DintToInt = omega arith
 
-used_by : (u : Option Usage) (m : Modifier) → allowed_by u m ≡ true → is_some u ≡ true
-used_by None m e = absurd cc
-used_by (Some u) m e = refl
-
-op_again : (op : Op) (m : Modifier) → allowed_by (usage_of op) m ≡ true → op_of (op_code op) ≡ Some op
-op_again op m e = again (λ op. is_some (usage_of op)) (slice_get op_list (op_code op)) op (listed op) (used_by (usage_of op) m e)
-
 not_both : (l : LetterSet) (n c o : Bool) → (let m : Modifier = record { negated = n; conditional = c; opens = o } in allows l m ≡ true) → (c && o) ≡ false
 not_both letters.None true true true e = absurd cc
 not_both letters.None false true true e = absurd cc
@@ -159,40 +159,164 @@ letters_below false true false = omega arith
 letters_below false false true = omega arith
 letters_below false false false = omega arith
 
-allowed_not : (u : Option Usage) (m : Modifier) → allowed_by u m ≡ true → (m.conditional && m.opens) ≡ false
-allowed_not None m e = absurd cc
-allowed_not (Some u) m e = not_both u.letters m.negated m.conditional m.opens e
-
 letters_again : (op : Op) (m : Modifier) → allowed_by (usage_of op) m ≡ true → letters_of op (modifier_code m) ≡ Some m
-letters_again op m e = again (allowed_by (usage_of op)) (modifier_of (modifier_code m)) m (letters_by m.negated m.conditional m.opens (allowed_not (usage_of op) m e)) e
+letters_again op m e = again (allowed_by (usage_of op)) (modifier_of (modifier_code m)) m (letters_by m.negated m.conditional m.opens (not_both (usage_of op).letters m.negated m.conditional m.opens e)) e
 
-only_jump : (op : Op) (m : Modifier) (name : List ℕ) → formed_by (usage_of op) m (operands.Label name) ≡ true → is_jump op ≡ true
-only_jump ops.Empty m name e = absurd cc
-only_jump ops.Ld m name e = absurd cc
-only_jump ops.St m name e = absurd cc
-only_jump ops.S m name e = absurd cc
-only_jump ops.R m name e = absurd cc
-only_jump ops.And m name e = absurd cc
-only_jump ops.Or m name e = absurd cc
-only_jump ops.Xor m name e = absurd cc
-only_jump ops.Not m name e = absurd cc
-only_jump ops.Add m name e = absurd cc
-only_jump ops.Sub m name e = absurd cc
-only_jump ops.Mul m name e = absurd cc
-only_jump ops.Div m name e = absurd cc
-only_jump ops.Mod m name e = absurd cc
-only_jump ops.Gt m name e = absurd cc
-only_jump ops.Ge m name e = absurd cc
-only_jump ops.Eq m name e = absurd cc
-only_jump ops.Ne m name e = absurd cc
-only_jump ops.Le m name e = absurd cc
-only_jump ops.Lt m name e = absurd cc
-only_jump ops.Jmp m name e = refl
-only_jump ops.Cal m name e = absurd cc
-only_jump ops.Ret m name e = absurd cc
-only_jump ops.Close m name e = absurd cc
-only_jump ops.IntToDint m name e = absurd cc
-only_jump ops.DintToInt m name e = absurd cc
+-- ---- forms of operands
+
+abbrev is_label_form : Form → Bool
+is_label_form forms.Label = true
+is_label_form form = false
+
+abbrev is_instance_form : Form → Bool
+is_instance_form forms.Instance = true
+is_instance_form form = false
+
+-- JMP alone takes a label
+jump_row : (op : Op) → is_jump op ≡ is_label_form (usage_of op).form
+jump_row ops.Empty = refl
+jump_row ops.Ld = refl
+jump_row ops.St = refl
+jump_row ops.S = refl
+jump_row ops.R = refl
+jump_row ops.And = refl
+jump_row ops.Or = refl
+jump_row ops.Xor = refl
+jump_row ops.Not = refl
+jump_row ops.Add = refl
+jump_row ops.Sub = refl
+jump_row ops.Mul = refl
+jump_row ops.Div = refl
+jump_row ops.Mod = refl
+jump_row ops.Gt = refl
+jump_row ops.Ge = refl
+jump_row ops.Eq = refl
+jump_row ops.Ne = refl
+jump_row ops.Le = refl
+jump_row ops.Lt = refl
+jump_row ops.Jmp = refl
+jump_row ops.Cal = refl
+jump_row ops.Ret = refl
+jump_row ops.Close = refl
+jump_row ops.IntToDint = refl
+jump_row ops.DintToInt = refl
+
+-- CAL alone takes an instance
+call_row : (op : Op) → is_call op ≡ is_instance_form (usage_of op).form
+call_row ops.Empty = refl
+call_row ops.Ld = refl
+call_row ops.St = refl
+call_row ops.S = refl
+call_row ops.R = refl
+call_row ops.And = refl
+call_row ops.Or = refl
+call_row ops.Xor = refl
+call_row ops.Not = refl
+call_row ops.Add = refl
+call_row ops.Sub = refl
+call_row ops.Mul = refl
+call_row ops.Div = refl
+call_row ops.Mod = refl
+call_row ops.Gt = refl
+call_row ops.Ge = refl
+call_row ops.Eq = refl
+call_row ops.Ne = refl
+call_row ops.Le = refl
+call_row ops.Lt = refl
+call_row ops.Jmp = refl
+call_row ops.Cal = refl
+call_row ops.Ret = refl
+call_row ops.Close = refl
+call_row ops.IntToDint = refl
+call_row ops.DintToInt = refl
+
+abbrev is_label : Operand → Bool
+is_label (operands.Label name) = true
+is_label o = false
+
+abbrev is_instance : Operand → Bool
+is_instance (operands.Instance name) = true
+is_instance o = false
+
+label_form : (form : Form) (opens : Bool) (o : Operand) → has_form form opens o ≡ true → is_label_form form ≡ is_label o
+label_form forms.Absent opens operands.Absent e = refl
+label_form forms.Absent opens (operands.Literal v) e = absurd cc
+label_form forms.Absent opens (operands.Bare z) e = absurd cc
+label_form forms.Absent opens (operands.Variable name) e = absurd cc
+label_form forms.Absent opens (operands.Direct loc) e = absurd cc
+label_form forms.Absent opens (operands.Label name) e = absurd cc
+label_form forms.Absent opens (operands.Field name field) e = absurd cc
+label_form forms.Absent opens (operands.Instance name) e = absurd cc
+label_form forms.Value opens operands.Absent e = refl
+label_form forms.Value opens (operands.Literal v) e = refl
+label_form forms.Value opens (operands.Bare z) e = absurd cc
+label_form forms.Value opens (operands.Variable name) e = refl
+label_form forms.Value opens (operands.Direct loc) e = refl
+label_form forms.Value opens (operands.Label name) e = absurd cc
+label_form forms.Value opens (operands.Field name field) e = refl
+label_form forms.Value opens (operands.Instance name) e = absurd cc
+label_form forms.Label opens operands.Absent e = absurd cc
+label_form forms.Label opens (operands.Literal v) e = absurd cc
+label_form forms.Label opens (operands.Bare z) e = absurd cc
+label_form forms.Label opens (operands.Variable name) e = absurd cc
+label_form forms.Label opens (operands.Direct loc) e = absurd cc
+label_form forms.Label opens (operands.Label name) e = refl
+label_form forms.Label opens (operands.Field name field) e = absurd cc
+label_form forms.Label opens (operands.Instance name) e = absurd cc
+label_form forms.Instance opens operands.Absent e = absurd cc
+label_form forms.Instance opens (operands.Literal v) e = absurd cc
+label_form forms.Instance opens (operands.Bare z) e = absurd cc
+label_form forms.Instance opens (operands.Variable name) e = absurd cc
+label_form forms.Instance opens (operands.Direct loc) e = absurd cc
+label_form forms.Instance opens (operands.Label name) e = absurd cc
+label_form forms.Instance opens (operands.Field name field) e = absurd cc
+label_form forms.Instance opens (operands.Instance name) e = refl
+
+instance_form : (form : Form) (opens : Bool) (o : Operand) → has_form form opens o ≡ true → is_instance_form form ≡ is_instance o
+instance_form forms.Absent opens operands.Absent e = refl
+instance_form forms.Absent opens (operands.Literal v) e = absurd cc
+instance_form forms.Absent opens (operands.Bare z) e = absurd cc
+instance_form forms.Absent opens (operands.Variable name) e = absurd cc
+instance_form forms.Absent opens (operands.Direct loc) e = absurd cc
+instance_form forms.Absent opens (operands.Label name) e = absurd cc
+instance_form forms.Absent opens (operands.Field name field) e = absurd cc
+instance_form forms.Absent opens (operands.Instance name) e = absurd cc
+instance_form forms.Value opens operands.Absent e = refl
+instance_form forms.Value opens (operands.Literal v) e = refl
+instance_form forms.Value opens (operands.Bare z) e = absurd cc
+instance_form forms.Value opens (operands.Variable name) e = refl
+instance_form forms.Value opens (operands.Direct loc) e = refl
+instance_form forms.Value opens (operands.Label name) e = absurd cc
+instance_form forms.Value opens (operands.Field name field) e = refl
+instance_form forms.Value opens (operands.Instance name) e = absurd cc
+instance_form forms.Label opens operands.Absent e = absurd cc
+instance_form forms.Label opens (operands.Literal v) e = absurd cc
+instance_form forms.Label opens (operands.Bare z) e = absurd cc
+instance_form forms.Label opens (operands.Variable name) e = absurd cc
+instance_form forms.Label opens (operands.Direct loc) e = absurd cc
+instance_form forms.Label opens (operands.Label name) e = refl
+instance_form forms.Label opens (operands.Field name field) e = absurd cc
+instance_form forms.Label opens (operands.Instance name) e = absurd cc
+instance_form forms.Instance opens operands.Absent e = absurd cc
+instance_form forms.Instance opens (operands.Literal v) e = absurd cc
+instance_form forms.Instance opens (operands.Bare z) e = absurd cc
+instance_form forms.Instance opens (operands.Variable name) e = absurd cc
+instance_form forms.Instance opens (operands.Direct loc) e = absurd cc
+instance_form forms.Instance opens (operands.Label name) e = absurd cc
+instance_form forms.Instance opens (operands.Field name field) e = absurd cc
+instance_form forms.Instance opens (operands.Instance name) e = refl
+
+jumps : (op : Op) (m : Modifier) (o : Operand) → formed_by (usage_of op) m o ≡ true → is_jump op ≡ is_label o
+jumps op m o e = jump_row op ∙ label_form (usage_of op).form m.opens o e
+
+calls : (op : Op) (m : Modifier) (o : Operand) → formed_by (usage_of op) m o ≡ true → is_call op ≡ is_instance o
+calls op m o e = call_row op ∙ instance_form (usage_of op).form m.opens o e
+
+bare_form : (form : Form) (opens : Bool) (z : ℤ) → has_form form opens (operands.Bare z) ≡ true → ⊥
+bare_form forms.Absent opens z e = cc
+bare_form forms.Value opens z e = cc
+bare_form forms.Label opens z e = cc
+bare_form forms.Instance opens z e = cc
 
 -- ---- values
 
@@ -282,49 +406,69 @@ joined_by : (b : Bool) (seen : List Value) (v : Value) → is_known seen v ≡ b
 joined_by true seen v known e are = are
 joined_by false seen v known e are = items_snoc IsConstant [] seen v are (constant_fits seen v e known)
 
-joined_fit : (vs : List Variable) (seen : List Value) (o : Operand) → IsOperand vs o → AreItems IsConstant [] seen → AreItems IsConstant [] (joined_constants same_value seen (literal_of o))
-joined_fit vs seen operands.Absent is are = are
-joined_fit vs seen (operands.Literal v) is are = joined_by (is_known seen v) seen v refl is are
-joined_fit vs seen (operands.Bare z) is are = are
-joined_fit vs seen (operands.Variable name) is are = are
-joined_fit vs seen (operands.Direct loc) is are = are
-joined_fit vs seen (operands.Label name) is are = are
+joined_fit : (ds : Declarations) (seen : List Value) (o : Operand) → IsOperand ds o → AreItems IsConstant [] seen → AreItems IsConstant [] (joined_constants same_value seen (literal_of o))
+joined_fit ds seen operands.Absent is are = are
+joined_fit ds seen (operands.Literal v) is are = joined_by (is_known seen v) seen v refl is are
+joined_fit ds seen (operands.Bare z) is are = are
+joined_fit ds seen (operands.Variable name) is are = are
+joined_fit ds seen (operands.Direct loc) is are = are
+joined_fit ds seen (operands.Label name) is are = are
+joined_fit ds seen (operands.Field name field) is are = are
+joined_fit ds seen (operands.Instance name) is are = are
 
-constants_fit : (vs : List Variable) (code : List Instr) (seen : List Value) → AreLawful vs code → AreItems IsConstant [] seen → AreItems IsConstant [] (constants_from same_value seen code)
-constants_fit vs [] seen lawful are = are
-constants_fit vs (line ∷ code) seen lawful are = constants_fit vs code (joined_constants same_value seen (literal_of line.operand)) lawful.1 (joined_fit vs seen line.operand lawful.0.operand are)
+constants_fit : (ds : Declarations) (os : List Operand) (seen : List Value) → AllByRecursion (IsOperand ds) os → AreItems IsConstant [] seen → AreItems IsConstant [] (constants_from same_value seen os)
+constants_fit ds [] seen fit are = are
+constants_fit ds (o ∷ os) seen fit are = constants_fit ds os (joined_constants same_value seen (literal_of o)) fit.1 (joined_fit ds seen o fit.0 are)
 
-few_by : (b : Bool) (seen : List Value) (v : Value) → length (cond b seen (seen ++ v ∷ [])) ≤ suc (length seen)
+all_append : (P : Operand → Type 0) (xs ys : List Operand) → AllByRecursion P xs → AllByRecursion P ys → AllByRecursion P (xs ++ ys)
+all_append P [] ys are more = more
+all_append P (x ∷ xs) ys are more = (are.0, all_append P xs ys are.1 more)
+
+all_front : (P : Operand → Type 0) (xs ys : List Operand) → AllByRecursion P (xs ++ ys) → AllByRecursion P xs × AllByRecursion P ys
+all_front P [] ys are = (tt, are)
+all_front P (x ∷ xs) ys are = let more = all_front P xs ys are.1 in ((are.0, more.0), more.1)
+
+passed_fit : (ds : Declarations) (args : List Argument) → AllByRecursion (IsPassed ds) args → AllByRecursion (IsOperand ds) (map (λ (a : Argument). a.operand) args)
+passed_fit ds [] are = tt
+passed_fit ds (a ∷ args) are = (are.0.operand, passed_fit ds args are.1)
+
+operands_fit : (ds : Declarations) (code : List Instr) → AreLawful ds code → AllByRecursion (IsOperand ds) (operands_of code)
+operands_fit ds [] lawful = tt
+operands_fit ds (line ∷ code) lawful = all_append (IsOperand ds) (operands_in line) (operands_of code) (lawful.0.operand, passed_fit ds line.arguments lawful.0.arguments) (operands_fit ds code lawful.1)
+
+few_by : (b : Bool) (seen : List Value) (v : Value) → length (cond b seen (seen ++ v ∷ [])) ≤ length seen + 1
 few_by true seen v = omega arith
 few_by false seen v = omega (arith, length-append seen (v ∷ []))
 
-joined_few : (seen : List Value) (o : Option Value) → length (joined_constants same_value seen o) ≤ suc (length seen)
+joined_few : (seen : List Value) (o : Option Value) → length (joined_constants same_value seen o) ≤ length seen + cond (is_some o) 1 0
 joined_few seen None = omega arith
 joined_few seen (Some v) = few_by (is_known seen v) seen v
 
--- there are no more constants than instructions
-pub constants_few : (code : List Instr) (seen : List Value) → length (constants_from same_value seen code) ≤ length seen + length code
+-- there are no more constants than literals
+pub constants_few : (os : List Operand) (seen : List Value) → length (constants_from same_value seen os) ≤ length seen + literal_count os
 constants_few [] seen = omega arith
-constants_few (line ∷ code) seen =
-    let next = joined_constants same_value seen (literal_of line.operand) in
-    let one : length next ≤ suc (length seen) = joined_few seen (literal_of line.operand) in
-    let more : length (constants_from same_value next code) ≤ length next + length code = constants_few code next in
+constants_few (o ∷ os) seen =
+    let one = joined_few seen (literal_of o) in
+    let more = constants_few os (joined_constants same_value seen (literal_of o)) in
     omega arith
 
 known_by : (b : Bool) (seen : List Value) (v : Value) → is_known seen v ≡ b → is_known (cond b seen (seen ++ v ∷ [])) v ≡ true
 known_by true seen v e = e
 known_by false seen v e = found_last (same_value v) seen v (same_self v)
 
-kept_known : (code : List Instr) (seen : List Value) (v : Value) → is_known seen v ≡ true → is_known (constants_from same_value seen code) v ≡ true
-kept_known code seen v e = let m = constants_grow code seen in ap (λ (all : List Value). is_known all v) m.is ∙ found_in_front (same_value v) seen m.more e
+kept_known : (os : List Operand) (seen : List Value) (v : Value) → is_known seen v ≡ true → is_known (constants_from same_value seen os) v ≡ true
+kept_known os seen v e = let m = constants_grow os seen in ap (λ (all : List Value). is_known all v) m.is ∙ found_in_front (same_value v) seen m.more e
 
-literal_known : (code : List Instr) (seen : List Value) (n : ℕ) (line : Instr) (v : Value) → slice_get code n ≡ Some line → literal_of line.operand ≡ Some v → is_known (constants_from same_value seen code) v ≡ true
-literal_known [] seen n line v here e = absurd cc
-literal_known (l ∷ code) seen zero line v here e =
-    let is : l ≡ line = cc in
-    let has : literal_of l.operand ≡ Some v = ap (λ (i : Instr). literal_of i.operand) is ∙ e in
-    kept_known code (joined_constants same_value seen (literal_of l.operand)) v (ap (λ (o : Option Value). is_known (joined_constants same_value seen o) v) has ∙ known_by (is_known seen v) seen v refl)
-literal_known (l ∷ code) seen (suc n) line v here e = literal_known code (joined_constants same_value seen (literal_of l.operand)) n line v here e
+-- an operand that is a constant of the table, if it is a literal
+abbrev IsKnown : List Value → Operand → Type 0
+IsKnown constants o = (v : Value) → literal_of o ≡ Some v → is_known constants v ≡ true
+
+literals_known : (os : List Operand) (seen : List Value) → AllByRecursion (IsKnown (constants_from same_value seen os)) os
+literals_known [] seen = tt
+literals_known (o ∷ os) seen = (
+  (λ v e. kept_known os (joined_constants same_value seen (literal_of o)) v (ap (λ (l : Option Value). is_known (joined_constants same_value seen l) v) e ∙ known_by (is_known seen v) seen v refl)),
+  literals_known os (joined_constants same_value seen (literal_of o)),
+)
 
 -- ---- operands
 
@@ -345,51 +489,32 @@ any_by false false n l f g e = let lt = area_small areas.Memory (n - 8192) l e i
 any_small : (n : ℕ) (l : Loc) → any_loc n ≡ Some l → n < 16384
 any_small n l e = any_by (ltb n 4096) (ltb n 8192) n l refl refl e
 
--- an operand that reads back from its number
-record IsAgain (vs : List Variable) (marks : List Mark) (cs : List Value) (op : Op) (o : Operand) (code : ℕ) : Type 0 where
-  read : numbered_operand vs marks cs op code ≡ Some o
-  small : code < 2 ^ 16
-
-plain_value : (vs : List Variable) (cs : List Value) (o : Operand) (n : ℕ) → (ltb n 32768 || eqb n 65535) ≡ true → operand_of vs n ≡ Some o → value_operand vs cs n ≡ Some o
-plain_value vs cs o n e h = rw e h
-
-or_first : (a b : Bool) → a ≡ true → (a || b) ≡ true
-or_first true b e = refl
-or_first false b e = absurd cc
-
-value_op : (vs : List Variable) (marks : List Mark) (cs : List Value) (op : Op) (o : Operand) (n : ℕ) → is_jump op ≡ false → value_operand vs cs n ≡ Some o → numbered_operand vs marks cs op n ≡ Some o
-value_op vs marks cs op o n e h = rw e h
-
-absent_again : (vs : List Variable) (cs : List Value) → value_operand vs cs 65535 ≡ Some operands.Absent
-absent_again vs cs = refl
-
-direct_again : (vs : List Variable) (cs : List Value) (loc : Loc) → any_loc (loc_code loc) ≡ Some loc → value_operand vs cs (loc_code loc) ≡ Some (operands.Direct loc)
-direct_again vs cs loc e =
-    let lt : loc_code loc < 16384 = any_small (loc_code loc) loc e in
-    let raw : raw_operand vs (loc_code loc) ≡ Some (operands.Direct loc) = rw (lt-ltb (loc_code loc) 16384 lt, e) refl in
-    plain_value vs cs (operands.Direct loc) (loc_code loc) (or_first (ltb (loc_code loc) 32768) (eqb (loc_code loc) 65535) (lt-ltb (loc_code loc) 32768 (omega arith))) (again (λ o. nat_eq (plain_code vs o) (loc_code loc)) (raw_operand vs (loc_code loc)) (operands.Direct loc) raw (eq-eqb (loc_code loc) (loc_code loc) refl))
-
-record IsFoundVariable (vs : List Variable) (cs : List Value) (name : List ℕ) : Type 0 where
-  read : value_operand vs cs (plain_code vs (operands.Variable name)) ≡ Some (operands.Variable name)
-  small : plain_code vs (operands.Variable name) < 2 ^ 16
-
 place_below : {X : Type 0} (p : X → Bool) (xs : List X) (i : ℕ) → position p xs ≡ Some i → i < length xs
 place_below p xs i e = (position_front p xs [] i e).before
 
-variable_by : (o : Option ℕ) (vs : List Variable) (cs : List Value) (name : List ℕ) → length vs ≤ 512 → position (λ (v : Variable). same_name v.name name) vs ≡ o → is_some o ≡ true → IsFoundVariable vs cs name
-variable_by None vs cs name few e h = absurd cc
-variable_by (Some i) vs cs name few e h =
-    let lt = place_below (λ (v : Variable). same_name v.name name) vs i e in
-    let code : plain_code vs (operands.Variable name) ≡ 16384 + i = ap numbered_code e in
-    let low : plain_code vs (operands.Variable name) < 32768 = omega (arith, code) in
-    record {
-      read = plain_value vs cs (operands.Variable name) (plain_code vs (operands.Variable name)) (or_first (ltb (plain_code vs (operands.Variable name)) 32768) (eqb (plain_code vs (operands.Variable name)) 65535) (lt-ltb (plain_code vs (operands.Variable name)) 32768 low)) (operand_again vs name i few e);
-      small = omega (arith, code);
-    }
+-- a value or a place that reads back from its number
+record IsRead (ds : Declarations) (cs : List Value) (o : Operand) (code : ℕ) : Type 0 where
+  read : value_operand ds cs code ≡ Some o
+  small : code < 2 ^ 16
 
-record IsFoundConstant (vs : List Variable) (cs : List Value) (v : Value) : Type 0 where
-  read : value_operand vs cs (constant_code (position (same_value v) cs)) ≡ Some (operands.Literal v)
-  small : constant_code (position (same_value v) cs) < 2 ^ 16
+-- one that is no constant
+plain_read : (ds : Declarations) (cs : List Value) (o : Operand) (n : ℕ) → n < 32768 → operand_of ds n ≡ Some o → IsRead ds cs o n
+plain_read ds cs o n lt e = record { read = rw (or_left (ltb n 32768) (eqb n 65535) (lt-ltb n 32768 lt)) e; small = omega arith }
+
+direct_again : (ds : Declarations) (cs : List Value) (loc : Loc) → any_loc (loc_code loc) ≡ Some loc → IsRead ds cs (operands.Direct loc) (loc_code loc)
+direct_again ds cs loc e =
+    let lt : loc_code loc < 16384 = any_small (loc_code loc) loc e in
+    let raw : raw_operand ds (loc_code loc) ≡ Some (operands.Direct loc) = rw (lt-ltb (loc_code loc) 16384 lt, e) refl in
+    plain_read ds cs (operands.Direct loc) (loc_code loc) (omega arith)
+    (again (λ o. nat_eq (plain_code ds o) (loc_code loc)) (raw_operand ds (loc_code loc)) (operands.Direct loc) raw (eq-eqb (loc_code loc) (loc_code loc) refl))
+
+variable_by : (o : Option ℕ) (ds : Declarations) (cs : List Value) (name : List ℕ) → length ds.variables ≤ 512 → position (λ (v : Variable). same_name v.name name) ds.variables ≡ o → is_some o ≡ true
+    → IsRead ds cs (operands.Variable name) (plain_code ds (operands.Variable name))
+variable_by None ds cs name few e h = absurd cc
+variable_by (Some i) ds cs name few e h =
+    let lt = place_below (λ (v : Variable). same_name v.name name) ds.variables i e in
+    let code : plain_code ds (operands.Variable name) ≡ 16384 + i = ap numbered_code e in
+    plain_read ds cs (operands.Variable name) (plain_code ds (operands.Variable name)) (omega (arith, code)) (operand_again ds name i few e)
 
 constant_there : (cs : List Value) (v : Value) (k : ℕ) → position (same_value v) cs ≡ Some k → slice_get cs k ≡ Some v
 constant_there [] v k e = absurd cc
@@ -397,161 +522,161 @@ constant_there (c ∷ cs) v k e =
     let r = position-Some (same_value v) (c ∷ cs) k c e in
     slice_get-get_or (c ∷ cs) k c r.0 ∙ ap (λ (x : Value). Some x) (sym (same_value_is v (get_or (c ∷ cs) k c) r.1))
 
-constant_by : (o : Option ℕ) (vs : List Variable) (cs : List Value) (v : Value) → length cs ≤ 4096 → position (same_value v) cs ≡ o → is_some o ≡ true → IsFoundConstant vs cs v
-constant_by None vs cs v few e h = absurd cc
-constant_by (Some k) vs cs v few e h =
+constant_by : (o : Option ℕ) (ds : Declarations) (cs : List Value) (v : Value) → length cs ≤ 20480 → position (same_value v) cs ≡ o → is_some o ≡ true → IsRead ds cs (operands.Literal v) (constant_code (position (same_value v) cs))
+constant_by None ds cs v few e h = absurd cc
+constant_by (Some k) ds cs v few e h =
     let lt = place_below (same_value v) cs k e in
     let past : ltb (32768 + k) 32768 ≡ false = le-ltb (32768 + k) 32768 (omega arith) in
     let there : eqb (32768 + k) 65535 ≡ false = ne_eqb (32768 + k) 65535 (λ e. omega (arith, e)) in
     let back : 32768 + k - 32768 ≡ k = omega arith in
-    let all : value_operand vs cs (32768 + k) ≡ Some (operands.Literal v) = rw (past, there, back, constant_there cs v k e) refl in
+    let all : value_operand ds cs (32768 + k) ≡ Some (operands.Literal v) = rw (past, there, back, constant_there cs v k e) refl in
     let code : constant_code (position (same_value v) cs) ≡ 32768 + k = ap constant_code e in
-    record { read = ap (value_operand vs cs) code ∙ all; small = omega (arith, code) }
+    record { read = ap (value_operand ds cs) code ∙ all; small = omega (arith, code) }
 
-found_target : (o : Option ℕ) (s : Option Source) → option_map sources.Target o ≡ s → (src : Source) → s ≡ Some src → (k : ℕ) × (o ≡ Some k)
-found_target None s e src h = absurd cc
-found_target (Some k) s e src h = (k, refl)
+-- what an image has room for
+record HasRoom (Q : Text) : Type 0 where
+  variables : length Q.variables ≤ 512
+  instances : length Q.instances ≤ 128
+  constants : length (constants_of Q) ≤ 20480
+  words : words_in Q.code ≤ 36864
 
--- the number of the label that a jump of a typed program names
-target_there : (Q : Text) (n : ℕ) (line : Instr) (name : List ℕ) → IsTyped Q → n < length Q.code → slice_get Q.code n ≡ Some line → line.operand ≡ operands.Label name → (k : ℕ) × (target_of Q name ≡ Some k)
-target_there Q n line name typed lt here is =
-    let all = bind_ok (shape_at Q (length Q.code)) (closed Q) true typed in
-    let sh = ok_before Q (length Q.code) all.0 all.1 n (omega arith) in
-    let l = typed_line Q typed n sh.0 line lt sh.1 here in
-    let src = sourced Q sh.0.cr (top_of sh.0.kept) (length sh.0.kept) line (source_of Q line.operand) l.effect l.row in
-    found_target (target_of Q name) (source_of Q line.operand) (sym (ap (source_of Q) is)) src.0 src.1
+-- a value or a place that stands for something
+value_again : (Q : Text) (o : Operand) (src : Source) → HasRoom Q → has_form forms.Value false o ≡ true → IsOperand (declared_by Q) o → source_of Q o ≡ Some src → IsKnown (constants_of Q) o
+    → IsRead (declared_by Q) (constants_of Q) o (operand_code Q (constants_of Q) o)
+value_again Q operands.Absent src room form ok there known = absurd cc
+value_again Q (operands.Literal v) src room form ok there known = constant_by (position (same_value v) (constants_of Q)) (declared_by Q) (constants_of Q) v room.constants refl (known v refl)
+value_again Q (operands.Bare z) src room form ok there known = absurd cc
+value_again Q (operands.Variable name) src room form ok there known = variable_by (position (λ (v : Variable). same_name v.name name) Q.variables) (declared_by Q) (constants_of Q) name room.variables refl ok
+value_again Q (operands.Direct loc) src room form ok there known = direct_again (declared_by Q) (constants_of Q) loc ok
+value_again Q (operands.Label name) src room form ok there known = absurd cc
+value_again Q (operands.Field name field) src room form ok there known =
+    let place = map_some (field_of Q name field) sources.Of src there in
+    let f = field_again (declared_by Q) name field place.0 room.instances place.1 in
+    let small : plain_code (declared_by Q) (operands.Field name field) < 21504 = f.small in
+    plain_read (declared_by Q) (constants_of Q) (operands.Field name field) (plain_code (declared_by Q) (operands.Field name field)) (omega arith) f.read
+value_again Q (operands.Instance name) src room form ok there known = absurd cc
 
-label_again : (Q : Text) (op : Op) (name : List ℕ) (k : ℕ) → length Q.code ≤ 4096 → is_jump op ≡ true → target_of Q name ≡ Some k → IsAgain Q.variables (marks_from 0 Q.code) (constants_of Q) op (operands.Label name) (target_code (target_of Q name))
-label_again Q op name k few jump e =
-    let lt : k < length Q.code = place_below (has_label name) Q.code k e in
-    let at : label_there (marks_from 0 Q.code) k ≡ Some name = label_in Q.code (marks_from 0 Q.code) name k (table_labels Q.code) e in
-    let code : target_code (target_of Q name) ≡ k = ap target_code e in
-    let one : numbered_operand Q.variables (marks_from 0 Q.code) (constants_of Q) op k ≡ Some (operands.Label name) = rw (jump, at) refl in
-    record { read = ap (numbered_operand Q.variables (marks_from 0 Q.code) (constants_of Q) op) code ∙ one; small = omega (arith, code) }
+-- an operand that reads back from its number behind an operator
+record IsAgain (Q : Text) (op : Op) (o : Operand) (code : ℕ) : Type 0 where
+  read : numbered_operand (declared_by Q) (marks_from 0 Q.code) (constants_of Q) op code ≡ Some o
+  small : code < 2 ^ 16
+
+value_op : (Q : Text) (op : Op) (o : Operand) (n : ℕ) → is_jump op ≡ false → is_call op ≡ false → IsRead (declared_by Q) (constants_of Q) o n → IsAgain Q op o n
+value_op Q op o n jump call is = record { read = rw (jump, call) is.read; small = is.small }
+
+absent_again : (Q : Text) → IsRead (declared_by Q) (constants_of Q) operands.Absent 65535
+absent_again Q = record { read = refl; small = omega arith }
+
+label_again : (Q : Text) (op : Op) (name : List ℕ) (src : Source) → HasRoom Q → is_jump op ≡ true → source_of Q (operands.Label name) ≡ Some src → IsAgain Q op (operands.Label name) (operand_code Q (constants_of Q) (operands.Label name))
+label_again Q op name src room jump there =
+    let target = map_some (target_of Q name) sources.Target src there in
+    let k : ℕ = target.0 in
+    let e : target_of Q name ≡ Some k = target.1 in
+    let lt = address_small Q.code k (place_below (has_label name) Q.code k e) in
+    let words = room.words in
+    let at : label_there (marks_from 0 Q.code) (address_of Q.code k) ≡ Some name = label_in Q.code (marks_from 0 Q.code) name k (table_labels Q.code) e in
+    let code : target_code (option_map (address_of Q.code) (target_of Q name)) ≡ address_of Q.code k = ap (λ (o : Option ℕ). target_code (option_map (address_of Q.code) o)) e in
+    let one : numbered_operand (declared_by Q) (marks_from 0 Q.code) (constants_of Q) op (address_of Q.code k) ≡ Some (operands.Label name) = rw (jump, at) refl in
+    record { read = ap (numbered_operand (declared_by Q) (marks_from 0 Q.code) (constants_of Q) op) code ∙ one; small = omega (arith, code) }
+
+called_again : (Q : Text) (op : Op) (name : List ℕ) (src : Source) → HasRoom Q → is_jump op ≡ false → is_call op ≡ true → source_of Q (operands.Instance name) ≡ Some src → IsAgain Q op (operands.Instance name) (operand_code Q (constants_of Q) (operands.Instance name))
+called_again Q op name src room jump call there =
+    let number = map_some (instance_in Q.instances name) sources.Instance src there in
+    let i : ℕ = number.0 in
+    let e : instance_in Q.instances name ≡ Some i = number.1 in
+    let lt = place_below (λ (x : Instance). same_name x.name name) Q.instances i e in
+    let few = room.instances in
+    let code : instance_code (instance_in Q.instances name) ≡ i = ap instance_code e in
+    let one : numbered_operand (declared_by Q) (marks_from 0 Q.code) (constants_of Q) op i ≡ Some (operands.Instance name) = rw (jump, call) (instance_again (declared_by Q) name i e) in
+    record { read = ap (numbered_operand (declared_by Q) (marks_from 0 Q.code) (constants_of Q) op) code ∙ one; small = omega (arith, code) }
 
 -- ---- words
 
-abbrev is_label : Operand → Bool
-is_label (operands.Label name) = true
-is_label o = false
+operand_by : (Q : Text) (op : Op) (m : Modifier) (o : Operand) (src : Source) → HasRoom Q → formed_by (usage_of op) m o ≡ true → IsOperand (declared_by Q) o → source_of Q o ≡ Some src → IsKnown (constants_of Q) o
+    → IsAgain Q op o (operand_code Q (constants_of Q) o)
+operand_by Q op m operands.Absent src room form ok there known = value_op Q op operands.Absent 65535 (jumps op m operands.Absent form) (calls op m operands.Absent form) (absent_again Q)
+operand_by Q op m (operands.Literal v) src room form ok there known =
+    value_op Q op (operands.Literal v) (operand_code Q (constants_of Q) (operands.Literal v)) (jumps op m (operands.Literal v) form) (calls op m (operands.Literal v) form) (value_again Q (operands.Literal v) src room refl ok there known)
+operand_by Q op m (operands.Variable name) src room form ok there known =
+    value_op Q op (operands.Variable name) (operand_code Q (constants_of Q) (operands.Variable name)) (jumps op m (operands.Variable name) form) (calls op m (operands.Variable name) form) (value_again Q (operands.Variable name) src room refl ok there known)
+operand_by Q op m (operands.Direct loc) src room form ok there known =
+    value_op Q op (operands.Direct loc) (operand_code Q (constants_of Q) (operands.Direct loc)) (jumps op m (operands.Direct loc) form) (calls op m (operands.Direct loc) form) (value_again Q (operands.Direct loc) src room refl ok there known)
+operand_by Q op m (operands.Field name field) src room form ok there known =
+    value_op Q op (operands.Field name field) (operand_code Q (constants_of Q) (operands.Field name field)) (jumps op m (operands.Field name field) form) (calls op m (operands.Field name field) form) (value_again Q (operands.Field name field) src room refl ok there known)
+operand_by Q op m (operands.Bare z) src room form ok there known = absurd (bare_form (usage_of op).form m.opens z form)
+operand_by Q op m (operands.Label name) src room form ok there known = label_again Q op name src room (jumps op m (operands.Label name) form) there
+operand_by Q op m (operands.Instance name) src room form ok there known = called_again Q op name src room (jumps op m (operands.Instance name) form) (calls op m (operands.Instance name) form) there
 
--- only a jump takes a label, and it takes nothing else
-no_jump : (op : Op) (m : Modifier) (o : Operand) → is_label o ≡ false → formed_by (usage_of op) m o ≡ true → is_jump op ≡ false
-no_jump ops.Empty m o e h = refl
-no_jump ops.Ld m o e h = refl
-no_jump ops.St m o e h = refl
-no_jump ops.S m o e h = refl
-no_jump ops.R m o e h = refl
-no_jump ops.And m o e h = refl
-no_jump ops.Or m o e h = refl
-no_jump ops.Xor m o e h = refl
-no_jump ops.Not m o e h = refl
-no_jump ops.Add m o e h = refl
-no_jump ops.Sub m o e h = refl
-no_jump ops.Mul m o e h = refl
-no_jump ops.Div m o e h = refl
-no_jump ops.Mod m o e h = refl
-no_jump ops.Gt m o e h = refl
-no_jump ops.Ge m o e h = refl
-no_jump ops.Eq m o e h = refl
-no_jump ops.Ne m o e h = refl
-no_jump ops.Le m o e h = refl
-no_jump ops.Lt m o e h = refl
-no_jump ops.Jmp m operands.Absent e h = absurd cc
-no_jump ops.Jmp m (operands.Literal v) e h = absurd cc
-no_jump ops.Jmp m (operands.Bare z) e h = absurd cc
-no_jump ops.Jmp m (operands.Variable name) e h = absurd cc
-no_jump ops.Jmp m (operands.Direct loc) e h = absurd cc
-no_jump ops.Jmp m (operands.Label name) e h = absurd cc
-no_jump ops.Cal m o e h = refl
-no_jump ops.Ret m o e h = refl
-no_jump ops.Close m o e h = refl
-no_jump ops.IntToDint m o e h = refl
-no_jump ops.DintToInt m o e h = refl
+-- an argument without a fault reads back
+argument_fits : (Q : Text) (k : BlockKind) (a : Argument) → HasRoom Q → IsPassed (declared_by Q) a → IsArgumentOf Q k a → IsKnown (constants_of Q) a.operand → IsPassing Q (Some k) a
+argument_fits Q k a room ok is known =
+    let r = value_again Q a.operand is.source room ok.form ok.operand is.sourced known in
+    let f = field_so k a.field is.number is.numbered in
+    record {
+      number = is.number;
+      field = is.numbered;
+      name = ap (λ (o : Option Field). elim o [ Some field ↦ field_name field | None ↦ [] ]) f.there ∙ f.named;
+      small = f.small;
+      operand_read = again (has_form forms.Value false) (value_operand (declared_by Q) (constants_of Q) (operand_code Q (constants_of Q) a.operand)) a.operand r.read ok.form;
+      operand_small = r.small;
+    }
 
-bare_not : (op : Op) (m : Modifier) (z : ℤ) → formed_by (usage_of op) m (operands.Bare z) ≡ true → ⊥
-bare_not ops.Empty m z e = cc
-bare_not ops.Ld m z e = cc
-bare_not ops.St m z e = cc
-bare_not ops.S m z e = cc
-bare_not ops.R m z e = cc
-bare_not ops.And m z e = cc
-bare_not ops.Or m z e = cc
-bare_not ops.Xor m z e = cc
-bare_not ops.Not m z e = cc
-bare_not ops.Add m z e = cc
-bare_not ops.Sub m z e = cc
-bare_not ops.Mul m z e = cc
-bare_not ops.Div m z e = cc
-bare_not ops.Mod m z e = cc
-bare_not ops.Gt m z e = cc
-bare_not ops.Ge m z e = cc
-bare_not ops.Eq m z e = cc
-bare_not ops.Ne m z e = cc
-bare_not ops.Le m z e = cc
-bare_not ops.Lt m z e = cc
-bare_not ops.Jmp m z e = cc
-bare_not ops.Cal m z e = cc
-bare_not ops.Ret m z e = cc
-bare_not ops.Close m z e = cc
-bare_not ops.IntToDint m z e = cc
-bare_not ops.DintToInt m z e = cc
+arguments_fit : (Q : Text) (k : BlockKind) (args : List Argument) → HasRoom Q → AllByRecursion (IsPassed (declared_by Q)) args → AllByRecursion (IsArgumentOf Q k) args
+    → AllByRecursion (IsKnown (constants_of Q)) (map (λ (a : Argument). a.operand) args) → AllByRecursion (IsPassing Q (Some k)) args
+arguments_fit Q k [] room ok are known = tt
+arguments_fit Q k (a ∷ args) room ok are known = (argument_fits Q k a room ok.0 are.0 known.0, arguments_fit Q k args room ok.1 are.1 known.1)
 
--- what is known of an instruction where its operand is read
-record IsPlace (Q : Text) (n : ℕ) (line : Instr) : Type 0 where
-  few_variables : length Q.variables ≤ 512
-  short : length Q.code ≤ 4096
-  few_constants : length (constants_of Q) ≤ 4096
-  typed : IsTyped Q
-  below : n < length Q.code
-  here : slice_get Q.code n ≡ Some line
+no_passing : (Q : Text) (kind : Option BlockKind) (args : List Argument) → args ≡ [] → AllByRecursion (IsPassing Q kind) args
+no_passing Q kind args none = subst (AllByRecursion (IsPassing Q kind)) (sym none) tt
 
-operand_by : (Q : Text) (n : ℕ) (line : Instr) (o : Operand) → IsPlace Q n line → line.operand ≡ o → formed_by (usage_of line.op) line.modifier o ≡ true → IsOperand Q.variables o → IsAgain Q.variables (marks_from 0 Q.code) (constants_of Q) line.op o (operand_code Q (constants_of Q) o)
-operand_by Q n line operands.Absent at is form ok = record { read = value_op Q.variables (marks_from 0 Q.code) (constants_of Q) line.op operands.Absent 65535 (no_jump line.op line.modifier operands.Absent refl form) (absent_again Q.variables (constants_of Q)); small = omega arith }
-operand_by Q n line (operands.Literal v) at is form ok =
-    let known : is_known (constants_of Q) v ≡ true = literal_known Q.code [] n line v at.here (ap literal_of is) in
-    let c = constant_by (position (same_value v) (constants_of Q)) Q.variables (constants_of Q) v at.few_constants refl known in
-    record { read = value_op Q.variables (marks_from 0 Q.code) (constants_of Q) line.op (operands.Literal v) (constant_code (position (same_value v) (constants_of Q))) (no_jump line.op line.modifier (operands.Literal v) refl form) c.read; small = c.small }
-operand_by Q n line (operands.Bare z) at is form ok = absurd (bare_not line.op line.modifier z form)
-operand_by Q n line (operands.Variable name) at is form ok =
-    let v = variable_by (position (λ (v : Variable). same_name v.name name) Q.variables) Q.variables (constants_of Q) name at.few_variables refl ok in
-    record { read = value_op Q.variables (marks_from 0 Q.code) (constants_of Q) line.op (operands.Variable name) (plain_code Q.variables (operands.Variable name)) (no_jump line.op line.modifier (operands.Variable name) refl form) v.read; small = v.small }
-operand_by Q n line (operands.Direct loc) at is form ok =
-    let lt : loc_code loc < 16384 = any_small (loc_code loc) loc ok in
-    record { read = value_op Q.variables (marks_from 0 Q.code) (constants_of Q) line.op (operands.Direct loc) (loc_code loc) (no_jump line.op line.modifier (operands.Direct loc) refl form) (direct_again Q.variables (constants_of Q) loc ok); small = omega arith }
-operand_by Q n line (operands.Label name) at is form ok =
-    let t = target_there Q n line name at.typed at.below at.here is in
-    label_again Q line.op name t.0 at.short (only_jump line.op line.modifier name form) t.1
+passing_by : (kind : Option BlockKind) (Q : Text) (args : List Argument) → HasRoom Q → arguments_fault Q kind [] args ≡ None → AllByRecursion (IsPassed (declared_by Q)) args
+    → AllByRecursion (IsKnown (constants_of Q)) (map (λ (a : Argument). a.operand) args) → AllByRecursion (IsPassing Q kind) args
+passing_by None Q args room h ok known = no_passing Q None args (no_arguments Q [] args h)
+passing_by (Some k) Q args room h ok known = arguments_fit Q k args room ok (arguments_typed Q k [] args h) known
 
-word_fits : (Q : Text) (n : ℕ) (line : Instr) → IsPlace Q n line → IsLawful Q.variables line → IsWord Q line
-word_fits Q n line at is =
-    let o = operand_by Q n line line.operand at refl is.form is.operand in
+called_is : (Q : Text) (o : Operand) (k : BlockKind) → called_kind Q o ≡ Some k → is_instance o ≡ true
+called_is Q operands.Absent k e = absurd cc
+called_is Q (operands.Literal v) k e = absurd cc
+called_is Q (operands.Bare z) k e = absurd cc
+called_is Q (operands.Variable name) k e = absurd cc
+called_is Q (operands.Direct loc) k e = absurd cc
+called_is Q (operands.Label name) k e = absurd cc
+called_is Q (operands.Field name field) k e = absurd cc
+called_is Q (operands.Instance name) k e = refl
+
+-- only a call has arguments
+called_by : (kind : Option BlockKind) (Q : Text) (line : Instr) → called_kind Q line.operand ≡ kind → arguments_fault Q kind [] line.arguments ≡ None → formed_by (usage_of line.op) line.modifier line.operand ≡ true
+    → (is_call line.op || nat_eq (length line.arguments) 0) ≡ true
+called_by None Q line e h form = or_right (is_call line.op) (nat_eq (length line.arguments) 0) (ap (λ (args : List Argument). nat_eq (length args) 0) (no_arguments Q [] line.arguments h))
+called_by (Some k) Q line e h form = or_left (is_call line.op) (nat_eq (length line.arguments) 0) (calls line.op line.modifier line.operand form ∙ called_is Q line.operand k e)
+
+word_fits : (Q : Text) (line : Instr) → HasRoom Q → IsLawful (declared_by Q) line → IsTypedLine Q line → AllByRecursion (IsKnown (constants_of Q)) (operands_in line) → IsWord Q line
+word_fits Q line room is typed known =
+    let o = operand_by Q line.op line.modifier line.operand typed.source room is.form is.operand typed.sourced known.0 in
     let code = operand_code Q (constants_of Q) line.operand in
     record {
       coded = record {
-        op_read = op_again line.op line.modifier is.letters;
+        op_read = listed line.op;
         op_small = op_below line.op;
         letters = letters_again line.op line.modifier is.letters;
         letters_small = letters_below line.modifier.negated line.modifier.conditional line.modifier.opens;
-        operand_read = again (formed_by (usage_of line.op) line.modifier) (numbered_operand Q.variables (marks_from 0 Q.code) (constants_of Q) line.op code) line.operand o.read is.form;
+        operand_read = again (formed_by (usage_of line.op) line.modifier) (numbered_operand (declared_by Q) (marks_from 0 Q.code) (constants_of Q) line.op code) line.operand o.read is.form;
         operand_small = o.small;
       };
       labelled = is.labelled;
+      arguments = passing_by (called_kind Q line.operand) Q line.arguments room typed.arguments is.arguments known.1;
+      called = called_by (called_kind Q line.operand) Q line refl typed.arguments is.form;
     }
+
+words_fit : (Q : Text) (seen code : List Instr) → HasRoom Q → AreLawful (declared_by Q) code → AllByRecursion (IsTypedLine Q) code → AllByRecursion (IsKnown (constants_of Q)) (operands_of code) → AreItems (λ seen. IsWord Q) seen code
+words_fit Q seen [] room lawful typed known = tt
+words_fit Q seen (line ∷ code) room lawful typed known =
+    let k = all_front (IsKnown (constants_of Q)) (operands_in line) (operands_of code) known in
+    (word_fits Q line room lawful.0 typed.0 k.0, words_fit Q (seen ++ line ∷ []) code room lawful.1 typed.1 k.1)
 
 line_at : (before : List Instr) (line : Instr) (code : List Instr) → slice_get (before ++ line ∷ code) (length before) ≡ Some line
 line_at [] line code = refl
 line_at (l ∷ before) line code = line_at before line code
-
-words_fit : (Q : Text) (seen before code : List Instr) → length Q.variables ≤ 512 → length Q.code ≤ 4096 → length (constants_of Q) ≤ 4096 → IsTyped Q → Q.code ≡ before ++ code → AreLawful Q.variables code → AreItems (λ seen. IsWord Q) seen code
-words_fit Q seen before [] few short cs typed all lawful = tt
-words_fit Q seen before (line ∷ code) few short cs typed all lawful =
-    let here : slice_get Q.code (length before) ≡ Some line = ap (λ (c : List Instr). slice_get c (length before)) all ∙ line_at before line code in
-    let lt : length before < length Q.code = omega (arith, ap length all, length-append before (line ∷ code)) in
-    let at : IsPlace Q (length before) line = record { few_variables = few; short = short; few_constants = cs; typed = typed; below = lt; here = here } in (
-      word_fits Q (length before) line at lawful.0,
-      words_fit Q (seen ++ line ∷ []) (before ++ line ∷ []) code few short cs typed (all ∙ sym (append_assoc before (line ∷ []) code)) lawful.1,
-    )
 
 -- ---- the table of labels
 
@@ -610,15 +735,15 @@ and_both : (a b : Bool) → a ≡ true → b ≡ true → (a && b) ≡ true
 and_both true b e h = h
 and_both false b e h = absurd cc
 
-mark_fits : (Q : Text) (seen : List Mark) (before : List Instr) (line : Instr) (code : List Instr) (name : List ℕ) → length Q.code ≤ 4096 → IsTyped Q → Q.code ≡ before ++ line ∷ code → AreKnown seen before → line.label ≡ Some name → IsLabel (Some name) → IsMark seen (record { name = name; at = length before })
-mark_fits Q seen before line code name short typed all known is ok =
+mark_fits : (Q : Text) (seen : List Mark) (before : List Instr) (line : Instr) (code : List Instr) (name : List ℕ) → words_in Q.code ≤ 36864 → IsTyped Q → Q.code ≡ before ++ line ∷ code → AreKnown seen before → line.label ≡ Some name → IsLabel (Some name) → IsMark seen (record { name = name; at = words_in before })
+mark_fits Q seen before line code name few typed all known is ok =
     let here : slice_get Q.code (length before) ≡ Some line = ap (λ (c : List Instr). slice_get c (length before)) all ∙ line_at before line code in
     let lt : length before < length Q.code = omega (arith, ap length all, length-append before (line ∷ code)) in
     let stands : target_of Q name ≡ Some (length before) = label_stands Q (length before) line name typed lt here is in
     let found : position (has_label name) (before ++ line ∷ code) ≡ Some (length before) = ap (position (has_label name)) (sym all) ∙ stands in
     let none : has_line before name ≡ false = before_by (position (has_label name) before) name before (line ∷ code) refl found in
     let new : known_label seen name ≡ false = not_known (known_label seen name) seen before name known refl none in
-    record { length = ok.0; name = and_both (is_lawful_name name) (not (known_label seen name)) ok.1 (not_false (known_label seen name) new); small = omega arith }
+    record { length = ok.0; name = and_both (is_lawful_name name) (not (known_label seen name)) ok.1 (not_false (known_label seen name) new); small = omega (arith, ap words_in all, words_in-append before (line ∷ code)) }
 
 not_none : (o : Option ℕ) → option_map suc o ≡ None → o ≡ None
 not_none None e = refl
@@ -650,21 +775,21 @@ known_next seen before line name at x known is (inr e) = found_last (has_label x
 known_same : (seen : List Mark) (before : List Instr) (line : Instr) → AreKnown seen before → AreKnown seen (before ++ line ∷ [])
 known_same seen before line known = record { each = λ x e. found_in_front (has_label x) before (line ∷ []) (known.each x e) }
 
-marks_by : (o : Option (List ℕ)) (Q : Text) (seen : List Mark) (before : List Instr) (line : Instr) (code : List Instr) → length Q.code ≤ 4096 → IsTyped Q → Q.code ≡ before ++ line ∷ code → AreKnown seen before → line.label ≡ o → IsLabel o
-    → ((seen : List Mark) → AreKnown seen (before ++ line ∷ []) → AreItems IsMark seen (marks_from (suc (length before)) code)) → AreItems IsMark seen (with_mark (length before) o (marks_from (suc (length before)) code))
-marks_by None Q seen before line code short typed all known is ok ih = ih seen (known_same seen before line known)
-marks_by (Some name) Q seen before line code short typed all known is ok ih =
-    let m : Mark = record { name = name; at = length before } in (
-      mark_fits Q seen before line code name short typed all known is ok,
-      ih (seen ++ m ∷ []) (record { each = λ x e. known_next seen before line name (length before) x known is (split_by (position (λ (m : Mark). same_name m.name x) seen) (same_name name x) (λ (m : Mark). same_name m.name x) seen m refl refl e) }),
+marks_by : (o : Option (List ℕ)) (Q : Text) (seen : List Mark) (before : List Instr) (line : Instr) (code : List Instr) → words_in Q.code ≤ 36864 → IsTyped Q → Q.code ≡ before ++ line ∷ code → AreKnown seen before → line.label ≡ o → IsLabel o
+    → ((seen : List Mark) → AreKnown seen (before ++ line ∷ []) → AreItems IsMark seen (marks_from (words_in before + word_count line) code)) → AreItems IsMark seen (with_mark (words_in before) o (marks_from (words_in before + word_count line) code))
+marks_by None Q seen before line code few typed all known is ok ih = ih seen (known_same seen before line known)
+marks_by (Some name) Q seen before line code few typed all known is ok ih =
+    let m : Mark = record { name = name; at = words_in before } in (
+      mark_fits Q seen before line code name few typed all known is ok,
+      ih (seen ++ m ∷ []) (record { each = λ x e. known_next seen before line name (words_in before) x known is (split_by (position (λ (m : Mark). same_name m.name x) seen) (same_name name x) (λ (m : Mark). same_name m.name x) seen m refl refl e) }),
     )
 
-marks_fit : (Q : Text) (seen : List Mark) (before code : List Instr) → length Q.code ≤ 4096 → IsTyped Q → Q.code ≡ before ++ code → AreKnown seen before → AreLawful Q.variables code → AreItems IsMark seen (marks_from (length before) code)
-marks_fit Q seen before [] short typed all known lawful = tt
-marks_fit Q seen before (line ∷ code) short typed all known lawful =
+marks_fit : (Q : Text) (seen : List Mark) (before code : List Instr) → words_in Q.code ≤ 36864 → IsTyped Q → Q.code ≡ before ++ code → AreKnown seen before → AreLawful (declared_by Q) code → AreItems IsMark seen (marks_from (words_in before) code)
+marks_fit Q seen before [] few typed all known lawful = tt
+marks_fit Q seen before (line ∷ code) few typed all known lawful =
     let next : Q.code ≡ (before ++ line ∷ []) ++ code = all ∙ sym (append_assoc before (line ∷ []) code) in
-    let long : length (before ++ line ∷ []) ≡ suc (length before) = omega (arith, length-append before (line ∷ [])) in
-    marks_by line.label Q seen before line code short typed all known refl lawful.0.label (λ seen k. subst (λ (n : ℕ). AreItems IsMark seen (marks_from n code)) long (marks_fit Q seen (before ++ line ∷ []) code short typed next k lawful.1))
+    let long : words_in (before ++ line ∷ []) ≡ words_in before + word_count line = omega (arith, words_in-append before (line ∷ [])) in
+    marks_by line.label Q seen before line code few typed all known refl lawful.0.label (λ seen k. subst (λ (n : ℕ). AreItems IsMark seen (marks_from n code)) long (marks_fit Q seen (before ++ line ∷ []) code few typed next k lawful.1))
 
 few_marks_by : (o : Option (List ℕ)) (n k : ℕ) (ms : List Mark) → length ms ≤ k → length (with_mark n o ms) ≤ suc k
 few_marks_by None n k ms le = omega arith
@@ -673,44 +798,33 @@ few_marks_by (Some name) n k ms le = omega arith
 -- there are no more labels than instructions
 pub marks_few : (code : List Instr) (n : ℕ) → length (marks_from n code) ≤ length code
 marks_few [] n = omega arith
-marks_few (line ∷ code) n = few_marks_by line.label n (length code) (marks_from (suc n) code) (marks_few code (suc n))
+marks_few (line ∷ code) n = few_marks_by line.label n (length code) (marks_from (n + word_count line) code) (marks_few code (n + word_count line))
 
 none_known : (x : List ℕ) → known_label [] x ≡ true → ⊥
 none_known x e = cc
 
--- ---- variables
-
-truth_small : (a b : Bool) (n : ℕ) (v : Value) → ltb n 1 ≡ a → ltb n 2 ≡ b → cond a (Some (values.Bool false)) (cond b (Some (values.Bool true)) None) ≡ Some v → n < 2
-truth_small true b n v e f h = let lt = ltb-true n 1 e in omega arith
-truth_small false true n v e f h = ltb-true n 2 f
-truth_small false false n v e f h = absurd cc
-
-truth_word : (z : ℤ) (v : Value) → truth_made z ≡ Some v → IsWord32 z
-truth_word (pos n) v e = let lt = truth_small (ltb n 1) (ltb n 2) n v refl refl e in word_pos n (omega arith)
-truth_word (negsuc n) v e = absurd cc
-
-made_word : (t : Ty) (z : ℤ) (v : Value) → made t z ≡ Some v → IsWord32 z
-made_word types.Bool z v e = truth_word z v e
-made_word types.Int z v e = within_32 (2 ^ 15) z (omega arith) (kept_by (is_within (2 ^ 15) z) (values.Int z) v e)
-made_word types.Dint z v e = within_32 (2 ^ 31) z (omega arith) (kept_by (is_within (2 ^ 31) z) (values.Dint z) v e)
-made_word types.Time z v e = within_32 (2 ^ 31) z (omega arith) (kept_by (is_within (2 ^ 31) z) (values.Time z) v e)
-
 -- ---- the whole
 
-pub lawful_image : (Q : Text) → AreItems IsVariable [] Q.variables → length Q.variables ≤ 512 → length Q.code ≤ 4096 → AreLawful Q.variables Q.code → IsTyped Q → IsImage Q
-lawful_image Q variables few short lawful typed =
-    let cs-few : length (constants_of Q) ≤ 4096 = (let le : length (constants_of Q) ≤ 0 + length Q.code = constants_few Q.code [] in omega arith) in
+pub lawful_image : (Q : Text) → AreItems IsVariable [] Q.variables → length Q.variables ≤ 512 → AreItems (IsInstance Q.variables) [] Q.instances → length Q.instances ≤ 128 → length Q.code ≤ 4096
+    → AreLawful (declared_by Q) Q.code → IsTyped Q → IsImage Q
+lawful_image Q variables few instances instances-few short lawful typed =
+    let lines = typed_lines Q typed in
+    let words-few : words_in Q.code ≤ 36864 = (let le = words_few Q Q.code lines in omega arith) in
+    let cs-few : length (constants_of Q) ≤ 20480 = (let le = constants_few (operands_of Q.code) [] in let more = literals_few Q Q.code lines in omega arith) in
     let ms-few : length (marks_from 0 Q.code) ≤ length Q.code = marks_few Q.code 0 in
+    let room : HasRoom Q = record { variables = few; instances = instances-few; constants = cs-few; words = words-few } in
     record {
       text = record {
         variables = variables;
         variables_few = few;
-        labels = marks_fit Q [] [] Q.code short typed refl (record { each = λ x e. absurd (none_known x e) }) lawful;
+        instances = instances;
+        instances_few = instances-few;
+        labels = marks_fit Q [] [] Q.code words-few typed refl (record { each = λ x e. absurd (none_known x e) }) lawful;
         labels_few = omega arith;
-        constants = constants_fit Q.variables Q.code [] lawful tt;
-        constants_few = omega arith;
-        words = words_fit Q [] [] Q.code few short cs-few typed refl lawful;
-        words_few = omega arith;
+        constants = constants_fit (declared_by Q) (operands_of Q.code) [] (operands_fit (declared_by Q) Q.code lawful) tt;
+        constants_few = cs-few;
+        words = words_fit Q [] Q.code room lawful lines (literals_known (operands_of Q.code) []);
+        words_few = words-few;
       };
       short = short;
       typed = typed;

@@ -13,7 +13,7 @@ goes_at Q n sh sh' line at here h =
     let is : n + 1 ≡ suc n = omega arith in
     ap (shape_at Q) is ∙ ap (λ r. r >>= λ sh. after_at Q n sh (slice_get Q.code n)) at ∙ ap (after_at Q n sh) here ∙ ap (numbered n) h
 
-err_after : (Q : Text) (m n : ℕ) (x : TypeFault × ℕ) → shape_at Q n ≡ Err x → n ≤ m → shape_at Q m ≡ Err x
+pub err_after : (Q : Text) (m n : ℕ) (x : TypeFault × ℕ) → shape_at Q n ≡ Err x → n ≤ m → shape_at Q m ≡ Err x
 err_after Q zero n x e le = let is : 0 ≡ n = omega arith in ap (shape_at Q) is ∙ e
 err_after Q (suc m) n x e le =
     elim (nat_lt m n) as (λ v. nat_lt m n ≡ v → shape_at Q (suc m) ≡ Err x) [
@@ -21,10 +21,12 @@ err_after Q (suc m) n x e le =
       | false ↦ λ h. let le2 : n ≤ m = ltb-false m n h in ap (λ r. r >>= λ sh. after_at Q m sh (slice_get Q.code m)) (err_after Q m n x e le2)
     ] refl
 
+pub err_here : (Q : Text) (n : ℕ) (sh : Shape) (line : Instr) (fault : TypeFault) → shape_at Q n ≡ Ok sh → slice_get Q.code n ≡ Some line → after_line Q n sh line ≡ Err fault → shape_at Q (suc n) ≡ Err (fault, n)
+err_here Q n sh line fault at here h = ap (λ r. r >>= λ sh. after_at Q n sh (slice_get Q.code n)) at ∙ ap (after_at Q n sh) here ∙ ap (numbered n) h
+
 pub fails_at : (Q : Text) (n : ℕ) (sh : Shape) (line : Instr) (fault : TypeFault) → n < length Q.code → shape_at Q n ≡ Ok sh → slice_get Q.code n ≡ Some line → after_line Q n sh line ≡ Err fault → Err (fault, n) ≡ judged Q
 fails_at Q n sh line fault lt at here h =
-    let one : shape_at Q (suc n) ≡ Err (fault, n) = ap (λ r. r >>= λ sh. after_at Q n sh (slice_get Q.code n)) at ∙ ap (after_at Q n sh) here ∙ ap (numbered n) h in
-    sym (ap (λ r. r >>= closed Q) (err_after Q (length Q.code) (suc n) (fault, n) one (omega arith)))
+    sym (ap (λ r. r >>= closed Q) (err_after Q (length Q.code) (suc n) (fault, n) (err_here Q n sh line fault at here h) (omega arith)))
 
 -- the element that a read gave
 pub read_line : (Q : Text) (code : List Instr) (n : ℕ) (line : Instr) → code ≡ Q.code → n < length code → line ≡ get_or code n line → slice_get Q.code n ≡ Some line

@@ -1,7 +1,7 @@
 -- A program and its typed program.
 use Rattle.std.proofs.Common.{◌≡◌, ℕ, zero, suc, ◌+◌, ◌-◌, ◌<◌, ◌≤◌, Bool, true, false, cond, List, [], ◌∷◌, length, Option, Some, None, Result, Ok, Err, refl, sym, ap, ◌∙◌, subst, arith}
-use Rattle.std.specs.Prelude.{map, slice_get, nat_lt, ℤ, pos, negsuc, is_some, not, ◌^◌}
-use Rattle.std.specs.List.{position, prefix_len}
+use Rattle.std.specs.Prelude.{map, slice_get, nat_lt, ℤ, pos, negsuc, is_some, not, ◌^◌, ◌++◌, ◌||◌}
+use Rattle.std.specs.List.{position, prefix_len, list_any, AllByRecursion}
 use Rattle.std.proofs.lemmas.List.{length-map}
 use Rattle.std.specs.Option.{option_map, option_and_then}
 use Rattle.std.proofs.lemmas.Bool.{ltb-true, ltb-false, lt-ltb, le-ltb}
@@ -13,26 +13,34 @@ use Rattle.il_model.specs.declared.value.Value.TheVariants as values
 use Rattle.il_model.specs.declared.op.Op.{Op}
 use Rattle.il_model.specs.declared.op.Modifier.{Modifier}
 use Rattle.il_model.specs.declared.program.Variable.{Variable}
-use Rattle.il_model.specs.declared.program.Place.{Place}
+use Rattle.il_model.specs.declared.program.Instance.{Instance}
 use Rattle.il_model.specs.declared.program.Operand.{Operand}
 use Rattle.il_model.specs.declared.program.Operand.TheVariants as operands
+use Rattle.il_model.specs.declared.program.Argument.{Argument}
+use Rattle.il_model.specs.declared.program.Side.{Side}
+use Rattle.il_model.specs.declared.program.Side.TheVariants as sides
 use Rattle.il_model.specs.declared.program.Instr.{Instr}
+use Rattle.il_model.specs.declared.kind.BlockKind.{BlockKind}
+use Rattle.il_model.specs.declared.kind.Field.{Field}
 use Rattle.il_model.specs.declared.fetched.Source.{Source}
 use Rattle.il_model.specs.declared.fetched.Source.TheVariants as sources
 use Rattle.il_model.specs.declared.typing.TypeFault.{TypeFault}
+use Rattle.il_model.specs.declared.typing.Kind.{Kind}
 use Rattle.il_model.specs.declared.typing.Kind.TheVariants as kinds
 use Rattle.il_model.specs.declared.typing.Held.{Held}
 use Rattle.il_model.specs.declared.typing.Effect.{Effect}
 use Rattle.il_model.specs.Text.{Text}
 use Rattle.il_model.specs.Values.{ty_of, number_of, made, truth_made, is_within}
-use Rattle.il_model.specs.Resolved.{has_label, target_of, source_of, place_of, labelled, is_labelled}
+use Rattle.il_model.specs.Resolved.{has_label, target_of, source_of, place_of, instance_in, instance_number, field_in, field_of, called_kind, labelled, is_labelled}
+use Rattle.il_model.specs.Kinds.{any_field, field_type}
 use Rattle.il_model.specs.Constants.{literal_of}
 use Rattle.il_model.specs.Row.{row}
-use Rattle.il_model.proofs.Safe.{some_yes}
-use Rattle.il_model.proofs.NeverStuck.{bind_ok, ok_before, typed_line, sourced}
+use Rattle.il_model.proofs.RowTypes.{some_yes}
+use Rattle.il_model.proofs.TypedLines.{bind_ok, ok_before, typed_line, sourced, fault_none, IsArgumentOf, arguments_typed, no_arguments, is_among}
+use Rattle.il_model.proofs.ArgumentFaults.{literal_by}
 use Rattle.il_model.proofs.Loop.{goes_at, fails_at}
-use Rattle.il_model.specs.Typing.{◌>>=◌, Shape, source_kind, place_type, source_row, line_row_of, line_row, label_at, label_row, applied, after_line, after_at, numbered, shape_at, closed, judged, IsTyped, top_of}
-use Rattle.il_model.specs.Settled.{wanted_type, settled_number, settled_as, settled_operand, settled_line, settled_nth, settled_on_arrival, settled_before, settled_text, if_typed, settled, is_bare, HasNoBare, Settles, IsSettling, IsSettledOnArrival, IsTypedProgramOf}
+use Rattle.il_model.specs.Typing.{◌>>=◌, Shape, source_kind, missing_kind, operand_kind, source_row, goes_so, passing_fault, first_fault, field_fault, field_named, argument_fault, arguments_fault, with_fault, line_row, label_at, label_row, applied, after_line, after_at, numbered, shape_at, closed, judged, IsTyped, top_of}
+use Rattle.il_model.specs.Settled.{wanted_type, settled_number, settled_as, settled_operand, settled_passing, settled_argument, settled_line, settled_nth, settled_on_arrival, settled_before, settled_text, if_typed, settled, is_bare, has_bare, HasNoBare, Settles, AreSettled, SettlesLine, IsSettling, IsSettledOnArrival, IsTypedProgramOf}
 
 -- ---- programs with the same declarations and labels
 
@@ -41,6 +49,7 @@ labels_of code = map (λ (line : Instr). line.label) code
 
 pub record Alike (P Q : Text) : Type 0 where
   pub variables : Q.variables ≡ P.variables
+  pub instances : Q.instances ≡ P.instances
   pub labels : labels_of Q.code ≡ labels_of P.code
 
 firsts_alike : (name : List ℕ) (xs ys : List Instr) → labels_of xs ≡ labels_of ys → prefix_len (λ (x : Instr). not (has_label name x)) xs ≡ prefix_len (λ (x : Instr). not (has_label name x)) ys
@@ -72,11 +81,17 @@ labels_at (suc n) (x ∷ xs) (y ∷ ys) e = labels_at n xs ys (cc)
 labelled_alike : (P Q : Text) (n : ℕ) → Alike P Q → is_labelled Q n ≡ is_labelled P n
 labelled_alike P Q n e = labels_at n Q.code P.code e.labels
 
-abbrev with_variables : List Variable → Text
-with_variables vs = record { variables = vs; code = [] }
+abbrev declaring : List Variable → List Instance → Text
+declaring vs xs = record { variables = vs; instances = xs; code = [] }
 
 place_alike : (P Q : Text) (name : List ℕ) → Alike P Q → place_of Q name ≡ place_of P name
-place_alike P Q name e = ap (λ (vs : List Variable). place_of (with_variables vs) name) e.variables
+place_alike P Q name e = ap (λ (vs : List Variable). place_of (declaring vs []) name) e.variables
+
+field_alike : (P Q : Text) (name field : List ℕ) → Alike P Q → field_of Q name field ≡ field_of P name field
+field_alike P Q name field e = ap (λ (xs : List Instance). field_in xs name field) e.instances
+
+instance_alike : (P Q : Text) (name : List ℕ) → Alike P Q → instance_number Q name ≡ instance_number P name
+instance_alike P Q name e = ap (λ (xs : List Instance). instance_in xs name) e.instances
 
 source_alike : (P Q : Text) (operand : Operand) → Alike P Q → source_of Q operand ≡ source_of P operand
 source_alike P Q operands.Absent e = refl
@@ -85,21 +100,53 @@ source_alike P Q (operands.Bare z) e = refl
 source_alike P Q (operands.Variable name) e = ap (option_map sources.Of) (place_alike P Q name e)
 source_alike P Q (operands.Direct loc) e = refl
 source_alike P Q (operands.Label name) e = ap (option_map sources.Target) (target_alike P Q name e)
+source_alike P Q (operands.Field name field) e = ap (option_map sources.Of) (field_alike P Q name field e)
+source_alike P Q (operands.Instance name) e = ap (option_map sources.Instance) (instance_alike P Q name e)
 
-place_type_alike : (P Q : Text) (p : Place) → Alike P Q → place_type Q p ≡ place_type P p
-place_type_alike P Q p e = ap (λ (vs : List Variable). place_type (with_variables vs) p) e.variables
+called_alike : (P Q : Text) (operand : Operand) → Alike P Q → called_kind Q operand ≡ called_kind P operand
+called_alike P Q operand e = ap (λ (xs : List Instance). called_kind (declaring [] xs) operand) e.instances
 
 kind_alike : (P Q : Text) (src : Source) → Alike P Q → source_kind Q src ≡ source_kind P src
-kind_alike P Q src e = ap (λ (vs : List Variable). source_kind (with_variables vs) src) e.variables
+kind_alike P Q src e =
+    ap (λ (vs : List Variable). source_kind (declaring vs Q.instances) src) e.variables
+    ∙ ap (λ (xs : List Instance). source_kind (declaring P.variables xs) src) e.instances
 
 source_row_alike : (P Q : Text) (cr : Option Ty) (top : Option Held) (depth : ℕ) (line : Instr) (o : Option Source) → Alike P Q → source_row Q cr top depth line o ≡ source_row P cr top depth line o
 source_row_alike P Q cr top depth line (Some src) e = ap (row cr top depth line.op line.modifier) (kind_alike P Q src e)
 source_row_alike P Q cr top depth line None e = refl
 
+abbrev kind_by : Text → Operand → Option Source → Kind
+kind_by Q operand o = elim o [ Some src ↦ source_kind Q src | None ↦ missing_kind operand ]
+
+kind_by_alike : (P Q : Text) (operand : Operand) (o : Option Source) → Alike P Q → kind_by Q operand o ≡ kind_by P operand o
+kind_by_alike P Q operand (Some src) e = kind_alike P Q src e
+kind_by_alike P Q operand None e = refl
+
+operand_kind_alike : (P Q : Text) (operand : Operand) → Alike P Q → operand_kind Q operand ≡ operand_kind P operand
+operand_kind_alike P Q operand e = ap (kind_by Q operand) (source_alike P Q operand e) ∙ kind_by_alike P Q operand (source_of P operand) e
+
+field_fault_alike : (P Q : Text) (a : Argument) (field : Option Field) → Alike P Q → field_fault Q a field ≡ field_fault P a field
+field_fault_alike P Q a None e = refl
+field_fault_alike P Q a (Some field) e = ap (λ (kind : Kind). cond (goes_so a.side field) (passing_fault a.side (field_type field) kind) (Some TypeFault.BadField)) (operand_kind_alike P Q a.operand e)
+
+argument_alike : (P Q : Text) (kind : Option BlockKind) (seen : List Argument) (a : Argument) → Alike P Q → argument_fault Q kind seen a ≡ argument_fault P kind seen a
+argument_alike P Q None seen a e = refl
+argument_alike P Q (Some k) seen a e = ap (cond (is_among seen a) (Some TypeFault.BadField)) (field_fault_alike P Q a (field_named k a.field) e)
+
+arguments_alike : (P Q : Text) (kind : Option BlockKind) (seen args : List Argument) → Alike P Q → arguments_fault Q kind seen args ≡ arguments_fault P kind seen args
+arguments_alike P Q kind seen [] e = refl
+arguments_alike P Q kind seen (a ∷ args) e =
+    ap (λ (o : Option TypeFault). first_fault o (arguments_fault Q kind (seen ++ a ∷ []) args)) (argument_alike P Q kind seen a e)
+    ∙ ap (first_fault (argument_fault P kind seen a)) (arguments_alike P Q kind (seen ++ a ∷ []) args e)
+
 line_row_alike : (P Q : Text) (sh : Shape) (line : Instr) → Alike P Q → line_row Q sh line ≡ line_row P sh line
 line_row_alike P Q sh line e =
-    ap (source_row Q sh.cr (top_of sh.kept) (length sh.kept) line) (source_alike P Q line.operand e)
-    ∙ source_row_alike P Q sh.cr (top_of sh.kept) (length sh.kept) line (source_of P line.operand) e
+    let top = top_of sh.kept in
+    let depth = length sh.kept in
+    ap (λ (o : Option Source). with_fault (source_row Q sh.cr top depth line o) (arguments_fault Q (called_kind Q line.operand) [] line.arguments)) (source_alike P Q line.operand e)
+    ∙ ap (λ (r : Result Effect TypeFault). with_fault r (arguments_fault Q (called_kind Q line.operand) [] line.arguments)) (source_row_alike P Q sh.cr top depth line (source_of P line.operand) e)
+    ∙ ap (λ (kind : Option BlockKind). with_fault (source_row P sh.cr top depth line (source_of P line.operand)) (arguments_fault Q kind [] line.arguments)) (called_alike P Q line.operand e)
+    ∙ ap (with_fault (source_row P sh.cr top depth line (source_of P line.operand))) (arguments_alike P Q (called_kind P line.operand) [] line.arguments e)
 
 label_row_alike : (P Q : Text) (n depth : ℕ) (label : Option (List ℕ)) → Alike P Q → label_row Q n depth label ≡ label_row P n depth label
 label_row_alike P Q n depth None e = refl
@@ -153,13 +200,13 @@ arrival_other Q n k (Ok sh) ne = nth_other sh.cr n k Q.code ne
 arrival_other Q n k (Err f) ne = refl
 
 arrival_alike : (P Q : Text) (n : ℕ) (r : Result Shape (TypeFault × ℕ)) → Alike P Q → Alike P (settled_on_arrival Q n r)
-arrival_alike P Q n (Ok sh) e = record { variables = e.variables; labels = nth_labels sh.cr n Q.code ∙ e.labels }
+arrival_alike P Q n (Ok sh) e = record { variables = e.variables; instances = e.instances; labels = nth_labels sh.cr n Q.code ∙ e.labels }
 arrival_alike P Q n (Err f) e = e
 
 -- ---- a program settled before a position
 
 before_alike : (P : Text) (n : ℕ) → Alike P (settled_before P n)
-before_alike P zero = record { variables = refl; labels = refl }
+before_alike P zero = record { variables = refl; instances = refl; labels = refl }
 before_alike P (suc n) = arrival_alike P (settled_before P n) n (shape_at (settled_before P n) n) (before_alike P n)
 
 before_past : (P : Text) (n k : ℕ) → n ≤ k → slice_get (settled_before P n).code k ≡ slice_get P.code k
@@ -190,7 +237,7 @@ text_shape : (P : Text) (n : ℕ) → n ≤ length P.code → shape_at (settled_
 text_shape P n le =
     let a = text_alike P in
     let b = before_alike P n in
-    shapes_alike (settled_before P n) (settled_text P) n (record { variables = a.variables ∙ sym b.variables; labels = a.labels ∙ sym b.labels }) (λ k lt. text_kept P n k le lt)
+    shapes_alike (settled_before P n) (settled_text P) n (record { variables = a.variables ∙ sym b.variables; instances = a.instances ∙ sym b.instances; labels = a.labels ∙ sym b.labels }) (λ k lt. text_kept P n k le lt)
 
 arrival_own : (Q : Text) (n : ℕ) (r : Result Shape (TypeFault × ℕ)) (sh : Shape) → r ≡ Ok sh → slice_get (settled_on_arrival Q n r).code n ≡ option_map (settled_line sh.cr) (slice_get Q.code n)
 arrival_own Q n (Ok s) sh e = let is : s ≡ sh = cc in nth_own s.cr n Q.code ∙ ap (λ (x : Shape). option_map (settled_line x.cr) (slice_get Q.code n)) is
@@ -213,10 +260,6 @@ text_arrival P n sh at =
 
 -- ---- the literal that a settled operand is
 
-literal_by : (z : ℤ) (o : Option Value) → literal_of (settled_as z o) ≡ None → settled_as z o ≡ operands.Bare z
-literal_by z (Some v) e = absurd cc
-literal_by z None e = refl
-
 -- an operand that is no literal then was none before, and is as it was
 pub settled_none : (cr : Option Ty) (op : Op) (m : Modifier) (o : Operand) → literal_of (settled_operand cr op m o) ≡ None → settled_operand cr op m o ≡ o
 settled_none cr op m operands.Absent e = refl
@@ -225,6 +268,8 @@ settled_none cr op m (operands.Bare z) e = literal_by z (settled_number cr op m.
 settled_none cr op m (operands.Variable name) e = refl
 settled_none cr op m (operands.Direct loc) e = refl
 settled_none cr op m (operands.Label name) e = refl
+settled_none cr op m (operands.Field name field) e = refl
+settled_none cr op m (operands.Instance name) e = refl
 
 pub literal_is : (o : Operand) (v : Value) → literal_of o ≡ Some v → o ≡ operands.Literal v
 literal_is operands.Absent v e = absurd cc
@@ -233,14 +278,35 @@ literal_is (operands.Bare z) v e = absurd cc
 literal_is (operands.Variable name) v e = absurd cc
 literal_is (operands.Direct loc) v e = absurd cc
 literal_is (operands.Label name) v e = absurd cc
+literal_is (operands.Field name field) v e = absurd cc
+literal_is (operands.Instance name) v e = absurd cc
+
+called_by : (Q : Text) (z : ℤ) (o : Option Value) → called_kind Q (settled_as z o) ≡ None
+called_by Q z (Some v) = refl
+called_by Q z None = refl
+
+-- a settled operand calls what it called before
+pub called_settled : (Q : Text) (cr : Option Ty) (op : Op) (m : Modifier) (o : Operand) → called_kind Q (settled_operand cr op m o) ≡ called_kind Q o
+called_settled Q cr op m operands.Absent = refl
+called_settled Q cr op m (operands.Literal v) = refl
+called_settled Q cr op m (operands.Bare z) = called_by Q z (settled_number cr op m.opens z)
+called_settled Q cr op m (operands.Variable name) = refl
+called_settled Q cr op m (operands.Direct loc) = refl
+called_settled Q cr op m (operands.Label name) = refl
+called_settled Q cr op m (operands.Field name field) = refl
+called_settled Q cr op m (operands.Instance name) = refl
+
+-- the row of an instruction with another operand, whatever its arguments
+abbrev operand_row : Text → Option Ty → Option Held → ℕ → Instr → Operand → Result Effect TypeFault
+operand_row Q cr top depth line o = source_row Q cr top depth (record line { operand = o }) (source_of Q o)
 
 pub literal_row : (Q : Text) (cr : Option Ty) (top : Option Held) (depth : ℕ) (line : Instr) (v : Value) → literal_of (settled_operand cr line.op line.modifier line.operand) ≡ Some v
-    → line_row_of Q cr top depth (settled_line cr line) ≡ row cr top depth line.op line.modifier (kinds.Typed (ty_of v) false)
-literal_row Q cr top depth line v e = ap (λ (o : Operand). line_row_of Q cr top depth (record line { operand = o })) (literal_is (settled_operand cr line.op line.modifier line.operand) v e)
+    → source_row Q cr top depth (settled_line cr line) (source_of Q (settled_line cr line).operand) ≡ row cr top depth line.op line.modifier (kinds.Typed (ty_of v) false)
+literal_row Q cr top depth line v e = ap (operand_row Q cr top depth line) (literal_is (settled_operand cr line.op line.modifier line.operand) v e)
 
 pub other_row : (Q : Text) (cr : Option Ty) (top : Option Held) (depth : ℕ) (line : Instr) → literal_of (settled_operand cr line.op line.modifier line.operand) ≡ None
-    → line_row_of Q cr top depth (settled_line cr line) ≡ line_row_of Q cr top depth line
-other_row Q cr top depth line e = ap (λ (o : Operand). line_row_of Q cr top depth (record line { operand = o })) (settled_none cr line.op line.modifier line.operand e)
+    → source_row Q cr top depth (settled_line cr line) (source_of Q (settled_line cr line).operand) ≡ source_row Q cr top depth line (source_of Q line.operand)
+other_row Q cr top depth line e = ap (operand_row Q cr top depth line) (settled_none cr line.op line.modifier line.operand e)
 
 -- ---- going over the instructions
 
@@ -303,6 +369,8 @@ settles cr op m (operands.Bare z) e = settles_by z (settled_number cr op m.opens
 settles cr op m (operands.Variable name) e = refl
 settles cr op m (operands.Direct loc) e = refl
 settles cr op m (operands.Label name) e = refl
+settles cr op m (operands.Field name field) e = refl
+settles cr op m (operands.Instance name) e = refl
 
 sourced_plain : (Q : Text) (o : Operand) (src : Source) → source_of Q o ≡ Some src → is_bare o ≡ false
 sourced_plain Q operands.Absent src e = refl
@@ -311,6 +379,60 @@ sourced_plain Q (operands.Bare z) src e = absurd cc
 sourced_plain Q (operands.Variable name) src e = refl
 sourced_plain Q (operands.Direct loc) src e = refl
 sourced_plain Q (operands.Label name) src e = refl
+sourced_plain Q (operands.Field name field) src e = refl
+sourced_plain Q (operands.Instance name) src e = refl
+
+or_no : (a b : Bool) → (a || b) ≡ false → (a ≡ false) × (b ≡ false)
+or_no true b e = absurd cc
+or_no false b e = (refl, e)
+
+no_or : (a b : Bool) → a ≡ false → b ≡ false → (a || b) ≡ false
+no_or true b e f = absurd cc
+no_or false b e f = f
+
+abbrev have_bare : List Argument → Bool
+have_bare args = list_any (λ (a : Argument). is_bare a.operand) args
+
+called_plain : (Q : Text) (k : BlockKind) (args : List Argument) → AllByRecursion (IsArgumentOf Q k) args → have_bare args ≡ false
+called_plain Q k [] all = refl
+called_plain Q k (a ∷ args) all = no_or (is_bare a.operand) (have_bare args) (sourced_plain Q a.operand all.0.source all.0.sourced) (called_plain Q k args all.1)
+
+arguments_plain : (Q : Text) (kind : Option BlockKind) (args : List Argument) → arguments_fault Q kind [] args ≡ None → have_bare args ≡ false
+arguments_plain Q None args e = ap have_bare (no_arguments Q [] args e)
+arguments_plain Q (Some k) args e = called_plain Q k args (arguments_typed Q k [] args e)
+
+settles_itself : (o : Operand) → is_bare o ≡ false → Settles o o
+settles_itself operands.Absent e = refl
+settles_itself (operands.Literal v) e = refl
+settles_itself (operands.Bare z) e = absurd cc
+settles_itself (operands.Variable name) e = refl
+settles_itself (operands.Direct loc) e = refl
+settles_itself (operands.Label name) e = refl
+settles_itself (operands.Field name field) e = refl
+settles_itself (operands.Instance name) e = refl
+
+settles_passing : (side : Side) (field : Option Field) (o : Operand) → is_bare (settled_passing side field o) ≡ false → Settles o (settled_passing side field o)
+settles_passing sides.Output field o e = settles_itself o e
+settles_passing sides.Input None o e = settles_itself o e
+settles_passing sides.Input (Some field) operands.Absent e = refl
+settles_passing sides.Input (Some field) (operands.Literal v) e = refl
+settles_passing sides.Input (Some field) (operands.Bare z) e = settles_by z (made (field_type field) z) (λ v is. made_number (field_type field) z v is) e
+settles_passing sides.Input (Some field) (operands.Variable name) e = refl
+settles_passing sides.Input (Some field) (operands.Direct loc) e = refl
+settles_passing sides.Input (Some field) (operands.Label name) e = refl
+settles_passing sides.Input (Some field) (operands.Field name other) e = refl
+settles_passing sides.Input (Some field) (operands.Instance name) e = refl
+
+are_settled : (args : List Argument) → have_bare (map settled_argument args) ≡ false → AreSettled args (map settled_argument args)
+are_settled [] e = tt
+are_settled (a ∷ args) e =
+    let both = or_no (is_bare (settled_argument a).operand) (have_bare (map settled_argument args)) e in
+    (refl, refl, settles_passing a.side (any_field a.field) a.operand both.0, are_settled args both.1)
+
+settles_line : (cr : Option Ty) (line : Instr) → has_bare (settled_line cr line) ≡ false → SettlesLine line (settled_line cr line)
+settles_line cr line e =
+    let both = or_no (is_bare (settled_line cr line).operand) (have_bare (settled_line cr line).arguments) e in
+    record { label = refl; op = refl; modifier = refl; operand = settles cr line.op line.modifier line.operand both.0; arguments = are_settled line.arguments both.1 }
 
 shape_within : (Q : Text) → IsTyped Q → (n : ℕ) → n ≤ length Q.code → (sh : Shape) × (shape_at Q n ≡ Ok sh)
 shape_within Q typed n le = let all = bind_ok (shape_at Q (length Q.code)) (closed Q) true typed in ok_before Q (length Q.code) all.0 all.1 n le
@@ -321,21 +443,22 @@ typed_plain Q typed n line here =
     let lt = slice_get_within Q.code n line here in
     let at = shape_within Q typed n (omega arith) in
     let is = typed_line Q typed n at.0 line lt at.1 here in
-    let src = sourced Q at.0.cr (top_of at.0.kept) (length at.0.kept) line (source_of Q line.operand) is.effect is.row in
-    sourced_plain Q line.operand src.0 src.1
+    let row = fault_none (source_row Q at.0.cr (top_of at.0.kept) (length at.0.kept) line (source_of Q line.operand)) (arguments_fault Q (called_kind Q line.operand) [] line.arguments) is.effect is.row in
+    let src = sourced Q at.0.cr (top_of at.0.kept) (length at.0.kept) line (source_of Q line.operand) is.effect row.0 in
+    no_or (is_bare line.operand) (have_bare line.arguments) (sourced_plain Q line.operand src.0 src.1) (arguments_plain Q (called_kind Q line.operand) line.arguments row.1)
 
-text_lines : (P : Text) → IsTyped (settled_text P) → (n : ℕ) (line : Instr) → slice_get P.code n ≡ Some line → (o : Operand) × Settles line.operand o × (slice_get (settled_text P).code n ≡ Some (record line { operand = o }))
+text_lines : (P : Text) → IsTyped (settled_text P) → (n : ℕ) (line : Instr) → slice_get P.code n ≡ Some line → (q : Instr) × SettlesLine line q × (slice_get (settled_text P).code n ≡ Some q)
 text_lines P typed n line here =
     let lt = slice_get_within P.code n line here in
     let at = shape_within (settled_text P) typed n (omega (arith, text_count P)) in
     let there = here_settled P n at.0 line at.1 here in
-    (settled_operand at.0.cr line.op line.modifier line.operand, settles at.0.cr line.op line.modifier line.operand (typed_plain (settled_text P) typed n (settled_line at.0.cr line) there), there)
+    (settled_line at.0.cr line, settles_line at.0.cr line (typed_plain (settled_text P) typed n (settled_line at.0.cr line) there), there)
 
 text_typed : (P : Text) → IsTyped (settled_text P) → IsTypedProgramOf P (settled_text P)
 text_typed P typed = record {
   typed = typed;
   plain = typed_plain (settled_text P) typed;
-  same = record { variables = (text_alike P).variables; count = text_count P; lines = text_lines P typed };
+  same = record { variables = (text_alike P).variables; instances = (text_alike P).instances; count = text_count P; lines = text_lines P typed };
   placed = text_arrival P;
 }
 
@@ -362,7 +485,7 @@ typed_program P Q e =
 
 -- each instruction of the second is that of the first but for a number that has its type
 abbrev pub AreLines : List Instr → List Instr → Type 0
-AreLines ps qs = (n : ℕ) (p : Instr) → slice_get ps n ≡ Some p → (o : Operand) × Settles p.operand o × (slice_get qs n ≡ Some (record p { operand = o }))
+AreLines ps qs = (n : ℕ) (p : Instr) → slice_get ps n ≡ Some p → (q : Instr) × SettlesLine p q × (slice_get qs n ≡ Some q)
 
 pub some_is : (p q : Instr) → Some p ≡ Some q → p ≡ q
 some_is p q e = cc
@@ -373,11 +496,12 @@ same_labels [] (q ∷ qs) len are = absurd (omega (arith, len))
 same_labels (p ∷ ps) [] len are = absurd (omega (arith, len))
 same_labels (p ∷ ps) (q ∷ qs) len are =
     let here = are zero p refl in
-    ap (λ (x : Instr). x.label ∷ labels_of qs) (some_is q (record p { operand = here.0 }) here.2)
+    ap (λ (x : Instr). x.label ∷ labels_of qs) (some_is q here.0 here.2)
+    ∙ ap (λ (label : Option (List ℕ)). label ∷ labels_of qs) here.1.label
     ∙ ap (λ (ls : List (Option (List ℕ))). p.label ∷ ls) (same_labels ps qs (omega (arith, len)) (λ n x e. are (suc n) x e))
 
 pub settling_alike : (P Q : Text) → IsSettling P Q → Alike P Q
-settling_alike P Q is = record { variables = is.variables; labels = same_labels P.code Q.code is.count is.lines }
+settling_alike P Q is = record { variables = is.variables; instances = is.instances; labels = same_labels P.code Q.code is.count is.lines }
 
 same_list : (xs ys : List Instr) → length xs ≡ length ys → ((k : ℕ) → k < length xs → slice_get xs k ≡ slice_get ys k) → xs ≡ ys
 same_list [] [] len same = refl
@@ -391,7 +515,7 @@ text_like : (P Q : Text) → IsTypedProgramOf P Q → Alike (settled_text P) Q
 text_like P Q is =
     let a = settling_alike P Q is.same in
     let b = text_alike P in
-    record { variables = a.variables ∙ sym b.variables; labels = a.labels ∙ sym b.labels }
+    record { variables = a.variables ∙ sym b.variables; instances = a.instances ∙ sym b.instances; labels = a.labels ∙ sym b.labels }
 
 lines_same : (P Q : Text) → IsTypedProgramOf P Q → (n : ℕ) → n ≤ length P.code → (k : ℕ) → k < n → slice_get Q.code k ≡ slice_get (settled_text P).code k
 lines_same P Q is zero le k lt = absurd (omega arith)
@@ -410,8 +534,9 @@ text_same : (P Q : Text) → IsTypedProgramOf P Q → Q ≡ settled_text P
 text_same P Q is =
     let codes : Q.code ≡ (settled_text P).code = same_list Q.code (settled_text P).code (is.same.count ∙ sym (text_count P)) (λ k lt. lines_same P Q is (length P.code) (omega arith) k (omega (arith, is.same.count))) in
     let like = text_like P Q is in
-    ap (λ (vs : List Variable). let R : Text = record { variables = vs; code = Q.code } in R) like.variables
-    ∙ ap (λ (code : List Instr). let R : Text = record { variables = (settled_text P).variables; code = code } in R) codes
+    ap (λ (vs : List Variable). let R : Text = record { variables = vs; instances = Q.instances; code = Q.code } in R) like.variables
+    ∙ ap (λ (xs : List Instance). let R : Text = record { variables = (settled_text P).variables; instances = xs; code = Q.code } in R) like.instances
+    ∙ ap (λ (code : List Instr). let R : Text = record { variables = (settled_text P).variables; instances = (settled_text P).instances; code = code } in R) codes
 
 -- a typed program of a program is the one that settling gives
 pub typed_only : (P Q : Text) → IsTypedProgramOf P Q → settled P ≡ Ok Q
@@ -429,14 +554,41 @@ operand_plain cr op m (operands.Bare z) e = absurd cc
 operand_plain cr op m (operands.Variable name) e = refl
 operand_plain cr op m (operands.Direct loc) e = refl
 operand_plain cr op m (operands.Label name) e = refl
+operand_plain cr op m (operands.Field name field) e = refl
+operand_plain cr op m (operands.Instance name) e = refl
 
-nth_plain : (cr : Option Ty) (n : ℕ) (code : List Instr) → ((line : Instr) → slice_get code n ≡ Some line → is_bare line.operand ≡ false) → settled_nth cr n code ≡ code
+passing_plain : (side : Side) (field : Option Field) (o : Operand) → is_bare o ≡ false → settled_passing side field o ≡ o
+passing_plain sides.Output field o e = refl
+passing_plain sides.Input None o e = refl
+passing_plain sides.Input (Some field) operands.Absent e = refl
+passing_plain sides.Input (Some field) (operands.Literal v) e = refl
+passing_plain sides.Input (Some field) (operands.Bare z) e = absurd cc
+passing_plain sides.Input (Some field) (operands.Variable name) e = refl
+passing_plain sides.Input (Some field) (operands.Direct loc) e = refl
+passing_plain sides.Input (Some field) (operands.Label name) e = refl
+passing_plain sides.Input (Some field) (operands.Field name other) e = refl
+passing_plain sides.Input (Some field) (operands.Instance name) e = refl
+
+stay_plain : (args : List Argument) → have_bare args ≡ false → map settled_argument args ≡ args
+stay_plain [] e = refl
+stay_plain (a ∷ args) e =
+    let both = or_no (is_bare a.operand) (have_bare args) e in
+    ap (λ (o : Operand). record a { operand = o } ∷ map settled_argument args) (passing_plain a.side (any_field a.field) a.operand both.0)
+    ∙ ap (λ (rest : List Argument). a ∷ rest) (stay_plain args both.1)
+
+line_plain : (cr : Option Ty) (line : Instr) → has_bare line ≡ false → settled_line cr line ≡ line
+line_plain cr line e =
+    let both = or_no (is_bare line.operand) (have_bare line.arguments) e in
+    ap (λ (o : Operand). record line { operand = o; arguments = map settled_argument line.arguments }) (operand_plain cr line.op line.modifier line.operand both.0)
+    ∙ ap (λ (args : List Argument). record line { arguments = args }) (stay_plain line.arguments both.1)
+
+nth_plain : (cr : Option Ty) (n : ℕ) (code : List Instr) → ((line : Instr) → slice_get code n ≡ Some line → has_bare line ≡ false) → settled_nth cr n code ≡ code
 nth_plain cr n [] plain = refl
-nth_plain cr zero (line ∷ code) plain = ap (λ (o : Operand). record line { operand = o } ∷ code) (operand_plain cr line.op line.modifier line.operand (plain line refl))
+nth_plain cr zero (line ∷ code) plain = ap (λ (l : Instr). l ∷ code) (line_plain cr line (plain line refl))
 nth_plain cr (suc n) (line ∷ code) plain = ap (λ (ls : List Instr). line ∷ ls) (nth_plain cr n code plain)
 
 arrival_plain : (P : Text) (n : ℕ) (r : Result Shape (TypeFault × ℕ)) → HasNoBare P → settled_on_arrival P n r ≡ P
-arrival_plain P n (Ok sh) plain = ap (λ (code : List Instr). let Q : Text = record { variables = P.variables; code = code } in Q) (nth_plain sh.cr n P.code (plain n))
+arrival_plain P n (Ok sh) plain = ap (λ (code : List Instr). record P { code = code }) (nth_plain sh.cr n P.code (plain n))
 arrival_plain P n (Err f) plain = refl
 
 before_plain : (P : Text) (n : ℕ) → HasNoBare P → settled_before P n ≡ P

@@ -1,5 +1,5 @@
 -- What the numbers in an image stand for: types, locations, operators, letters, operands.
-use Rattle.std.specs.Prelude.{ℕ, ◌-◌, zero, suc, Bool, true, false, not, ◌&&◌, ◌||◌, List, [], ◌∷◌, slice_get, Option, Some, None, is_some, is_none, nat_lt, nat_eq, if◌then◌else◌}
+use Rattle.std.specs.Prelude.{ℕ, ◌-◌, ◌/◌, ◌%◌, zero, suc, Bool, true, false, not, ◌&&◌, ◌||◌, List, [], ◌∷◌, slice_get, Option, Some, None, is_some, is_none, nat_lt, nat_eq, if◌then◌else◌}
 use Rattle.std.specs.List.{position}
 use Rattle.std.specs.Option.{option_map, option_and_then}
 use Rattle.std.specs.Int.{w32, cast_signed}
@@ -14,6 +14,11 @@ use Rattle.il_model.specs.declared.program.Area.TheVariants as areas
 use Rattle.il_model.specs.declared.program.Loc.{Loc}
 use Rattle.il_model.specs.declared.program.Loc.TheVariants.{Bit, Word}
 use Rattle.il_model.specs.declared.program.Variable.{Variable}
+use Rattle.il_model.specs.declared.program.Instance.{Instance}
+use Rattle.il_model.specs.declared.program.Side.{Side}
+use Rattle.il_model.specs.declared.program.Side.TheVariants as sides
+use Rattle.il_model.specs.declared.kind.BlockKind.{BlockKind}
+use Rattle.il_model.specs.declared.kind.Field.{Field}
 use Rattle.il_model.specs.declared.program.Operand.{Operand}
 use Rattle.il_model.specs.declared.program.Operand.TheVariants as operands
 use Rattle.il_model.specs.declared.program.Instr.{Instr}
@@ -25,7 +30,10 @@ use Rattle.il_model.specs.declared.codes.Usage.{Usage}
 use Rattle.il_model.specs.Values.{made, number_of}
 use Rattle.il_model.specs.Operators.{is_zero}
 use Rattle.il_model.specs.Names.{same_name, is_lawful_name}
-use Rattle.il_model.specs.State.{area_of}
+use Rattle.il_model.specs.Kinds.{kind_fields, field_name}
+use Rattle.il_model.specs.Text.{Declarations}
+use Rattle.il_model.specs.Resolved.{instance_in}
+use Rattle.il_model.specs.Areas.{area_of}
 use Rattle.il_model.specs.Typing.{loc_type, is_output}
 use Rattle.il_model.specs.Marks.{Mark}
 use Rattle.il_model.specs.Constants.{same_value}
@@ -40,6 +48,10 @@ is_number seen name = position (λ (v : Variable). same_name v.name name) seen
 -- a lawful name that wasn't there before
 abbrev pub is_new_name : List Variable → List ℕ → Bool
 is_new_name seen name = is_lawful_name name && not (is_some (is_number seen name))
+
+-- a lawful name that no variable and no instance before it has
+abbrev pub is_new_instance : List Variable → List Instance → List ℕ → Bool
+is_new_instance vs seen name = is_new_name vs name && not (is_some (instance_in seen name))
 
 -- a lawful name that no label before it has; labels are a name space of their own
 abbrev pub is_new_label : List Mark → List ℕ → Bool
@@ -118,35 +130,44 @@ abbrev pub variable_named : Option Variable → Option Operand
 variable_named None = None
 variable_named (Some v) = Some (operands.Variable v.name)
 
+abbrev pub instance_named : Option Instance → Option Operand
+instance_named None = None
+instance_named (Some x) = Some (operands.Instance x.name)
+
+-- the field of an instance by its number
+abbrev pub field_named : Option Instance → ℕ → Option Operand
+field_named None n = None
+field_named (Some x) n = option_map (λ (f : Field). operands.Field x.name (field_name f)) (slice_get (kind_fields x.kind) n)
+
 -- ---- the table of operators: the letters that each takes, and the form of its operand
 
-abbrev pub usage_of : Op → Option Usage
-usage_of ops.Empty = Some (record { letters = letters.None; form = forms.Absent })
-usage_of ops.Ld = Some (record { letters = letters.N; form = forms.Value })
-usage_of ops.St = Some (record { letters = letters.N; form = forms.Value })
-usage_of ops.S = Some (record { letters = letters.None; form = forms.Value })
-usage_of ops.R = Some (record { letters = letters.None; form = forms.Value })
-usage_of ops.And = Some (record { letters = letters.NOpens; form = forms.Value })
-usage_of ops.Or = Some (record { letters = letters.NOpens; form = forms.Value })
-usage_of ops.Xor = Some (record { letters = letters.NOpens; form = forms.Value })
-usage_of ops.Not = Some (record { letters = letters.None; form = forms.Absent })
-usage_of ops.Add = Some (record { letters = letters.Opens; form = forms.Value })
-usage_of ops.Sub = Some (record { letters = letters.Opens; form = forms.Value })
-usage_of ops.Mul = Some (record { letters = letters.Opens; form = forms.Value })
-usage_of ops.Div = Some (record { letters = letters.Opens; form = forms.Value })
-usage_of ops.Mod = Some (record { letters = letters.Opens; form = forms.Value })
-usage_of ops.Gt = Some (record { letters = letters.Opens; form = forms.Value })
-usage_of ops.Ge = Some (record { letters = letters.Opens; form = forms.Value })
-usage_of ops.Eq = Some (record { letters = letters.Opens; form = forms.Value })
-usage_of ops.Ne = Some (record { letters = letters.Opens; form = forms.Value })
-usage_of ops.Le = Some (record { letters = letters.Opens; form = forms.Value })
-usage_of ops.Lt = Some (record { letters = letters.Opens; form = forms.Value })
-usage_of ops.Jmp = Some (record { letters = letters.C; form = forms.Label })
-usage_of ops.Cal = None
-usage_of ops.Ret = Some (record { letters = letters.C; form = forms.Absent })
-usage_of ops.Close = Some (record { letters = letters.None; form = forms.Absent })
-usage_of ops.IntToDint = Some (record { letters = letters.None; form = forms.Absent })
-usage_of ops.DintToInt = Some (record { letters = letters.None; form = forms.Absent })
+abbrev pub usage_of : Op → Usage
+usage_of ops.Empty = record { letters = letters.None; form = forms.Absent }
+usage_of ops.Ld = record { letters = letters.N; form = forms.Value }
+usage_of ops.St = record { letters = letters.N; form = forms.Value }
+usage_of ops.S = record { letters = letters.None; form = forms.Value }
+usage_of ops.R = record { letters = letters.None; form = forms.Value }
+usage_of ops.And = record { letters = letters.NOpens; form = forms.Value }
+usage_of ops.Or = record { letters = letters.NOpens; form = forms.Value }
+usage_of ops.Xor = record { letters = letters.NOpens; form = forms.Value }
+usage_of ops.Not = record { letters = letters.None; form = forms.Absent }
+usage_of ops.Add = record { letters = letters.Opens; form = forms.Value }
+usage_of ops.Sub = record { letters = letters.Opens; form = forms.Value }
+usage_of ops.Mul = record { letters = letters.Opens; form = forms.Value }
+usage_of ops.Div = record { letters = letters.Opens; form = forms.Value }
+usage_of ops.Mod = record { letters = letters.Opens; form = forms.Value }
+usage_of ops.Gt = record { letters = letters.Opens; form = forms.Value }
+usage_of ops.Ge = record { letters = letters.Opens; form = forms.Value }
+usage_of ops.Eq = record { letters = letters.Opens; form = forms.Value }
+usage_of ops.Ne = record { letters = letters.Opens; form = forms.Value }
+usage_of ops.Le = record { letters = letters.Opens; form = forms.Value }
+usage_of ops.Lt = record { letters = letters.Opens; form = forms.Value }
+usage_of ops.Jmp = record { letters = letters.C; form = forms.Label }
+usage_of ops.Cal = record { letters = letters.C; form = forms.Instance }
+usage_of ops.Ret = record { letters = letters.C; form = forms.Absent }
+usage_of ops.Close = record { letters = letters.None; form = forms.Absent }
+usage_of ops.IntToDint = record { letters = letters.None; form = forms.Absent }
+usage_of ops.DintToInt = record { letters = letters.None; form = forms.Absent }
 
 -- no letter; N or none; C, CN or none; a parenthesis or none; that with N or without
 abbrev pub allows : LetterSet → Modifier → Bool
@@ -162,17 +183,17 @@ has_form forms.Absent opens operands.Absent = true
 has_form forms.Value opens (operands.Literal v) = true
 has_form forms.Value opens (operands.Variable name) = true
 has_form forms.Value opens (operands.Direct loc) = true
+has_form forms.Value opens (operands.Field name field) = true
 has_form forms.Value true operands.Absent = true
 has_form forms.Label opens (operands.Label name) = true
+has_form forms.Instance opens (operands.Instance name) = true
 has_form form opens operand = false
 
-abbrev pub allowed_by : Option Usage → Modifier → Bool
-allowed_by None m = false
-allowed_by (Some usage) m = allows usage.letters m
+abbrev pub allowed_by : Usage → Modifier → Bool
+allowed_by usage m = allows usage.letters m
 
-abbrev pub formed_by : Option Usage → Modifier → Operand → Bool
-formed_by None m o = false
-formed_by (Some usage) m o = has_form usage.form m.opens o
+abbrev pub formed_by : Usage → Modifier → Operand → Bool
+formed_by usage m o = has_form usage.form m.opens o
 
 -- ---- words
 
@@ -183,27 +204,33 @@ op_list =
     ops.Add ∷ ops.Sub ∷ ops.Mul ∷ ops.Div ∷ ops.Mod ∷ ops.Gt ∷ ops.Ge ∷ ops.Eq ∷ ops.Ne ∷ ops.Le ∷ ops.Lt ∷
     ops.Jmp ∷ ops.Cal ∷ ops.Ret ∷ ops.Close ∷ ops.IntToDint ∷ ops.DintToInt ∷ []
 
--- an operator that has a row in the table
+-- the operator of a code
 abbrev pub op_of : ℕ → Option Op
-op_of n = option_and_then (tested (λ op. is_some (usage_of op))) (slice_get op_list n)
+op_of n = slice_get op_list n
 
 -- the letters of an operator
 abbrev pub letters_of : Op → ℕ → Option Modifier
 letters_of op n = option_and_then (tested (allowed_by (usage_of op))) (modifier_of n)
 
-abbrev pub raw_operand : List Variable → ℕ → Option Operand
-raw_operand vs n =
-    if nat_lt n 16384 then option_map operands.Direct (any_loc n)
-    else (if nat_eq n 65535 then Some operands.Absent else variable_named (slice_get vs (n - 16384)))
+-- a number behind those of the variables is that of a field, 8 for each instance
+abbrev pub named_operand : Declarations → ℕ → Option Operand
+named_operand ds n =
+    if nat_lt n 20480 then variable_named (slice_get ds.variables (n - 16384))
+    else field_named (slice_get ds.instances ((n - 20480) / 8)) ((n - 20480) % 8)
 
--- no operand, a location or a variable, that has this code
-abbrev pub operand_of : List Variable → ℕ → Option Operand
-operand_of vs n = option_and_then (tested (λ o. nat_eq (plain_code vs o) n)) (raw_operand vs n)
+abbrev pub raw_operand : Declarations → ℕ → Option Operand
+raw_operand ds n =
+    if nat_lt n 16384 then option_map operands.Direct (any_loc n)
+    else (if nat_eq n 65535 then Some operands.Absent else named_operand ds n)
+
+-- no operand, a location, a variable or a field, that has this code
+abbrev pub operand_of : Declarations → ℕ → Option Operand
+operand_of ds n = option_and_then (tested (λ o. nat_eq (plain_code ds o) n)) (raw_operand ds n)
 
 -- an operand that is no label: a constant of the table, or one of the above
-abbrev pub value_operand : List Variable → List Value → ℕ → Option Operand
-value_operand vs constants n =
-    if nat_lt n 32768 || nat_eq n 65535 then operand_of vs n else option_map operands.Literal (slice_get constants (n - 32768))
+abbrev pub value_operand : Declarations → List Value → ℕ → Option Operand
+value_operand ds constants n =
+    if nat_lt n 32768 || nat_eq n 65535 then operand_of ds n else option_map operands.Literal (slice_get constants (n - 32768))
 
 -- the name of the first label at an address
 abbrev pub label_there : List Mark → ℕ → Option (List ℕ)
@@ -219,13 +246,40 @@ abbrev pub is_jump : Op → Bool
 is_jump ops.Jmp = true
 is_jump op = false
 
--- what a word's number stands for; any address may follow JMP, whether a label stands there is judged later
-abbrev pub numbered_operand : List Variable → List Mark → List Value → Op → ℕ → Option Operand
-numbered_operand vs marks constants op n = if is_jump op then Some (operands.Label (target_name (label_there marks n))) else value_operand vs constants n
+abbrev pub is_call : Op → Bool
+is_call ops.Cal = true
+is_call op = false
+
+-- what a word's number stands for; any address may follow JMP, whether a label stands there is judged later; CAL has the
+-- number of an instance
+abbrev pub numbered_operand : Declarations → List Mark → List Value → Op → ℕ → Option Operand
+numbered_operand ds marks constants op n =
+    if is_jump op then Some (operands.Label (target_name (label_there marks n)))
+    else if is_call op then instance_named (slice_get ds.instances n)
+    else value_operand ds constants n
 
 -- that, where the operator takes an operand of its form
-abbrev pub word_operand : List Variable → List Mark → List Value → Op → Modifier → ℕ → Option Operand
-word_operand vs marks constants op m n = option_and_then (tested (formed_by (usage_of op) m)) (numbered_operand vs marks constants op n)
+abbrev pub word_operand : Declarations → List Mark → List Value → Op → Modifier → ℕ → Option Operand
+word_operand ds marks constants op m n = option_and_then (tested (formed_by (usage_of op) m)) (numbered_operand ds marks constants op n)
+
+-- ---- the words of arguments
+
+abbrev pub side_of : ℕ → Option Side
+side_of n = if nat_eq n 26 then Some sides.Input else (if nat_eq n 27 then Some sides.Output else None)
+
+-- any number below 8 may be a field's; whether the kind has it is judged later
+abbrev pub argument_number : ℕ → Option ℕ
+argument_number n = if nat_lt n 8 then Some n else None
+
+-- an argument always has a value or a place
+abbrev pub argument_operand : Declarations → List Value → ℕ → Option Operand
+argument_operand ds constants n = option_and_then (tested (has_form forms.Value false)) (value_operand ds constants n)
+
+-- the name of the field with a number; a number that the kind hasn't is the empty name, which no field has
+abbrev pub argument_name : Option BlockKind → ℕ → List ℕ
+argument_name kind n = elim (option_and_then (λ k. slice_get (kind_fields k) n) kind) [ Some field ↦ field_name field | None ↦ [] ]
+
+-- ---- empty instructions
 
 -- an empty instruction stands only where a label stands
 abbrev pub is_empty : Op → Bool

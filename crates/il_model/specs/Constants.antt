@@ -1,9 +1,10 @@
 -- The constants of a program, in the order of their first use.
-use Rattle.std.specs.Prelude.{ℕ, suc, Bool, false, List, [], ◌∷◌, ◌++◌, Option, Some, None, is_some, nat_lt, nat_eq, if◌then◌else◌}
-use Rattle.std.specs.List.{position}
+use Rattle.std.specs.Prelude.{ℕ, suc, Bool, false, List, [], ◌∷◌, ◌++◌, map, Option, Some, None, is_some, nat_lt, nat_eq, if◌then◌else◌}
+use Rattle.std.specs.List.{position, flat_map}
 use Rattle.il_model.specs.declared.value.Value.{Value}
 use Rattle.il_model.specs.declared.value.Value.TheVariants as values
 use Rattle.il_model.specs.declared.program.Instr.{Instr}
+use Rattle.il_model.specs.declared.program.Argument.{Argument}
 use Rattle.il_model.specs.declared.program.Operand.{Operand}
 use Rattle.il_model.specs.declared.program.Operand.TheVariants as operands
 use Rattle.il_model.specs.Operators.{same_truth, same_number}
@@ -26,12 +27,20 @@ abbrev pub joined_constants : (Value → Value → Bool) → List Value → Opti
 joined_constants same seen None = seen
 joined_constants same seen (Some v) = if is_some (position (same v) seen) then seen else seen ++ v ∷ []
 
-abbrev pub constants_from : (Value → Value → Bool) → List Value → List Instr → List Value
+abbrev pub constants_from : (Value → Value → Bool) → List Value → List Operand → List Value
 constants_from same seen [] = seen
-constants_from same seen (line ∷ code) = constants_from same (joined_constants same seen (literal_of line.operand)) code
+constants_from same seen (o ∷ os) = constants_from same (joined_constants same seen (literal_of o)) os
+
+-- the operand of an instruction, then those of its arguments
+abbrev pub operands_in : Instr → List Operand
+operands_in line = line.operand ∷ map (λ (a : Argument). a.operand) line.arguments
+
+-- one for each word
+abbrev pub operands_of : List Instr → List Operand
+operands_of code = flat_map operands_in code
 
 abbrev pub constants_of : Text → List Value
-constants_of Q = constants_from same_value [] Q.code
+constants_of Q = constants_from same_value [] (operands_of Q.code)
 
 -- how many of a table's constants are used behind a word that uses the k-th, where no lower one is left out
 abbrev pub used_after : ℕ → ℕ → Option ℕ

@@ -1,19 +1,26 @@
 -- What a program is that has an image: each part reads back from its code.
-use Rattle.std.specs.Prelude.{◌≡◌, ℕ, ◌<◌, ◌≤◌, ◌^◌, true, false, List, [], ◌∷◌, ◌++◌, length, Some}
+use Rattle.std.specs.Prelude.{◌≡◌, ℕ, ◌||◌, nat_eq, ◌<◌, ◌≤◌, ◌^◌, true, false, List, [], ◌∷◌, ◌++◌, length, Option, Some}
+use Rattle.std.specs.List.{AllByRecursion}
+use Rattle.std.specs.Option.{option_and_then}
 use Rattle.std.specs.Int.{w32, cast_unsigned}
 use Rattle.il_model.specs.declared.value.Value.{Value}
 use Rattle.il_model.specs.declared.op.Op.{Op}
 use Rattle.il_model.specs.declared.op.Modifier.{Modifier}
+use Rattle.il_model.specs.declared.kind.BlockKind.{BlockKind}
 use Rattle.il_model.specs.declared.program.Variable.{Variable}
+use Rattle.il_model.specs.declared.program.Instance.{Instance}
+use Rattle.il_model.specs.declared.program.Argument.{Argument}
 use Rattle.il_model.specs.declared.program.Operand.{Operand}
 use Rattle.il_model.specs.declared.program.Instr.{Instr}
 use Rattle.il_model.specs.Values.{ty_of, number_of}
-use Rattle.il_model.specs.Text.{Text}
+use Rattle.il_model.specs.Text.{Text, Declarations, declared_by}
+use Rattle.il_model.specs.Kinds.{field_number}
+use Rattle.il_model.specs.Resolved.{called_kind}
 use Rattle.il_model.specs.Typing.{IsTyped}
-use Rattle.il_model.specs.Marks.{Mark, marks_from}
+use Rattle.il_model.specs.Marks.{Mark, marks_from, words_in}
 use Rattle.il_model.specs.Constants.{constants_of}
 use Rattle.il_model.specs.Image.{type_code, location_code, op_code, modifier_code, operand_code}
-use Rattle.il_model.specs.Codes.{length_of, is_new_name, is_new_label, type_of, location_of, initial_of, constant_of, op_of, letters_of, word_operand, is_pointless}
+use Rattle.il_model.specs.Codes.{length_of, is_new_name, is_new_instance, is_new_label, type_of, location_of, initial_of, constant_of, op_of, letters_of, word_operand, argument_name, argument_operand, is_call, is_pointless}
 
 -- a variable behind those that were declared before it
 pub record IsVariable (seen : List Variable) (v : Variable) : Type 0 where
@@ -24,6 +31,11 @@ pub record IsVariable (seen : List Variable) (v : Variable) : Type 0 where
   pub location_small : location_code v.location < 2 ^ 16
   pub initial : initial_of v.ty v.location (cast_unsigned w32 (number_of v.initial)) ≡ Some v.initial
   pub initial_small : cast_unsigned w32 (number_of v.initial) < 2 ^ 32
+
+-- an instance behind the variables and those before it
+pub record IsInstance (vs : List Variable) (seen : List Instance) (x : Instance) : Type 0 where
+  pub length : length_of (length x.name) ≡ Some (length x.name)
+  pub name : is_new_instance vs seen x.name ≡ true
 
 -- a label behind those before it
 pub record IsMark (seen : List Mark) (m : Mark) : Type 0 where
@@ -38,17 +50,29 @@ pub record IsConstant (seen : List Value) (v : Value) : Type 0 where
   pub small : cast_unsigned w32 (number_of v) < 2 ^ 32
 
 -- an operator with its letters and its operand, which is a number
-pub record IsCoded (vs : List Variable) (marks : List Mark) (constants : List Value) (op : Op) (m : Modifier) (operand : Operand) (code : ℕ) : Type 0 where
+pub record IsCoded (ds : Declarations) (marks : List Mark) (constants : List Value) (op : Op) (m : Modifier) (operand : Operand) (code : ℕ) : Type 0 where
   pub op_read : op_of (op_code op) ≡ Some op
   pub op_small : op_code op < 2 ^ 8
   pub letters : letters_of op (modifier_code m) ≡ Some m
   pub letters_small : modifier_code m < 2 ^ 8
-  pub operand_read : word_operand vs marks constants op m code ≡ Some operand
+  pub operand_read : word_operand ds marks constants op m code ≡ Some operand
   pub operand_small : code < 2 ^ 16
 
+-- an argument of a call to a block of that kind
+pub record IsPassing (Q : Text) (kind : Option BlockKind) (a : Argument) : Type 0 where
+  pub number : ℕ
+  pub field : option_and_then (λ k. field_number k a.field) kind ≡ Some number
+  pub name : argument_name kind number ≡ a.field
+  pub small : number < 8
+  pub operand_read : argument_operand (declared_by Q) (constants_of Q) (operand_code Q (constants_of Q) a.operand) ≡ Some a.operand
+  pub operand_small : operand_code Q (constants_of Q) a.operand < 2 ^ 16
+
 pub record IsWord (Q : Text) (line : Instr) : Type 0 where
-  pub coded : IsCoded Q.variables (marks_from 0 Q.code) (constants_of Q) line.op line.modifier line.operand (operand_code Q (constants_of Q) line.operand)
+  pub coded : IsCoded (declared_by Q) (marks_from 0 Q.code) (constants_of Q) line.op line.modifier line.operand (operand_code Q (constants_of Q) line.operand)
   pub labelled : is_pointless line ≡ false
+  pub arguments : AllByRecursion (IsPassing Q (called_kind Q line.operand)) line.arguments
+  -- only a call has arguments
+  pub called : (is_call line.op || nat_eq (length line.arguments) 0) ≡ true
 
 -- each of the later items is one behind those before it
 abbrev pub AreItems : {X : Type 0} → (List X → X → Type 0) → List X → List X → Type 0
@@ -58,12 +82,14 @@ AreItems IsItem seen (x ∷ xs) = IsItem seen x × AreItems IsItem (seen ++ x �
 pub record IsText (Q : Text) : Type 0 where
   pub variables : AreItems IsVariable [] Q.variables
   pub variables_few : length Q.variables ≤ 512
+  pub instances : AreItems (IsInstance Q.variables) [] Q.instances
+  pub instances_few : length Q.instances ≤ 128
   pub labels : AreItems IsMark [] (marks_from 0 Q.code)
   pub labels_few : length (marks_from 0 Q.code) ≤ 4096
   pub constants : AreItems IsConstant [] (constants_of Q)
   pub constants_few : length (constants_of Q) ≤ 20480
   pub words : AreItems (λ seen. IsWord Q) [] Q.code
-  pub words_few : length Q.code ≤ 36864
+  pub words_few : words_in Q.code ≤ 36864
 
 pub record IsImage (Q : Text) : Type 0 where
   pub text : IsText Q

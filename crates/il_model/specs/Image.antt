@@ -1,6 +1,7 @@
--- The bytes of a program: one spelling for each. In this order: a header, the variables, the labels, the constants, the
--- words. All numbers are big-endian.
-use Rattle.std.specs.Prelude.{ℕ, ◌+◌, Bool, true, false, List, ◌++◌, length, Option, Some, None}
+-- The bytes of a program: one spelling for each. In this order: a header, the variables, the instances, the labels, the
+-- constants, the words. All numbers are big-endian.
+use Rattle.std.specs.Prelude.{ℕ, ◌+◌, ◌*◌, Bool, true, false, List, ◌++◌, length, Option, Some, None}
+use Rattle.std.specs.Option.{option_map, option_and_then}
 use Rattle.std.specs.List.{flat_map}
 use Rattle.std.specs.Int.{w8, w16, w32, to_be_bytes, cast_unsigned}
 use Rattle.il_model.specs.declared.value.Ty.{Ty}
@@ -12,7 +13,14 @@ use Rattle.il_model.specs.declared.program.Area.{Area}
 use Rattle.il_model.specs.declared.program.Area.TheVariants as areas
 use Rattle.il_model.specs.declared.program.Loc.{Loc}
 use Rattle.il_model.specs.declared.program.Loc.TheVariants.{Bit, Word}
+use Rattle.il_model.specs.declared.program.Place.{Place}
+use Rattle.il_model.specs.declared.program.Place.TheVariants.{Field}
 use Rattle.il_model.specs.declared.program.Variable.{Variable}
+use Rattle.il_model.specs.declared.program.Instance.{Instance}
+use Rattle.il_model.specs.declared.program.Argument.{Argument}
+use Rattle.il_model.specs.declared.program.Side.{Side}
+use Rattle.il_model.specs.declared.program.Side.TheVariants as sides
+use Rattle.il_model.specs.declared.kind.BlockKind.{BlockKind}
 use Rattle.il_model.specs.declared.program.Operand.{Operand}
 use Rattle.il_model.specs.declared.program.Operand.TheVariants as operands
 use Rattle.il_model.specs.declared.program.Instr.{Instr}
@@ -20,9 +28,10 @@ use Rattle.il_model.specs.declared.value.Value.{Value}
 use Rattle.il_model.specs.Values.{ty_of, number_of}
 use Rattle.il_model.specs.Names.{same_name}
 use Rattle.std.specs.List.{position}
-use Rattle.il_model.specs.Text.{Text}
-use Rattle.il_model.specs.Resolved.{target_of}
-use Rattle.il_model.specs.Marks.{Mark, marks_from}
+use Rattle.il_model.specs.Text.{Text, Declarations, declared_by}
+use Rattle.il_model.specs.Kinds.{kind_code, field_number}
+use Rattle.il_model.specs.Resolved.{target_of, instance_in, field_in, called_kind}
+use Rattle.il_model.specs.Marks.{Mark, marks_from, words_in, address_of}
 use Rattle.il_model.specs.Constants.{same_value, constants_of}
 
 abbrev pub type_code : Ty → ℕ
@@ -104,42 +113,72 @@ abbrev pub target_code : Option ℕ → ℕ
 target_code None = 65535
 target_code (Some n) = n
 
--- no operand, a location, or a variable, located or not, by its number
-abbrev pub plain_code : List Variable → Operand → ℕ
-plain_code vs operands.Absent = 65535
-plain_code vs (operands.Direct loc) = loc_code loc
-plain_code vs (operands.Variable name) = numbered_code (position (λ (v : Variable). same_name v.name name) vs)
-plain_code vs operand = 65535
+-- an instance that is called is its number
+abbrev pub instance_code : Option ℕ → ℕ
+instance_code None = 65535
+instance_code (Some i) = i
+
+-- a field of an instance is the instance's number times 8 and its own
+abbrev pub field_code : Option Place → ℕ
+field_code (Some (Field i n)) = 20480 + (8 * i + n)
+field_code place = 65535
+
+-- no operand, a location, a variable, located or not, by its number, a field, or an instance that is called
+abbrev pub plain_code : Declarations → Operand → ℕ
+plain_code ds operands.Absent = 65535
+plain_code ds (operands.Direct loc) = loc_code loc
+plain_code ds (operands.Variable name) = numbered_code (position (λ (v : Variable). same_name v.name name) ds.variables)
+plain_code ds (operands.Field name field) = field_code (field_in ds.instances name field)
+plain_code ds (operands.Instance name) = instance_code (instance_in ds.instances name)
+plain_code ds operand = 65535
 
 -- a constant is its number in the table, a label the address where it stands
 abbrev pub operand_code : Text → List Value → Operand → ℕ
 operand_code Q constants (operands.Literal v) = constant_code (position (same_value v) constants)
-operand_code Q constants (operands.Label name) = target_code (target_of Q name)
-operand_code Q constants operand = plain_code Q.variables operand
+operand_code Q constants (operands.Label name) = target_code (option_map (address_of Q.code) (target_of Q name))
+operand_code Q constants operand = plain_code (declared_by Q) operand
 
-abbrev pub coded_word : Instr → ℕ → List ℕ
-coded_word line code = to_be_bytes w8 (op_code line.op) ++ (to_be_bytes w8 (modifier_code line.modifier) ++ to_be_bytes w16 code)
-
--- of a word whose operand is no constant and no label
-abbrev pub plain_word_bytes : List Variable → Instr → List ℕ
-plain_word_bytes vs line = coded_word line (plain_code vs line.operand)
+-- a word: three numbers
+abbrev pub coded_word : ℕ → ℕ → ℕ → List ℕ
+coded_word op letters operand = to_be_bytes w8 op ++ (to_be_bytes w8 letters ++ to_be_bytes w16 operand)
 
 abbrev pub word_bytes : Text → List Value → Instr → List ℕ
-word_bytes Q constants line = coded_word line (operand_code Q constants line.operand)
+word_bytes Q constants line = coded_word (op_code line.op) (modifier_code line.modifier) (operand_code Q constants line.operand)
+
+abbrev pub side_code : Side → ℕ
+side_code sides.Input = 26
+side_code sides.Output = 27
+
+-- no field has that number
+abbrev pub field_number_code : Option ℕ → ℕ
+field_number_code None = 255
+field_number_code (Some n) = n
+
+-- an argument: its field by the number in the kind of the instance that is called
+abbrev pub argument_bytes : Text → List Value → Option BlockKind → Argument → List ℕ
+argument_bytes Q constants kind a =
+    coded_word (side_code a.side) (field_number_code (option_and_then (λ k. field_number k a.field) kind)) (operand_code Q constants a.operand)
+
+-- an instruction's word and those of its arguments in the order written
+abbrev pub instruction_bytes : Text → List Value → Instr → List ℕ
+instruction_bytes Q constants line = word_bytes Q constants line ++ flat_map (argument_bytes Q constants (called_kind Q line.operand)) line.arguments
+
+abbrev pub instance_bytes : Instance → List ℕ
+instance_bytes x = name_bytes x.name ++ to_be_bytes w8 (kind_code x.kind)
 
 -- how many variables, instances, labels, constants and words there are
-abbrev pub counts_bytes : ℕ → ℕ → ℕ → ℕ → List ℕ
-counts_bytes variables labels constants words =
-    to_be_bytes w16 variables ++ (to_be_bytes w16 0 ++ (to_be_bytes w16 labels ++ (to_be_bytes w16 constants ++ to_be_bytes w16 words)))
+abbrev pub counts_bytes : ℕ → ℕ → ℕ → ℕ → ℕ → List ℕ
+counts_bytes variables instances labels constants words =
+    to_be_bytes w16 variables ++ (to_be_bytes w16 instances ++ (to_be_bytes w16 labels ++ (to_be_bytes w16 constants ++ to_be_bytes w16 words)))
 
 -- ILPC, the version, and the counts
-abbrev pub header_bytes : ℕ → ℕ → ℕ → ℕ → List ℕ
-header_bytes variables labels constants words = to_be_bytes w32 1229738051 ++ (to_be_bytes w16 1 ++ counts_bytes variables labels constants words)
+abbrev pub header_bytes : ℕ → ℕ → ℕ → ℕ → ℕ → List ℕ
+header_bytes variables instances labels constants words = to_be_bytes w32 1229738051 ++ (to_be_bytes w16 1 ++ counts_bytes variables instances labels constants words)
 
 abbrev pub spelled_with : Text → List Mark → List Value → List ℕ
 spelled_with Q labels constants =
-    header_bytes (length Q.variables) (length labels) (length constants) (length Q.code)
-    ++ (flat_map variable_bytes Q.variables ++ (flat_map mark_bytes labels ++ (flat_map constant_bytes constants ++ flat_map (word_bytes Q constants) Q.code)))
+    header_bytes (length Q.variables) (length Q.instances) (length labels) (length constants) (words_in Q.code)
+    ++ (flat_map variable_bytes Q.variables ++ (flat_map instance_bytes Q.instances ++ (flat_map mark_bytes labels ++ (flat_map constant_bytes constants ++ flat_map (instruction_bytes Q constants) Q.code))))
 
 abbrev pub spelling : Text → List ℕ
 spelling Q = spelled_with Q (marks_from 0 Q.code) (constants_of Q)

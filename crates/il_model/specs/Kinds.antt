@@ -58,6 +58,12 @@ kind_fields kinds.Tp = fields.In ∷ fields.Pt ∷ fields.Q ∷ fields.Et ∷ []
 kind_fields kinds.Ton = fields.In ∷ fields.Pt ∷ fields.Q ∷ fields.Et ∷ []
 kind_fields kinds.Tof = fields.In ∷ fields.Pt ∷ fields.Q ∷ fields.Et ∷ []
 
+-- every field
+abbrev pub all_fields : List Field
+all_fields =
+    fields.S1 ∷ fields.S ∷ fields.R1 ∷ fields.R ∷ fields.Clk ∷ fields.Cu ∷ fields.Cd ∷ fields.Ld ∷ fields.Pv ∷ fields.In ∷ fields.Pt ∷
+    fields.Q1 ∷ fields.Q ∷ fields.Qu ∷ fields.Qd ∷ fields.Cv ∷ fields.Et ∷ []
+
 abbrev pub field_name : Field → List ℕ
 field_name fields.S1 = codes "S1"
 field_name fields.S = codes "S"
@@ -96,6 +102,10 @@ is_output _ = false
 
 abbrev pub is_input : Field → Bool
 is_input field = not (is_output field)
+
+-- the field with that name, whatever the kind: it has one type and one direction in all of them
+abbrev pub any_field : List ℕ → Option Field
+any_field name = find (λ field. bytes_eq (field_name field) name) all_fields
 
 -- the number of the field with that name
 abbrev pub field_number : BlockKind → List ℕ → Option ℕ

@@ -1,36 +1,49 @@
 -- What a program is whose parts are lawful each for itself. Once it is typed it has an image.
 use Rattle.std.specs.Prelude.{◌≡◌, ℕ, true, false, List, [], ◌∷◌, length, Option, Some, None, is_some}
-use Rattle.std.specs.List.{position}
+use Rattle.std.specs.List.{position, AllByRecursion}
+use Rattle.il_model.specs.declared.codes.Form.TheVariants as forms
 use Rattle.il_model.specs.declared.program.Variable.{Variable}
+use Rattle.il_model.specs.declared.program.Argument.{Argument}
 use Rattle.il_model.specs.declared.program.Operand.{Operand}
 use Rattle.il_model.specs.declared.program.Operand.TheVariants as operands
 use Rattle.il_model.specs.declared.program.Instr.{Instr}
 use Rattle.il_model.specs.Values.{made, ty_of, number_of}
 use Rattle.il_model.specs.Names.{same_name, is_lawful_name}
+use Rattle.il_model.specs.Text.{Declarations}
+use Rattle.il_model.specs.Resolved.{instance_in}
 use Rattle.il_model.specs.Image.{loc_code}
-use Rattle.il_model.specs.Codes.{length_of, any_loc, usage_of, allowed_by, formed_by, is_pointless}
+use Rattle.il_model.specs.Codes.{length_of, any_loc, usage_of, allowed_by, formed_by, has_form, is_pointless}
 
--- a value that fits its type, a variable that is declared, a location that is there; labels are judged with the types
-abbrev pub IsOperand : List Variable → Operand → Type 0
-IsOperand vs operands.Absent = Unit {0}
-IsOperand vs (operands.Literal v) = made (ty_of v) (number_of v) ≡ Some v
-IsOperand vs (operands.Bare z) = Unit {0}
-IsOperand vs (operands.Variable name) = is_some (position (λ (v : Variable). same_name v.name name) vs) ≡ true
-IsOperand vs (operands.Direct loc) = any_loc (loc_code loc) ≡ Some loc
-IsOperand vs (operands.Label name) = Unit {0}
+-- a value that fits its type, a variable or an instance that is declared, a location that is there; labels and fields are judged
+-- with the types
+abbrev pub IsOperand : Declarations → Operand → Type 0
+IsOperand ds operands.Absent = Unit {0}
+IsOperand ds (operands.Literal v) = made (ty_of v) (number_of v) ≡ Some v
+IsOperand ds (operands.Bare z) = Unit {0}
+IsOperand ds (operands.Variable name) = is_some (position (λ (v : Variable). same_name v.name name) ds.variables) ≡ true
+IsOperand ds (operands.Direct loc) = any_loc (loc_code loc) ≡ Some loc
+IsOperand ds (operands.Label name) = Unit {0}
+IsOperand ds (operands.Field name field) = is_some (instance_in ds.instances name) ≡ true
+IsOperand ds (operands.Instance name) = is_some (instance_in ds.instances name) ≡ true
 
 abbrev pub IsLabel : Option (List ℕ) → Type 0
 IsLabel None = Unit {0}
 IsLabel (Some name) = (length_of (length name) ≡ Some (length name)) × (is_lawful_name name ≡ true)
 
+-- an argument has a value or a place
+pub record IsPassed (ds : Declarations) (a : Argument) : Type 0 where
+  pub form : has_form forms.Value false a.operand ≡ true
+  pub operand : IsOperand ds a.operand
+
 -- an instruction whose operator takes its letters and its form of operand
-pub record IsLawful (vs : List Variable) (line : Instr) : Type 0 where
+pub record IsLawful (ds : Declarations) (line : Instr) : Type 0 where
   pub letters : allowed_by (usage_of line.op) line.modifier ≡ true
   pub form : formed_by (usage_of line.op) line.modifier line.operand ≡ true
-  pub operand : IsOperand vs line.operand
+  pub operand : IsOperand ds line.operand
+  pub arguments : AllByRecursion (IsPassed ds) line.arguments
   pub label : IsLabel line.label
   pub labelled : is_pointless line ≡ false
 
-abbrev pub AreLawful : List Variable → List Instr → Type 0
-AreLawful vs [] = Unit {0}
-AreLawful vs (line ∷ code) = IsLawful vs line × AreLawful vs code
+abbrev pub AreLawful : Declarations → List Instr → Type 0
+AreLawful ds [] = Unit {0}
+AreLawful ds (line ∷ code) = IsLawful ds line × AreLawful ds code

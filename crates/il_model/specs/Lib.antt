@@ -1,13 +1,12 @@
 pub mod Values
 pub mod Operators
 pub mod Names
+pub mod Areas
 pub mod Text
 pub mod Resolved
-pub mod State
-pub mod Step
 pub mod Row
 pub mod Typing
-pub mod Suits
+pub mod Faulty
 pub mod Settled
 pub mod Checked
 pub mod Image
@@ -18,9 +17,6 @@ pub mod Cells
 pub mod Limits
 pub mod Codes
 pub mod Fits
-pub mod Cold
-pub mod Scan
-pub mod Slots
 pub mod Words
 pub mod Kinds
 pub mod Literal

@@ -29,16 +29,20 @@ is_bool t = false
 abbrev pub negatable : Bool → Ty → Bool
 negatable negated t = not negated || is_bool t
 
+-- An operand that is no field of its block is a bad field in each row.
 abbrev pub load_row : Bool → Kind → Result Effect TypeFault
+load_row negated kinds.NoField = Err BadField
 load_row negated (kinds.Typed t w) = if negatable negated t then Ok (Sets (Some t)) else Err TypeMismatch
 load_row negated kind = Err TypeMismatch
 
 abbrev pub store_row : Option Ty → Bool → Kind → Result Effect TypeFault
+store_row cr negated kinds.NoField = Err BadField
 store_row None negated (kinds.Typed t true) = Err NoCurrentResult
 store_row (Some c) negated (kinds.Typed t true) = if same_type c t && negatable negated t then Ok (Sets (Some c)) else Err TypeMismatch
 store_row cr negated kind = Err NotWritable
 
 abbrev pub set_row : Option Ty → Kind → Result Effect TypeFault
+set_row cr kinds.NoField = Err BadField
 set_row None (kinds.Typed t true) = Err NoCurrentResult
 set_row (Some c) (kinds.Typed t true) = if is_bool t && is_bool c then Ok (Sets (Some c)) else Err TypeMismatch
 set_row cr kind = Err NotWritable
@@ -68,20 +72,21 @@ opens_with held kinds.Absent = Ok (Opens held None)
 opens_with held (kinds.Typed t w) = Ok (Opens held (Some t))
 opens_with held kind = Err TypeMismatch
 
+-- the deferred operator has to take the type of the current result
+abbrev pub opened_row : Option Ty → Op → Bool → Kind → Result Effect TypeFault
+opened_row cr op negated kinds.NoField = Err BadField
+opened_row None op negated kind = Err NoCurrentResult
+opened_row (Some c) op negated kind = if is_none (joined_type op c c) then Err TypeMismatch else opens_with (record { op = op; negated = negated; ty = c }) kind
+
 abbrev pub open_row : Option Ty → ℕ → Op → Bool → Kind → Result Effect TypeFault
-open_row cr depth op negated kind =
-    if nat_lt depth 16 then
-    elim cr [
-      | None ↦ Err NoCurrentResult
-      | Some c ↦ if is_none (joined_type op c c) then Err TypeMismatch else opens_with (record { op = op; negated = negated; ty = c }) kind
-    ]
-    else Err TooDeep
+open_row cr depth op negated kind = if nat_lt depth 16 then opened_row cr op negated kind else Err TooDeep
 
 abbrev pub sets_to : Option Ty → Result Effect TypeFault
 sets_to (Some t) = Ok (Sets (Some t))
 sets_to None = Err TypeMismatch
 
 abbrev pub combine_row : Option Ty → Op → Bool → Kind → Result Effect TypeFault
+combine_row cr op negated kinds.NoField = Err BadField
 combine_row None op negated kind = Err NoCurrentResult
 combine_row (Some c) op negated (kinds.Typed t w) = if negatable negated t then sets_to (joined_type op c t) else Err TypeMismatch
 combine_row (Some c) op negated kind = Err TypeMismatch
@@ -90,6 +95,11 @@ abbrev pub jump_row : Option Ty → Bool → Kind → Result Effect TypeFault
 jump_row cr conditional kinds.Target = leave_row cr conditional
 jump_row cr conditional kinds.NoTarget = Err UnknownLabel
 jump_row cr conditional kind = Err TypeMismatch
+
+-- CAL leaves the current result as it was; its arguments are judged by rows of their own
+abbrev pub call_row : Option Ty → Bool → Kind → Result Effect TypeFault
+call_row cr conditional kinds.Instance = if conditional then truth_row cr else Ok (Sets cr)
+call_row cr conditional kind = Err BadField
 
 abbrev pub outside : ℕ → Result Effect TypeFault → Result Effect TypeFault
 outside depth r = if nat_lt 0 depth then Err Unbalanced else r
@@ -103,7 +113,7 @@ row cr top depth ops.S m kind = set_row cr kind
 row cr top depth ops.R m kind = set_row cr kind
 row cr top depth ops.Not m kind = truth_row cr
 row cr top depth ops.Jmp m kind = outside depth (jump_row cr m.conditional kind)
-row cr top depth ops.Cal m kind = Err BadField
+row cr top depth ops.Cal m kind = outside depth (call_row cr m.conditional kind)
 row cr top depth ops.Ret m kind = outside depth (leave_row cr m.conditional)
 row cr top depth ops.Close m kind = close_row cr top
 row cr top depth ops.IntToDint m kind = convert_row cr types.Int types.Dint

@@ -1,6 +1,7 @@
 -- When a program is typed: the types on arrival at each position, from left to right.
-use Rattle.std.specs.Prelude.{◌≡◌, ℕ, zero, suc, ◌+◌, Bool, true, false, List, [], ◌∷◌, length, drop, Option, Some, None, Result, Ok, Err, nat_lt, nat_eq, slice_get, if◌then◌else◌}
-use Rattle.std.specs.Option.{option_map}
+use Rattle.std.specs.Prelude.{◌≡◌, ℕ, zero, suc, ◌+◌, Bool, true, false, not, List, [], ◌∷◌, ◌++◌, length, drop, Option, Some, None, Result, Ok, Err, nat_lt, nat_eq, slice_get, if◌then◌else◌}
+use Rattle.std.specs.List.{list_any}
+use Rattle.std.specs.Option.{option_map, option_and_then}
 use Rattle.il_model.specs.declared.value.Ty.{Ty}
 use Rattle.il_model.specs.declared.value.Ty.TheVariants as types
 use Rattle.il_model.specs.declared.program.Area.{Area}
@@ -9,6 +10,13 @@ use Rattle.il_model.specs.declared.program.Loc.{Loc}
 use Rattle.il_model.specs.declared.program.Loc.TheVariants.{Bit, Word}
 use Rattle.il_model.specs.declared.program.Place.{Place}
 use Rattle.il_model.specs.declared.program.Place.TheVariants.{Own, At}
+use Rattle.il_model.specs.declared.program.Place.TheVariants as places
+use Rattle.il_model.specs.declared.program.Instance.{Instance}
+use Rattle.il_model.specs.declared.program.Argument.{Argument}
+use Rattle.il_model.specs.declared.program.Side.{Side}
+use Rattle.il_model.specs.declared.program.Side.TheVariants as sides
+use Rattle.il_model.specs.declared.kind.BlockKind.{BlockKind}
+use Rattle.il_model.specs.declared.kind.Field.{Field}
 use Rattle.il_model.specs.declared.program.Operand.{Operand}
 use Rattle.il_model.specs.declared.program.Operand.TheVariants as operands
 use Rattle.il_model.specs.declared.program.Instr.{Instr}
@@ -23,9 +31,11 @@ use Rattle.il_model.specs.declared.typing.Effect.{Effect}
 use Rattle.il_model.specs.declared.typing.Effect.TheVariants.{Sets, Opens, Closes}
 use Rattle.il_model.specs.Text.{Text}
 use Rattle.il_model.specs.Values.{ty_of}
-use Rattle.il_model.specs.State.{area_of}
-use Rattle.il_model.specs.Resolved.{source_of, target_of, is_labelled}
-use Rattle.il_model.specs.Row.{row}
+use Rattle.il_model.specs.Areas.{area_of}
+use Rattle.il_model.specs.Kinds.{kind_fields, field_number, field_type, is_input}
+use Rattle.il_model.specs.Names.{same_name}
+use Rattle.il_model.specs.Resolved.{source_of, target_of, is_labelled, called_kind}
+use Rattle.il_model.specs.Row.{row, same_type}
 
 abbrev pub fault_number : TypeFault → ℕ
 fault_number TypeMismatch = 1
@@ -51,17 +61,28 @@ abbrev pub loc_type : Loc → Option Ty
 loc_type (Bit a n) = if nat_lt n 512 then Some types.Bool else None
 loc_type (Word a n) = if nat_lt n 64 then Some types.Int else None
 
+-- the field of an instance by its number
+abbrev pub field_at : Text → ℕ → ℕ → Option Field
+field_at Q i n = option_and_then (λ (x : Instance). slice_get (kind_fields x.kind) n) (slice_get Q.instances i)
+
 abbrev pub place_type : Text → Place → Option Ty
 place_type Q (Own i) = option_map (λ v. v.ty) (slice_get Q.variables i)
 place_type Q (At loc) = loc_type loc
+place_type Q (places.Field i n) = option_map field_type (field_at Q i n)
 
 abbrev pub is_output : Area → Bool
 is_output areas.Input = false
 is_output a = true
 
-abbrev pub is_writable : Place → Bool
-is_writable (Own i) = true
-is_writable (At loc) = is_output (area_of loc)
+abbrev pub is_input_field : Option Field → Bool
+is_input_field None = false
+is_input_field (Some field) = is_input field
+
+-- neither an input location nor an output of a block
+abbrev pub is_writable : Text → Place → Bool
+is_writable Q (Own i) = true
+is_writable Q (At loc) = is_output (area_of loc)
+is_writable Q (places.Field i n) = is_input_field (field_at Q i n)
 
 abbrev pub typed_kind : Option Ty → Bool → Kind
 typed_kind (Some t) w = kinds.Typed t w
@@ -70,12 +91,14 @@ typed_kind None w = kinds.Misfit
 abbrev pub source_kind : Text → Source → Kind
 source_kind Q sources.Absent = kinds.Absent
 source_kind Q (sources.Constant v) = kinds.Typed (ty_of v) false
-source_kind Q (sources.Of p) = typed_kind (place_type Q p) (is_writable p)
+source_kind Q (sources.Of p) = typed_kind (place_type Q p) (is_writable Q p)
 source_kind Q (sources.Target n) = kinds.Target
+source_kind Q (sources.Instance i) = kinds.Instance
 
 -- of an operand that stands for nothing
 abbrev pub missing_kind : Operand → Kind
 missing_kind (operands.Label name) = kinds.NoTarget
+missing_kind (operands.Field name field) = kinds.NoField
 missing_kind operand = kinds.Misfit
 
 abbrev pub top_of : List Held → Option Held
@@ -90,9 +113,71 @@ abbrev pub source_row : Text → Option Ty → Option Held → ℕ → Instr →
 source_row Q cr top depth line (Some src) = row cr top depth line.op line.modifier (source_kind Q src)
 source_row Q cr top depth line None = refused (row cr top depth line.op line.modifier (missing_kind line.operand))
 
--- what an instruction does to the types, or its first fault
+-- ---- the arguments of a call
+
+-- the order in which the faults of one instruction are tried
+abbrev pub fault_rank : TypeFault → ℕ
+fault_rank DuplicateLabel = 0
+fault_rank Unbalanced = 1
+fault_rank TooDeep = 2
+fault_rank UnknownLabel = 3
+fault_rank BadField = 4
+fault_rank NotWritable = 5
+fault_rank NoCurrentResult = 6
+fault_rank TypeMismatch = 7
+
+abbrev pub tried_first : TypeFault → TypeFault → TypeFault
+tried_first f g = if nat_lt (fault_rank g) (fault_rank f) then g else f
+
+abbrev pub first_fault : Option TypeFault → Option TypeFault → Option TypeFault
+first_fault None o = o
+first_fault (Some f) None = Some f
+first_fault (Some f) (Some g) = Some (tried_first f g)
+
+abbrev pub operand_kind : Text → Operand → Kind
+operand_kind Q operand = elim (source_of Q operand) [ Some src ↦ source_kind Q src | None ↦ missing_kind operand ]
+
+abbrev pub unless_same : Ty → Ty → Option TypeFault
+unless_same t u = if same_type t u then None else Some TypeMismatch
+
+-- what goes into an input or out of an output is of the field's type, and what an output is stored to can be written
+abbrev pub passing_fault : Side → Ty → Kind → Option TypeFault
+passing_fault side t kinds.NoField = Some BadField
+passing_fault sides.Input t (kinds.Typed u w) = unless_same t u
+passing_fault sides.Input t kind = Some TypeMismatch
+passing_fault sides.Output t (kinds.Typed u true) = unless_same t u
+passing_fault sides.Output t kind = Some NotWritable
+
+abbrev pub goes_so : Side → Field → Bool
+goes_so sides.Input field = is_input field
+goes_so sides.Output field = not (is_input field)
+
+abbrev pub field_fault : Text → Argument → Option Field → Option TypeFault
+field_fault Q a None = Some BadField
+field_fault Q a (Some field) = if goes_so a.side field then passing_fault a.side (field_type field) (operand_kind Q a.operand) else Some BadField
+
+abbrev pub field_named : BlockKind → List ℕ → Option Field
+field_named kind name = option_and_then (slice_get (kind_fields kind)) (field_number kind name)
+
+-- a field stands once among the arguments of a call; seen are those before it
+abbrev pub argument_fault : Text → Option BlockKind → List Argument → Argument → Option TypeFault
+argument_fault Q None seen a = Some BadField
+argument_fault Q (Some kind) seen a = if list_any (λ (b : Argument). same_name b.field a.field) seen then Some BadField else field_fault Q a (field_named kind a.field)
+
+abbrev pub arguments_fault : Text → Option BlockKind → List Argument → List Argument → Option TypeFault
+arguments_fault Q kind seen [] = None
+arguments_fault Q kind seen (a ∷ more) = first_fault (argument_fault Q kind seen a) (arguments_fault Q kind (seen ++ a ∷ []) more)
+
+-- an instruction's effect, where its arguments have that fault
+abbrev pub with_fault : Result Effect TypeFault → Option TypeFault → Result Effect TypeFault
+with_fault r None = r
+with_fault (Ok e) (Some f) = Err f
+with_fault (Err g) (Some f) = Err (tried_first g f)
+
+-- what an instruction does to the types, or its first fault; where it is no call an argument is a bad field
 abbrev pub line_row_of : Text → Option Ty → Option Held → ℕ → Instr → Result Effect TypeFault
-line_row_of Q cr top depth line = source_row Q cr top depth line (source_of Q line.operand)
+line_row_of Q cr top depth line =
+    with_fault (source_row Q cr top depth line (source_of Q line.operand)) (arguments_fault Q (called_kind Q line.operand) [] line.arguments)
 
 abbrev pub line_row : Text → Shape → Instr → Result Effect TypeFault
 line_row Q sh line = line_row_of Q sh.cr (top_of sh.kept) (length sh.kept) line

@@ -7,6 +7,7 @@ ghost use Rattle.il_model.specs.Row.{HasRoom};
 ghost use Rattle.il_model.specs.Checked.{told};
 ghost use Rattle.std.specs.Prelude.{OnOk, IfErr};
 
+use crate::arguments::{arguments_fault, with_fault};
 use crate::indexed::IndexedProgram;
 use crate::resolve::{kind_of, missing_kind};
 use crate::typing::row_of;
@@ -88,13 +89,18 @@ fn line_row(
 ) -> Result<Effect, TypeFault>
     ensures { result ≡ line_row_of program.now cr top depth line.now }
 {
-    source_row(
+    let row = source_row(
         program.program(),
         cr,
         top,
         depth,
         line,
         program.source_of(&line.operand),
+    );
+    let kind = program.called_kind(&line.operand);
+    with_fault(
+        row,
+        arguments_fault(program, false, kind, line.arguments.as_slice()),
     )
 }
 
@@ -173,7 +179,12 @@ impl Types {
     }
 
     /// Goes past an instruction, or gives its fault.
-    fn pass(&mut self, program: &IndexedProgram, n: usize, line: &Instr) -> Result<(), TypeFault>
+    pub(crate) fn pass(
+        &mut self,
+        program: &IndexedProgram,
+        n: usize,
+        line: &Instr,
+    ) -> Result<(), TypeFault>
         requires n { n < length program.now.code }
         ensures ok { OnOk result (after_line program.now n self.old line.now ≡ Ok self.new) }
         ensures err { IfErr result (λ f. after_line program.now n self.old line.now ≡ Err f) }

@@ -1,17 +1,15 @@
 //! The numbers that stand for the parts of a program in an image, both ways.
 
-ghost use Rattle.std.specs.Prelude.{◌≡◌, Some, is_some};
+ghost use Rattle.std.specs.Prelude.{◌≡◌, Some, false};
 ghost use Rattle.std.specs.Int.{w32, cast_signed, cast_unsigned};
-ghost use Rattle.std.specs.List.{position};
-ghost use Rattle.il_model.specs.Names.{same_name};
+ghost use Rattle.il_model.specs.declared.codes.Form.TheVariants as forms;
 ghost use Rattle.il_model.specs.Values.{number_of};
-ghost use Rattle.il_model.specs.Image.{type_code, base_of, loc_code, location_code, op_code, flag, modifier_code, numbered_code, plain_code};
-ghost use Rattle.il_model.specs.Codes.{length_of, type_of, area_loc, any_loc, is_type, may_start_with, initial_of, op_of, modifier_of, usage_of, allows, has_form, allowed_by, formed_by, letters_of, is_pointless};
+ghost use Rattle.il_model.specs.Image.{type_code, base_of, loc_code, location_code, op_code, flag, modifier_code, side_code};
+ghost use Rattle.il_model.specs.Codes.{length_of, type_of, area_loc, any_loc, is_type, may_start_with, initial_of, op_of, modifier_of, usage_of, allows, has_form, allowed_by, formed_by, letters_of, side_of, is_pointless};
 
-use crate::name::Name;
 use crate::op::{Modifier, Op};
-use crate::program::{Area, Instr, Loc, Operand, Variable};
-use crate::resolve::{is_output, variable_named};
+use crate::program::{Area, Instr, Loc, Operand, Side};
+use crate::resolve::is_output;
 use crate::value::{Ty, Value, make};
 
 pub fn type_code(ty: Ty) -> usize
@@ -142,16 +140,11 @@ pub fn op_code(op: Op) -> usize
     op as usize
 }
 
-/// The operator of a code, if instructions may have it.
+/// The operator of a code.
 pub fn op_of(code: u8) -> Option<Op>
     ensures { result ≡ op_of code }
 {
-    let op = Op::of_code(code)?;
-    if usage_of(op).is_some() {
-        Some(op)
-    } else {
-        None
-    }
+    Op::of_code(code)
 }
 
 fn flag(test: bool, n: usize) -> usize
@@ -210,10 +203,12 @@ pub enum LetterSet {
 pub enum Form {
     /// There is none.
     Absent,
-    /// A constant, a variable or a location; there may be none behind a parenthesis.
+    /// A constant, a variable, a location or a field of an instance; there may be none behind a parenthesis.
     Value,
     /// A label.
     Label,
+    /// A function block instance.
+    Instance,
 }
 
 /// What may stand beside an operator.
@@ -223,14 +218,14 @@ pub struct Usage {
     pub form: Form,
 }
 
-fn row(letters: LetterSet, form: Form) -> Option<Usage>
-    ensures { result ≡ Some (record { letters = letters; form = form }) }
+fn row(letters: LetterSet, form: Form) -> Usage
+    ensures { result ≡ record { letters = letters; form = form } }
 {
-    Some(Usage { letters, form })
+    Usage { letters, form }
 }
 
-/// The table of the operators: the letters and the form of operand that each takes; none for one that no instruction has.
-pub fn usage_of(op: Op) -> Option<Usage>
+/// The table of the operators: the letters and the form of operand that each takes.
+pub fn usage_of(op: Op) -> Usage
     ensures { result ≡ usage_of op }
 {
     match op {
@@ -244,7 +239,7 @@ pub fn usage_of(op: Op) -> Option<Usage>
         Op::Empty | Op::Not | Op::Close | Op::IntToDint | Op::DintToInt => {
             row(LetterSet::None, Form::Absent)
         }
-        Op::Cal => None,
+        Op::Cal => row(LetterSet::C, Form::Instance),
     }
 }
 
@@ -266,31 +261,29 @@ fn has_form(form: Form, opens: bool, operand: &Operand) -> bool
     match form {
         Form::Absent => matches!(operand, Operand::Absent),
         Form::Value => match operand {
-            Operand::Literal(_) | Operand::Variable(_) | Operand::Direct(_) => true,
+            Operand::Literal(_)
+            | Operand::Variable(_)
+            | Operand::Direct(_)
+            | Operand::Field(_, _) => true,
             Operand::Absent => opens,
             _ => false,
         },
         Form::Label => matches!(operand, Operand::Label(_)),
+        Form::Instance => matches!(operand, Operand::Instance(_)),
     }
 }
 
 fn allowed(op: Op, m: Modifier) -> bool
     ensures { result ≡ allowed_by (usage_of op) m }
 {
-    match usage_of(op) {
-        Some(usage) => allows(usage.letters, m),
-        None => false,
-    }
+    allows(usage_of(op).letters, m)
 }
 
 /// Whether an operator with these letters takes this form of operand; types are judged later.
 pub fn is_formed(op: Op, m: Modifier, operand: &Operand) -> bool
     ensures { result ≡ formed_by (usage_of op) m operand.now }
 {
-    match usage_of(op) {
-        Some(usage) => has_form(usage.form, m.opens, operand),
-        None => false,
-    }
+    has_form(usage_of(op).form, m.opens, operand)
 }
 
 /// The letters that a number stands for, if the operator takes them.
@@ -301,30 +294,39 @@ pub fn letters_of(op: Op, code: u8) -> Option<Modifier>
     if allowed(op, m) { Some(m) } else { None }
 }
 
+/// The code of the words of arguments that go this way.
+pub fn side_code(side: Side) -> usize
+    ensures { result ≡ side_code side }
+{
+    match side {
+        Side::Input => 26,
+        Side::Output => 27,
+    }
+}
+
+/// Which way the arguments go whose words have this code; none where it is no argument's.
+pub fn side_of(code: u8) -> Option<Side>
+    ensures { result ≡ side_of code }
+{
+    match code {
+        26 => Some(Side::Input),
+        27 => Some(Side::Output),
+        _ => None,
+    }
+}
+
+/// Whether an argument may have this form of operand.
+pub fn is_passed(operand: &Operand) -> bool
+    ensures { result ≡ has_form forms.Value false operand.now }
+{
+    has_form(Form::Value, false, operand)
+}
+
 /// Whether an instruction is an empty one without a label.
 pub fn is_pointless(line: &Instr) -> bool
     ensures { result ≡ is_pointless line.now }
 {
     line.op == Op::Empty && line.label.is_none()
-}
-
-fn variable_code(vs: &[Variable], name: &Name) -> usize
-    ensures { result ≡ numbered_code (position (λ v. same_name v.name name.now) vs.now) }
-{
-    match variable_named(vs, name) {
-        Some(i) => 16384 + i,
-        None => 65535,
-    }
-}
-
-pub fn plain_code(vs: &[Variable], operand: &Operand) -> usize
-    ensures { result ≡ plain_code vs.now operand.now }
-{
-    match operand {
-        Operand::Direct(loc) => loc_code(*loc),
-        Operand::Variable(name) => variable_code(vs, name),
-        _ => 65535,
-    }
 }
 
 /// The length of a name, if it is one.

@@ -3,11 +3,10 @@
 ghost use Rattle.std.specs.Prelude.{◌≡◌, ◌≤◌, ℕ, List, length, IfOk};
 ghost use Rattle.std.specs.List.{position};
 ghost use Rattle.il_model.specs.Names.{same_name};
-ghost use Rattle.il_model.specs.Resolved.{has_label};
+ghost use Rattle.il_model.specs.Resolved.{has_label, instance_in};
 ghost use Rattle.il_model.specs.NameTables.{first_in};
 
-use crate::resolve::source_of;
-use crate::{Instr, Name, Operand, Place, Program, Source, Variable};
+use crate::{BlockKind, Instance, Instr, Name, Operand, Place, Program, Source, Variable};
 use std::alloc::{AllocError, Global};
 use std::collections::BTreeMap;
 use std::marker::Model;
@@ -45,11 +44,29 @@ fn names<'a>(
     Ok(found)
 }
 
+/// The number of the first instance with each name, found from behind.
+fn instance_names<'a>(
+    alloc: Global,
+    instances: &'a [Instance],
+) -> Result<BTreeMap<&'a [u8], u16>, AllocError>
+    requires { length instances.now ≤ 128 }
+    ensures { IfOk result (λ m. (name : List ℕ) → first_in m name ≡ instance_in instances.entry.now name) }
+{
+    let mut found = BTreeMap::new(alloc);
+    let mut n = instances.len();
+    while n > 0 {
+        n -= 1;
+        found.insert(instances[n].name.bytes(), n as u16)?;
+    }
+    Ok(found)
+}
+
 /// A program with tables of its names.
 #[derive(Drop)]
 pub struct IndexedProgram<'a> {
     program: &'a Program,
     variables: BTreeMap<&'a [u8], u16>,
+    instances: BTreeMap<&'a [u8], u16>,
     labels: BTreeMap<&'a [u8], u16>,
 }
 
@@ -61,21 +78,23 @@ impl<'a> Model for IndexedProgram<'a> {
 
     ghost view = { λ i. i.program.now };
 
-    ghost invariant = { λ i. AreNameTables i.program.now i.variables i.labels };
+    ghost invariant = { λ i. AreNameTables i.program.now i.variables i.instances i.labels };
 }
 
 impl<'a> IndexedProgram<'a> {
-    ghost use Rattle.il_model.specs.Resolved.{variable_number, place_of, target_of, source_of};
+    ghost use Rattle.il_model.specs.Resolved.{variable_number, place_of, target_of, instance_number, field_of, called_kind, source_of};
 
     /// A program with the tables of its names.
     pub fn new(alloc: Global, program: &'a Program) -> Result<IndexedProgram<'a>, AllocError>
         ensures { IfOk result (λ i. i ≡ program.entry.now) }
     {
         let variables = names(alloc, program.variables.as_slice())?;
+        let instances = instance_names(alloc, program.instances.as_slice())?;
         let labels = labels(alloc, program.code.as_slice())?;
         Ok(IndexedProgram {
             program,
             variables,
+            instances,
             labels,
         })
     }
@@ -122,14 +141,50 @@ impl<'a> IndexedProgram<'a> {
         self.labels.get(name.bytes()).copied()
     }
 
-    /// What an operand stands for.
+    /// The number of the instance of that name.
+    pub fn instance_named(&self, name: &Name) -> Option<u16>
+        ensures { result ≡ instance_number self.now name.now }
+    {
+        self.instances.get(name.bytes()).copied()
+    }
+
+    /// A field of an instance, where the instance has it.
+    pub fn field_of(&self, name: &Name, field: &Name) -> Option<Place>
+        ensures { result ≡ field_of self.now name.now field.now }
+    {
+        let i = self.instance_named(name)?;
+        let program = self.program;
+        let instance = program.instances.get(i as usize)?;
+        let n = instance.kind.field_number(field.bytes())?;
+        Some(Place::Field(i, n))
+    }
+
+    /// The kind of the instance that an operand names for a call.
+    pub fn called_kind(&self, operand: &Operand) -> Option<BlockKind>
+        ensures { result ≡ called_kind self.now operand.now }
+    {
+        let Operand::Instance(name) = operand else {
+            return None;
+        };
+        let i = self.instance_named(name)?;
+        let program = self.program;
+        let instance = program.instances.get(i as usize)?;
+        Some(instance.kind)
+    }
+
+    /// What an operand stands for; none where a name or a label is unknown, and for a bare number.
     pub fn source_of(&self, operand: &Operand) -> Option<Source>
         ensures { result ≡ source_of self.now operand.now }
     {
         match operand {
+            Operand::Absent => Some(Source::Absent),
+            Operand::Literal(v) => Some(Source::Constant(*v)),
+            Operand::Bare(_) => None,
             Operand::Variable(name) => Some(Source::Of(self.place_of(name)?)),
+            Operand::Direct(loc) => Some(Source::Of(Place::At(*loc))),
             Operand::Label(name) => Some(Source::Target(self.target_of(name)?)),
-            _ => source_of(self.program, operand),
+            Operand::Field(name, field) => Some(Source::Of(self.field_of(name, field)?)),
+            Operand::Instance(name) => Some(Source::Instance(self.instance_named(name)?)),
         }
     }
 }

@@ -4,7 +4,7 @@
 ghost use Rattle.std.specs.Prelude.{◌≡◌, ◌≤◌, ◌<◌, Some, IfSome, length, nat_lt, position, slice_get};
 ghost use Rattle.std.specs.Str.{bytes_eq};
 ghost use Rattle.il_model.specs.declared.kind.BlockKind.{BlockKind};
-ghost use Rattle.il_model.specs.Kinds.{kind_code, kind_of_code, kind_name, kind_of_name, kind_fields, field_name, field_type, is_input, field_number, input_count};
+ghost use Rattle.il_model.specs.Kinds.{kind_code, kind_of_code, kind_name, kind_of_name, kind_fields, field_name, field_type, is_input, any_field, field_number, input_count};
 
 use crate::value::Ty;
 
@@ -69,6 +69,37 @@ static CTUD_FIELDS: [Field; 8] = [
 static TIMER_FIELDS: [Field; 4] = [Field::In, Field::Pt, Field::Q, Field::Et];
 
 impl Field {
+    /// Every field.
+    pub const ALL: [Field; 17] = [
+        Field::S1,
+        Field::S,
+        Field::R1,
+        Field::R,
+        Field::Clk,
+        Field::Cu,
+        Field::Cd,
+        Field::Ld,
+        Field::Pv,
+        Field::In,
+        Field::Pt,
+        Field::Q1,
+        Field::Q,
+        Field::Qu,
+        Field::Qd,
+        Field::Cv,
+        Field::Et,
+    ];
+
+    /// The field with that name, in capitals, whatever the kind; None where no kind has it.
+    pub fn of_name(name: &[u8]) -> Option<Field>
+        ensures { result ≡ any_field name.now }
+    {
+        Field::ALL
+            .iter()
+            .copied()
+            .find(|field| field.name() == name)
+    }
+
     /// The name, in capitals.
     pub fn name(self) -> &'static [u8]
         ensures { result.now ≡ field_name self }

@@ -1,14 +1,16 @@
 //! The words of the language: plain types of an Instruction List program (IEC 61131-3:2003, 3.2), its tables of
 //! operators, types and codes, and the definitions that all other crates cite: values, operators, names, typing, the
-//! image's spelling, the machine's states and steps. It uses no other crate of this repository.
+//! image's spelling. It uses no other crate of this repository.
 #![tactic(auto)]
 
+pub mod arguments;
 pub mod cells;
 pub mod check;
 pub mod codes;
 pub mod command;
 pub mod constant_table;
 mod duration;
+pub mod faulty;
 pub mod fetched;
 pub mod indexed;
 pub mod kind;
@@ -26,12 +28,14 @@ pub mod written;
 
 pub use cells::{Cells, InImage, OutImage};
 pub use command::{Answer, Command, Refusal};
-pub use fetched::{Deferred, Fetched, Source};
+pub use fetched::{Deferred, Fetched, Passed, PassedArguments, Source};
 pub use kind::{BlockKind, Field};
 pub use literal::Literal;
 pub use name::Name;
 pub use op::{Modifier, Op};
-pub use program::{Area, Instr, Loc, Operand, Place, Program, Variable};
+pub use program::{
+    Area, Argument, Arguments, Instance, Instr, Loc, Operand, Place, Program, Side, Variable,
+};
 pub use slot::Slot;
 pub use typing::{Effect, Held, Kind, TypeFault};
 pub use value::{Stop, Ty, Value};

@@ -2,6 +2,7 @@
 
 ghost use Rattle.std.specs.Prelude.{◌≡◌};
 
+use crate::kind::BlockKind;
 use crate::name::Name;
 use crate::op::{Modifier, Op};
 use crate::value::{Ty, Value};
@@ -22,11 +23,13 @@ pub enum Loc {
     Word(Area, u16),
 }
 
-/// Where a value lies: in a variable without a location, by its number in the order of declaration, or at a location.
+/// Where a value lies: in a variable without a location, by its number in the order of declaration, at a location, or in a
+/// function block instance, by its number and that of its kind's field.
 #[derive(Clone, Copy, Debug, PartialEq, Eq)]
 pub enum Place {
     Own(u16),
     At(Loc),
+    Field(u16, u8),
 }
 
 /// A declared variable.
@@ -38,6 +41,13 @@ pub struct Variable {
     pub initial: Value,
 }
 
+/// A declared function block instance (IEC 61131-3:2003, 2.5.2).
+#[derive(Debug, Drop)]
+pub struct Instance {
+    pub name: Name,
+    pub kind: BlockKind,
+}
+
 /// What an operator is given.
 #[derive(Debug, Drop)]
 pub enum Operand {
@@ -47,21 +57,76 @@ pub enum Operand {
     Variable(Name),
     Direct(Loc),
     Label(Name),
+    /// A field of a function block instance, as `T1.Q`: the names of the instance and of the field.
+    Field(Name, Name),
+    /// The instance that is called.
+    Instance(Name),
 }
 
-/// An instruction.
+/// Where an argument goes: into an input of the instance (`:=`), or out of an output (`=>`).
+#[derive(Clone, Copy, Debug, PartialEq, Eq)]
+pub enum Side {
+    Input,
+    Output,
+}
+
+/// An argument of a call: `IN := X` or `Q => Y`.
+#[derive(Debug, Drop)]
+pub struct Argument {
+    pub field: Name,
+    pub side: Side,
+    pub operand: Operand,
+}
+
+/// The arguments of a call in the order written.
+#[derive(Debug, Drop)]
+pub struct Arguments {
+    items: Vec<Argument>,
+}
+
+impl Model for Arguments {
+    ghost use Rattle.std.specs.Prelude.{List};
+    ghost use Rattle.il_model.specs.declared.program.Argument.{Argument};
+
+    ghost Value = { List Argument };
+
+    ghost view = { λ a. a.items.items };
+}
+
+impl Arguments {
+    ghost use Rattle.std.specs.Prelude.{◌≡◌};
+
+    /// These arguments.
+    pub fn of(items: Vec<Argument>) -> Arguments
+        ensures { result ≡ items.items }
+    {
+        Arguments { items }
+    }
+
+    /// The arguments in order.
+    pub fn as_slice(&self) -> &[Argument]
+        ensures { result.now ≡ self.now }
+    {
+        self.items.as_slice()
+    }
+}
+
+/// An instruction; only a call has arguments.
 #[derive(Debug, Drop)]
 pub struct Instr {
     pub label: Option<Name>,
     pub op: Op,
     pub modifier: Modifier,
     pub operand: Operand,
+    pub arguments: Arguments,
 }
 
-/// A program: its declarations and its instructions, in their order; at most 512 variables and 4096 instructions.
+/// A program: its declarations and its instructions, in their order; at most 512 variables, 128 instances and 4096
+/// instructions.
 #[derive(Debug, Drop)]
 pub struct Program {
     pub variables: Vec<Variable>,
+    pub instances: Vec<Instance>,
     pub code: Vec<Instr>,
 }
 
@@ -71,9 +136,9 @@ impl Model for Program {
 
     ghost Value = { Text };
 
-    ghost view = { λ p. record { variables = p.variables.items; code = p.code.items } };
+    ghost view = { λ p. record { variables = p.variables.items; instances = p.instances.items; code = p.code.items } };
 
-    ghost invariant = { λ p. (length p.variables.items ≤ 512) × (length p.code.items ≤ 4096) };
+    ghost invariant = { λ p. (length p.variables.items ≤ 512) × (length p.instances.items ≤ 128) × (length p.code.items ≤ 4096) };
 }
 
 impl Program {
@@ -81,12 +146,20 @@ impl Program {
     ghost use Rattle.il_model.specs.Limits.{program_of};
 
     /// The program of these parts, or none where they are too many.
-    pub fn new(variables: Vec<Variable>, code: Vec<Instr>) -> Option<Program>
-        ensures { result ≡ program_of variables.items code.items }
+    pub fn new(
+        variables: Vec<Variable>,
+        instances: Vec<Instance>,
+        code: Vec<Instr>,
+    ) -> Option<Program>
+        ensures { result ≡ program_of variables.items instances.items code.items }
     {
-        if variables.len() > 512 || code.len() > 4096 {
+        if variables.len() > 512 || instances.len() > 128 || code.len() > 4096 {
             return None;
         }
-        Some(Program { variables, code })
+        Some(Program {
+            variables,
+            instances,
+            code,
+        })
     }
 }

@@ -1,70 +1,11 @@
-//! What operands stand for.
+//! What operands are to the typing.
 
-ghost use Rattle.std.specs.Prelude.{◌≡◌, ◌<◌, ◌≤◌, length};
-ghost use Rattle.il_model.specs.Resolved.{place_of, target_of, source_of, placed, variable_number, has_label};
-ghost use Rattle.il_model.specs.Names.{same_name};
-ghost use Rattle.std.specs.List.{position};
-ghost use Rattle.il_model.specs.Typing.{place_type, loc_type, is_writable, is_output, source_kind, missing_kind};
-ghost use Rattle.il_model.specs.State.{area_of};
+ghost use Rattle.std.specs.Prelude.{◌≡◌, slice_get};
+ghost use Rattle.il_model.specs.Kinds.{kind_fields};
+ghost use Rattle.il_model.specs.Typing.{place_type, loc_type, field_at, is_input_field, is_writable, is_output, source_kind, missing_kind};
+ghost use Rattle.il_model.specs.Areas.{area_of};
 
-use crate::{Area, Instr, Kind, Loc, Name, Operand, Place, Program, Source, Ty, Variable};
-
-fn has_label(line: &Instr, name: &Name) -> bool
-    ensures { result ≡ has_label name.now line.now }
-{
-    match &line.label {
-        Some(label) => label.is(name),
-        None => false,
-    }
-}
-
-/// The number of the variable of that name.
-pub fn variable_named(variables: &[Variable], name: &Name) -> Option<usize>
-    ensures { result ≡ position (λ v. same_name v.name name.now) variables.now }
-{
-    variables.iter().position(|v| v.name.is(name))
-}
-
-/// The number of the instruction with that label.
-fn line_labelled(code: &[Instr], name: &Name) -> Option<usize>
-    ensures { result ≡ position (has_label name.now) code.now }
-{
-    code.iter().position(|line| has_label(line, name))
-}
-
-/// Where the variable of a name lies: at its location, or by its number.
-pub fn place_of(program: &Program, name: &Name) -> Option<Place>
-    ensures { result ≡ place_of program.now name.now }
-{
-    let at = variable_named(program.variables.as_slice(), name)?;
-    let variable = program.variables.get(at)?;
-    match variable.location {
-        Some(loc) => Some(Place::At(loc)),
-        None => Some(Place::Own(at as u16)),
-    }
-}
-
-/// The number of the instruction with a label.
-pub fn target_of(program: &Program, name: &Name) -> Option<u16>
-    ensures { result ≡ target_of program.now name.now }
-{
-    let at = line_labelled(program.code.as_slice(), name)?;
-    Some(at as u16)
-}
-
-/// What an operand stands for; none where a name or a label is unknown, and for a bare number.
-pub fn source_of(program: &Program, operand: &Operand) -> Option<Source>
-    ensures { result ≡ source_of program.now operand.now }
-{
-    match operand {
-        Operand::Absent => Some(Source::Absent),
-        Operand::Literal(v) => Some(Source::Constant(*v)),
-        Operand::Bare(_) => None,
-        Operand::Variable(name) => Some(Source::Of(place_of(program, name)?)),
-        Operand::Direct(loc) => Some(Source::Of(Place::At(*loc))),
-        Operand::Label(name) => Some(Source::Target(target_of(program, name)?)),
-    }
-}
+use crate::{Area, Field, Kind, Loc, Operand, Place, Program, Source, Ty};
 
 /// The type of a location: BOOL for a bit, INT for a word; none past its area.
 pub fn loc_type(loc: Loc) -> Option<Ty>
@@ -73,6 +14,15 @@ pub fn loc_type(loc: Loc) -> Option<Ty>
     match loc {
         Loc::Bit(_, n) => if n < 512 { Some(Ty::Bool) } else { None },
         Loc::Word(_, n) => if n < 64 { Some(Ty::Int) } else { None },
+    }
+}
+
+fn field_at(program: &Program, i: u16, n: u8) -> Option<Field>
+    ensures { result ≡ field_at program.now i n }
+{
+    match program.instances.get(i as usize) {
+        Some(x) => x.kind.field(n),
+        None => None,
     }
 }
 
@@ -85,6 +35,10 @@ fn place_type(program: &Program, place: Place) -> Option<Ty>
             None => None,
         },
         Place::At(loc) => loc_type(loc),
+        Place::Field(i, n) => match field_at(program, i, n) {
+            Some(field) => Some(field.ty()),
+            None => None,
+        },
     }
 }
 
@@ -95,12 +49,22 @@ pub fn is_output(loc: Loc) -> bool
     !matches!(loc, Loc::Bit(Area::Input, _) | Loc::Word(Area::Input, _))
 }
 
-fn is_writable(place: Place) -> bool
-    ensures { result ≡ is_writable place }
+fn is_input_field(field: Option<Field>) -> bool
+    ensures { result ≡ is_input_field field }
+{
+    match field {
+        Some(field) => field.is_input(),
+        None => false,
+    }
+}
+
+fn is_writable(program: &Program, place: Place) -> bool
+    ensures { result ≡ is_writable program.now place }
 {
     match place {
         Place::Own(_) => true,
         Place::At(loc) => is_output(loc),
+        Place::Field(i, n) => is_input_field(field_at(program, i, n)),
     }
 }
 
@@ -112,10 +76,11 @@ pub fn kind_of(program: &Program, source: Source) -> Kind
         Source::Absent => Kind::Absent,
         Source::Constant(v) => Kind::Typed(v.ty(), false),
         Source::Of(place) => match place_type(program, place) {
-            Some(ty) => Kind::Typed(ty, is_writable(place)),
+            Some(ty) => Kind::Typed(ty, is_writable(program, place)),
             None => Kind::Misfit,
         },
         Source::Target(_) => Kind::Target,
+        Source::Instance(_) => Kind::Instance,
     }
 }
 
@@ -125,6 +90,7 @@ pub fn missing_kind(operand: &Operand) -> Kind
 {
     match operand {
         Operand::Label(_) => Kind::NoTarget,
+        Operand::Field(_, _) => Kind::NoField,
         _ => Kind::Misfit,
     }
 }

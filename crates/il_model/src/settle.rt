@@ -3,9 +3,11 @@
 ghost use Rattle.std.specs.Prelude.{◌≡◌, ◌<◌, length, OnOk, OnErr, IfOk, IfErr, Ok, Err};
 ghost use Rattle.il_model.specs.Constants.{literal_of};
 ghost use Rattle.il_model.specs.Text.{Text};
-ghost use Rattle.il_model.specs.Typing.{line_row_of};
+ghost use Rattle.il_model.specs.Resolved.{source_of};
+ghost use Rattle.il_model.specs.Typing.{source_row, line_row_of};
 ghost use Rattle.il_model.specs.Settled.{settled_operand, settled_line, if_typed, settled, HasNoBare, IsTypedProgramOf};
 
+use crate::arguments::{arguments_fault, with_fault};
 use crate::check::{Types, label_row, source_row};
 use crate::indexed::IndexedProgram;
 use crate::typing::{row_of, settle};
@@ -18,11 +20,12 @@ fn settled_literal(cr: Option<Ty>, line: &Instr) -> Option<Value>
     match &line.operand {
         Operand::Literal(v) => Some(*v),
         Operand::Bare(z) => settle(cr, line.op, line.modifier.opens, *z),
-        Operand::Absent | Operand::Variable(_) | Operand::Direct(_) | Operand::Label(_) => None,
+        _ => None,
     }
 }
 
-fn settled_row(
+/// What an instruction with its number settled does to the types, its arguments left aside.
+fn operand_row(
     program: &IndexedProgram,
     cr: Option<Ty>,
     top: Option<Held>,
@@ -31,7 +34,7 @@ fn settled_row(
     literal: Option<Value>,
 ) -> Result<Effect, TypeFault>
     requires { literal ≡ literal_of (settled_operand cr line.now.op line.now.modifier line.now.operand) }
-    ensures { result ≡ line_row_of program.now cr top depth (settled_line cr line.now) }
+    ensures { result ≡ source_row program.now cr top depth (settled_line cr line.now) (source_of program.now (settled_line cr line.now).operand) }
 {
     match literal {
         Some(v) => row_of(
@@ -51,6 +54,25 @@ fn settled_row(
             program.source_of(&line.operand),
         ),
     }
+}
+
+fn settled_row(
+    program: &IndexedProgram,
+    cr: Option<Ty>,
+    top: Option<Held>,
+    depth: usize,
+    line: &Instr,
+    literal: Option<Value>,
+) -> Result<Effect, TypeFault>
+    requires { literal ≡ literal_of (settled_operand cr line.now.op line.now.modifier line.now.operand) }
+    ensures { result ≡ line_row_of program.now cr top depth (settled_line cr line.now) }
+{
+    let row = operand_row(program, cr, top, depth, line, literal);
+    let kind = program.called_kind(&line.operand);
+    with_fault(
+        row,
+        arguments_fault(program, true, kind, line.arguments.as_slice()),
+    )
 }
 
 impl Types {

@@ -2,7 +2,7 @@
 
 ghost use Rattle.std.specs.Prelude.{◌≡◌};
 ghost use Rattle.il_model.specs.Settled.{settled_number, first_type};
-ghost use Rattle.il_model.specs.Row.{row, load_row, store_row, set_row, truth_row, open_row, combine_row, close_row, leave_row, convert_row};
+ghost use Rattle.il_model.specs.Row.{row, load_row, store_row, set_row, truth_row, call_row, open_row, opened_row, combine_row, close_row, leave_row, convert_row};
 
 use crate::op::{Modifier, Op, joined};
 use crate::value::{Ty, Value, make};
@@ -67,6 +67,10 @@ pub enum Kind {
     Misfit,
     Target,
     NoTarget,
+    /// A function block instance.
+    Instance,
+    /// A field that the instance hasn't.
+    NoField,
 }
 
 /// A deferred operator, with the type of the kept current result.
@@ -115,7 +119,12 @@ pub fn row_of(
                 _ => Err(TypeFault::TypeMismatch),
             }
         }
-        Op::Cal => Err(TypeFault::BadField),
+        Op::Cal => {
+            if depth != 0 {
+                return Err(TypeFault::Unbalanced);
+            }
+            call_types(cr, modifier, kind)
+        }
         Op::Ret => {
             if depth != 0 {
                 return Err(TypeFault::Unbalanced);
@@ -147,6 +156,7 @@ fn load_types(modifier: Modifier, kind: Kind) -> Result<Effect, TypeFault>
                 Ok(Effect::Sets(Some(ty)))
             }
         }
+        Kind::NoField => Err(TypeFault::BadField),
         _ => Err(TypeFault::TypeMismatch),
     }
 }
@@ -154,6 +164,9 @@ fn load_types(modifier: Modifier, kind: Kind) -> Result<Effect, TypeFault>
 fn store_types(cr: Option<Ty>, modifier: Modifier, kind: Kind) -> Result<Effect, TypeFault>
     ensures { result ≡ store_row cr modifier.negated kind }
 {
+    if kind == Kind::NoField {
+        return Err(TypeFault::BadField);
+    }
     let Kind::Typed(ty, true) = kind else {
         return Err(TypeFault::NotWritable);
     };
@@ -178,6 +191,7 @@ fn set_types(cr: Option<Ty>, kind: Kind) -> Result<Effect, TypeFault>
             }
         }
         (Kind::Typed(_, true), None) => Err(TypeFault::NoCurrentResult),
+        (Kind::NoField, _) => Err(TypeFault::BadField),
         _ => Err(TypeFault::NotWritable),
     }
 }
@@ -199,6 +213,22 @@ fn leave_types(cr: Option<Ty>, modifier: Modifier) -> Result<Effect, TypeFault>
         truth_types(cr)
     } else {
         Ok(Effect::Sets(None))
+    }
+}
+
+/// A call leaves the current result as it was.
+fn call_types(cr: Option<Ty>, modifier: Modifier, kind: Kind) -> Result<Effect, TypeFault>
+    ensures { result ≡ call_row cr modifier.conditional kind }
+{
+    match kind {
+        Kind::Instance => {
+            if modifier.conditional {
+                truth_types(cr)
+            } else {
+                Ok(Effect::Sets(cr))
+            }
+        }
+        _ => Err(TypeFault::BadField),
     }
 }
 
@@ -245,6 +275,16 @@ fn open_types(
     if depth >= 16 {
         return Err(TypeFault::TooDeep);
     }
+    opened_types(cr, op, modifier, kind)
+}
+
+/// The deferred operator has to take the type of the current result.
+fn opened_types(cr: Option<Ty>, op: Op, modifier: Modifier, kind: Kind) -> Result<Effect, TypeFault>
+    ensures { result ≡ opened_row cr op modifier.negated kind }
+{
+    if kind == Kind::NoField {
+        return Err(TypeFault::BadField);
+    }
     let Some(c) = cr else {
         return Err(TypeFault::NoCurrentResult);
     };
@@ -271,6 +311,9 @@ fn combine_types(
 ) -> Result<Effect, TypeFault>
     ensures { result ≡ combine_row cr op modifier.negated kind }
 {
+    if kind == Kind::NoField {
+        return Err(TypeFault::BadField);
+    }
     let Some(c) = cr else {
         return Err(TypeFault::NoCurrentResult);
     };

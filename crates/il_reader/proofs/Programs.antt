@@ -1,17 +1,19 @@
 -- The laws of each part of the grammar.
-use Rattle.std.proofs.Common.{◌≡◌, ℕ, length, ◌<◌, Bool, true, false, cond, not, eqb, List, [], ◌∷◌, ◌++◌, Option, Some, None, Result, Ok, refl, sym, ap, subst, ◌∙◌, arith, codes, inl, inr, ◌⊎◌, ◌&&◌, ◌||◌}
+use Rattle.std.proofs.Common.{◌≡◌, ℕ, length, ◌<◌, Bool, true, false, cond, eqb, List, [], ◌∷◌, ◌++◌, Option, Some, None, Result, Ok, refl, sym, ap, subst, ◌∙◌, arith, codes, inl, inr, ◌⊎◌, ◌&&◌, ◌||◌}
 use Rattle.std.specs.List.{flat_map, AllByRecursion}
 use Rattle.std.proofs.lemmas.Bool.{eqb-true}
 use Rattle.il_reader.specs.declared.fault.Refusal.{Refusal}
 use Rattle.il_reader.specs.declared.lexeme.Kind.{Kind}
 use Rattle.il_reader.specs.declared.lexeme.Kind.TheVariants as kinds
 use Rattle.il_reader.specs.declared.contents.Operator.{Operator}
+use Rattle.il_model.specs.declared.program.Side.{Side}
+use Rattle.il_model.specs.declared.program.Side.TheVariants as sides
 use Rattle.il_reader.specs.declared.operations.Form.{Form}
 use Rattle.il_reader.specs.declared.operations.Form.TheVariants as forms
 use Rattle.il_reader.specs.Tokens.{Token}
-use Rattle.il_reader.specs.Reading.{◌>>=◌, kind_code, is_kind, first, skip_breaks, expect, both, mapped, mark, next_is, is_word_token, next_is_word, keyword}
-use Rattle.il_reader.specs.Grammar.{OperandText, Constant, Direct, Named, BehindText, Nothing, Given, Target, Opened, OperationText, LineText, Labelled, Plain, NamesText, Located, More, DeclarationText, ProgramText, is_truth, is_variable, is_constant, next_is_constant, form_of, operator_of, operator_at, variable_at, constant_at, operand_at, is_line_stop, optional_operand_at, nested_at, either_at, behind_at, operation_at, optional_operation_at, is_label, is_no_label, labelled, labelled_at, plain_at, either_line_at, line_at, ends_lines, ends_named, second, ends_names, name_at, names_at, no_value, initial_at, declared, declaration_at, ends_block, ends_blocks, middle, block_at, named_program, bare_program, at_end, end_at, first_of, finish_at, named_at, bare_at, begins_program, program_at}
-use Rattle.il_reader.specs.Spelling.{Part, breaks, one, this, operator, ahead, Spell, name, sign, word, spelled_operand, spelled_optional, accepts, accepting, spelled_behind, spelled_operation, spelled_optional_operation, spelled_content, spelled_line, spelled_name, is_not_at, spelled_names, spelled_initial, spelled_declaration, spelled_block, is_bare, spelled_bare, spelled_by, spelled_program, listed}
+use Rattle.il_reader.specs.Reading.{◌>>=◌, Reading, kind_code, is_kind, first, skip_breaks, expect, both, pair, choice, mapped, mark, next_is, is_word_token, next_is_word, keyword}
+use Rattle.il_reader.specs.Grammar.{OperandText, Constant, Direct, Named, Field, ArgumentText, CallText, BehindText, Nothing, Given, Target, Opened, Called, no_dot, a_field, field_at, before_dot, before_no_dot, inner_field_at, named_by, named, next_is_variable, lone_at, inner_operand_at, an_output, an_input, side_at, an_argument, argument_at, ends_arguments, next_argument_at, before_close, together, inside_at, some_middle, no_open, arguments_at, a_call, call_at, OperationText, LineText, Labelled, Plain, NamesText, Located, More, DeclarationText, ProgramText, is_truth, is_variable, is_constant, form_of, operator_of, operator_at, variable_at, constant_at, operand_at, is_line_stop, optional_operand_at, nested_at, either_at, behind_at, operation_at, optional_operation_at, is_label, is_no_label, labelled, labelled_at, plain_at, either_line_at, line_at, ends_lines, ends_named, second, ends_names, name_at, names_at, no_value, initial_at, declared, declaration_at, ends_block, ends_blocks, middle, block_at, named_program, bare_program, at_end, end_at, first_of, finish_at, named_at, bare_at, begins_program, program_at}
+use Rattle.il_reader.specs.Spelling.{Part, breaks, one, this, operator, ahead, Spell, name, sign, word, spelled_operand, spelled_inner_operand, spelled_side, spelled_argument, spelled_next, spelled_inside, spelled_arguments, spelled_call, spelled_optional, accepts, accepting, spelled_behind, spelled_operation, spelled_optional_operation, spelled_content, spelled_line, spelled_name, is_not_at, spelled_names, spelled_initial, spelled_declaration, spelled_block, is_bare, spelled_bare, spelled_by, spelled_program, listed}
 use Rattle.il_reader.proofs.Laws.{Law, Any, ok_is, bind_ok, many_law, until_law, pair_law, mapped_law, choice_law, told_law, past_law, else_law, no_front, stand_law, token_law, one_law, mark_law, meaning_law}
 
 -- tokens
@@ -66,6 +68,18 @@ some_or_none (Some x) = inl tt
 kind_other : (j k : Kind) (t : Token) → is_kind j t ≡ true → eqb (kind_code j) (kind_code k) ≡ false → is_kind k t ≡ false
 kind_other j k t is differ = rw (eqb-true (kind_code t.kind) (kind_code j) is) differ
 
+-- the same under another spelling that is the same
+told_spelling : {X : Type 0} (D : X → Type 0) (s q : X → List Part) (a : Reading X) → Law D s a → ((x : X) → D x → q x ≡ s x) → Law D q a
+told_spelling D s q a la same = record {
+  takes = λ ts x e.
+      let g = la.takes ts x e in
+      let P : List Part → Type 0 = λ ps. Spell ps ts x.1 in
+      (g.0, subst P (sym (same x.0 g.0)) g.1);
+  again = λ x ts rest d h.
+      let P : List Part → Type 0 = λ ps. Spell ps ts rest in
+      la.again x ts rest d (subst P (same x d) h);
+}
+
 -- operands
 
 variable_law : Law Any (λ t. this is_variable t ∷ []) variable_at
@@ -94,12 +108,63 @@ constant_kind k t is two three = chosen (is_kind kinds.Name t) refl
     chosen true e = kind_other kinds.Name k t e two
     chosen false e = kind_other kinds.Literal k t (rw e at is) three
 
--- a variable is no constant
-variable_other : (t : Token) → is_variable t ≡ true → is_constant t ≡ false
+-- a constant is no variable
+constant_other : (t : Token) → is_constant t ≡ true → is_variable t ≡ false
 unfolding is_constant
-variable_other t is =
-    let name : is_kind kinds.Name t ≡ true = and_left (is_kind kinds.Name t) (not (is_truth t)) is in
-    rw name (no_front (is_truth t) (and_right (is_kind kinds.Name t) (not (is_truth t)) is))
+constant_other t is = chosen (is_kind kinds.Name t) refl
+  where
+    chosen : (b : Bool) → is_kind kinds.Name t ≡ b → is_variable t ≡ false
+    chosen true e = let truth : is_truth t ≡ true = rw e at is in rw (e, truth) refl
+    chosen false e = rw e refl
+
+other_name : (t : Token) → is_kind kinds.Name t ≡ false → is_variable t ≡ false
+other_name t is = rw is refl
+
+abbrev spelled_field : Option Token → List Part
+spelled_field None = ahead no_dot ∷ []
+spelled_field (Some f) = sign kinds.Dot ∷ name f ∷ []
+
+abbrev spelled_inner_field : Option Token → List Part
+spelled_inner_field None = ahead before_no_dot ∷ []
+spelled_inner_field (Some f) = breaks ∷ sign kinds.Dot ∷ breaks ∷ name f ∷ []
+
+from_field : (o : Option Token) → IsSome o → (x : Unit {0} × Token) × (a_field x ≡ o) × (Unit {0} × Unit {0})
+from_field None d = absurd d
+from_field (Some t) d = (both tt t, refl, both tt tt)
+
+field_law : Law Any spelled_field field_at
+unfolding field_at
+field_law = told_law (λ o. IsSome o ⊎ (None ≡ o)) Any spelled_field _
+    (choice_law IsSome (λ o. None ≡ o) spelled_field (next_is kinds.Dot) _ _
+    (mapped_law _ IsSome _ spelled_field a_field _ (pair_law Any Any _ _ _ _ (mark_expect_law kinds.Dot (omega arith)) (expect_law kinds.Name (omega arith))) (λ x. refl) (λ x d. tt) from_field)
+    (stand_law spelled_field no_dot None refl)
+    begins begins_not)
+    (λ x d. tt) (λ o d. some_or_none o)
+  where
+    begins : (o : Option Token) (ts rest : List Token) → IsSome o → Spell (spelled_field o) ts rest → next_is kinds.Dot ts ≡ true
+    begins None ts rest d h = absurd d
+    begins (Some f) ts rest d h = front (is_kind kinds.Dot) (name f ∷ []) ts rest h
+
+    begins_not : (o : Option Token) (ts rest : List Token) → None ≡ o → Spell (spelled_field o) ts rest → next_is kinds.Dot ts ≡ false
+    begins_not None ts rest d h = no_front (next_is kinds.Dot ts) h.0
+    begins_not (Some f) ts rest d h = absurd cc
+
+inner_field_law : Law Any spelled_inner_field inner_field_at
+unfolding inner_field_at
+inner_field_law = told_law (λ o. IsSome o ⊎ (None ≡ o)) Any spelled_inner_field _
+    (choice_law IsSome (λ o. None ≡ o) spelled_inner_field before_dot _ _
+    (mapped_law _ IsSome _ spelled_inner_field a_field _ (pair_law Any Any _ _ _ _ (past_law Any _ _ (mark_expect_law kinds.Dot (omega arith))) (past_law Any _ _ (expect_law kinds.Name (omega arith)))) (λ x. refl) (λ x d. tt) from_field)
+    (stand_law spelled_inner_field before_no_dot None refl)
+    begins begins_not)
+    (λ x d. tt) (λ o d. some_or_none o)
+  where
+    begins : (o : Option Token) (ts rest : List Token) → IsSome o → Spell (spelled_inner_field o) ts rest → before_dot ts ≡ true
+    begins None ts rest d h = absurd d
+    begins (Some f) ts rest d h = front (is_kind kinds.Dot) (breaks ∷ name f ∷ []) (skip_breaks ts) rest h
+
+    begins_not : (o : Option Token) (ts rest : List Token) → None ≡ o → Spell (spelled_inner_field o) ts rest → before_dot ts ≡ false
+    begins_not None ts rest d h = no_front (before_dot ts) h.0
+    begins_not (Some f) ts rest d h = absurd cc
 
 abbrev IsConstant : OperandText → Type 0
 IsConstant (Constant t) = Unit {0}
@@ -111,66 +176,131 @@ IsDirect x = ⊥
 
 abbrev IsNamed : OperandText → Type 0
 IsNamed (Named t) = Unit {0}
+IsNamed (Field t f) = Unit {0}
 IsNamed x = ⊥
 
-operand_law : Law Any spelled_operand operand_at
-unfolding operand_at
-operand_law = told_law (λ o. IsDirect o ⊎ (IsConstant o ⊎ IsNamed o)) Any spelled_operand _
-    (choice_law IsDirect (λ o. IsConstant o ⊎ IsNamed o) spelled_operand (next_is kinds.Address) _ _
-    (mapped_law Any IsDirect _ spelled_operand Direct _ (expect_law kinds.Address (omega arith)) (λ x. refl) (λ x d. tt) a_direct)
-    (choice_law IsConstant IsNamed spelled_operand next_is_constant _ _
-    (mapped_law Any IsConstant _ spelled_operand Constant _ constant_law (λ x. refl) (λ x d. tt) a_constant)
-    (mapped_law Any IsNamed _ spelled_operand Named _ variable_law (λ x. refl) (λ x d. tt) a_name)
-    begins_constant begins_name)
-    begins begins_not)
-    (λ x d. tt) all
+abbrev IsLone : OperandText → Type 0
+IsLone x = IsDirect x ⊎ IsConstant x
+
+abbrev spelled_lone : OperandText → List Part
+spelled_lone (Constant t) = this is_constant t ∷ []
+spelled_lone (Direct t) = this (is_kind kinds.Address) t ∷ []
+spelled_lone x = []
+
+lone_law : Law IsLone spelled_lone lone_at
+unfolding lone_at
+lone_law = choice_law IsDirect IsConstant spelled_lone (next_is kinds.Address) _ _
+    (mapped_law Any IsDirect _ spelled_lone Direct _ (expect_law kinds.Address (omega arith)) (λ x. refl) (λ x d. tt) a_direct)
+    (mapped_law Any IsConstant _ spelled_lone Constant _ constant_law (λ x. refl) (λ x d. tt) a_constant)
+    begins begins_not
   where
     a_direct : (o : OperandText) → IsDirect o → (x : Token) × (Direct x ≡ o) × Unit {0}
     a_direct (Direct t) d = (t, refl, tt)
     a_direct (Constant t) d = absurd d
     a_direct (Named t) d = absurd d
+    a_direct (Field t f) d = absurd d
 
     a_constant : (o : OperandText) → IsConstant o → (x : Token) × (Constant x ≡ o) × Unit {0}
     a_constant (Constant t) d = (t, refl, tt)
     a_constant (Direct t) d = absurd d
     a_constant (Named t) d = absurd d
+    a_constant (Field t f) d = absurd d
 
-    a_name : (o : OperandText) → IsNamed o → (x : Token) × (Named x ≡ o) × Unit {0}
-    a_name (Named t) d = (t, refl, tt)
-    a_name (Direct t) d = absurd d
-    a_name (Constant t) d = absurd d
-
-    begins_constant : (o : OperandText) (ts rest : List Token) → IsConstant o → Spell (spelled_operand o) ts rest → next_is_constant ts ≡ true
-    begins_constant (Constant t) ts rest d h = front_this is_constant t [] ts rest h
-    begins_constant (Direct t) ts rest d h = absurd d
-    begins_constant (Named t) ts rest d h = absurd d
-
-    begins_name : (o : OperandText) (ts rest : List Token) → IsNamed o → Spell (spelled_operand o) ts rest → next_is_constant ts ≡ false
-    begins_name (Named t) ts rest d h = variable_other (first ts) (front_this is_variable t [] ts rest h)
-    begins_name (Direct t) ts rest d h = absurd d
-    begins_name (Constant t) ts rest d h = absurd d
-
-    begins : (o : OperandText) (ts rest : List Token) → IsDirect o → Spell (spelled_operand o) ts rest → next_is kinds.Address ts ≡ true
+    begins : (o : OperandText) (ts rest : List Token) → IsDirect o → Spell (spelled_lone o) ts rest → next_is kinds.Address ts ≡ true
     begins (Direct t) ts rest d h = front_this (is_kind kinds.Address) t [] ts rest h
     begins (Constant t) ts rest d h = absurd d
     begins (Named t) ts rest d h = absurd d
+    begins (Field t f) ts rest d h = absurd d
 
-    begins_not : (o : OperandText) (ts rest : List Token) → IsConstant o ⊎ IsNamed o → Spell (spelled_operand o) ts rest → next_is kinds.Address ts ≡ false
+    begins_not : (o : OperandText) (ts rest : List Token) → IsConstant o → Spell (spelled_lone o) ts rest → next_is kinds.Address ts ≡ false
     begins_not (Constant t) ts rest d h = constant_kind kinds.Address (first ts) (front_this is_constant t [] ts rest h) refl refl
-    begins_not (Named t) ts rest d h = kind_other kinds.Name kinds.Address (first ts) (and_left _ _ (front_this is_variable t [] ts rest h)) refl
-    begins_not (Direct t) ts rest (inl d) h = absurd d
-    begins_not (Direct t) ts rest (inr d) h = absurd d
+    begins_not (Direct t) ts rest d h = absurd d
+    begins_not (Named t) ts rest d h = absurd d
+    begins_not (Field t f) ts rest d h = absurd d
 
-    all : (o : OperandText) → Unit {0} → IsDirect o ⊎ (IsConstant o ⊎ IsNamed o)
-    all (Direct t) d = inl tt
-    all (Constant t) d = inr (inl tt)
-    all (Named t) d = inr (inr tt)
+-- an operand whose field, if it has one, is spelled so
+abbrev spelled_by_field : (Option Token → List Part) → OperandText → List Part
+spelled_by_field q (Constant t) = this is_constant t ∷ []
+spelled_by_field q (Direct t) = this (is_kind kinds.Address) t ∷ []
+spelled_by_field q (Named t) = this is_variable t ∷ q None
+spelled_by_field q (Field t f) = this is_variable t ∷ q (Some f)
+
+by_field_law : (q : Option Token → List Part) (a : Reading (Option Token)) → Law Any q a → Law Any (spelled_by_field q) (choice next_is_variable (mapped named (pair variable_at a)) lone_at)
+by_field_law q a law = told_law (λ o. IsNamed o ⊎ IsLone o) Any (spelled_by_field q) _
+    (choice_law IsNamed IsLone (spelled_by_field q) next_is_variable _ _
+    (mapped_law (λ (x : Token × Option Token). Unit {0} × Unit {0}) IsNamed (λ x. this is_variable x.0 ∷ q x.1) (spelled_by_field q) named _ (pair_law Any Any _ q _ _ variable_law law) (λ x. same_named x.0 x.1) (λ x d. is_named x.0 x.1) from_named)
+    (told_spelling IsLone spelled_lone (spelled_by_field q) lone_at lone_law lone_same)
+    begins begins_not)
+    (λ x d. tt) all
+  where
+    same_named : (t : Token) (o : Option Token) → spelled_by_field q (named_by t o) ≡ this is_variable t ∷ q o
+    same_named t None = refl
+    same_named t (Some f) = refl
+
+    is_named : (t : Token) (o : Option Token) → IsNamed (named_by t o)
+    is_named t None = tt
+    is_named t (Some f) = tt
+
+    from_named : (o : OperandText) → IsNamed o → (x : Token × Option Token) × (named x ≡ o) × (Unit {0} × Unit {0})
+    from_named (Named t) d = (both t None, refl, both tt tt)
+    from_named (Field t f) d = (both t (Some f), refl, both tt tt)
+    from_named (Constant t) d = absurd d
+    from_named (Direct t) d = absurd d
+
+    lone_same : (o : OperandText) → IsLone o → spelled_by_field q o ≡ spelled_lone o
+    lone_same (Constant t) d = refl
+    lone_same (Direct t) d = refl
+    lone_same (Named t) (inl d) = absurd d
+    lone_same (Named t) (inr d) = absurd d
+    lone_same (Field t f) (inl d) = absurd d
+    lone_same (Field t f) (inr d) = absurd d
+
+    begins : (o : OperandText) (ts rest : List Token) → IsNamed o → Spell (spelled_by_field q o) ts rest → next_is_variable ts ≡ true
+    begins (Named t) ts rest d h = front_this is_variable t (q None) ts rest h
+    begins (Field t f) ts rest d h = front_this is_variable t (q (Some f)) ts rest h
+    begins (Constant t) ts rest d h = absurd d
+    begins (Direct t) ts rest d h = absurd d
+
+    begins_not : (o : OperandText) (ts rest : List Token) → IsLone o → Spell (spelled_by_field q o) ts rest → next_is_variable ts ≡ false
+    begins_not (Constant t) ts rest d h = constant_other (first ts) (front_this is_constant t [] ts rest h)
+    begins_not (Direct t) ts rest d h = other_name (first ts) (kind_other kinds.Address kinds.Name (first ts) (front_this (is_kind kinds.Address) t [] ts rest h) refl)
+    begins_not (Named t) ts rest (inl d) h = absurd d
+    begins_not (Named t) ts rest (inr d) h = absurd d
+    begins_not (Field t f) ts rest (inl d) h = absurd d
+    begins_not (Field t f) ts rest (inr d) h = absurd d
+
+    all : (o : OperandText) → Unit {0} → IsNamed o ⊎ IsLone o
+    all (Direct t) d = inr (inl tt)
+    all (Constant t) d = inr (inr tt)
+    all (Named t) d = inl tt
+    all (Field t f) d = inl tt
+
+operand_law : Law Any spelled_operand operand_at
+unfolding operand_at
+operand_law = told_spelling Any (spelled_by_field spelled_field) spelled_operand _ (by_field_law spelled_field field_at field_law) (λ o d. same o)
+  where
+    same : (o : OperandText) → spelled_operand o ≡ spelled_by_field spelled_field o
+    same (Constant t) = refl
+    same (Direct t) = refl
+    same (Named t) = refl
+    same (Field t f) = refl
+
+inner_operand_law : Law Any spelled_inner_operand inner_operand_at
+unfolding inner_operand_at
+inner_operand_law = told_spelling Any (spelled_by_field spelled_inner_field) spelled_inner_operand _ (by_field_law spelled_inner_field inner_field_at inner_field_law) (λ o d. same o)
+  where
+    same : (o : OperandText) → spelled_inner_operand o ≡ spelled_by_field spelled_inner_field o
+    same (Constant t) = refl
+    same (Direct t) = refl
+    same (Named t) = refl
+    same (Field t f) = refl
 
 -- an operand begins with none but a name, a literal or an address
 operand_kind : (k : Kind) (x : OperandText) (ts rest : List Token) → Spell (spelled_operand x) ts rest → eqb 2 (kind_code k) ≡ false → eqb 3 (kind_code k) ≡ false → eqb 4 (kind_code k) ≡ false → next_is k ts ≡ false
 operand_kind k (Constant t) ts rest h two three four = constant_kind k (first ts) (front_this is_constant t [] ts rest h) two three
 operand_kind k (Direct t) ts rest h two three four = kind_other kinds.Address k (first ts) (front_this (is_kind kinds.Address) t [] ts rest h) four
-operand_kind k (Named t) ts rest h two three four = kind_other kinds.Name k (first ts) (and_left _ _ (front_this is_variable t [] ts rest h)) two
+operand_kind k (Named t) ts rest h two three four = kind_other kinds.Name k (first ts) (and_left _ _ (front_this is_variable t (ahead no_dot ∷ []) ts rest h)) two
+operand_kind k (Field t f) ts rest h two three four = kind_other kinds.Name k (first ts) (and_left _ _ (front_this is_variable t (sign kinds.Dot ∷ name f ∷ []) ts rest h)) two
 
 operand_no_stop : (x : OperandText) (ts rest : List Token) → Spell (spelled_operand x) ts rest → is_line_stop ts ≡ false
 operand_no_stop x ts rest h = either_false _ _ (operand_kind kinds.Break x ts rest h refl refl refl) (operand_kind kinds.End x ts rest h refl refl refl)
@@ -205,6 +335,131 @@ nested_law : Law Any (λ o. sign kinds.Open ∷ spelled_optional o) nested_at
 unfolding nested_at
 nested_law = mapped_law _ Any _ (λ o. sign kinds.Open ∷ spelled_optional o) second _ (pair_law Any Any _ _ _ _ (mark_expect_law kinds.Open (omega arith)) optional_operand_law) (λ x. refl) (λ x d. tt) (λ o d. (both tt o, refl, (tt, tt)))
 
+-- calls
+
+abbrev IsOutput : Side → Type 0
+IsOutput sides.Output = Unit {0}
+IsOutput sides.Input = ⊥
+
+abbrev IsInput : Side → Type 0
+IsInput sides.Input = Unit {0}
+IsInput sides.Output = ⊥
+
+side_law : Law Any spelled_side side_at
+unfolding side_at
+side_law = told_law (λ x. IsOutput x ⊎ IsInput x) Any spelled_side _
+    (choice_law IsOutput IsInput spelled_side (next_is kinds.Arrow) _ _
+    (mapped_law Any IsOutput _ spelled_side an_output _ (mark_expect_law kinds.Arrow (omega arith)) (λ x. refl) (λ x d. tt) output)
+    (mapped_law Any IsInput _ spelled_side an_input _ (mark_expect_law kinds.Assign (omega arith)) (λ x. refl) (λ x d. tt) input)
+    begins begins_not)
+    (λ x d. tt) all
+  where
+    output : (x : Side) → IsOutput x → (u : Unit {0}) × (an_output u ≡ x) × Unit {0}
+    output sides.Output d = (tt, refl, tt)
+    output sides.Input d = absurd d
+
+    input : (x : Side) → IsInput x → (u : Unit {0}) × (an_input u ≡ x) × Unit {0}
+    input sides.Input d = (tt, refl, tt)
+    input sides.Output d = absurd d
+
+    begins : (x : Side) (ts rest : List Token) → IsOutput x → Spell (spelled_side x) ts rest → next_is kinds.Arrow ts ≡ true
+    begins sides.Output ts rest d h = front (is_kind kinds.Arrow) [] ts rest h
+    begins sides.Input ts rest d h = absurd d
+
+    begins_not : (x : Side) (ts rest : List Token) → IsInput x → Spell (spelled_side x) ts rest → next_is kinds.Arrow ts ≡ false
+    begins_not sides.Input ts rest d h = kind_other kinds.Assign kinds.Arrow (first ts) (front (is_kind kinds.Assign) [] ts rest h) refl
+    begins_not sides.Output ts rest d h = absurd d
+
+    all : (x : Side) → Unit {0} → IsOutput x ⊎ IsInput x
+    all sides.Output d = inl tt
+    all sides.Input d = inr tt
+
+argument_law : Law Any spelled_argument argument_at
+unfolding argument_at
+argument_law = mapped_law _ Any _ spelled_argument an_argument _
+    (pair_law Any _ _ _ _ _ (past_law Any _ _ (expect_law kinds.Name (omega arith))) (pair_law Any Any _ _ _ _ (past_law Any _ _ side_law) (past_law Any _ _ inner_operand_law)))
+    (λ x. refl) (λ x d. tt) (λ a d. (both a.field (both a.side a.operand), refl, both tt (both tt tt)))
+
+next_argument_law : Law Any spelled_next next_argument_at
+unfolding next_argument_at
+next_argument_law = mapped_law _ Any _ spelled_next second _
+    (pair_law Any Any _ _ _ _ (past_law Any _ _ (mark_expect_law kinds.Comma (omega arith))) argument_law)
+    (λ x. refl) (λ x d. tt) (λ a d. (both tt a, refl, both tt tt))
+
+next_goes : (a : ArgumentText) (ts rest : List Token) → Unit {0} → Spell (spelled_next a) ts rest → ends_arguments ts ≡ false
+unfolding ends_arguments
+next_goes a ts rest d h = rw (front (is_kind kinds.Comma) (spelled_argument a) (skip_breaks ts) rest h) refl
+
+abbrev FitsMore : ℕ → List ArgumentText → Type 0
+FitsMore n more = AllByRecursion Any more × (length more < n)
+
+abbrev FitsSome : ℕ → List ArgumentText → Type 0
+FitsSome n [] = ⊥
+FitsSome n (a ∷ more) = FitsMore n more
+
+abbrev pub FitsInside : ℕ → List ArgumentText → Type 0
+FitsInside n xs = ([] ≡ xs) ⊎ FitsSome n xs
+
+inside_law : (n : ℕ) → Law (FitsInside n) spelled_inside (inside_at n)
+unfolding inside_at
+inside_law n = choice_law (λ xs. [] ≡ xs) (FitsSome n) spelled_inside before_close _ _
+    (stand_law spelled_inside before_close [] refl)
+    (mapped_law _ (FitsSome n) _ spelled_inside together _
+    (pair_law Any (FitsMore n) _ _ _ _ argument_law (many_law Any spelled_next ends_arguments next_argument_at n next_argument_law next_goes))
+    (λ x. refl) (λ x d. d.1) from)
+    begins begins_not
+  where
+    from : (xs : List ArgumentText) → FitsSome n xs → (y : ArgumentText × List ArgumentText) × (together y ≡ xs) × (Unit {0} × FitsMore n y.1)
+    from [] d = absurd d
+    from (a ∷ more) d = (both a more, refl, both tt d)
+
+    begins : (xs : List ArgumentText) (ts rest : List Token) → [] ≡ xs → Spell (spelled_inside xs) ts rest → before_close ts ≡ true
+    begins [] ts rest d h = h.0
+    begins (a ∷ more) ts rest d h = absurd cc
+
+    begins_not : (xs : List ArgumentText) (ts rest : List Token) → FitsSome n xs → Spell (spelled_inside xs) ts rest → before_close ts ≡ false
+    begins_not [] ts rest d h = absurd d
+    begins_not (a ∷ more) ts rest d h =
+        let qs = breaks ∷ (spelled_side a.side ++ breaks ∷ spelled_inner_operand a.operand) ++ (flat_map spelled_next more ++ ahead ends_arguments ∷ []) in
+        kind_other kinds.Name kinds.Close (first (skip_breaks ts)) (front_this (is_kind kinds.Name) a.field qs (skip_breaks ts) rest h) refl
+
+abbrev FitsGiven : ℕ → Option (List ArgumentText) → Type 0
+FitsGiven n None = ⊥
+FitsGiven n (Some xs) = FitsInside n xs
+
+abbrev pub FitsArguments : ℕ → Option (List ArgumentText) → Type 0
+FitsArguments n o = FitsGiven n o ⊎ (None ≡ o)
+
+arguments_law : (n : ℕ) → Law (FitsArguments n) spelled_arguments (arguments_at n)
+unfolding arguments_at
+arguments_law n = choice_law (FitsGiven n) (λ o. None ≡ o) spelled_arguments (next_is kinds.Open) _ _
+    (mapped_law _ (FitsGiven n) _ spelled_arguments some_middle _
+    (pair_law Any _ _ _ _ _ (mark_expect_law kinds.Open (omega arith)) (pair_law (FitsInside n) Any _ _ _ _ (inside_law n) (past_law Any _ _ (mark_expect_law kinds.Close (omega arith)))))
+    (λ x. refl) (λ x d. d.1.0) from)
+    (stand_law spelled_arguments no_open None refl)
+    begins begins_not
+  where
+    from : (o : Option (List ArgumentText)) → FitsGiven n o → (x : Unit {0} × (List ArgumentText × Unit {0})) × (some_middle x ≡ o) × (Unit {0} × (FitsInside n x.1.0 × Unit {0}))
+    from None d = absurd d
+    from (Some xs) d = (both tt (both xs tt), refl, both tt (both d tt))
+
+    begins : (o : Option (List ArgumentText)) (ts rest : List Token) → FitsGiven n o → Spell (spelled_arguments o) ts rest → next_is kinds.Open ts ≡ true
+    begins None ts rest d h = absurd d
+    begins (Some xs) ts rest d h = front (is_kind kinds.Open) (spelled_inside xs ++ breaks ∷ sign kinds.Close ∷ []) ts rest h
+
+    begins_not : (o : Option (List ArgumentText)) (ts rest : List Token) → None ≡ o → Spell (spelled_arguments o) ts rest → next_is kinds.Open ts ≡ false
+    begins_not None ts rest d h = no_front (next_is kinds.Open ts) h.0
+    begins_not (Some xs) ts rest d h = absurd cc
+
+abbrev pub FitsCall : ℕ → CallText → Type 0
+FitsCall n c = FitsArguments n c.written
+
+call_law : (n : ℕ) → Law (FitsCall n) spelled_call (call_at n)
+unfolding call_at
+call_law n = mapped_law _ (FitsCall n) _ spelled_call a_call _
+    (pair_law Any (FitsArguments n) _ _ _ _ (expect_law kinds.Name (omega arith)) (arguments_law n))
+    (λ x. refl) (λ x d. d.1) (λ c d. (both c.instance c.written, refl, both tt d))
+
 -- behind an operator
 
 abbrev Accepted : Form → BehindText → Type 0
@@ -226,6 +481,7 @@ given_law form takes = mapped_law Any (λ b. Accepted form b × IsGiven b) spell
     from Nothing d = absurd d.1
     from (Target t) d = absurd d.1
     from (Opened o) d = absurd d.1
+    from (Called c) d = absurd d.1
 
 operand_behind : Law (Accepted forms.Operand) spelled_behind (mapped Given operand_at)
 operand_behind = told_law (λ b. Accepted forms.Operand b × IsGiven b) (Accepted forms.Operand) spelled_behind _ (given_law forms.Operand (λ x. refl)) (λ b d. d.0) all
@@ -235,6 +491,7 @@ operand_behind = told_law (λ b. Accepted forms.Operand b × IsGiven b) (Accepte
     all Nothing d = absurd cc
     all (Target t) d = absurd cc
     all (Opened o) d = absurd cc
+    all (Called c) d = absurd cc
 
 opened_law : Law (λ b. Accepted forms.Either b × IsOpened b) spelled_behind (mapped Opened nested_at)
 opened_law = mapped_law Any (λ b. Accepted forms.Either b × IsOpened b) (λ o. sign kinds.Open ∷ spelled_optional o) spelled_behind Opened _ nested_law (λ x. refl) (λ x d. (refl, tt)) from
@@ -244,6 +501,7 @@ opened_law = mapped_law Any (λ b. Accepted forms.Either b × IsOpened b) (λ o.
     from Nothing d = absurd d.1
     from (Target t) d = absurd d.1
     from (Given x) d = absurd d.1
+    from (Called c) d = absurd d.1
 
 either_behind : Law (Accepted forms.Either) spelled_behind either_at
 unfolding either_at
@@ -260,18 +518,21 @@ either_behind = told_law (λ b. (Accepted forms.Either b × IsOpened b) ⊎ (Acc
     begins Nothing ts rest d h = absurd d.1
     begins (Target t) ts rest d h = absurd d.1
     begins (Given x) ts rest d h = absurd d.1
+    begins (Called c) ts rest d h = absurd d.1
 
     begins_not : (b : BehindText) (ts rest : List Token) → Accepted forms.Either b × IsGiven b → Spell (spelled_behind b) ts rest → next_is kinds.Open ts ≡ false
     begins_not (Given x) ts rest d h = operand_kind kinds.Open x ts rest h refl refl refl
     begins_not Nothing ts rest d h = absurd d.1
     begins_not (Target t) ts rest d h = absurd d.1
     begins_not (Opened o) ts rest d h = absurd d.1
+    begins_not (Called c) ts rest d h = absurd d.1
 
     all : (b : BehindText) → Accepted forms.Either b → (Accepted forms.Either b × IsOpened b) ⊎ (Accepted forms.Either b × IsGiven b)
     all (Given x) d = inr (d, tt)
     all (Opened o) d = inl (d, tt)
     all Nothing d = absurd cc
     all (Target t) d = absurd cc
+    all (Called c) d = absurd cc
 
 label_behind : Law (Accepted forms.Label) spelled_behind (mapped Target (expect kinds.Name))
 label_behind = mapped_law Any (Accepted forms.Label) _ spelled_behind Target _ (expect_law kinds.Name (omega arith)) (λ x. refl) (λ x d. refl) from
@@ -281,16 +542,32 @@ label_behind = mapped_law Any (Accepted forms.Label) _ spelled_behind Target _ (
     from Nothing d = absurd cc
     from (Given x) d = absurd cc
     from (Opened o) d = absurd cc
+    from (Called c) d = absurd cc
 
 abbrev done : BehindText × List Token → Result (BehindText × List Token) Refusal
 done x = Ok x
 
-behind_law : (form : Form) → Law (Accepted form) spelled_behind (behind_at form)
-unfolding behind_at
-behind_law forms.Operand = operand_behind
-behind_law forms.Label = label_behind
-behind_law forms.Either = either_behind
-behind_law forms.Nothing = record { takes = takes; again = again }
+-- a call has no more arguments than this
+abbrev pub FitsBehind : ℕ → BehindText → Type 0
+FitsBehind n (Called c) = FitsCall n c
+FitsBehind n b = Unit {0}
+
+-- an operator of this form takes it, and it fits
+abbrev Behind : ℕ → Form → BehindText → Type 0
+Behind n form b = Accepted form b × FitsBehind n b
+
+call_behind : (n : ℕ) → Law (Behind n forms.Call) spelled_behind (mapped Called (call_at n))
+call_behind n = mapped_law (FitsCall n) (Behind n forms.Call) spelled_call spelled_behind Called _ (call_law n) (λ x. refl) (λ x d. (refl, d)) from
+  where
+    from : (b : BehindText) → Behind n forms.Call b → (c : CallText) × (Called c ≡ b) × FitsCall n c
+    from (Called c) d = (c, refl, d.1)
+    from Nothing d = absurd (false_true d.0)
+    from (Given x) d = absurd (false_true d.0)
+    from (Target t) d = absurd (false_true d.0)
+    from (Opened o) d = absurd (false_true d.0)
+
+nothing_behind : Law (Accepted forms.Nothing) spelled_behind (λ ts. done (Nothing, ts))
+nothing_behind = record { takes = takes; again = again }
   where
     takes : (ts : List Token) (x : BehindText × List Token) → done (Nothing, ts) ≡ done x → Accepted forms.Nothing x.0 × Spell (spelled_behind x.0) ts x.1
     takes ts x e = let P : BehindText × List Token → Type 0 = λ y. Accepted forms.Nothing y.0 × Spell (spelled_behind y.0) ts y.1 in subst P (ok_is (Nothing, ts) x e) (refl, refl)
@@ -300,13 +577,35 @@ behind_law forms.Nothing = record { takes = takes; again = again }
     again (Given x) ts rest d h = absurd cc
     again (Target t) ts rest d h = absurd cc
     again (Opened o) ts rest d h = absurd cc
-behind_law forms.Call = record { takes = λ ts x e. absurd cc; again = λ b ts rest d h. absurd (never b d) }
+    again (Called c) ts rest d h = absurd cc
+
+-- what such an operator takes is no call
+without_call : (n : ℕ) (form : Form) (a : Reading BehindText) → ((b : BehindText) → Accepted form b → FitsBehind n b) → Law (Accepted form) spelled_behind a → Law (Behind n form) spelled_behind a
+without_call n form a fits law = told_law (Accepted form) (Behind n form) spelled_behind a law (λ b d. (d, fits b d)) (λ b d. d.0)
+
+behind_law : (n : ℕ) (form : Form) → Law (Behind n form) spelled_behind (behind_at n form)
+unfolding behind_at
+behind_law n forms.Operand = without_call n forms.Operand _ fits operand_behind
   where
-    never : (b : BehindText) → Accepted forms.Call b → ⊥
-    never Nothing d = absurd cc
-    never (Given x) d = absurd cc
-    never (Target t) d = absurd cc
-    never (Opened o) d = absurd cc
+    fits : (b : BehindText) → Accepted forms.Operand b → FitsBehind n b
+    fits (Called c) d = absurd (false_true d)
+    fits b d = tt
+behind_law n forms.Label = without_call n forms.Label _ fits label_behind
+  where
+    fits : (b : BehindText) → Accepted forms.Label b → FitsBehind n b
+    fits (Called c) d = absurd (false_true d)
+    fits b d = tt
+behind_law n forms.Either = without_call n forms.Either _ fits either_behind
+  where
+    fits : (b : BehindText) → Accepted forms.Either b → FitsBehind n b
+    fits (Called c) d = absurd (false_true d)
+    fits b d = tt
+behind_law n forms.Nothing = without_call n forms.Nothing _ fits nothing_behind
+  where
+    fits : (b : BehindText) → Accepted forms.Nothing b → FitsBehind n b
+    fits (Called c) d = absurd (false_true d)
+    fits b d = tt
+behind_law n forms.Call = call_behind n
 
 -- operations
 
@@ -336,9 +635,12 @@ first_operator : (o : OperationText) (ts rest : List Token) → Spell (spelled_o
 first_operator o [] rest h = absurd h
 first_operator o (t ∷ ts) rest h = (accepted_is o.behind (operator_of t) o.operator h.0).0
 
-operation_law : Law Any spelled_operation operation_at
+abbrev pub FitsOperation : ℕ → OperationText → Type 0
+FitsOperation n o = FitsBehind n o.behind
+
+operation_law : (n : ℕ) → Law (FitsOperation n) spelled_operation (operation_at n)
 unfolding operation_at
-operation_law = record { takes = takes; again = again }
+operation_law n = record { takes = takes; again = again }
   where
     joined : (ts us rest : List Token) (x : Operator) (b : BehindText) → Spell (operator operator_of x ∷ []) ts us → accepts (form_of x.mnemonic.op) b ≡ true → Spell (spelled_behind b) us rest → Spell (spelled_operation (made x b)) ts rest
     joined [] us rest x b h is g = absurd h
@@ -346,21 +648,21 @@ operation_law = record { takes = takes; again = again }
         let here : accepting b (operator_of t) ≡ Some x = rw (h.0, is) refl in
         (here, subst (λ (vs : List Token). Spell (spelled_behind b) vs rest) (sym h.1) g)
 
-    takes : (ts : List Token) (x : OperationText × List Token) → operation_at ts ≡ Ok x → Unit {0} × Spell (spelled_operation x.0) ts x.1
+    takes : (ts : List Token) (x : OperationText × List Token) → operation_at n ts ≡ Ok x → FitsOperation n x.0 × Spell (spelled_operation x.0) ts x.1
     takes ts x e =
-        let a = bind_ok (operator_at ts) (λ o. behind_at (form_of o.0.mnemonic.op) o.1 >>= λ b. Ok (made o.0 b.0, b.1)) x e in
-        let b = bind_ok (behind_at (form_of a.0.0.mnemonic.op) a.0.1) (λ b. Ok (made a.0.0 b.0, b.1)) x a.2 in
+        let a = bind_ok (operator_at ts) (λ o. behind_at n (form_of o.0.mnemonic.op) o.1 >>= λ b. Ok (made o.0 b.0, b.1)) x e in
+        let b = bind_ok (behind_at n (form_of a.0.0.mnemonic.op) a.0.1) (λ b. Ok (made a.0.0 b.0, b.1)) x a.2 in
         let f = operator_law.takes ts a.0 a.1 in
-        let g = (behind_law (form_of a.0.0.mnemonic.op)).takes a.0.1 b.0 b.1 in
-        let P : OperationText × List Token → Type 0 = λ y. Spell (spelled_operation y.0) ts y.1 in
-        (tt, subst P (ok_is (made a.0.0 b.0.0, b.0.1) x b.2) (joined ts a.0.1 b.0.1 a.0.0 b.0.0 f.1 g.0 g.1))
+        let g = (behind_law n (form_of a.0.0.mnemonic.op)).takes a.0.1 b.0 b.1 in
+        let P : OperationText × List Token → Type 0 = λ y. FitsOperation n y.0 × Spell (spelled_operation y.0) ts y.1 in
+        subst P (ok_is (made a.0.0 b.0.0, b.0.1) x b.2) (g.0.1, joined ts a.0.1 b.0.1 a.0.0 b.0.0 f.1 g.0.0 g.1)
 
-    again : (o : OperationText) (ts rest : List Token) → Unit {0} → Spell (spelled_operation o) ts rest → operation_at ts ≡ Ok (o, rest)
+    again : (o : OperationText) (ts rest : List Token) → FitsOperation n o → Spell (spelled_operation o) ts rest → operation_at n ts ≡ Ok (o, rest)
     again o [] rest d h = absurd h
     again o (t ∷ ts) rest d h =
         let p = accepted_is o.behind (operator_of t) o.operator h.0 in
         let f : operator_at (t ∷ ts) ≡ Ok (o.operator, ts) = operator_law.again o.operator (t ∷ ts) ts tt (p.0, refl) in
-        let g = (behind_law (form_of o.operator.mnemonic.op)).again o.behind ts rest p.1 h.1 in
+        let g = (behind_law n (form_of o.operator.mnemonic.op)).again o.behind ts rest (p.1, d) h.1 in
         rw (f, g) refl
 
 -- an operator is no end of a line
@@ -386,57 +688,58 @@ operation_no_stop o ts rest h = operator_no_stop (first ts) o.operator (first_op
 
 -- lines
 
-abbrev IsLabelled : LineText → Type 0
-IsLabelled (Labelled t o) = Unit {0}
-IsLabelled (Plain o) = ⊥
+abbrev FitsSomeOperation : ℕ → Option OperationText → Type 0
+FitsSomeOperation n None = ⊥
+FitsSomeOperation n (Some o) = FitsOperation n o
 
-abbrev IsPlain : LineText → Type 0
-IsPlain (Plain o) = Unit {0}
-IsPlain (Labelled t o) = ⊥
+abbrev pub FitsOptional : ℕ → Option OperationText → Type 0
+FitsOptional n o = (None ≡ o) ⊎ FitsSomeOperation n o
 
-optional_operation_law : Law Any spelled_optional_operation optional_operation_at
+optional_operation_law : (n : ℕ) → Law (FitsOptional n) spelled_optional_operation (optional_operation_at n)
 unfolding optional_operation_at
-optional_operation_law = told_law (λ o. (None ≡ o) ⊎ IsSome o) Any spelled_optional_operation _
-    (choice_law (λ o. None ≡ o) IsSome spelled_optional_operation is_line_stop _ _
+optional_operation_law n = choice_law (λ o. None ≡ o) (FitsSomeOperation n) spelled_optional_operation is_line_stop _ _
     (stand_law spelled_optional_operation is_line_stop None refl)
-    (mapped_law Any IsSome spelled_operation spelled_optional_operation Some _ operation_law (λ x. refl) (λ x d. tt) made_some)
-    begins begins_not)
-    (λ x d. tt) all
+    (mapped_law (FitsOperation n) (FitsSomeOperation n) spelled_operation spelled_optional_operation Some _ (operation_law n) (λ x. refl) (λ x d. d) made_some)
+    begins begins_not
   where
-    made_some : (o : Option OperationText) → IsSome o → (x : OperationText) × (Some x ≡ o) × Unit {0}
+    made_some : (o : Option OperationText) → FitsSomeOperation n o → (x : OperationText) × (Some x ≡ o) × FitsOperation n x
     made_some None d = absurd d
-    made_some (Some x) d = (x, refl, tt)
+    made_some (Some x) d = (x, refl, d)
 
     begins : (o : Option OperationText) (ts rest : List Token) → None ≡ o → Spell (spelled_optional_operation o) ts rest → is_line_stop ts ≡ true
     begins None ts rest d h = h.0
     begins (Some x) ts rest d h = absurd cc
 
-    begins_not : (o : Option OperationText) (ts rest : List Token) → IsSome o → Spell (spelled_optional_operation o) ts rest → is_line_stop ts ≡ false
+    begins_not : (o : Option OperationText) (ts rest : List Token) → FitsSomeOperation n o → Spell (spelled_optional_operation o) ts rest → is_line_stop ts ≡ false
     begins_not None ts rest d h = absurd d
     begins_not (Some x) ts rest d h = operation_no_stop x ts rest h
 
-    all : (o : Option OperationText) → Unit {0} → (None ≡ o) ⊎ IsSome o
-    all None d = inl refl
-    all (Some x) d = inr tt
+abbrev pub IsLabelled : ℕ → LineText → Type 0
+IsLabelled n (Labelled t o) = FitsOptional n o
+IsLabelled n (Plain o) = ⊥
 
-labelled_law : Law IsLabelled spelled_content labelled_at
+abbrev pub IsPlain : ℕ → LineText → Type 0
+IsPlain n (Plain o) = FitsOperation n o
+IsPlain n (Labelled t o) = ⊥
+
+labelled_law : (n : ℕ) → Law (IsLabelled n) spelled_content (labelled_at n)
 unfolding labelled_at
-labelled_law = mapped_law _ IsLabelled _ spelled_content labelled _ (pair_law Any _ _ _ _ _ (expect_law kinds.Name (omega arith)) (pair_law Any Any _ _ _ _ (mark_expect_law kinds.Colon (omega arith)) optional_operation_law)) (λ x. refl) (λ x d. tt) from
+labelled_law n = mapped_law _ (IsLabelled n) _ spelled_content labelled _ (pair_law Any _ _ _ _ _ (expect_law kinds.Name (omega arith)) (pair_law Any (FitsOptional n) _ _ _ _ (mark_expect_law kinds.Colon (omega arith)) (optional_operation_law n))) (λ x. refl) (λ x d. d.1.1) from
   where
-    from : (l : LineText) → IsLabelled l → (x : Token × (Unit {0} × Option OperationText)) × (labelled x ≡ l) × (Unit {0} × (Unit {0} × Unit {0}))
-    from (Labelled t o) d = (both t (both tt o), refl, both tt (both tt tt))
+    from : (l : LineText) → IsLabelled n l → (x : Token × (Unit {0} × Option OperationText)) × (labelled x ≡ l) × (Unit {0} × (Unit {0} × FitsOptional n x.1.1))
+    from (Labelled t o) d = (both t (both tt o), refl, both tt (both tt d))
     from (Plain o) d = absurd d
 
 abbrev spelled_plain : LineText → List Part
 spelled_plain (Plain o) = spelled_operation o
 spelled_plain l = []
 
-plain_law : Law IsPlain spelled_plain plain_at
+plain_law : (n : ℕ) → Law (IsPlain n) spelled_plain (plain_at n)
 unfolding plain_at
-plain_law = mapped_law Any IsPlain spelled_operation spelled_plain Plain _ operation_law (λ x. refl) (λ x d. tt) from
+plain_law n = mapped_law (FitsOperation n) (IsPlain n) spelled_operation spelled_plain Plain _ (operation_law n) (λ x. refl) (λ x d. d) from
   where
-    from : (l : LineText) → IsPlain l → (x : OperationText) × (Plain x ≡ l) × Unit {0}
-    from (Plain o) d = (o, refl, tt)
+    from : (l : LineText) → IsPlain n l → (x : OperationText) × (Plain x ≡ l) × FitsOperation n x
+    from (Plain o) d = (o, refl, d)
     from (Labelled t o) d = absurd d
 
 label_begins : (t : Token) (ps : List Part) (ts rest : List Token) → Spell (name t ∷ sign kinds.Colon ∷ ps) ts rest → is_label ts ≡ true
@@ -444,29 +747,26 @@ unfolding is_label
 label_begins t ps [] rest h = absurd h
 label_begins t ps (u ∷ us) rest h = both_true _ _ h.0.0 (either_true _ _ (front (is_kind kinds.Colon) ps us rest h.1))
 
-content_law : Law Any spelled_content either_line_at
+abbrev pub FitsLine : ℕ → LineText → Type 0
+FitsLine n l = IsLabelled n l ⊎ IsPlain n l
+
+content_law : (n : ℕ) → Law (FitsLine n) spelled_content (either_line_at n)
 unfolding either_line_at
-content_law = told_law (λ l. IsLabelled l ⊎ IsPlain l) Any spelled_content _
-    (else_law IsLabelled IsPlain spelled_content spelled_plain is_label _ _ labelled_law plain_law same begins)
-    (λ x d. tt) all
+content_law n = else_law (IsLabelled n) (IsPlain n) spelled_content spelled_plain is_label _ _ (labelled_law n) (plain_law n) same begins
   where
-    same : (l : LineText) → IsPlain l → spelled_content l ≡ ahead is_no_label ∷ spelled_plain l
+    same : (l : LineText) → IsPlain n l → spelled_content l ≡ ahead is_no_label ∷ spelled_plain l
     same (Plain o) d = refl
     same (Labelled t o) d = absurd d
 
-    begins : (l : LineText) (ts rest : List Token) → IsLabelled l → Spell (spelled_content l) ts rest → is_label ts ≡ true
+    begins : (l : LineText) (ts rest : List Token) → IsLabelled n l → Spell (spelled_content l) ts rest → is_label ts ≡ true
     begins (Labelled t o) ts rest d h = label_begins t (spelled_optional_operation o) ts rest h
     begins (Plain o) ts rest d h = absurd d
 
-    all : (l : LineText) → Unit {0} → IsLabelled l ⊎ IsPlain l
-    all (Labelled t o) d = inl tt
-    all (Plain o) d = inr tt
-
-line_law : Law Any spelled_line line_at
+line_law : (n : ℕ) → Law (FitsLine n) spelled_line (line_at n)
 unfolding line_at
-line_law = mapped_law _ Any _ spelled_line first_of _
-    (pair_law Any (λ u. tt ≡ u) _ (λ u. ahead is_line_stop ∷ []) _ _ (past_law Any spelled_content _ content_law) (stand_law (λ u. ahead is_line_stop ∷ []) is_line_stop tt refl))
-    (λ x. refl) (λ x d. tt) (λ l d. (both l tt, refl, both tt refl))
+line_law n = mapped_law _ (FitsLine n) _ spelled_line first_of _
+    (pair_law (FitsLine n) (λ u. tt ≡ u) _ (λ u. ahead is_line_stop ∷ []) _ _ (past_law (FitsLine n) spelled_content _ (content_law n)) (stand_law (λ u. ahead is_line_stop ∷ []) is_line_stop tt refl))
+    (λ x. refl) (λ x d. d.0) (λ l d. (both l tt, refl, both d refl))
 
 -- declarations
 
@@ -598,7 +898,7 @@ abbrev pub FitsBlocks : ℕ → List (List DeclarationText) → Type 0
 FitsBlocks n bs = AllByRecursion (FitsBlock n) bs × (length bs < n)
 
 abbrev pub FitsLines : ℕ → List LineText → Type 0
-FitsLines n ls = AllByRecursion Any ls × (length ls < n)
+FitsLines n ls = AllByRecursion (FitsLine n) ls × (length ls < n)
 
 abbrev pub Fits : ℕ → ProgramText → Type 0
 Fits n s = FitsBlocks n s.blocks × FitsLines n s.lines
@@ -615,7 +915,7 @@ named_law n = mapped_law _ (IsNamedProgram n) _ spelled_program named_program _
     (pair_law Any _ _ _ _ _ (past_law Any _ _ (keyword_law (codes "PROGRAM")))
     (pair_law Any _ _ _ _ _ (expect_law kinds.Name (omega arith))
     (pair_law (FitsBlocks n) _ _ _ _ _ (until_law (FitsBlock n) spelled_block ends_blocks (block_at n) n (block_law n))
-    (pair_law (FitsLines n) Any _ _ _ _ (until_law Any spelled_line ends_named line_at n line_law) finish_law))))
+    (pair_law (FitsLines n) Any _ _ _ _ (until_law (FitsLine n) spelled_line ends_named (line_at n) n (line_law n)) finish_law))))
     (λ x. refl) (λ x d. (tt, (d.1.1.0, d.1.1.1.0))) from
   where
     from : (s : ProgramText) → IsNamedProgram n s → (x : Unit {0} × (Token × (List (List DeclarationText) × (List LineText × Unit {0})))) × (named_program x ≡ s) × (Unit {0} × (Unit {0} × (FitsBlocks n x.1.1.0 × (FitsLines n x.1.1.1.0 × Unit {0}))))
@@ -633,7 +933,7 @@ bare_law : (n : ℕ) → Law (IsBareProgram n) spelled_rest (bare_at n)
 unfolding bare_at
 bare_law n = mapped_law _ (IsBareProgram n) _ spelled_rest bare_program _
     (pair_law (FitsBlocks n) _ _ _ _ _ (until_law (FitsBlock n) spelled_block ends_blocks (block_at n) n (block_law n))
-    (pair_law (FitsLines n) Any _ _ _ _ (until_law Any spelled_line ends_lines line_at n line_law) (past_law Any _ _ end_law)))
+    (pair_law (FitsLines n) Any _ _ _ _ (until_law (FitsLine n) spelled_line ends_lines (line_at n) n (line_law n)) (past_law Any _ _ end_law)))
     (λ x. refl) (λ x d. (refl, (d.0, d.1.0))) from
   where
     from : (s : ProgramText) → IsBareProgram n s → (x : List (List DeclarationText) × (List LineText × Unit {0})) × (bare_program x ≡ s) × (FitsBlocks n x.0 × (FitsLines n x.1.0 × Unit {0}))

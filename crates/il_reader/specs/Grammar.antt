@@ -1,5 +1,5 @@
--- What a text says, and its first fault: the readings of Annex B's productions (IEC 61131-3:2003, B.2 and B.1.4), as far as they are read today.
-use Rattle.std.specs.Prelude.{ℕ, ◌+◌, List, length, map, Option, Some, None, is_none, option_map, Result, Ok, Err, Bool, true, false, not, ◌||◌, ◌&&◌, if◌then◌else◌, codes}
+-- What a text says, and its first fault: the readings of Annex B's productions (IEC 61131-3:2003, B.2 and B.1.4).
+use Rattle.std.specs.Prelude.{ℕ, ◌+◌, List, [], ◌∷◌, length, map, Option, Some, None, is_none, option_map, Result, Ok, Err, Bool, false, not, ◌||◌, ◌&&◌, if◌then◌else◌, codes}
 use Rattle.il_model.specs.declared.op.Op.{Op}
 use Rattle.il_model.specs.declared.op.Op.TheVariants as ops
 use Rattle.il_model.specs.declared.words.Mnemonic.{Mnemonic}
@@ -9,6 +9,10 @@ use Rattle.il_reader.specs.declared.lexeme.Kind.TheVariants as kinds
 use Rattle.il_reader.specs.declared.contents.Operator.{Operator}
 use Rattle.il_reader.specs.declared.contents.Operand.{Operand}
 use Rattle.il_reader.specs.declared.contents.Operand.TheVariants as operands
+use Rattle.il_model.specs.declared.program.Side.{Side}
+use Rattle.il_model.specs.declared.program.Side.TheVariants as sides
+use Rattle.il_reader.specs.declared.contents.Argument.{Argument}
+use Rattle.il_reader.specs.declared.contents.Call.{Call}
 use Rattle.il_reader.specs.declared.contents.Behind.{Behind}
 use Rattle.il_reader.specs.declared.contents.Behind.TheVariants as behinds
 use Rattle.il_reader.specs.declared.contents.Operation.{Operation}
@@ -29,13 +33,27 @@ pub data OperandText : Type 0 where
   Constant : Token → OperandText
   Direct : Token → OperandText
   Named : Token → OperandText
+  -- of an instance its field
+  Field : Token → Token → OperandText
 
--- behind an operator: nothing, an operand, the label of a jump, or a parenthesis with an operand or without
+-- field := operand or field => operand
+pub record ArgumentText : Type 0 where
+  pub field : Token
+  pub side : Side
+  pub operand : OperandText
+
+-- an instance that is called, and the arguments, where it has parentheses
+pub record CallText : Type 0 where
+  pub instance : Token
+  pub written : Option (List ArgumentText)
+
+-- behind an operator: nothing, an operand, the label of a jump, a parenthesis with an operand or without, or a call
 pub data BehindText : Type 0 where
   Nothing : BehindText
   Given : OperandText → BehindText
   Target : Token → BehindText
   Opened : Option OperandText → BehindText
+  Called : CallText → BehindText
 
 pub record OperationText : Type 0 where
   pub operator : Operator
@@ -66,12 +84,29 @@ abbrev pub operand : Operand → OperandText
 operand (operands.Constant t) = Constant (token t)
 operand (operands.Direct t) = Direct (token t)
 operand (operands.Named t) = Named (token t)
+operand (operands.Field t f) = Field (token t) (token f)
+
+abbrev pub argument : Argument → ArgumentText
+argument a = record { field = token a.field; side = a.side; operand = operand a.operand }
+
+abbrev pub call : Call → CallText
+call c = record { instance = token c.instance; written = option_map (λ xs. map argument xs.items) c.written }
+
+-- no parentheses are no arguments
+abbrev pub written_arguments : Option (List ArgumentText) → List ArgumentText
+written_arguments None = []
+written_arguments (Some xs) = xs
+
+-- what a call is given, in the order written
+abbrev pub arguments_of : CallText → List ArgumentText
+arguments_of c = written_arguments c.written
 
 abbrev pub behind : Behind → BehindText
 behind behinds.Nothing = Nothing
 behind (behinds.Given x) = Given (operand x)
 behind (behinds.Target t) = Target (token t)
 behind (behinds.Opened o) = Opened (option_map operand o)
+behind (behinds.Called c) = Called (call c)
 
 abbrev pub operation : Operation → OperationText
 operation o = record { operator = o.operator; behind = behind o.behind }
@@ -111,18 +146,13 @@ form_of ops.IntToDint = forms.Nothing
 form_of ops.DintToInt = forms.Nothing
 form_of op = forms.Either
 
-abbrev pub is_call : Form → Bool
-is_call forms.Call = true
-is_call form = false
-
 -- the right parenthesis
 abbrev pub closing : Mnemonic
 closing = record { op = ops.Close; modifier = record { negated = false; conditional = false; opens = false } }
 
--- calls are not read today
 abbrev pub operator_from : ℕ → Option Mnemonic → Option Operator
 operator_from left None = None
-operator_from left (Some m) = if is_call (form_of m.op) then None else Some (record { mnemonic = m; left = left })
+operator_from left (Some m) = Some (record { mnemonic = m; left = left })
 
 -- the operator that a token is
 unfoldable pub operator_of : Token → Option Operator
@@ -141,8 +171,8 @@ is_variable t = is_kind kinds.Name t && not (is_truth t)
 unfoldable pub is_constant : Token → Bool
 is_constant t = if is_kind kinds.Name t then is_truth t else is_kind kinds.Literal t
 
-abbrev pub next_is_constant : List Token → Bool
-next_is_constant ts = is_constant (first ts)
+abbrev pub next_is_variable : List Token → Bool
+next_is_variable ts = is_variable (first ts)
 
 unfoldable pub operator_at : Reading Operator
 operator_at ts = meaning operator_of ts
@@ -153,8 +183,45 @@ variable_at ts = if is_variable (first ts) then Ok (first ts, others ts) else Er
 unfoldable pub constant_at : Reading Token
 constant_at ts = if is_constant (first ts) then Ok (first ts, others ts) else Err (fault_at (first ts))
 
+abbrev pub second : {X : Type 0} → Unit {0} × X → X
+second x = x.1
+
+abbrev pub no_dot : List Token → Bool
+no_dot ts = not (next_is kinds.Dot ts)
+
+abbrev pub a_field : Unit {0} × Token → Option Token
+a_field x = Some (second x)
+
+-- a dot and any word, where a dot stands
+unfoldable pub field_at : Reading (Option Token)
+field_at ts = choice (next_is kinds.Dot) (mapped a_field (pair (mark (expect kinds.Dot)) (expect kinds.Name))) (stand no_dot None) ts
+
+abbrev pub before_dot : List Token → Bool
+before_dot ts = next_is kinds.Dot (skip_breaks ts)
+
+abbrev pub before_no_dot : List Token → Bool
+before_no_dot ts = not (before_dot ts)
+
+-- the same between the parentheses of a call, where line ends are white space
+unfoldable pub inner_field_at : Reading (Option Token)
+inner_field_at ts = choice before_dot (mapped a_field (pair (past (mark (expect kinds.Dot))) (past (expect kinds.Name)))) (stand before_no_dot None) ts
+
+abbrev pub named_by : Token → Option Token → OperandText
+named_by t None = Named t
+named_by t (Some f) = Field t f
+
+abbrev pub named : Token × Option Token → OperandText
+named x = named_by x.0 x.1
+
+-- an operand that is no name
+unfoldable pub lone_at : Reading OperandText
+lone_at ts = choice (next_is kinds.Address) (mapped Direct (expect kinds.Address)) (mapped Constant constant_at) ts
+
 unfoldable pub operand_at : Reading OperandText
-operand_at ts = choice (next_is kinds.Address) (mapped Direct (expect kinds.Address)) (choice next_is_constant (mapped Constant constant_at) (mapped Named variable_at)) ts
+operand_at ts = choice next_is_variable (mapped named (pair variable_at field_at)) lone_at ts
+
+unfoldable pub inner_operand_at : Reading OperandText
+inner_operand_at ts = choice next_is_variable (mapped named (pair variable_at inner_field_at)) lone_at ts
 
 -- the end of an instruction line, which is not taken
 abbrev pub is_line_stop : List Token → Bool
@@ -163,9 +230,6 @@ is_line_stop ts = next_is kinds.Break ts || next_is kinds.End ts
 unfoldable pub optional_operand_at : Reading (Option OperandText)
 optional_operand_at ts = choice is_line_stop (stand is_line_stop None) (mapped Some operand_at) ts
 
-abbrev pub second : {X : Type 0} → Unit {0} × X → X
-second x = x.1
-
 -- ( with an operand or without
 unfoldable pub nested_at : Reading (Option OperandText)
 nested_at ts = mapped second (pair (mark (expect kinds.Open)) optional_operand_at) ts
@@ -173,21 +237,76 @@ nested_at ts = mapped second (pair (mark (expect kinds.Open)) optional_operand_a
 unfoldable pub either_at : Reading BehindText
 either_at ts = choice (next_is kinds.Open) (mapped Opened nested_at) (mapped Given operand_at) ts
 
-unfoldable pub behind_at : Form → Reading BehindText
-behind_at forms.Operand ts = mapped Given operand_at ts
-behind_at forms.Nothing ts = Ok (Nothing, ts)
-behind_at forms.Label ts = mapped Target (expect kinds.Name) ts
-behind_at forms.Either ts = either_at ts
-behind_at forms.Call ts = Err (fault_at (first ts))
+-- ---- calls
 
-unfoldable pub operation_at : Reading OperationText
-operation_at ts = do
+abbrev pub an_output : Unit {0} → Side
+an_output u = sides.Output
+
+abbrev pub an_input : Unit {0} → Side
+an_input u = sides.Input
+
+-- => or :=
+unfoldable pub side_at : Reading Side
+side_at ts = choice (next_is kinds.Arrow) (mapped an_output (mark (expect kinds.Arrow))) (mapped an_input (mark (expect kinds.Assign))) ts
+
+abbrev pub an_argument : Token × (Side × OperandText) → ArgumentText
+an_argument x = record { field = x.0; side = x.1.0; operand = x.1.1 }
+
+unfoldable pub argument_at : Reading ArgumentText
+argument_at ts = mapped an_argument (pair (past (expect kinds.Name)) (pair (past side_at) (past inner_operand_at))) ts
+
+unfoldable pub ends_arguments : List Token → Bool
+ends_arguments ts = not (next_is kinds.Comma (skip_breaks ts))
+
+-- a comma and an argument
+unfoldable pub next_argument_at : Reading ArgumentText
+next_argument_at ts = mapped second (pair (past (mark (expect kinds.Comma))) argument_at) ts
+
+abbrev pub before_close : List Token → Bool
+before_close ts = next_is kinds.Close (skip_breaks ts)
+
+abbrev pub together : {X : Type 0} → X × List X → List X
+together x = x.0 ∷ x.1
+
+-- the arguments between the parentheses
+unfoldable pub inside_at : ℕ → Reading (List ArgumentText)
+inside_at n ts = choice before_close (stand before_close []) (mapped together (pair argument_at (many ends_arguments next_argument_at n))) ts
+
+abbrev pub middle : {X : Type 0} → Unit {0} × (X × Unit {0}) → X
+middle x = x.1.0
+
+abbrev pub some_middle : {X : Type 0} → Unit {0} × (X × Unit {0}) → Option X
+some_middle x = Some (middle x)
+
+abbrev pub no_open : List Token → Bool
+no_open ts = not (next_is kinds.Open ts)
+
+unfoldable pub arguments_at : ℕ → Reading (Option (List ArgumentText))
+arguments_at n ts = choice (next_is kinds.Open) (mapped some_middle (pair (mark (expect kinds.Open)) (pair (inside_at n) (past (mark (expect kinds.Close)))))) (stand no_open None) ts
+
+abbrev pub a_call : Token × Option (List ArgumentText) → CallText
+a_call x = record { instance = x.0; written = x.1 }
+
+unfoldable pub call_at : ℕ → Reading CallText
+call_at n ts = mapped a_call (pair (expect kinds.Name) (arguments_at n)) ts
+
+-- ---- operations and lines
+
+unfoldable pub behind_at : ℕ → Form → Reading BehindText
+behind_at n forms.Operand ts = mapped Given operand_at ts
+behind_at n forms.Nothing ts = Ok (Nothing, ts)
+behind_at n forms.Label ts = mapped Target (expect kinds.Name) ts
+behind_at n forms.Either ts = either_at ts
+behind_at n forms.Call ts = mapped Called (call_at n) ts
+
+unfoldable pub operation_at : ℕ → Reading OperationText
+operation_at n ts = do
   operator ← operator_at ts
-  behind ← behind_at (form_of operator.0.mnemonic.op) operator.1
+  behind ← behind_at n (form_of operator.0.mnemonic.op) operator.1
   Ok (record { operator = operator.0; behind = behind.0 }, behind.1)
 
-unfoldable pub optional_operation_at : Reading (Option OperationText)
-optional_operation_at ts = choice is_line_stop (stand is_line_stop None) (mapped Some operation_at) ts
+unfoldable pub optional_operation_at : ℕ → Reading (Option OperationText)
+optional_operation_at n ts = choice is_line_stop (stand is_line_stop None) (mapped Some (operation_at n)) ts
 
 -- a word before a colon is a label, and so is one that is no operator
 unfoldable pub is_label : List Token → Bool
@@ -199,20 +318,20 @@ is_no_label ts = not (is_label ts)
 abbrev pub labelled : Token × (Unit {0} × Option OperationText) → LineText
 labelled x = Labelled x.0 x.1.1
 
-unfoldable pub labelled_at : Reading LineText
-labelled_at ts = mapped labelled (pair (expect kinds.Name) (pair (mark (expect kinds.Colon)) optional_operation_at)) ts
+unfoldable pub labelled_at : ℕ → Reading LineText
+labelled_at n ts = mapped labelled (pair (expect kinds.Name) (pair (mark (expect kinds.Colon)) (optional_operation_at n))) ts
 
-unfoldable pub plain_at : Reading LineText
-plain_at ts = mapped Plain operation_at ts
+unfoldable pub plain_at : ℕ → Reading LineText
+plain_at n ts = mapped Plain (operation_at n) ts
 
-unfoldable pub either_line_at : Reading LineText
-either_line_at ts = choice is_label labelled_at plain_at ts
+unfoldable pub either_line_at : ℕ → Reading LineText
+either_line_at n ts = choice is_label (labelled_at n) (plain_at n) ts
 
 abbrev pub first_of : {X : Type 0} → X × Unit {0} → X
 first_of x = x.0
 
-unfoldable pub line_at : Reading LineText
-line_at ts = mapped first_of (pair (past either_line_at) (stand is_line_stop tt)) ts
+unfoldable pub line_at : ℕ → Reading LineText
+line_at n ts = mapped first_of (pair (past (either_line_at n)) (stand is_line_stop tt)) ts
 
 unfoldable pub ends_lines : List Token → Bool
 ends_lines ts = next_is kinds.End (skip_breaks ts)
@@ -252,9 +371,6 @@ ends_block ts = next_is_word (codes "END_VAR") (skip_breaks ts)
 unfoldable pub ends_blocks : List Token → Bool
 ends_blocks ts = not (next_is_word (codes "VAR") (skip_breaks ts))
 
-abbrev pub middle : {X : Type 0} → Unit {0} × (X × Unit {0}) → X
-middle x = x.1.0
-
 -- VAR, declarations, END_VAR
 unfoldable pub block_at : ℕ → Reading (List DeclarationText)
 block_at n ts = mapped middle (pair (past (keyword (codes "VAR"))) (pair (many ends_block (declaration_at n) n) (past (keyword (codes "END_VAR"))))) ts
@@ -278,10 +394,10 @@ unfoldable pub finish_at : Reading (Unit {0})
 finish_at ts = mapped first_of (pair (past (keyword (codes "END_PROGRAM"))) (past end_at)) ts
 
 unfoldable pub named_at : ℕ → Reading ProgramText
-named_at n ts = mapped named_program (pair (past (keyword (codes "PROGRAM"))) (pair (expect kinds.Name) (pair (many ends_blocks (block_at n) n) (pair (many ends_named line_at n) finish_at)))) ts
+named_at n ts = mapped named_program (pair (past (keyword (codes "PROGRAM"))) (pair (expect kinds.Name) (pair (many ends_blocks (block_at n) n) (pair (many ends_named (line_at n) n) finish_at)))) ts
 
 unfoldable pub bare_at : ℕ → Reading ProgramText
-bare_at n ts = mapped bare_program (pair (many ends_blocks (block_at n) n) (pair (many ends_lines line_at n) (past end_at))) ts
+bare_at n ts = mapped bare_program (pair (many ends_blocks (block_at n) n) (pair (many ends_lines (line_at n) n) (past end_at))) ts
 
 unfoldable pub begins_program : List Token → Bool
 begins_program ts = next_is_word (codes "PROGRAM") (skip_breaks ts)

@@ -2,13 +2,15 @@
 use Rattle.std.specs.Prelude.{◌≡◌, List, [], ◌∷◌, ◌++◌, not, Bool, true, false, Option, Some, None, ℕ, codes, if◌then◌else◌}
 use Rattle.std.specs.List.{flat_map}
 use Rattle.il_reader.specs.declared.contents.Operator.{Operator}
+use Rattle.il_model.specs.declared.program.Side.{Side}
+use Rattle.il_model.specs.declared.program.Side.TheVariants as sides
 use Rattle.il_reader.specs.declared.operations.Form.{Form}
 use Rattle.il_reader.specs.declared.operations.Form.TheVariants as forms
 use Rattle.il_reader.specs.declared.lexeme.Kind.{Kind}
 use Rattle.il_reader.specs.declared.lexeme.Kind.TheVariants as kinds
 use Rattle.il_reader.specs.Tokens.{Token, tokens_of}
 use Rattle.il_reader.specs.Reading.{skip_breaks, is_kind, is_word_token, next_is_word}
-use Rattle.il_reader.specs.Grammar.{OperandText, Constant, Direct, Named, BehindText, Nothing, Given, Target, Opened, OperationText, LineText, Labelled, Plain, NamesText, Located, More, DeclarationText, ProgramText, is_constant, is_variable, form_of, operator_of, is_line_stop, is_no_label, no_value, ends_names, ends_block, ends_blocks, ends_lines, ends_named, begins_program, at_end}
+use Rattle.il_reader.specs.Grammar.{OperandText, Constant, Direct, Named, Field, ArgumentText, CallText, no_dot, before_no_dot, before_close, ends_arguments, no_open, BehindText, Nothing, Given, Target, Opened, Called, OperationText, LineText, Labelled, Plain, NamesText, Located, More, DeclarationText, ProgramText, is_constant, is_variable, form_of, operator_of, is_line_stop, is_no_label, no_value, ends_names, ends_block, ends_blocks, ends_lines, ends_named, begins_program, at_end}
 
 -- what stands next: any number of line ends, a token of this sort, this token, a token that is this operator, or nothing where this comes next
 pub data Part : Type 0 where
@@ -47,7 +49,37 @@ word w = one (is_word_token w)
 abbrev pub spelled_operand : OperandText → List Part
 spelled_operand (Constant t) = this is_constant t ∷ []
 spelled_operand (Direct t) = address t ∷ []
-spelled_operand (Named t) = this is_variable t ∷ []
+spelled_operand (Named t) = this is_variable t ∷ ahead no_dot ∷ []
+spelled_operand (Field t f) = this is_variable t ∷ sign kinds.Dot ∷ name f ∷ []
+
+-- the same between the parentheses of a call, where line ends are white space
+abbrev pub spelled_inner_operand : OperandText → List Part
+spelled_inner_operand (Constant t) = this is_constant t ∷ []
+spelled_inner_operand (Direct t) = address t ∷ []
+spelled_inner_operand (Named t) = this is_variable t ∷ ahead before_no_dot ∷ []
+spelled_inner_operand (Field t f) = this is_variable t ∷ breaks ∷ sign kinds.Dot ∷ breaks ∷ name f ∷ []
+
+abbrev pub spelled_side : Side → List Part
+spelled_side sides.Input = sign kinds.Assign ∷ []
+spelled_side sides.Output = sign kinds.Arrow ∷ []
+
+abbrev pub spelled_argument : ArgumentText → List Part
+spelled_argument a = breaks ∷ name a.field ∷ breaks ∷ (spelled_side a.side ++ breaks ∷ spelled_inner_operand a.operand)
+
+-- another argument of the same call
+abbrev pub spelled_next : ArgumentText → List Part
+spelled_next a = breaks ∷ sign kinds.Comma ∷ spelled_argument a
+
+abbrev pub spelled_inside : List ArgumentText → List Part
+spelled_inside [] = ahead before_close ∷ []
+spelled_inside (a ∷ more) = spelled_argument a ++ (flat_map spelled_next more ++ ahead ends_arguments ∷ [])
+
+abbrev pub spelled_arguments : Option (List ArgumentText) → List Part
+spelled_arguments None = ahead no_open ∷ []
+spelled_arguments (Some xs) = sign kinds.Open ∷ (spelled_inside xs ++ breaks ∷ sign kinds.Close ∷ [])
+
+abbrev pub spelled_call : CallText → List Part
+spelled_call c = name c.instance ∷ spelled_arguments c.written
 
 abbrev pub spelled_optional : Option OperandText → List Part
 spelled_optional None = ahead is_line_stop ∷ []
@@ -60,6 +92,7 @@ accepts forms.Nothing Nothing = true
 accepts forms.Label (Target t) = true
 accepts forms.Either (Given x) = true
 accepts forms.Either (Opened o) = true
+accepts forms.Call (Called c) = true
 accepts form b = false
 
 abbrev pub accepting : BehindText → Option Operator → Option Operator
@@ -75,6 +108,7 @@ spelled_behind Nothing = []
 spelled_behind (Given x) = spelled_operand x
 spelled_behind (Target t) = name t ∷ []
 spelled_behind (Opened o) = sign kinds.Open ∷ spelled_optional o
+spelled_behind (Called c) = spelled_call c
 
 abbrev pub spelled_operation : OperationText → List Part
 spelled_operation o = operator (operator_before o.behind) o.operator ∷ spelled_behind o.behind

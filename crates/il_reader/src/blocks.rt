@@ -8,7 +8,7 @@ ghost use Rattle.il_reader.specs.Grammar.{names_of, declaration, declarations, e
 use crate::contents::{Declaration, Names};
 use crate::fault::Failure;
 use crate::lexeme::{Kind, Lexeme, next};
-use crate::operations::constant_read;
+use crate::operands::constant_read;
 use crate::reading::{expected, is, is_word, past_breaks, past_keyword, refused};
 use std::alloc::Global;
 

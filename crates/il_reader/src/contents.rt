@@ -1,6 +1,7 @@
 //! What a text says: its tokens by the places where they stand, as slices of the text.
 
 use crate::lexeme::Lexeme;
+use il_model::Side;
 use il_model::words::Mnemonic;
 
 /// An operator with its letters, and how many bytes the text has from its first one on.
@@ -10,32 +11,65 @@ pub struct Operator {
     pub left: usize,
 }
 
-/// An operand: a literal (or TRUE or FALSE), a direct address or a variable.
+/// An operand: a literal (or TRUE or FALSE), a direct address, a variable, or the field of an instance, as `T1.Q`.
 #[derive(Clone, Copy, Debug)]
 pub enum Operand<'a> {
     Constant(Lexeme<'a>),
     Direct(Lexeme<'a>),
     Named(Lexeme<'a>),
+    Field(Lexeme<'a>, Lexeme<'a>),
 }
 
-/// What stands behind an operator: nothing, an operand, the label of a jump, or a parenthesis with an operand or without.
+/// An argument of a call: `IN := X` or `Q => Y`.
 #[derive(Clone, Copy, Debug)]
+pub struct Argument<'a> {
+    pub field: Lexeme<'a>,
+    pub side: Side,
+    pub operand: Operand<'a>,
+}
+
+/// An instance that is called, and the arguments in the order written. `CAL T1` has no parentheses and so no list of
+/// them; it is the same call as `CAL T1()`.
+#[derive(Debug, Drop)]
+pub struct Call<'a> {
+    pub instance: Lexeme<'a>,
+    pub written: Option<Vec<Argument<'a>>>,
+}
+
+impl<'a> Call<'a> {
+    ghost use Rattle.std.specs.Prelude.{◌≡◌, map};
+    ghost use Rattle.il_reader.specs.Grammar.{argument, call, arguments_of};
+
+    /// The arguments in the order written: none without parentheses.
+    pub fn arguments(&self) -> &[Argument<'a>]
+        ensures { map argument result.now ≡ arguments_of (call self.now) }
+    {
+        match &self.written {
+            None => &[],
+            Some(arguments) => arguments.as_slice(),
+        }
+    }
+}
+
+/// What stands behind an operator: nothing, an operand, the label of a jump, a parenthesis with an operand or without, or a call.
+#[derive(Debug, Drop)]
 pub enum Behind<'a> {
     Nothing,
     Given(Operand<'a>),
     Target(Lexeme<'a>),
     Opened(Option<Operand<'a>>),
+    Called(Call<'a>),
 }
 
 /// An operator with what stands behind it.
-#[derive(Clone, Copy, Debug)]
+#[derive(Debug, Drop)]
 pub struct Operation<'a> {
     pub operator: Operator,
     pub behind: Behind<'a>,
 }
 
 /// An instruction line: with a label, behind which an operation may stand, or without.
-#[derive(Clone, Copy, Debug)]
+#[derive(Debug, Drop)]
 pub enum Line<'a> {
     Labelled(Lexeme<'a>, Option<Operation<'a>>),
     Plain(Operation<'a>),

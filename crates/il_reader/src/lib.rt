@@ -3,17 +3,21 @@
 #![tactic(auto)]
 
 mod blocks;
+mod calls;
 mod contents;
 mod fault;
 mod lexeme;
 mod lines;
+mod operands;
 mod operations;
 mod place;
 mod reading;
 mod source;
 mod whole;
 
-pub use contents::{Behind, Contents, Declaration, Line, Names, Operand, Operation, Operator};
+pub use contents::{
+    Argument, Behind, Call, Contents, Declaration, Line, Names, Operand, Operation, Operator,
+};
 pub use fault::{Fault, FaultKind, ReadError};
 pub use lexeme::{Kind, Lexeme};
 pub use place::{Place, place_of};

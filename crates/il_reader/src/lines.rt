@@ -27,39 +27,39 @@ fn at_label(bytes: &[u8]) -> bool
 }
 
 #[tactic(auto, unfolding(crate::specs::Grammar::labelled_at))]
-fn labelled(bytes: &[u8]) -> Result<(Line<'_>, &[u8]), Failure>
-    ensures { Gives (λ x. (line x.0, tokens_of x.1.now)) result (labelled_at (tokens_of bytes.now)) }
+fn labelled(alloc: Global, limit: usize, bytes: &[u8]) -> Result<(Line<'_>, &[u8]), Failure>
+    ensures { Gives (λ x. (line x.0, tokens_of x.1.now)) result (labelled_at limit (tokens_of bytes.now)) }
 {
     let (label, rest) = expected(Kind::Name, bytes)?;
     let (_, rest) = expected(Kind::Colon, rest)?;
-    let (x, rest) = optional_operation(rest)?;
+    let (x, rest) = optional_operation(alloc, limit, rest)?;
     Ok((Line::Labelled(label, x), rest))
 }
 
 #[tactic(auto, unfolding(crate::specs::Grammar::plain_at))]
-fn plain(bytes: &[u8]) -> Result<(Line<'_>, &[u8]), Failure>
-    ensures { Gives (λ x. (line x.0, tokens_of x.1.now)) result (plain_at (tokens_of bytes.now)) }
+fn plain(alloc: Global, limit: usize, bytes: &[u8]) -> Result<(Line<'_>, &[u8]), Failure>
+    ensures { Gives (λ x. (line x.0, tokens_of x.1.now)) result (plain_at limit (tokens_of bytes.now)) }
 {
-    let (x, rest) = operation_read(bytes)?;
+    let (x, rest) = operation_read(alloc, limit, bytes)?;
     Ok((Line::Plain(x), rest))
 }
 
 #[tactic(auto, unfolding(crate::specs::Grammar::either_line_at))]
-fn either_line(bytes: &[u8]) -> Result<(Line<'_>, &[u8]), Failure>
-    ensures { Gives (λ x. (line x.0, tokens_of x.1.now)) result (either_line_at (tokens_of bytes.now)) }
+fn either_line(alloc: Global, limit: usize, bytes: &[u8]) -> Result<(Line<'_>, &[u8]), Failure>
+    ensures { Gives (λ x. (line x.0, tokens_of x.1.now)) result (either_line_at limit (tokens_of bytes.now)) }
 {
     if at_label(bytes) {
-        labelled(bytes)
+        labelled(alloc, limit, bytes)
     } else {
-        plain(bytes)
+        plain(alloc, limit, bytes)
     }
 }
 
 #[tactic(auto, unfolding(crate::specs::Grammar::line_at))]
-fn line_read(bytes: &[u8]) -> Result<(Line<'_>, &[u8]), Failure>
-    ensures { Gives (λ x. (line x.0, tokens_of x.1.now)) result (line_at (tokens_of bytes.now)) }
+fn line_read(alloc: Global, limit: usize, bytes: &[u8]) -> Result<(Line<'_>, &[u8]), Failure>
+    ensures { Gives (λ x. (line x.0, tokens_of x.1.now)) result (line_at limit (tokens_of bytes.now)) }
 {
-    let (x, rest) = either_line(past_breaks(bytes))?;
+    let (x, rest) = either_line(alloc, limit, past_breaks(bytes))?;
     if at_line_stop(rest) {
         Ok((x, rest))
     } else {
@@ -85,7 +85,7 @@ fn at_named_end(bytes: &[u8]) -> bool
 
 /// The lines up to the end of the text.
 pub fn lines(alloc: Global, limit: usize, bytes: &[u8]) -> Result<(Vec<Line<'_>>, &[u8]), Failure>
-    ensures { Gives (λ x. (map line x.0.items, tokens_of x.1.now)) result (many ends_lines line_at limit (tokens_of bytes.now)) }
+    ensures { Gives (λ x. (map line x.0.items, tokens_of x.1.now)) result (many ends_lines (line_at limit) limit (tokens_of bytes.now)) }
 {
     let mut found = Vec::new(alloc);
     let mut rest = bytes;
@@ -93,7 +93,7 @@ pub fn lines(alloc: Global, limit: usize, bytes: &[u8]) -> Result<(Vec<Line<'_>>
         if at_lines_end(rest) {
             return Ok((found, rest));
         }
-        let (one, after) = line_read(rest)?;
+        let (one, after) = line_read(alloc, limit, rest)?;
         found.push(one)?;
         rest = after;
     }
@@ -106,7 +106,7 @@ pub fn named_lines(
     limit: usize,
     bytes: &[u8],
 ) -> Result<(Vec<Line<'_>>, &[u8]), Failure>
-    ensures { Gives (λ x. (map line x.0.items, tokens_of x.1.now)) result (many ends_named line_at limit (tokens_of bytes.now)) }
+    ensures { Gives (λ x. (map line x.0.items, tokens_of x.1.now)) result (many ends_named (line_at limit) limit (tokens_of bytes.now)) }
 {
     let mut found = Vec::new(alloc);
     let mut rest = bytes;
@@ -114,7 +114,7 @@ pub fn named_lines(
         if at_named_end(rest) {
             return Ok((found, rest));
         }
-        let (one, after) = line_read(rest)?;
+        let (one, after) = line_read(alloc, limit, rest)?;
         found.push(one)?;
         rest = after;
     }

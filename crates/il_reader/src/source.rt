@@ -68,7 +68,7 @@ impl<'a> Source<'a> {
 }
 
 /// Reads a text of at most 2,097,152 bytes (IEC 61131-3:2003, 3.2 and Annex B: declarations with locations and initial values, labels,
-/// all operators but calls; no fields of function blocks). A longer text is too long at 1:1, before all else. Answers the first
+/// all operators, fields of instances, calls with lists of inputs and outputs). A longer text is too long at 1:1, before all else. Answers the first
 /// fault in the text, or that memory ran out.
 pub fn read(alloc: Global, bytes: &[u8]) -> Result<Source<'_>, ReadError>
     // What is read is what the text says.

@@ -5,6 +5,11 @@ pub mod Typed
 pub mod Spelled
 pub mod Words
 pub mod Used
+pub mod Lines
+pub mod Groups
+pub mod Passing
+pub mod WordsRead
+pub mod WordsOf
 pub mod Images
 pub mod Link
 pub mod LabelTables

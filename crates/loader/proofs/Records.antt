@@ -1,9 +1,9 @@
 -- What is read is spelled so, and what is spelled so is read: records and tables.
-use Rattle.std.proofs.Common.{◌≡◌, ℕ, zero, suc, ◌-◌, ◌^◌, ◌<◌, ◌≤◌, Bool, true, false, cond, ltb, List, [], ◌∷◌, ◌++◌, length, take, drop, Some, Result, Ok, Err, refl, sym, ap, subst, ◌∙◌, append_assoc, arith}
-use Rattle.std.specs.Prelude.{slice_get, is_some}
+use Rattle.std.proofs.Common.{◌≡◌, ℕ, zero, suc, ◌-◌, ◌^◌, ◌<◌, ◌≤◌, Bool, true, false, cond, ltb, eqb, List, [], ◌∷◌, ◌++◌, length, take, drop, Option, Some, None, Result, Ok, Err, refl, sym, ap, subst, ◌∙◌, append_assoc, arith}
+use Rattle.std.specs.Prelude.{slice_get, nat_eq, find}
 use Rattle.std.specs.List.{flat_map}
 use Rattle.std.specs.Int.{w8, w16, w32, to_be_bytes, cast_unsigned}
-use Rattle.std.proofs.lemmas.Bool.{ltb-false, le-ltb}
+use Rattle.std.proofs.lemmas.Bool.{ltb-false, ltb-true, lt-ltb, le-ltb, eqb-true}
 use Rattle.std.proofs.lemmas.List.{take_at, drop_at, take-append-drop, length-append, length-take, append-nil}
 use Rattle.std.proofs.lemmas.List.Concat.{flat_map-cons}
 use Rattle.il_model.specs.declared.value.Ty.{Ty}
@@ -11,17 +11,29 @@ use Rattle.il_model.specs.declared.value.Value.{Value}
 use Rattle.il_model.specs.declared.op.Op.{Op}
 use Rattle.il_model.specs.declared.op.Op.TheVariants as ops
 use Rattle.il_model.specs.declared.op.Modifier.{Modifier}
+use Rattle.il_model.specs.declared.kind.BlockKind.{BlockKind}
+use Rattle.il_model.specs.declared.kind.BlockKind.TheVariants as kinds
 use Rattle.il_model.specs.declared.program.Variable.{Variable}
+use Rattle.il_model.specs.declared.program.Instance.{Instance}
+use Rattle.il_model.specs.declared.program.Side.{Side}
+use Rattle.il_model.specs.declared.program.Side.TheVariants as sides
+use Rattle.il_model.specs.declared.program.Operand.{Operand}
+use Rattle.il_model.specs.declared.program.Instr.{Instr}
 use Rattle.il_model.specs.Values.{ty_of, number_of}
+use Rattle.il_model.specs.Kinds.{block_kinds, kind_code, kind_of_code}
+use Rattle.il_model.specs.Text.{Declarations}
 use Rattle.il_model.specs.Marks.{Mark}
-use Rattle.il_model.specs.Image.{type_code, location_code, name_bytes, variable_bytes, mark_bytes, constant_bytes, op_code, modifier_code, coded_word}
-use Rattle.il_model.specs.Codes.{is_new_name, is_new_label, length_of, type_of, location_of, initial_of, constant_of, usage_of, allowed_by, op_list, op_of, modifier_of, letters_of, label_there, word_operand}
-use Rattle.il_model.specs.Fits.{IsVariable, IsMark, IsConstant, IsCoded, AreItems}
+use Rattle.il_model.specs.Image.{type_code, location_code, name_bytes, variable_bytes, instance_bytes, mark_bytes, constant_bytes, op_code, modifier_code, side_code, coded_word}
+use Rattle.il_model.specs.Codes.{is_new_name, is_new_instance, is_new_label, length_of, type_of, location_of, initial_of, constant_of, usage_of, allowed_by, op_list, op_of, modifier_of, letters_of, label_there, word_operand, side_of, argument_number, argument_operand}
+use Rattle.il_model.specs.Fits.{IsVariable, IsInstance, IsMark, IsConstant, IsCoded, AreItems}
+use Rattle.il_model.proofs.BlockKinds.{kind_of_code-kind_code}
 use Rattle.loader.specs.declared.word.Word.{Word}
+use Rattle.loader.specs.declared.word.Content.{Content}
+use Rattle.loader.specs.declared.word.Content.TheVariants as contents
 use Rattle.loader.specs.declared.fault.LoadFault.{LoadFault}
 use Rattle.loader.specs.declared.fault.LoadFault.TheVariants.{Truncated, BadWord}
-use Rattle.loader.specs.Reading.{◌>>=◌, number_at, lawful, agrees, items_from, spelled_name_at, name_at, variable_at, mark_at, constant_at, word_at}
-use Rattle.loader.proofs.Fields.{IsBytes, IsBytes-drop, bind_ok, guard_no, agrees_ok, lawful_ok, ok_is, Takes, Takes-then, wide8, wide16, wide32, number_takes, number_again, length_is, length_below, type_is, type_small, location_is, initial_is, tested_some, constant_is}
+use Rattle.loader.specs.Reading.{◌>>=◌, number_at, lawful, agrees, items_from, spelled_name_at, name_at, variable_at, instance_at, mark_at, constant_at, instruction_at, argument_at, word_by, word_at}
+use Rattle.loader.proofs.Fields.{IsBytes, IsBytes-drop, bind_ok, guard_no, agrees_ok, lawful_ok, some_yes, ok_is, Takes, Takes-then, wide8, wide16, wide32, number_takes, number_again, length_is, length_below, type_is, type_small, location_is, initial_is, tested_some, constant_is}
 
 record IsName (is_new : List ℕ → Bool) (name : List ℕ) : Type 0 where
   len : length_of (length name) ≡ Some (length name)
@@ -149,6 +161,60 @@ variable_again total seen v rest is =
     let h0 : name_at p (is_new_name seen) (variable_bytes v ++ rest) ≡ Ok (v.name, b1 ++ (b2 ++ (b3 ++ rest))) = ap (name_at p (is_new_name seen)) (regrouped_4 (name_bytes v.name) b1 b2 b3 rest) ∙ name_again p (is_new_name seen) v.name (b1 ++ (b2 ++ (b3 ++ rest))) is.length is.name in
     rw (h0, number_again w8 (2 ^ 8) wide8 (type_code v.ty) (b2 ++ (b3 ++ rest)) (type_small v.ty), is.type, number_again w16 (2 ^ 16) wide16 (location_code v.location) (b3 ++ rest) is.location_small, is.location, number_again w32 (2 ^ 32) wide32 (cast_unsigned w32 (number_of v.initial)) rest is.initial_small, is.initial) refl
 
+-- ---- instances
+
+found_by : {X : Type 0} (p : X → Bool) (b : Bool) (x : X) (o : Option X) (y : X) → p x ≡ b → cond b (Some x) o ≡ Some y → (o ≡ Some y → p y ≡ true) → p y ≡ true
+found_by p true x o y e h ih = let is : x ≡ y = cc in ap p (sym is) ∙ e
+found_by p false x o y e h ih = ih h
+
+-- what is found passes the test
+found_passes : {X : Type 0} (p : X → Bool) (xs : List X) (y : X) → find p xs ≡ Some y → p y ≡ true
+found_passes p [] y e = absurd cc
+found_passes p (x ∷ xs) y e = found_by p (p x) x (find p xs) y refl e (λ h. found_passes p xs y h)
+
+kind_is : (n : ℕ) (kind : BlockKind) → kind_of_code n ≡ Some kind → kind_code kind ≡ n
+kind_is n kind e = eqb-true (kind_code kind) n (found_passes (λ (k : BlockKind). nat_eq (kind_code k) n) block_kinds kind e)
+
+kind_small : (kind : BlockKind) → kind_code kind < 2 ^ 8
+kind_small kinds.Sr = omega arith
+kind_small kinds.Rs = omega arith
+kind_small kinds.RTrig = omega arith
+kind_small kinds.FTrig = omega arith
+kind_small kinds.Ctu = omega arith
+kind_small kinds.Ctd = omega arith
+kind_small kinds.Ctud = omega arith
+kind_small kinds.Tp = omega arith
+kind_small kinds.Ton = omega arith
+kind_small kinds.Tof = omega arith
+
+instance_joins : (vs : List Variable) (seen : List Instance) (bytes r0 rest : List ℕ) (x : Instance) (code : ℕ) → Takes bytes (name_bytes x.name) r0 → Takes r0 (to_be_bytes w8 code) rest → IsName (is_new_instance vs seen) x.name → kind_of_code code ≡ Some x.kind
+    → Takes bytes (instance_bytes x) rest × IsInstance vs seen x
+instance_joins vs seen bytes r0 rest x code t0 t1 named kind-ok = (
+  Takes-then bytes (name_bytes x.name) r0 (to_be_bytes w8 (kind_code x.kind)) rest t0 (subst (λ (k : ℕ). Takes r0 (to_be_bytes w8 k) rest) (sym (kind_is code x.kind kind-ok)) t1),
+  record { length = named.len; name = named.new },
+)
+
+pub instance_takes : (total : ℕ) (vs : List Variable) (seen : List Instance) (bytes : List ℕ) (x : Instance × List ℕ) → IsBytes bytes → instance_at total vs seen bytes ≡ Ok x → Takes bytes (instance_bytes x.0) x.1 × IsInstance vs seen x.0
+unfolding instance_at
+instance_takes total vs seen bytes x fits e =
+    let p = total - length bytes in
+    let b_name = bind_ok (name_at p (is_new_instance vs seen) bytes) (λ name. number_at w8 name.1 >>= λ code. lawful p (kind_of_code code.0) >>= λ kind. Ok (record { name = name.0; kind = kind }, code.1)) x e in
+    let b_code = bind_ok (number_at w8 b_name.0.1) (λ code. lawful p (kind_of_code code.0) >>= λ kind. Ok (record { name = b_name.0.0; kind = kind }, code.1)) x b_name.2 in
+    let b_kind = bind_ok (lawful p (kind_of_code b_code.0.0)) (λ kind. Ok (record { name = b_name.0.0; kind = kind }, b_code.0.1)) x b_code.2 in
+    let t0 = name_takes p (is_new_instance vs seen) bytes b_name.0 fits b_name.1 in
+    let t1 = number_takes w8 (2 ^ 8) wide8 b_name.0.1 b_code.0.0 b_code.0.1 t0.0.rest_fits b_code.1 in
+    let kind-ok = lawful_ok p (kind_of_code b_code.0.0) b_kind.0 b_kind.1 in
+    let y : Instance = record { name = b_name.0.0; kind = b_kind.0 } in
+    subst (λ (z : Instance × List ℕ). Takes bytes (instance_bytes z.0) z.1 × IsInstance vs seen z.0) (ok_is (y, b_code.0.1) x b_kind.2) (instance_joins vs seen bytes b_name.0.1 b_code.0.1 y b_code.0.0 t0.0 t1.0 t0.1 kind-ok)
+
+pub instance_again : (total : ℕ) (vs : List Variable) (seen : List Instance) (x : Instance) (rest : List ℕ) → IsInstance vs seen x → instance_at total vs seen (instance_bytes x ++ rest) ≡ Ok (x, rest)
+unfolding instance_at
+instance_again total vs seen x rest is =
+    let p = total - length (instance_bytes x ++ rest) in
+    let b1 = to_be_bytes w8 (kind_code x.kind) in
+    let h0 : name_at p (is_new_instance vs seen) (instance_bytes x ++ rest) ≡ Ok (x.name, b1 ++ rest) = ap (name_at p (is_new_instance vs seen)) (append_assoc (name_bytes x.name) b1 rest) ∙ name_again p (is_new_instance vs seen) x.name (b1 ++ rest) is.length is.name in
+    rw (h0, number_again w8 (2 ^ 8) wide8 (kind_code x.kind) rest (kind_small x.kind), kind_of_code-kind_code x.kind) refl
+
 -- ---- labels
 
 mark_joins : (seen : List Mark) (bytes r0 rest : List ℕ) (m : Mark) → Takes bytes (name_bytes m.name) r0 → Takes r0 (to_be_bytes w16 m.at) rest → IsName (is_new_label seen) m.name → m.at < 2 ^ 16
@@ -245,7 +311,7 @@ listed_is (suc (suc (suc (suc (suc (suc (suc (suc (suc (suc (suc (suc (suc (suc 
 listed_is (suc (suc (suc (suc (suc (suc (suc (suc (suc (suc (suc (suc (suc (suc (suc (suc (suc (suc (suc (suc (suc (suc (suc (suc (suc (suc n)))))))))))))))))))))))))) op e = absurd cc
 
 op_is : (n : ℕ) (op : Op) → op_of n ≡ Some op → op_code op ≡ n
-op_is n op e = listed_is n op (tested_some (λ op. is_some (usage_of op)) (slice_get op_list n) op e).0
+op_is n op e = listed_is n op e
 
 modifier_is : (n : ℕ) (m : Modifier) → modifier_of n ≡ Some m → modifier_code m ≡ n
 modifier_is zero m e = let is : (let r : Modifier = record { negated = false; conditional = false; opens = false } in r) ≡ m = cc in sym (ap modifier_code is)
@@ -259,67 +325,191 @@ modifier_is (suc (suc (suc (suc (suc (suc n)))))) m e = absurd cc
 letters_is : (op : Op) (n : ℕ) (m : Modifier) → letters_of op n ≡ Some m → modifier_code m ≡ n
 letters_is op n m e = modifier_is n m (tested_some (allowed_by (usage_of op)) (modifier_of n) m e).0
 
--- a word as it was read, the n-th
-pub record IsRead (vs : List Variable) (marks : List Mark) (constants : List Value) (n : ℕ) (w : Word) : Type 0 where
-  pub label : w.line.label ≡ label_there marks n
-  pub coded : IsCoded vs marks constants w.line.op w.line.modifier w.line.operand w.code
+-- the code of an operator is none of an argument
+no_side : (op : Op) → side_of (op_code op) ≡ None
+no_side ops.Empty = refl
+no_side ops.Ld = refl
+no_side ops.St = refl
+no_side ops.S = refl
+no_side ops.R = refl
+no_side ops.And = refl
+no_side ops.Or = refl
+no_side ops.Xor = refl
+no_side ops.Not = refl
+no_side ops.Add = refl
+no_side ops.Sub = refl
+no_side ops.Mul = refl
+no_side ops.Div = refl
+no_side ops.Mod = refl
+no_side ops.Gt = refl
+no_side ops.Ge = refl
+no_side ops.Eq = refl
+no_side ops.Ne = refl
+no_side ops.Le = refl
+no_side ops.Lt = refl
+no_side ops.Jmp = refl
+no_side ops.Cal = refl
+no_side ops.Ret = refl
+no_side ops.Close = refl
+no_side ops.IntToDint = refl
+no_side ops.DintToInt = refl
 
-abbrev pub IsNext : List Variable → List Mark → List Value → List Word → Word → Type 0
-IsNext vs marks constants seen w = IsRead vs marks constants (length seen) w
+side_by : (a b : Bool) (n : ℕ) (side : Side) → eqb n 26 ≡ a → eqb n 27 ≡ b → cond a (Some sides.Input) (cond b (Some sides.Output) None) ≡ Some side → side_code side ≡ n
+side_by true b n side e f h = let is : sides.Input ≡ side = cc in sym (ap side_code is) ∙ sym (eqb-true n 26 e)
+side_by false true n side e f h = let is : sides.Output ≡ side = cc in sym (ap side_code is) ∙ sym (eqb-true n 27 f)
+side_by false false n side e f h = absurd cc
+
+side_is : (n : ℕ) (side : Side) → side_of n ≡ Some side → side_code side ≡ n
+side_is n side e = side_by (eqb n 26) (eqb n 27) n side refl refl e
+
+side_again : (side : Side) → side_of (side_code side) ≡ Some side
+side_again sides.Input = refl
+side_again sides.Output = refl
+
+side_small : (side : Side) → side_code side < 2 ^ 8
+side_small sides.Input = omega arith
+side_small sides.Output = omega arith
+
+-- an instruction as it was read in the n-th word, without its arguments
+pub record IsInstructionRead (ds : Declarations) (marks : List Mark) (constants : List Value) (n code : ℕ) (line : Instr) : Type 0 where
+  pub label : line.label ≡ label_there marks n
+  pub bare : line.arguments ≡ []
+  pub coded : IsCoded ds marks constants line.op line.modifier line.operand code
+
+-- an argument as it was read
+pub record IsArgumentRead (ds : Declarations) (constants : List Value) (number : ℕ) (operand : Operand) (code : ℕ) : Type 0 where
+  pub number_read : number < 8
+  pub operand_read : argument_operand ds constants code ≡ Some operand
+  pub operand_small : code < 2 ^ 16
+
+abbrev pub IsRead : Declarations → List Mark → List Value → ℕ → ℕ → Content → Type 0
+IsRead ds marks constants n code (contents.Instruction line) = IsInstructionRead ds marks constants n code line
+IsRead ds marks constants n code (contents.Argument side number operand) = IsArgumentRead ds constants number operand code
+
+abbrev pub IsNext : Declarations → List Mark → List Value → List Word → Word → Type 0
+IsNext ds marks constants seen w = IsRead ds marks constants (length seen) w.code w.content
+
+abbrev pub content_bytes : ℕ → Content → List ℕ
+content_bytes code (contents.Instruction line) = coded_word (op_code line.op) (modifier_code line.modifier) code
+content_bytes code (contents.Argument side number operand) = coded_word (side_code side) number code
 
 abbrev pub read_word_bytes : Word → List ℕ
-read_word_bytes w = coded_word w.line w.code
+read_word_bytes w = content_bytes w.code w.content
 
-word_joins : (vs : List Variable) (marks : List Mark) (constants : List Value) (n : ℕ) (bytes r0 r1 rest : List ℕ) (a b : ℕ) (w : Word)
-    → Takes bytes (to_be_bytes w8 a) r0 → Takes r0 (to_be_bytes w8 b) r1 → Takes r1 (to_be_bytes w16 w.code) rest
-    → op_of a ≡ Some w.line.op → a < 2 ^ 8 → letters_of w.line.op b ≡ Some w.line.modifier → b < 2 ^ 8
-    → word_operand vs marks constants w.line.op w.line.modifier w.code ≡ Some w.line.operand → w.code < 2 ^ 16 → w.line.label ≡ label_there marks n
-    → Takes bytes (read_word_bytes w) rest × IsRead vs marks constants n w
-word_joins vs marks constants n bytes r0 r1 rest a b w t0 t1 t2 op-ok a-lt m-ok b-lt operand-ok lt label-is =
-    let op-is = sym (op_is a w.line.op op-ok) in
-    let m-is = sym (letters_is w.line.op b w.line.modifier m-ok) in
+-- the parts of an instruction, each with what was read of it
+instruction_joins : (ds : Declarations) (marks : List Mark) (constants : List Value) (n : ℕ) (bytes r0 r1 rest : List ℕ) (a b : ℕ) (op : Op) (m : Modifier) (operand : Operand) (code : ℕ)
+    → Takes bytes (to_be_bytes w8 a) r0 → Takes r0 (to_be_bytes w8 b) r1 → Takes r1 (to_be_bytes w16 code) rest
+    → op_of a ≡ Some op → a < 2 ^ 8 → letters_of op b ≡ Some m → b < 2 ^ 8
+    → word_operand ds marks constants op m code ≡ Some operand → code < 2 ^ 16
+    → Takes bytes (coded_word (op_code op) (modifier_code m) code) rest × IsCoded ds marks constants op m operand code
+instruction_joins ds marks constants n bytes r0 r1 rest a b op m operand code t0 t1 t2 op-ok a-lt m-ok b-lt operand-ok lt =
+    let op-is = sym (op_is a op op-ok) in
+    let m-is = sym (letters_is op b m m-ok) in
     let s0 = subst (λ (k : ℕ). Takes bytes (to_be_bytes w8 k) r0) op-is t0 in
     let s1 = subst (λ (k : ℕ). Takes r0 (to_be_bytes w8 k) r1) m-is t1 in
-    let e12 = Takes-then r0 (to_be_bytes w8 (modifier_code w.line.modifier)) r1 (to_be_bytes w16 w.code) rest s1 t2 in (
-      Takes-then bytes (to_be_bytes w8 (op_code w.line.op)) r0 (to_be_bytes w8 (modifier_code w.line.modifier) ++ to_be_bytes w16 w.code) rest s0 e12,
+    let e12 = Takes-then r0 (to_be_bytes w8 (modifier_code m)) r1 (to_be_bytes w16 code) rest s1 t2 in (
+      Takes-then bytes (to_be_bytes w8 (op_code op)) r0 (to_be_bytes w8 (modifier_code m) ++ to_be_bytes w16 code) rest s0 e12,
       record {
-        label = label-is;
-        coded = record {
-          op_read = subst (λ (k : ℕ). op_of k ≡ Some w.line.op) op-is op-ok;
-          op_small = subst (λ (k : ℕ). k < 2 ^ 8) op-is a-lt;
-          letters = subst (λ (k : ℕ). letters_of w.line.op k ≡ Some w.line.modifier) m-is m-ok;
-          letters_small = subst (λ (k : ℕ). k < 2 ^ 8) m-is b-lt;
-          operand_read = operand-ok;
-          operand_small = lt;
-        };
+        op_read = subst (λ (k : ℕ). op_of k ≡ Some op) op-is op-ok;
+        op_small = subst (λ (k : ℕ). k < 2 ^ 8) op-is a-lt;
+        letters = subst (λ (k : ℕ). letters_of op k ≡ Some m) m-is m-ok;
+        letters_small = subst (λ (k : ℕ). k < 2 ^ 8) m-is b-lt;
+        operand_read = operand-ok;
+        operand_small = lt;
       },
     )
 
-pub word_takes : (p : ℕ) (vs : List Variable) (marks : List Mark) (constants : List Value) (n : ℕ) (bytes : List ℕ) (x : Word × List ℕ) → IsBytes bytes → word_at p vs marks constants n bytes ≡ Ok x → Takes bytes (read_word_bytes x.0) x.1 × IsRead vs marks constants n x.0
-unfolding word_at
-word_takes p vs marks constants n bytes x fits e =
-    let b_code = bind_ok (number_at w8 bytes) (λ code. lawful p (op_of code.0) >>= λ op. number_at w8 code.1 >>= λ letters. lawful p (letters_of op letters.0) >>= λ m. number_at w16 letters.1 >>= λ slot. lawful p (word_operand vs marks constants op m slot.0) >>= λ operand. Ok (record { line = record { label = label_there marks n; op = op; modifier = m; operand = operand }; code = slot.0 }, slot.1)) x e in
-    let b_op = bind_ok (lawful p (op_of b_code.0.0)) (λ op. number_at w8 b_code.0.1 >>= λ letters. lawful p (letters_of op letters.0) >>= λ m. number_at w16 letters.1 >>= λ slot. lawful p (word_operand vs marks constants op m slot.0) >>= λ operand. Ok (record { line = record { label = label_there marks n; op = op; modifier = m; operand = operand }; code = slot.0 }, slot.1)) x b_code.2 in
-    let b_letters = bind_ok (number_at w8 b_code.0.1) (λ letters. lawful p (letters_of b_op.0 letters.0) >>= λ m. number_at w16 letters.1 >>= λ slot. lawful p (word_operand vs marks constants b_op.0 m slot.0) >>= λ operand. Ok (record { line = record { label = label_there marks n; op = b_op.0; modifier = m; operand = operand }; code = slot.0 }, slot.1)) x b_op.2 in
-    let b_m = bind_ok (lawful p (letters_of b_op.0 b_letters.0.0)) (λ m. number_at w16 b_letters.0.1 >>= λ slot. lawful p (word_operand vs marks constants b_op.0 m slot.0) >>= λ operand. Ok (record { line = record { label = label_there marks n; op = b_op.0; modifier = m; operand = operand }; code = slot.0 }, slot.1)) x b_letters.2 in
-    let b_slot = bind_ok (number_at w16 b_letters.0.1) (λ slot. lawful p (word_operand vs marks constants b_op.0 b_m.0 slot.0) >>= λ operand. Ok (record { line = record { label = label_there marks n; op = b_op.0; modifier = b_m.0; operand = operand }; code = slot.0 }, slot.1)) x b_m.2 in
-    let b_operand = bind_ok (lawful p (word_operand vs marks constants b_op.0 b_m.0 b_slot.0.0)) (λ operand. Ok (record { line = record { label = label_there marks n; op = b_op.0; modifier = b_m.0; operand = operand }; code = b_slot.0.0 }, b_slot.0.1)) x b_slot.2 in
-    let t0 = number_takes w8 (2 ^ 8) wide8 bytes b_code.0.0 b_code.0.1 fits b_code.1 in
-    let t1 = number_takes w8 (2 ^ 8) wide8 b_code.0.1 b_letters.0.0 b_letters.0.1 t0.0.rest_fits b_letters.1 in
-    let t2 = number_takes w16 (2 ^ 16) wide16 b_letters.0.1 b_slot.0.0 b_slot.0.1 t1.0.rest_fits b_slot.1 in
-    let op-ok = lawful_ok p (op_of b_code.0.0) b_op.0 b_op.1 in
-    let m-ok = lawful_ok p (letters_of b_op.0 b_letters.0.0) b_m.0 b_m.1 in
-    let operand-ok = lawful_ok p (word_operand vs marks constants b_op.0 b_m.0 b_slot.0.0) b_operand.0 b_operand.1 in
-    let w : Word = record { line = record { label = label_there marks n; op = b_op.0; modifier = b_m.0; operand = b_operand.0 }; code = b_slot.0.0 } in
-    subst (λ (y : Word × List ℕ). Takes bytes (read_word_bytes y.0) y.1 × IsRead vs marks constants n y.0) (ok_is (w, b_slot.0.1) x b_operand.2) (word_joins vs marks constants n bytes b_code.0.1 b_letters.0.1 b_slot.0.1 b_code.0.0 b_letters.0.0 w t0.0 t1.0 t2.0 op-ok t0.1 m-ok t1.1 operand-ok t2.1 refl)
+-- a word that was read, and what follows it
+abbrev Reads : Declarations → List Mark → List Value → ℕ → List ℕ → Word × List ℕ → Type 0
+Reads ds marks constants n bytes y = Takes bytes (read_word_bytes y.0) y.1 × IsRead ds marks constants n y.0.code y.0.content
 
-pub word_again : (p : ℕ) (vs : List Variable) (marks : List Mark) (constants : List Value) (n : ℕ) (w : Word) (rest : List ℕ) → IsRead vs marks constants n w → word_at p vs marks constants n (read_word_bytes w ++ rest) ≡ Ok (w, rest)
+instruction_takes : (p : ℕ) (ds : Declarations) (marks : List Mark) (constants : List Value) (n code : ℕ) (bytes r0 : List ℕ) (x : Word × List ℕ) → Takes bytes (to_be_bytes w8 code) r0 → code < 2 ^ 8
+    → instruction_at p ds marks constants n code r0 ≡ Ok x → Reads ds marks constants n bytes x
+unfolding instruction_at
+instruction_takes p ds marks constants n code bytes r0 x t0 lt e =
+    let b_op = bind_ok (lawful p (op_of code)) (λ op. number_at w8 r0 >>= λ letters. lawful p (letters_of op letters.0) >>= λ m. number_at w16 letters.1 >>= λ slot. lawful p (word_operand ds marks constants op m slot.0) >>= λ operand. Ok (record { content = contents.Instruction (record { label = label_there marks n; op = op; modifier = m; operand = operand; arguments = [] }); code = slot.0 }, slot.1)) x e in
+    let b_letters = bind_ok (number_at w8 r0) (λ letters. lawful p (letters_of b_op.0 letters.0) >>= λ m. number_at w16 letters.1 >>= λ slot. lawful p (word_operand ds marks constants b_op.0 m slot.0) >>= λ operand. Ok (record { content = contents.Instruction (record { label = label_there marks n; op = b_op.0; modifier = m; operand = operand; arguments = [] }); code = slot.0 }, slot.1)) x b_op.2 in
+    let b_m = bind_ok (lawful p (letters_of b_op.0 b_letters.0.0)) (λ m. number_at w16 b_letters.0.1 >>= λ slot. lawful p (word_operand ds marks constants b_op.0 m slot.0) >>= λ operand. Ok (record { content = contents.Instruction (record { label = label_there marks n; op = b_op.0; modifier = m; operand = operand; arguments = [] }); code = slot.0 }, slot.1)) x b_letters.2 in
+    let b_slot = bind_ok (number_at w16 b_letters.0.1) (λ slot. lawful p (word_operand ds marks constants b_op.0 b_m.0 slot.0) >>= λ operand. Ok (record { content = contents.Instruction (record { label = label_there marks n; op = b_op.0; modifier = b_m.0; operand = operand; arguments = [] }); code = slot.0 }, slot.1)) x b_m.2 in
+    let b_operand = bind_ok (lawful p (word_operand ds marks constants b_op.0 b_m.0 b_slot.0.0)) (λ operand. Ok (record { content = contents.Instruction (record { label = label_there marks n; op = b_op.0; modifier = b_m.0; operand = operand; arguments = [] }); code = b_slot.0.0 }, b_slot.0.1)) x b_slot.2 in
+    let t1 = number_takes w8 (2 ^ 8) wide8 r0 b_letters.0.0 b_letters.0.1 t0.rest_fits b_letters.1 in
+    let t2 = number_takes w16 (2 ^ 16) wide16 b_letters.0.1 b_slot.0.0 b_slot.0.1 t1.0.rest_fits b_slot.1 in
+    let op-ok = lawful_ok p (op_of code) b_op.0 b_op.1 in
+    let m-ok = lawful_ok p (letters_of b_op.0 b_letters.0.0) b_m.0 b_m.1 in
+    let operand-ok = lawful_ok p (word_operand ds marks constants b_op.0 b_m.0 b_slot.0.0) b_operand.0 b_operand.1 in
+    let line : Instr = record { label = label_there marks n; op = b_op.0; modifier = b_m.0; operand = b_operand.0; arguments = [] } in
+    let w : Word = record { content = contents.Instruction line; code = b_slot.0.0 } in
+    let j = instruction_joins ds marks constants n bytes r0 b_letters.0.1 b_slot.0.1 code b_letters.0.0 b_op.0 b_m.0 b_operand.0 b_slot.0.0 t0 t1.0 t2.0 op-ok lt m-ok t1.1 operand-ok t2.1 in
+    subst (Reads ds marks constants n bytes) (ok_is (w, b_slot.0.1) x b_operand.2) (j.0, record { label = refl; bare = refl; coded = j.1 })
+
+number_of_field : (n number : ℕ) → argument_number n ≡ Some number → (number ≡ n) × (number < 8)
+number_of_field n number e =
+    let y = some_yes (ltb n 8) n number e in
+    let is : n ≡ number = y.1 in
+    let lt : n < 8 = ltb-true n 8 y.0 in
+    (sym is, subst (λ (k : ℕ). k < 8) is lt)
+
+argument_takes : (p : ℕ) (ds : Declarations) (marks : List Mark) (constants : List Value) (n code : ℕ) (side : Side) (bytes r0 : List ℕ) (x : Word × List ℕ) → Takes bytes (to_be_bytes w8 code) r0 → side_of code ≡ Some side
+    → argument_at p ds constants side r0 ≡ Ok x → Reads ds marks constants n bytes x
+unfolding argument_at
+argument_takes p ds marks constants n code side bytes r0 x t0 side-ok e =
+    let b_number = bind_ok (number_at w8 r0) (λ number. lawful p (argument_number number.0) >>= λ field. number_at w16 number.1 >>= λ slot. lawful p (argument_operand ds constants slot.0) >>= λ operand. Ok (record { content = contents.Argument side field operand; code = slot.0 }, slot.1)) x e in
+    let b_field = bind_ok (lawful p (argument_number b_number.0.0)) (λ field. number_at w16 b_number.0.1 >>= λ slot. lawful p (argument_operand ds constants slot.0) >>= λ operand. Ok (record { content = contents.Argument side field operand; code = slot.0 }, slot.1)) x b_number.2 in
+    let b_slot = bind_ok (number_at w16 b_number.0.1) (λ slot. lawful p (argument_operand ds constants slot.0) >>= λ operand. Ok (record { content = contents.Argument side b_field.0 operand; code = slot.0 }, slot.1)) x b_field.2 in
+    let b_operand = bind_ok (lawful p (argument_operand ds constants b_slot.0.0)) (λ operand. Ok (record { content = contents.Argument side b_field.0 operand; code = b_slot.0.0 }, b_slot.0.1)) x b_slot.2 in
+    let t1 = number_takes w8 (2 ^ 8) wide8 r0 b_number.0.0 b_number.0.1 t0.rest_fits b_number.1 in
+    let t2 = number_takes w16 (2 ^ 16) wide16 b_number.0.1 b_slot.0.0 b_slot.0.1 t1.0.rest_fits b_slot.1 in
+    let field-is = number_of_field b_number.0.0 b_field.0 (lawful_ok p (argument_number b_number.0.0) b_field.0 b_field.1) in
+    let operand-ok = lawful_ok p (argument_operand ds constants b_slot.0.0) b_operand.0 b_operand.1 in
+    let s0 = subst (λ (k : ℕ). Takes bytes (to_be_bytes w8 k) r0) (sym (side_is code side side-ok)) t0 in
+    let s1 = subst (λ (k : ℕ). Takes r0 (to_be_bytes w8 k) b_number.0.1) (sym field-is.0) t1.0 in
+    let e12 = Takes-then r0 (to_be_bytes w8 b_field.0) b_number.0.1 (to_be_bytes w16 b_slot.0.0) b_slot.0.1 s1 t2.0 in
+    let whole = Takes-then bytes (to_be_bytes w8 (side_code side)) r0 (to_be_bytes w8 b_field.0 ++ to_be_bytes w16 b_slot.0.0) b_slot.0.1 s0 e12 in
+    let w : Word = record { content = contents.Argument side b_field.0 b_operand.0; code = b_slot.0.0 } in
+    subst (Reads ds marks constants n bytes) (ok_is (w, b_slot.0.1) x b_operand.2) (whole, record { number_read = field-is.1; operand_read = operand-ok; operand_small = t2.1 })
+
+word_takes_by : (p : ℕ) (ds : Declarations) (marks : List Mark) (constants : List Value) (n code : ℕ) (o : Option Side) (bytes r0 : List ℕ) (x : Word × List ℕ) → side_of code ≡ o → Takes bytes (to_be_bytes w8 code) r0 → code < 2 ^ 8
+    → word_by p ds marks constants n code o r0 ≡ Ok x → Reads ds marks constants n bytes x
+word_takes_by p ds marks constants n code None bytes r0 x is t0 lt e = instruction_takes p ds marks constants n code bytes r0 x t0 lt e
+word_takes_by p ds marks constants n code (Some side) bytes r0 x is t0 lt e = argument_takes p ds marks constants n code side bytes r0 x t0 is e
+
+pub word_takes : (p : ℕ) (ds : Declarations) (marks : List Mark) (constants : List Value) (n : ℕ) (bytes : List ℕ) (x : Word × List ℕ) → IsBytes bytes → word_at p ds marks constants n bytes ≡ Ok x
+    → Takes bytes (read_word_bytes x.0) x.1 × IsRead ds marks constants n x.0.code x.0.content
 unfolding word_at
-word_again p vs marks constants n w rest is =
+word_takes p ds marks constants n bytes x fits e =
+    let b_code = bind_ok (number_at w8 bytes) (λ code. word_by p ds marks constants n code.0 (side_of code.0) code.1) x e in
+    let t0 = number_takes w8 (2 ^ 8) wide8 bytes b_code.0.0 b_code.0.1 fits b_code.1 in
+    word_takes_by p ds marks constants n b_code.0.0 (side_of b_code.0.0) bytes b_code.0.1 x refl t0.0 t0.1 b_code.2
+
+instruction_again : (p : ℕ) (ds : Declarations) (marks : List Mark) (constants : List Value) (n code : ℕ) (line : Instr) (rest : List ℕ) → IsInstructionRead ds marks constants n code line
+    → instruction_at p ds marks constants n (op_code line.op) (to_be_bytes w8 (modifier_code line.modifier) ++ (to_be_bytes w16 code ++ rest)) ≡ Ok (record { content = contents.Instruction line; code = code }, rest)
+unfolding instruction_at
+instruction_again p ds marks constants n code line rest is =
     let k = is.coded in
-    let b1 = to_be_bytes w8 (modifier_code w.line.modifier) in
-    let b2 = to_be_bytes w16 w.code in
-    ap (word_at p vs marks constants n) (regrouped_3 (to_be_bytes w8 (op_code w.line.op)) b1 b2 rest) ∙ rw (number_again w8 (2 ^ 8) wide8 (op_code w.line.op) (b1 ++ (b2 ++ rest)) k.op_small, k.op_read, number_again w8 (2 ^ 8) wide8 (modifier_code w.line.modifier) (b2 ++ rest) k.letters_small, k.letters, number_again w16 (2 ^ 16) wide16 w.code rest k.operand_small, k.operand_read, ← is.label) refl
+    rw (k.op_read, number_again w8 (2 ^ 8) wide8 (modifier_code line.modifier) (to_be_bytes w16 code ++ rest) k.letters_small, k.letters, number_again w16 (2 ^ 16) wide16 code rest k.operand_small, k.operand_read, ← is.label, ← is.bare) refl
+
+argument_again : (p : ℕ) (ds : Declarations) (constants : List Value) (code : ℕ) (side : Side) (number : ℕ) (operand : Operand) (rest : List ℕ) → IsArgumentRead ds constants number operand code
+    → argument_at p ds constants side (to_be_bytes w8 number ++ (to_be_bytes w16 code ++ rest)) ≡ Ok (record { content = contents.Argument side number operand; code = code }, rest)
+unfolding argument_at
+argument_again p ds constants code side number operand rest is =
+    let lt = is.number_read in
+    let below : ltb number 8 ≡ true = lt-ltb number 8 lt in
+    rw (number_again w8 (2 ^ 8) wide8 number (to_be_bytes w16 code ++ rest) (omega arith), below, number_again w16 (2 ^ 16) wide16 code rest is.operand_small, is.operand_read) refl
+
+content_again : (p : ℕ) (ds : Declarations) (marks : List Mark) (constants : List Value) (n code : ℕ) (content : Content) (rest : List ℕ) → IsRead ds marks constants n code content
+    → word_at p ds marks constants n (content_bytes code content ++ rest) ≡ Ok (record { content = content; code = code }, rest)
+unfolding word_at
+content_again p ds marks constants n code (contents.Instruction line) rest is =
+    let b1 = to_be_bytes w8 (modifier_code line.modifier) in
+    let b2 = to_be_bytes w16 code in
+    ap (word_at p ds marks constants n) (regrouped_3 (to_be_bytes w8 (op_code line.op)) b1 b2 rest) ∙ rw (number_again w8 (2 ^ 8) wide8 (op_code line.op) (b1 ++ (b2 ++ rest)) is.coded.op_small, no_side line.op) (instruction_again p ds marks constants n code line rest is)
+content_again p ds marks constants n code (contents.Argument side number operand) rest is =
+    let b1 = to_be_bytes w8 number in
+    let b2 = to_be_bytes w16 code in
+    ap (word_at p ds marks constants n) (regrouped_3 (to_be_bytes w8 (side_code side)) b1 b2 rest) ∙ rw (number_again w8 (2 ^ 8) wide8 (side_code side) (b1 ++ (b2 ++ rest)) (side_small side), side_again side) (argument_again p ds constants code side number operand rest is)
+
+pub word_again : (p : ℕ) (ds : Declarations) (marks : List Mark) (constants : List Value) (n : ℕ) (w : Word) (rest : List ℕ) → IsRead ds marks constants n w.code w.content → word_at p ds marks constants n (read_word_bytes w ++ rest) ≡ Ok (w, rest)
+word_again p ds marks constants n w rest is = content_again p ds marks constants n w.code w.content rest is
 
 -- ---- tables of records
 

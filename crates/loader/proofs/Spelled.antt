@@ -5,14 +5,16 @@ use Rattle.std.specs.List.{flat_map}
 use Rattle.std.specs.Int.{w16, w32, to_be_bytes}
 use Rattle.std.proofs.lemmas.Bool.{eqb-true, leb-true, le-leb}
 use Rattle.std.proofs.lemmas.List.{append-nil, nil_from_length}
-use Rattle.il_model.specs.Image.{variable_bytes, mark_bytes, constant_bytes, counts_bytes, header_bytes}
-use Rattle.il_model.specs.Fits.{IsVariable, IsMark, IsConstant, AreItems}
+use Rattle.il_model.specs.Text.{Declarations}
+use Rattle.il_model.specs.Image.{variable_bytes, instance_bytes, mark_bytes, constant_bytes, counts_bytes, header_bytes}
+use Rattle.il_model.specs.Fits.{IsVariable, IsInstance, IsMark, IsConstant, AreItems}
 use Rattle.loader.specs.declared.counts.Counts.{Counts}
+use Rattle.loader.specs.declared.word.Word.{Word}
 use Rattle.loader.specs.declared.fault.LoadFault.TheVariants.{BadMagic, BadVersion, BadCount, Trailing}
-use Rattle.loader.specs.Tables.{Tables}
-use Rattle.loader.specs.Reading.{◌>>=◌, number_at, agrees, items_from, count_at, counts_at, header_at, variable_at, mark_at, constant_at, next_word, ended, bodies_at, tables_at}
+use Rattle.loader.specs.Tables.{Tables, declared_in}
+use Rattle.loader.specs.Reading.{◌>>=◌, number_at, agrees, items_from, count_at, counts_at, header_at, variable_at, instance_at, mark_at, constant_at, next_word, ended, bodies_at, tables_at}
 use Rattle.loader.proofs.Fields.{IsBytes, bind_ok, agrees_ok, ok_is, Takes, Takes-then, wide16, wide32, number_takes, number_again}
-use Rattle.loader.proofs.Records.{variable_takes, variable_again, mark_takes, mark_again, constant_takes, constant_again, IsNext, read_word_bytes, word_takes, word_again, HasItems, items_take, items_again}
+use Rattle.loader.proofs.Records.{variable_takes, variable_again, instance_takes, instance_again, mark_takes, mark_again, constant_takes, constant_again, IsNext, read_word_bytes, word_takes, word_again, HasItems, items_take, items_again}
 
 -- ---- the header
 
@@ -31,56 +33,57 @@ regrouped_5 : (a b c d e rest : List ℕ) → (a ++ (b ++ (c ++ (d ++ e)))) ++ r
 regrouped_5 a b c d e rest = append_assoc a (b ++ (c ++ (d ++ e))) rest ∙ ap (λ (x : List ℕ). a ++ x) (append_assoc b (c ++ (d ++ e)) rest ∙ ap (λ (x : List ℕ). b ++ x) (append_assoc c (d ++ e) rest ∙ ap (λ (x : List ℕ). c ++ x) (append_assoc d e rest)))
 
 counts_join : (bytes r0 r1 r2 r3 rest : List ℕ) (v i l c w : ℕ) → Takes bytes (to_be_bytes w16 v) r0 → Takes r0 (to_be_bytes w16 i) r1 → Takes r1 (to_be_bytes w16 l) r2 → Takes r2 (to_be_bytes w16 c) r3 → Takes r3 (to_be_bytes w16 w) rest
-    → i ≡ 0 → Takes bytes (counts_bytes v l c w) rest
-counts_join bytes r0 r1 r2 r3 rest v i l c w t0 t1 t2 t3 t4 i-is =
-    let s1 = subst (λ (k : ℕ). Takes r0 (to_be_bytes w16 k) r1) i-is t1 in
+    → Takes bytes (counts_bytes v i l c w) rest
+counts_join bytes r0 r1 r2 r3 rest v i l c w t0 t1 t2 t3 t4 =
     let e34 = Takes-then r2 (to_be_bytes w16 c) r3 (to_be_bytes w16 w) rest t3 t4 in
     let e24 = Takes-then r1 (to_be_bytes w16 l) r2 (to_be_bytes w16 c ++ to_be_bytes w16 w) rest t2 e34 in
-    let e14 = Takes-then r0 (to_be_bytes w16 0) r1 (to_be_bytes w16 l ++ (to_be_bytes w16 c ++ to_be_bytes w16 w)) rest s1 e24 in
-    Takes-then bytes (to_be_bytes w16 v) r0 (to_be_bytes w16 0 ++ (to_be_bytes w16 l ++ (to_be_bytes w16 c ++ to_be_bytes w16 w))) rest t0 e14
-
-none_left : (n : ℕ) → n ≤ 0 → n ≡ 0
-none_left n le = omega arith
+    let e14 = Takes-then r0 (to_be_bytes w16 i) r1 (to_be_bytes w16 l ++ (to_be_bytes w16 c ++ to_be_bytes w16 w)) rest t1 e24 in
+    Takes-then bytes (to_be_bytes w16 v) r0 (to_be_bytes w16 i ++ (to_be_bytes w16 l ++ (to_be_bytes w16 c ++ to_be_bytes w16 w))) rest t0 e14
 
 pub record AreFew (c : Counts) : Type 0 where
   pub variables : c.variables ≤ 512
+  pub instances : c.instances ≤ 128
   pub labels : c.labels ≤ 4096
   pub constants : c.constants ≤ 20480
   pub words : c.words ≤ 36864
 
-counts_take : (bytes : List ℕ) (x : Counts × List ℕ) → IsBytes bytes → counts_at bytes ≡ Ok x → Takes bytes (counts_bytes x.0.variables x.0.labels x.0.constants x.0.words) x.1 × AreFew x.0
+abbrev pub counts_of_header : Counts → List ℕ
+counts_of_header c = counts_bytes c.variables c.instances c.labels c.constants c.words
+
+counts_take : (bytes : List ℕ) (x : Counts × List ℕ) → IsBytes bytes → counts_at bytes ≡ Ok x → Takes bytes (counts_of_header x.0) x.1 × AreFew x.0
 unfolding counts_at
 counts_take bytes x fits e =
-    let b_variables = bind_ok (count_at 512 bytes) (λ variables. count_at 0 variables.1 >>= λ instances. count_at 4096 instances.1 >>= λ labels. count_at 20480 labels.1 >>= λ constants. count_at 36864 constants.1 >>= λ words. Ok (record { variables = variables.0; labels = labels.0; constants = constants.0; words = words.0 }, words.1)) x e in
-    let b_instances = bind_ok (count_at 0 b_variables.0.1) (λ instances. count_at 4096 instances.1 >>= λ labels. count_at 20480 labels.1 >>= λ constants. count_at 36864 constants.1 >>= λ words. Ok (record { variables = b_variables.0.0; labels = labels.0; constants = constants.0; words = words.0 }, words.1)) x b_variables.2 in
-    let b_labels = bind_ok (count_at 4096 b_instances.0.1) (λ labels. count_at 20480 labels.1 >>= λ constants. count_at 36864 constants.1 >>= λ words. Ok (record { variables = b_variables.0.0; labels = labels.0; constants = constants.0; words = words.0 }, words.1)) x b_instances.2 in
-    let b_constants = bind_ok (count_at 20480 b_labels.0.1) (λ constants. count_at 36864 constants.1 >>= λ words. Ok (record { variables = b_variables.0.0; labels = b_labels.0.0; constants = constants.0; words = words.0 }, words.1)) x b_labels.2 in
-    let b_words = bind_ok (count_at 36864 b_constants.0.1) (λ words. Ok (record { variables = b_variables.0.0; labels = b_labels.0.0; constants = b_constants.0.0; words = words.0 }, words.1)) x b_constants.2 in
+    let b_variables = bind_ok (count_at 512 bytes) (λ variables. count_at 128 variables.1 >>= λ instances. count_at 4096 instances.1 >>= λ labels. count_at 20480 labels.1 >>= λ constants. count_at 36864 constants.1 >>= λ words. Ok (record { variables = variables.0; instances = instances.0; labels = labels.0; constants = constants.0; words = words.0 }, words.1)) x e in
+    let b_instances = bind_ok (count_at 128 b_variables.0.1) (λ instances. count_at 4096 instances.1 >>= λ labels. count_at 20480 labels.1 >>= λ constants. count_at 36864 constants.1 >>= λ words. Ok (record { variables = b_variables.0.0; instances = instances.0; labels = labels.0; constants = constants.0; words = words.0 }, words.1)) x b_variables.2 in
+    let b_labels = bind_ok (count_at 4096 b_instances.0.1) (λ labels. count_at 20480 labels.1 >>= λ constants. count_at 36864 constants.1 >>= λ words. Ok (record { variables = b_variables.0.0; instances = b_instances.0.0; labels = labels.0; constants = constants.0; words = words.0 }, words.1)) x b_instances.2 in
+    let b_constants = bind_ok (count_at 20480 b_labels.0.1) (λ constants. count_at 36864 constants.1 >>= λ words. Ok (record { variables = b_variables.0.0; instances = b_instances.0.0; labels = b_labels.0.0; constants = constants.0; words = words.0 }, words.1)) x b_labels.2 in
+    let b_words = bind_ok (count_at 36864 b_constants.0.1) (λ words. Ok (record { variables = b_variables.0.0; instances = b_instances.0.0; labels = b_labels.0.0; constants = b_constants.0.0; words = words.0 }, words.1)) x b_constants.2 in
     let t0 = count_takes 512 bytes b_variables.0.0 b_variables.0.1 fits b_variables.1 in
-    let t1 = count_takes 0 b_variables.0.1 b_instances.0.0 b_instances.0.1 t0.0.rest_fits b_instances.1 in
+    let t1 = count_takes 128 b_variables.0.1 b_instances.0.0 b_instances.0.1 t0.0.rest_fits b_instances.1 in
     let t2 = count_takes 4096 b_instances.0.1 b_labels.0.0 b_labels.0.1 t1.0.rest_fits b_labels.1 in
     let t3 = count_takes 20480 b_labels.0.1 b_constants.0.0 b_constants.0.1 t2.0.rest_fits b_constants.1 in
     let t4 = count_takes 36864 b_constants.0.1 b_words.0.0 b_words.0.1 t3.0.rest_fits b_words.1 in
-    let whole = counts_join bytes b_variables.0.1 b_instances.0.1 b_labels.0.1 b_constants.0.1 b_words.0.1 b_variables.0.0 b_instances.0.0 b_labels.0.0 b_constants.0.0 b_words.0.0 t0.0 t1.0 t2.0 t3.0 t4.0 (none_left b_instances.0.0 t1.1) in
-    let counts : Counts = record { variables = b_variables.0.0; labels = b_labels.0.0; constants = b_constants.0.0; words = b_words.0.0 } in
-    let few : AreFew counts = record { variables = t0.1; labels = t2.1; constants = t3.1; words = t4.1 } in
-    subst (λ (y : Counts × List ℕ). Takes bytes (counts_bytes y.0.variables y.0.labels y.0.constants y.0.words) y.1 × AreFew y.0) (ok_is (counts, b_words.0.1) x b_words.2) (whole, few)
+    let whole = counts_join bytes b_variables.0.1 b_instances.0.1 b_labels.0.1 b_constants.0.1 b_words.0.1 b_variables.0.0 b_instances.0.0 b_labels.0.0 b_constants.0.0 b_words.0.0 t0.0 t1.0 t2.0 t3.0 t4.0 in
+    let counts : Counts = record { variables = b_variables.0.0; instances = b_instances.0.0; labels = b_labels.0.0; constants = b_constants.0.0; words = b_words.0.0 } in
+    let few : AreFew counts = record { variables = t0.1; instances = t1.1; labels = t2.1; constants = t3.1; words = t4.1 } in
+    subst (λ (y : Counts × List ℕ). Takes bytes (counts_of_header y.0) y.1 × AreFew y.0) (ok_is (counts, b_words.0.1) x b_words.2) (whole, few)
 
-counts_again : (c : Counts) (rest : List ℕ) → AreFew c → counts_at (counts_bytes c.variables c.labels c.constants c.words ++ rest) ≡ Ok (c, rest)
+counts_again : (c : Counts) (rest : List ℕ) → AreFew c → counts_at (counts_of_header c ++ rest) ≡ Ok (c, rest)
 unfolding counts_at
 counts_again c rest few =
     let v-le = few.variables in
+    let i-le = few.instances in
     let l-le = few.labels in
     let c-le = few.constants in
     let w-le = few.words in
-    let z = to_be_bytes w16 0 in
+    let b1 = to_be_bytes w16 c.instances in
     let b2 = to_be_bytes w16 c.labels in
     let b3 = to_be_bytes w16 c.constants in
     let last = to_be_bytes w16 c.words ++ rest in
-    ap counts_at (regrouped_5 (to_be_bytes w16 c.variables) z b2 b3 (to_be_bytes w16 c.words) rest) ∙ rw (count_again 512 c.variables (z ++ (b2 ++ (b3 ++ last))) v-le (omega arith), count_again 0 0 (b2 ++ (b3 ++ last)) (omega arith) (omega arith), count_again 4096 c.labels (b3 ++ last) l-le (omega arith), count_again 20480 c.constants last c-le (omega arith), count_again 36864 c.words rest w-le (omega arith)) refl
+    ap counts_at (regrouped_5 (to_be_bytes w16 c.variables) b1 b2 b3 (to_be_bytes w16 c.words) rest) ∙ rw (count_again 512 c.variables (b1 ++ (b2 ++ (b3 ++ last))) v-le (omega arith), count_again 128 c.instances (b2 ++ (b3 ++ last)) i-le (omega arith), count_again 4096 c.labels (b3 ++ last) l-le (omega arith), count_again 20480 c.constants last c-le (omega arith), count_again 36864 c.words rest w-le (omega arith)) refl
 
 abbrev pub header_of : Counts → List ℕ
-header_of c = header_bytes c.variables c.labels c.constants c.words
+header_of c = header_bytes c.variables c.instances c.labels c.constants c.words
 
 header_takes : (bytes : List ℕ) (x : Counts × List ℕ) → IsBytes bytes → header_at bytes ≡ Ok x → Takes bytes (header_of x.0) x.1 × AreFew x.0
 unfolding header_at
@@ -96,7 +99,7 @@ header_takes bytes x fits e =
     let version-is = eqb-true b_version.0.0 1 (agrees_ok BadVersion (nat_eq b_version.0.0 1) b_one.0 b_one.1) in
     let s0 = subst (λ (k : ℕ). Takes bytes (to_be_bytes w32 k) b_magic.0.1) magic-is t0.0 in
     let s1 = subst (λ (k : ℕ). Takes b_magic.0.1 (to_be_bytes w16 k) b_version.0.1) version-is t1.0 in
-    let counts = counts_bytes x.0.variables x.0.labels x.0.constants x.0.words in
+    let counts = counts_of_header x.0 in
     let e12 = Takes-then b_magic.0.1 (to_be_bytes w16 1) b_version.0.1 counts x.1 s1 t2.0 in
     (Takes-then bytes (to_be_bytes w32 1229738051) b_magic.0.1 (to_be_bytes w16 1 ++ counts) x.1 s0 e12, t2.1)
 
@@ -106,7 +109,7 @@ regrouped_3 a b c rest = append_assoc a (b ++ c) rest ∙ ap (λ (x : List ℕ).
 header_again : (c : Counts) (rest : List ℕ) → AreFew c → header_at (header_of c ++ rest) ≡ Ok (c, rest)
 unfolding header_at
 header_again c rest few =
-    let counts = counts_bytes c.variables c.labels c.constants c.words in
+    let counts = counts_of_header c in
     ap header_at (regrouped_3 (to_be_bytes w32 1229738051) (to_be_bytes w16 1) counts rest) ∙ rw (number_again w32 (2 ^ 32) wide32 1229738051 (to_be_bytes w16 1 ++ (counts ++ rest)) (omega arith), number_again w16 (2 ^ 16) wide16 1 (counts ++ rest) (omega arith)) (counts_again c rest few)
 
 -- ---- the tables
@@ -117,27 +120,32 @@ ended_ok t t' rest e =
     (nil_from_length rest (eqb-true (length rest) 0 (agrees_ok Trailing (nat_eq (length rest) 0) b.0 b.1)), ok_is t t' b.2)
 
 abbrev pub counts_of : Tables → Counts
-counts_of t = record { variables = length t.variables; labels = length t.labels; constants = length t.constants; words = length t.words }
+counts_of t = record { variables = length t.variables; instances = length t.instances; labels = length t.labels; constants = length t.constants; words = length t.words }
 
 abbrev pub bodies_bytes : Tables → List ℕ
-bodies_bytes t = flat_map variable_bytes t.variables ++ (flat_map mark_bytes t.labels ++ (flat_map constant_bytes t.constants ++ flat_map read_word_bytes t.words))
+bodies_bytes t = flat_map variable_bytes t.variables ++ (flat_map instance_bytes t.instances ++ (flat_map mark_bytes t.labels ++ (flat_map constant_bytes t.constants ++ flat_map read_word_bytes t.words)))
 
 abbrev pub tables_bytes : Tables → List ℕ
 tables_bytes t = header_of (counts_of t) ++ bodies_bytes t
 
+abbrev AreNext : Tables → List Word → Type 0
+AreNext t ws = AreItems (IsNext (declared_in t) t.labels t.constants) [] ws
+
 -- tables whose parts read back
 pub record AreTables (t : Tables) : Type 0 where
   pub variables : AreItems IsVariable [] t.variables
+  pub instances : AreItems (IsInstance t.variables) [] t.instances
   pub labels : AreItems IsMark [] t.labels
   pub constants : AreItems IsConstant [] t.constants
-  pub words : AreItems (IsNext t.variables t.labels t.constants) [] t.words
+  pub words : AreNext t t.words
   pub few : AreFew (counts_of t)
 
 record AreBodies (c : Counts) (bytes : List ℕ) (t : Tables) : Type 0 where
   variables : AreItems IsVariable [] t.variables
+  instances : AreItems (IsInstance t.variables) [] t.instances
   labels : AreItems IsMark [] t.labels
   constants : AreItems IsConstant [] t.constants
-  words : AreItems (IsNext t.variables t.labels t.constants) [] t.words
+  words : AreNext t t.words
   counts : counts_of t ≡ c
   spelled : bytes ≡ bodies_bytes t
 
@@ -148,48 +156,56 @@ item_list spell IsItem n bytes xs rest h =
     let is : h.new ≡ xs = h.all in
     (subst (AreItems IsItem []) is h.items, ap length (sym is) ∙ h.count, subst (λ (ys : List _). Takes bytes (flat_map spell ys) rest) is h.takes)
 
-bodies_join : (c : Counts) (bytes r1 r2 r3 rest : List ℕ) (t : Tables) → HasItems variable_bytes IsVariable c.variables [] bytes (t.variables, r1) → HasItems mark_bytes IsMark c.labels [] r1 (t.labels, r2)
-    → HasItems constant_bytes IsConstant c.constants [] r2 (t.constants, r3) → HasItems read_word_bytes (IsNext t.variables t.labels t.constants) c.words [] r3 (t.words, rest) → rest ≡ [] → AreBodies c bytes t
-bodies_join c bytes r1 r2 r3 rest t h0 h1 h2 h3 end =
+bodies_join : (c : Counts) (bytes r1 r2 r3 r4 rest : List ℕ) (t : Tables) → HasItems variable_bytes IsVariable c.variables [] bytes (t.variables, r1) → HasItems instance_bytes (IsInstance t.variables) c.instances [] r1 (t.instances, r2)
+    → HasItems mark_bytes IsMark c.labels [] r2 (t.labels, r3) → HasItems constant_bytes IsConstant c.constants [] r3 (t.constants, r4) → HasItems read_word_bytes (IsNext (declared_in t) t.labels t.constants) c.words [] r4 (t.words, rest) → rest ≡ [] → AreBodies c bytes t
+bodies_join c bytes r1 r2 r3 r4 rest t h0 h1 h2 h3 h4 end =
     let i0 = item_list variable_bytes IsVariable c.variables bytes t.variables r1 h0 in
-    let i1 = item_list mark_bytes IsMark c.labels r1 t.labels r2 h1 in
-    let i2 = item_list constant_bytes IsConstant c.constants r2 t.constants r3 h2 in
-    let i3 = item_list read_word_bytes (IsNext t.variables t.labels t.constants) c.words r3 t.words rest h3 in
+    let i1 = item_list instance_bytes (IsInstance t.variables) c.instances r1 t.instances r2 h1 in
+    let i2 = item_list mark_bytes IsMark c.labels r2 t.labels r3 h2 in
+    let i3 = item_list constant_bytes IsConstant c.constants r3 t.constants r4 h3 in
+    let i4 = item_list read_word_bytes (IsNext (declared_in t) t.labels t.constants) c.words r4 t.words rest h4 in
     let b0 = flat_map variable_bytes t.variables in
-    let b1 = flat_map mark_bytes t.labels in
-    let b2 = flat_map constant_bytes t.constants in
-    let b3 = flat_map read_word_bytes t.words in
-    let e23 = Takes-then r2 b2 r3 b3 rest i2.2 i3.2 in
-    let e13 = Takes-then r1 b1 r2 (b2 ++ b3) rest i1.2 e23 in
-    let e03 = Takes-then bytes b0 r1 (b1 ++ (b2 ++ b3)) rest i0.2 e13 in
+    let b1 = flat_map instance_bytes t.instances in
+    let b2 = flat_map mark_bytes t.labels in
+    let b3 = flat_map constant_bytes t.constants in
+    let b4 = flat_map read_word_bytes t.words in
+    let e34 = Takes-then r3 b3 r4 b4 rest i3.2 i4.2 in
+    let e24 = Takes-then r2 b2 r3 (b3 ++ b4) rest i2.2 e34 in
+    let e14 = Takes-then r1 b1 r2 (b2 ++ (b3 ++ b4)) rest i1.2 e24 in
+    let e04 = Takes-then bytes b0 r1 (b1 ++ (b2 ++ (b3 ++ b4))) rest i0.2 e14 in
     let v-is : length t.variables ≡ c.variables = i0.1 in
-    let l-is : length t.labels ≡ c.labels = i1.1 in
-    let c-is : length t.constants ≡ c.constants = i2.1 in
-    let w-is : length t.words ≡ c.words = i3.1 in
-    let same : counts_of t ≡ c = rw (v-is, l-is, c-is, w-is) refl in
-    record { variables = i0.0; labels = i1.0; constants = i2.0; words = i3.0; counts = same; spelled = e03.parts ∙ ap (λ (r : List ℕ). (b0 ++ (b1 ++ (b2 ++ b3))) ++ r) end ∙ append-nil (b0 ++ (b1 ++ (b2 ++ b3))) }
+    let x-is : length t.instances ≡ c.instances = i1.1 in
+    let l-is : length t.labels ≡ c.labels = i2.1 in
+    let c-is : length t.constants ≡ c.constants = i3.1 in
+    let w-is : length t.words ≡ c.words = i4.1 in
+    let same : counts_of t ≡ c = rw (v-is, x-is, l-is, c-is, w-is) refl in
+    record { variables = i0.0; instances = i1.0; labels = i2.0; constants = i3.0; words = i4.0; counts = same; spelled = e04.parts ∙ ap (λ (r : List ℕ). (b0 ++ (b1 ++ (b2 ++ (b3 ++ b4)))) ++ r) end ∙ append-nil (b0 ++ (b1 ++ (b2 ++ (b3 ++ b4)))) }
 
 bodies_take : (total : ℕ) (c : Counts) (bytes : List ℕ) (t : Tables) → IsBytes bytes → bodies_at total c bytes ≡ Ok t → AreBodies c bytes t
 unfolding bodies_at
 bodies_take total c bytes t fits e =
-    let b_variables = bind_ok (items_from (variable_at total) c.variables [] bytes) (λ variables. items_from (mark_at total) c.labels [] variables.1 >>= λ labels. items_from (constant_at total) c.constants [] labels.1 >>= λ constants. items_from (next_word total variables.0 labels.0 constants.0) c.words [] constants.1 >>= λ words. ended (record { variables = variables.0; labels = labels.0; constants = constants.0; words = words.0 }, words.1)) t e in
+    let b_variables = bind_ok (items_from (variable_at total) c.variables [] bytes) (λ variables. items_from (instance_at total variables.0) c.instances [] variables.1 >>= λ instances. items_from (mark_at total) c.labels [] instances.1 >>= λ labels. items_from (constant_at total) c.constants [] labels.1 >>= λ constants. items_from (next_word total (record { variables = variables.0; instances = instances.0 }) labels.0 constants.0) c.words [] constants.1 >>= λ words. ended (record { variables = variables.0; instances = instances.0; labels = labels.0; constants = constants.0; words = words.0 }, words.1)) t e in
     let vs = b_variables.0.0 in
-    let b_labels = bind_ok (items_from (mark_at total) c.labels [] b_variables.0.1) (λ labels. items_from (constant_at total) c.constants [] labels.1 >>= λ constants. items_from (next_word total vs labels.0 constants.0) c.words [] constants.1 >>= λ words. ended (record { variables = vs; labels = labels.0; constants = constants.0; words = words.0 }, words.1)) t b_variables.2 in
+    let b_instances = bind_ok (items_from (instance_at total vs) c.instances [] b_variables.0.1) (λ instances. items_from (mark_at total) c.labels [] instances.1 >>= λ labels. items_from (constant_at total) c.constants [] labels.1 >>= λ constants. items_from (next_word total (record { variables = vs; instances = instances.0 }) labels.0 constants.0) c.words [] constants.1 >>= λ words. ended (record { variables = vs; instances = instances.0; labels = labels.0; constants = constants.0; words = words.0 }, words.1)) t b_variables.2 in
+    let xs = b_instances.0.0 in
+    let b_labels = bind_ok (items_from (mark_at total) c.labels [] b_instances.0.1) (λ labels. items_from (constant_at total) c.constants [] labels.1 >>= λ constants. items_from (next_word total (record { variables = vs; instances = xs }) labels.0 constants.0) c.words [] constants.1 >>= λ words. ended (record { variables = vs; instances = xs; labels = labels.0; constants = constants.0; words = words.0 }, words.1)) t b_instances.2 in
     let ms = b_labels.0.0 in
-    let b_constants = bind_ok (items_from (constant_at total) c.constants [] b_labels.0.1) (λ constants. items_from (next_word total vs ms constants.0) c.words [] constants.1 >>= λ words. ended (record { variables = vs; labels = ms; constants = constants.0; words = words.0 }, words.1)) t b_labels.2 in
+    let b_constants = bind_ok (items_from (constant_at total) c.constants [] b_labels.0.1) (λ constants. items_from (next_word total (record { variables = vs; instances = xs }) ms constants.0) c.words [] constants.1 >>= λ words. ended (record { variables = vs; instances = xs; labels = ms; constants = constants.0; words = words.0 }, words.1)) t b_labels.2 in
     let cs = b_constants.0.0 in
-    let b_words = bind_ok (items_from (next_word total vs ms cs) c.words [] b_constants.0.1) (λ words. ended (record { variables = vs; labels = ms; constants = cs; words = words.0 }, words.1)) t b_constants.2 in
+    let ds : Declarations = record { variables = vs; instances = xs } in
+    let b_words = bind_ok (items_from (next_word total ds ms cs) c.words [] b_constants.0.1) (λ words. ended (record { variables = vs; instances = xs; labels = ms; constants = cs; words = words.0 }, words.1)) t b_constants.2 in
     let t0 = items_take (variable_at total) variable_bytes IsVariable (variable_takes total) c.variables [] bytes b_variables.0 fits b_variables.1 in
-    let t1 = items_take (mark_at total) mark_bytes IsMark (mark_takes total) c.labels [] b_variables.0.1 b_labels.0 t0.takes.rest_fits b_labels.1 in
-    let t2 = items_take (constant_at total) constant_bytes IsConstant (constant_takes total) c.constants [] b_labels.0.1 b_constants.0 t1.takes.rest_fits b_constants.1 in
-    let t3 = items_take (next_word total vs ms cs) read_word_bytes (IsNext vs ms cs) (λ seen bytes x. word_takes (total - length bytes) vs ms cs (length seen) bytes x) c.words [] b_constants.0.1 b_words.0 t2.takes.rest_fits b_words.1 in
-    let made : Tables = record { variables = vs; labels = ms; constants = cs; words = b_words.0.0 } in
+    let t1 = items_take (instance_at total vs) instance_bytes (IsInstance vs) (instance_takes total vs) c.instances [] b_variables.0.1 b_instances.0 t0.takes.rest_fits b_instances.1 in
+    let t2 = items_take (mark_at total) mark_bytes IsMark (mark_takes total) c.labels [] b_instances.0.1 b_labels.0 t1.takes.rest_fits b_labels.1 in
+    let t3 = items_take (constant_at total) constant_bytes IsConstant (constant_takes total) c.constants [] b_labels.0.1 b_constants.0 t2.takes.rest_fits b_constants.1 in
+    let t4 = items_take (next_word total ds ms cs) read_word_bytes (IsNext ds ms cs) (λ seen bytes x. word_takes (total - length bytes) ds ms cs (length seen) bytes x) c.words [] b_constants.0.1 b_words.0 t3.takes.rest_fits b_words.1 in
+    let made : Tables = record { variables = vs; instances = xs; labels = ms; constants = cs; words = b_words.0.0 } in
     let end = ended_ok made t b_words.0.1 b_words.2 in
-    subst (AreBodies c bytes) end.1 (bodies_join c bytes b_variables.0.1 b_labels.0.1 b_constants.0.1 b_words.0.1 made t0 t1 t2 t3 end.0)
+    subst (AreBodies c bytes) end.1 (bodies_join c bytes b_variables.0.1 b_instances.0.1 b_labels.0.1 b_constants.0.1 b_words.0.1 made t0 t1 t2 t3 t4 end.0)
 
 tables_join : (bytes rest : List ℕ) (c : Counts) (t : Tables) → Takes bytes (header_of c) rest → AreFew c → AreBodies c rest t → AreTables t × (bytes ≡ tables_bytes t)
 tables_join bytes rest c t takes few are = (
-  record { variables = are.variables; labels = are.labels; constants = are.constants; words = are.words; few = subst AreFew (sym are.counts) few },
+  record { variables = are.variables; instances = are.instances; labels = are.labels; constants = are.constants; words = are.words; few = subst AreFew (sym are.counts) few },
   takes.parts ∙ ap (λ (r : List ℕ). header_of c ++ r) are.spelled ∙ ap (λ (k : Counts). header_of k ++ bodies_bytes t) (sym are.counts),
 )
 
@@ -203,15 +219,18 @@ tables_take bytes t fits e =
 bodies_again : (total : ℕ) (t : Tables) → AreTables t → bodies_at total (counts_of t) (bodies_bytes t) ≡ Ok t
 unfolding bodies_at
 bodies_again total t are =
-    let b1 = flat_map mark_bytes t.labels in
-    let b2 = flat_map constant_bytes t.constants in
-    let b3 = flat_map read_word_bytes t.words in
-    let next = next_word total t.variables t.labels t.constants in
-    let h0 : items_from (variable_at total) (length t.variables) [] (flat_map variable_bytes t.variables ++ (b1 ++ (b2 ++ b3))) ≡ Ok (t.variables, b1 ++ (b2 ++ b3)) = items_again (variable_at total) variable_bytes IsVariable (variable_again total) t.variables [] (b1 ++ (b2 ++ b3)) are.variables in
-    let h1 : items_from (mark_at total) (length t.labels) [] (b1 ++ (b2 ++ b3)) ≡ Ok (t.labels, b2 ++ b3) = items_again (mark_at total) mark_bytes IsMark (mark_again total) t.labels [] (b2 ++ b3) are.labels in
-    let h2 : items_from (constant_at total) (length t.constants) [] (b2 ++ b3) ≡ Ok (t.constants, b3) = items_again (constant_at total) constant_bytes IsConstant (constant_again total) t.constants [] b3 are.constants in
-    let h3 : items_from next (length t.words) [] b3 ≡ Ok (t.words, []) = ap (items_from next (length t.words) []) (sym (append-nil b3)) ∙ items_again next read_word_bytes (IsNext t.variables t.labels t.constants) (λ seen w rest. word_again (total - length (read_word_bytes w ++ rest)) t.variables t.labels t.constants (length seen) w rest) t.words [] [] are.words in
-    rw (h0, h1, h2, h3) refl
+    let b1 = flat_map instance_bytes t.instances in
+    let b2 = flat_map mark_bytes t.labels in
+    let b3 = flat_map constant_bytes t.constants in
+    let b4 = flat_map read_word_bytes t.words in
+    let ds = declared_in t in
+    let next = next_word total ds t.labels t.constants in
+    let h0 : items_from (variable_at total) (length t.variables) [] (flat_map variable_bytes t.variables ++ (b1 ++ (b2 ++ (b3 ++ b4)))) ≡ Ok (t.variables, b1 ++ (b2 ++ (b3 ++ b4))) = items_again (variable_at total) variable_bytes IsVariable (variable_again total) t.variables [] (b1 ++ (b2 ++ (b3 ++ b4))) are.variables in
+    let h1 : items_from (instance_at total t.variables) (length t.instances) [] (b1 ++ (b2 ++ (b3 ++ b4))) ≡ Ok (t.instances, b2 ++ (b3 ++ b4)) = items_again (instance_at total t.variables) instance_bytes (IsInstance t.variables) (instance_again total t.variables) t.instances [] (b2 ++ (b3 ++ b4)) are.instances in
+    let h2 : items_from (mark_at total) (length t.labels) [] (b2 ++ (b3 ++ b4)) ≡ Ok (t.labels, b3 ++ b4) = items_again (mark_at total) mark_bytes IsMark (mark_again total) t.labels [] (b3 ++ b4) are.labels in
+    let h3 : items_from (constant_at total) (length t.constants) [] (b3 ++ b4) ≡ Ok (t.constants, b4) = items_again (constant_at total) constant_bytes IsConstant (constant_again total) t.constants [] b4 are.constants in
+    let h4 : items_from next (length t.words) [] b4 ≡ Ok (t.words, []) = ap (items_from next (length t.words) []) (sym (append-nil b4)) ∙ items_again next read_word_bytes (IsNext ds t.labels t.constants) (λ seen w rest. word_again (total - length (read_word_bytes w ++ rest)) ds t.labels t.constants (length seen) w rest) t.words [] [] are.words in
+    rw (h0, h1, h2, h3, h4) refl
 
 pub tables_again : (t : Tables) → AreTables t → tables_at (tables_bytes t) ≡ Ok t
 unfolding tables_at

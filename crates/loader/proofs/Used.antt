@@ -1,30 +1,36 @@
 -- The constants that words use, each no sooner than the lower ones, are the table by first use.
-use Rattle.std.proofs.Common.{◌≡◌, ℕ, suc, ◌+◌, ◌-◌, Bool, cond, List, [], ◌∷◌, ◌++◌, length, take, map, Option, Some, None, Result, Ok, refl, sym, ap, ◌∙◌, append_assoc, arith}
+use Rattle.std.proofs.Common.{◌≡◌, ℕ, suc, ◌+◌, ◌-◌, Bool, cond, List, [], ◌∷◌, ◌++◌, length, take, Option, Some, None, Result, Ok, refl, sym, ap, ◌∙◌, append_assoc, arith}
 use Rattle.std.specs.Prelude.{slice_get, is_some}
-use Rattle.std.specs.List.{position}
+use Rattle.std.specs.List.{position, AllByRecursion}
 use Rattle.std.proofs.lemmas.Bool.{lt-ltb, le-ltb, eq-eqb}
 use Rattle.std.proofs.lemmas.List.{length-append}
 use Rattle.il_model.specs.declared.value.Value.{Value}
-use Rattle.il_model.specs.declared.program.Variable.{Variable}
 use Rattle.il_model.specs.declared.program.Operand.{Operand}
 use Rattle.il_model.specs.declared.program.Operand.TheVariants as operands
-use Rattle.il_model.specs.declared.program.Instr.{Instr}
-use Rattle.il_model.specs.Text.{Text}
+use Rattle.il_model.specs.Text.{Text, Declarations}
 use Rattle.il_model.specs.Marks.{Mark}
 use Rattle.il_model.specs.Constants.{same_value, literal_of, joined_constants, constants_from, used_after, step_used}
 use Rattle.il_model.specs.Image.{constant_code, operand_code}
-use Rattle.il_model.specs.Fits.{IsCoded}
+use Rattle.il_model.specs.Fits.{AreItems}
 use Rattle.il_model.proofs.Constants.{AreApart, same_self, used_again, constants_grow}
 use Rattle.il_model.proofs.Positions.{position_front, position_behind}
 use Rattle.loader.specs.declared.word.Word.{Word}
-use Rattle.loader.specs.Tables.{lines_of}
+use Rattle.loader.specs.declared.word.Content.{Content}
+use Rattle.loader.specs.declared.word.Content.TheVariants as contents
+use Rattle.loader.specs.Tables.{operand_in}
 use Rattle.loader.specs.Judging.{constant_in, with_used, used_from}
-use Rattle.loader.proofs.Words.{literal_read}
+use Rattle.loader.proofs.Records.{IsRead, IsNext}
+use Rattle.loader.proofs.Groups.{word_operands}
+use Rattle.loader.proofs.Words.{literal_read, literal_passed}
 
--- words as they were read, wherever they stand
-abbrev pub AreCoded : List Variable → List Mark → List Value → List Word → Type 0
-AreCoded vs ms cs [] = Unit {0}
-AreCoded vs ms cs (w ∷ ws) = IsCoded vs ms cs w.line.op w.line.modifier w.line.operand w.code × AreCoded vs ms cs ws
+-- a word as it was read, wherever it stands
+pub record IsReadSomewhere (ds : Declarations) (ms : List Mark) (cs : List Value) (w : Word) : Type 0 where
+  pub number : ℕ
+  pub read : IsRead ds ms cs number w.code w.content
+
+pub words_read : (ds : Declarations) (ms : List Mark) (cs : List Value) (seen ws : List Word) → AreItems (IsNext ds ms cs) seen ws → AllByRecursion (IsReadSomewhere ds ms cs) ws
+words_read ds ms cs seen [] are = tt
+words_read ds ms cs seen (w ∷ ws) are = (record { number = length seen; read = are.0 }, words_read ds ms cs (seen ++ w ∷ []) ws are.1)
 
 with_ok : (n : ℕ) (o : Option ℕ) (go : ℕ → Result ℕ ℕ) (x : ℕ) → with_used n o go ≡ Ok x → (u : ℕ) × (o ≡ Some u) × (go u ≡ Ok x)
 with_ok n None go x e = absurd cc
@@ -40,15 +46,22 @@ step_takes cs (operands.Bare z) code u v apart there e = unused same_value cs u 
 step_takes cs (operands.Variable name) code u v apart there e = unused same_value cs u v e
 step_takes cs (operands.Direct loc) code u v apart there e = unused same_value cs u v e
 step_takes cs (operands.Label name) code u v apart there e = unused same_value cs u v e
+step_takes cs (operands.Field name field) code u v apart there e = unused same_value cs u v e
+step_takes cs (operands.Instance name) code u v apart there e = unused same_value cs u v e
+
+-- a literal that a word has is the constant of its number
+literal_there : (ds : Declarations) (ms : List Mark) (cs : List Value) (n code : ℕ) (c : Content) (x : Value) → IsRead ds ms cs n code c → operand_in c ≡ operands.Literal x → slice_get cs (code - 32768) ≡ Some x
+literal_there ds ms cs n code (contents.Instruction line) x is e = literal_read ds ms cs line.op line.modifier code x (is.coded.operand_read ∙ ap (λ (o : Operand). Some o) e)
+literal_there ds ms cs n code (contents.Argument side number operand) x is e = literal_passed ds cs code x (is.operand_read ∙ ap (λ (o : Operand). Some o) e)
 
 -- the constants by first use are as many of the table as are used
-pub used_take : (vs : List Variable) (ms : List Mark) (cs : List Value) (ws : List Word) (n u v : ℕ) → AreApart same_value cs → AreCoded vs ms cs ws → used_from n u ws ≡ Ok v → constants_from same_value (take u cs) (lines_of ws) ≡ take v cs
-used_take vs ms cs [] n u v apart are e = let is : u ≡ v = cc in ap (λ (n : ℕ). take n cs) is
-used_take vs ms cs (w ∷ ws) n u v apart are e =
-    let b = with_ok n (step_used (constant_in w.line.operand w.code) u) (λ u. used_from (suc n) u ws) v e in
-    let there : (x : Value) → w.line.operand ≡ operands.Literal x → slice_get cs (w.code - 32768) ≡ Some x = λ x is. literal_read vs ms cs w.line.op w.line.modifier w.code x (are.0.operand_read ∙ ap (λ (o : Operand). Some o) is) in
-    let one = step_takes cs w.line.operand w.code u b.0 apart there b.1 in
-    ap (λ (seen : List Value). constants_from same_value seen (lines_of ws)) one ∙ used_take vs ms cs ws (suc n) b.0 v apart are.1 b.2
+pub used_take : (ds : Declarations) (ms : List Mark) (cs : List Value) (ws : List Word) (n u v : ℕ) → AreApart same_value cs → AllByRecursion (IsReadSomewhere ds ms cs) ws → used_from n u ws ≡ Ok v → constants_from same_value (take u cs) (word_operands ws) ≡ take v cs
+used_take ds ms cs [] n u v apart are e = let is : u ≡ v = cc in ap (λ (n : ℕ). take n cs) is
+used_take ds ms cs (w ∷ ws) n u v apart are e =
+    let b = with_ok n (step_used (constant_in (operand_in w.content) w.code) u) (λ u. used_from (suc n) u ws) v e in
+    let there : (x : Value) → operand_in w.content ≡ operands.Literal x → slice_get cs (w.code - 32768) ≡ Some x = λ x is. literal_there ds ms cs are.0.number w.code w.content x are.0.read is in
+    let one = step_takes cs (operand_in w.content) w.code u b.0 apart there b.1 in
+    ap (λ (seen : List Value). constants_from same_value seen (word_operands ws)) one ∙ used_take ds ms cs ws (suc n) b.0 v apart are.1 b.2
 
 -- ---- the other way
 
@@ -68,28 +81,35 @@ new_step seen more v e =
     let long : suc (length seen) ≡ length (seen ++ v ∷ []) = omega (arith, length-append seen (v ∷ [])) in
     ap (used_after (length seen)) code ∙ rw (le-ltb (length seen) (length seen) (omega arith), eq-eqb (length seen) (length seen) refl) (ap (λ (n : ℕ). Some n) long)
 
-literal_step : (o : Option ℕ) (cs seen : List Value) (v : Value) (code : List Instr) → position (same_value v) seen ≡ o → cs ≡ constants_from same_value (cond (is_some o) seen (seen ++ v ∷ [])) code → used_after (length seen) (constant_code (position (same_value v) cs) - 32768) ≡ Some (length (cond (is_some o) seen (seen ++ v ∷ [])))
-literal_step None cs seen v code e is =
-    let m = constants_grow code (seen ++ v ∷ []) in
+literal_step : (o : Option ℕ) (cs seen : List Value) (v : Value) (os : List Operand) → position (same_value v) seen ≡ o → cs ≡ constants_from same_value (cond (is_some o) seen (seen ++ v ∷ [])) os → used_after (length seen) (constant_code (position (same_value v) cs) - 32768) ≡ Some (length (cond (is_some o) seen (seen ++ v ∷ [])))
+literal_step None cs seen v os e is =
+    let m = constants_grow os (seen ++ v ∷ []) in
     ap (λ (all : List Value). used_after (length seen) (constant_code (position (same_value v) all) - 32768)) (is ∙ m.is) ∙ new_step seen m.more v e
-literal_step (Some k) cs seen v code e is =
-    let m = constants_grow code seen in
+literal_step (Some k) cs seen v os e is =
+    let m = constants_grow os seen in
     ap (λ (all : List Value). used_after (length seen) (constant_code (position (same_value v) all) - 32768)) (is ∙ m.is) ∙ known_step seen m.more v k e
 
-step_again : (Q : Text) (cs seen : List Value) (o : Operand) (code : List Instr) → cs ≡ constants_from same_value (joined_constants same_value seen (literal_of o)) code → step_used (constant_in o (operand_code Q cs o)) (length seen) ≡ Some (length (joined_constants same_value seen (literal_of o)))
-step_again Q cs seen operands.Absent code is = refl
-step_again Q cs seen (operands.Literal v) code is = literal_step (position (same_value v) seen) cs seen v code refl is
-step_again Q cs seen (operands.Bare z) code is = refl
-step_again Q cs seen (operands.Variable name) code is = refl
-step_again Q cs seen (operands.Direct loc) code is = refl
-step_again Q cs seen (operands.Label name) code is = refl
+step_again : (Q : Text) (cs seen : List Value) (o : Operand) (os : List Operand) → cs ≡ constants_from same_value (joined_constants same_value seen (literal_of o)) os → step_used (constant_in o (operand_code Q cs o)) (length seen) ≡ Some (length (joined_constants same_value seen (literal_of o)))
+step_again Q cs seen operands.Absent os is = refl
+step_again Q cs seen (operands.Literal v) os is = literal_step (position (same_value v) seen) cs seen v os refl is
+step_again Q cs seen (operands.Bare z) os is = refl
+step_again Q cs seen (operands.Variable name) os is = refl
+step_again Q cs seen (operands.Direct loc) os is = refl
+step_again Q cs seen (operands.Label name) os is = refl
+step_again Q cs seen (operands.Field name field) os is = refl
+step_again Q cs seen (operands.Instance name) os is = refl
 
-abbrev pub word_of : Text → List Value → Instr → Word
-word_of Q cs line = record { line = line; code = operand_code Q cs line.operand }
+-- the word's number is that of its operand
+abbrev pub IsCoded : Text → List Value → Word → Type 0
+IsCoded Q cs w = w.code ≡ operand_code Q cs (operand_in w.content)
 
 -- the words of a program use its constants in order
-pub used_again_all : (Q : Text) (cs seen : List Value) (code : List Instr) (n : ℕ) → cs ≡ constants_from same_value seen code → used_from n (length seen) (map (word_of Q cs) code) ≡ Ok (length cs)
-used_again_all Q cs seen [] n is = ap (λ (k : ℕ). let r : Result ℕ ℕ = Ok k in r) (ap length (sym is))
-used_again_all Q cs seen (line ∷ code) n is =
-    let next = joined_constants same_value seen (literal_of line.operand) in
-    ap (λ (o : Option ℕ). with_used n o (λ u. used_from (suc n) u (map (word_of Q cs) code))) (step_again Q cs seen line.operand code is) ∙ used_again_all Q cs next code (suc n) is
+pub used_again_all : (Q : Text) (cs seen : List Value) (ws : List Word) (n : ℕ) → AllByRecursion (IsCoded Q cs) ws → cs ≡ constants_from same_value seen (word_operands ws) → used_from n (length seen) ws ≡ Ok (length cs)
+used_again_all Q cs seen [] n coded is = ap (λ (k : ℕ). let r : Result ℕ ℕ = Ok k in r) (ap length (sym is))
+used_again_all Q cs seen (w ∷ ws) n coded is =
+    let o = operand_in w.content in
+    let next = joined_constants same_value seen (literal_of o) in
+    let go = λ (u : ℕ). used_from (suc n) u ws in
+    ap (λ (code : ℕ). with_used n (step_used (constant_in o code) (length seen)) go) coded.0
+    ∙ ap (λ (p : Option ℕ). with_used n p go) (step_again Q cs seen o (word_operands ws) is)
+    ∙ used_again_all Q cs next ws (suc n) coded.1 is

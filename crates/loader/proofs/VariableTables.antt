@@ -8,8 +8,6 @@ use Rattle.std.specs.BTreeSet as sorted
 use Rattle.std.specs.BTreeSet.{BTreeSet}
 use Rattle.il_model.specs.declared.program.Variable.{Variable}
 use Rattle.il_model.specs.declared.program.Loc.{Loc}
-use Rattle.il_model.specs.declared.value.Ty.TheVariants as types
-use Rattle.il_model.specs.declared.value.Value.TheVariants as values
 use Rattle.il_model.specs.Image.{loc_code}
 use Rattle.il_model.specs.Codes.{has_code, is_taken}
 use Rattle.il_model.proofs.Positions.{position_past, found_last}
@@ -33,9 +31,7 @@ put_code s new seen v loc key table here key-is updates n =
 pub keep_codes : (s : BTreeSet ℕ) (seen : List Variable) (v : Variable) → AreCodes seen s → v.location ≡ None → AreCodes (seen ++ v ∷ []) s
 keep_codes s seen v table here n = more_by seen v n (sorted.contains nat_cmp s n) false (ap (has_code n) here) (table n)
 
-default_variable : Variable
-default_variable = record { name = []; ty = types.Bool; location = None; initial = values.Bool false }
-
-pub small_number : (p : Variable → Bool) (found : List Variable) (o : Option ℕ) → o ≡ position p found → length found < 2 ^ 63 → IfSome o (λ k. k < 2 ^ 63)
+pub small_number : {X : Type 0} (p : X → Bool) (found : List X) (o : Option ℕ) → o ≡ position p found → length found < 2 ^ 63 → IfSome o (λ k. k < 2 ^ 63)
 small_number p found None e lt = tt
-small_number p found (Some k) e lt = let r = position-Some p found k default_variable (sym e) in omega (arith, r.0)
+small_number p [] (Some k) e lt = absurd cc
+small_number p (x ∷ found) (Some k) e lt = let r = position-Some p (x ∷ found) k x (sym e) in omega (arith, r.0)

@@ -1,21 +1,24 @@
 -- The first fault of tables that were read.
-use Rattle.std.specs.Prelude.{ℕ, ◌-◌, ◌*◌, suc, Bool, true, ◌&&◌, List, [], ◌∷◌, length, Option, Some, None, Result, Ok, Err, nat_lt, nat_le, nat_eq, if◌then◌else◌}
+use Rattle.std.specs.Prelude.{ℕ, ◌+◌, ◌-◌, ◌*◌, suc, Bool, true, false, not, ◌&&◌, slice_get, List, [], ◌∷◌, length, Option, Some, None, Result, Ok, Err, nat_lt, nat_le, nat_eq, if◌then◌else◌}
 use Rattle.std.specs.List.{position}
+use Rattle.std.specs.Option.{option_map}
 use Rattle.il_model.specs.declared.program.Operand.{Operand}
 use Rattle.il_model.specs.declared.program.Operand.TheVariants as operands
-use Rattle.il_model.specs.declared.program.Instr.{Instr}
 use Rattle.il_model.specs.declared.typing.TypeFault.{TypeFault}
 use Rattle.il_model.specs.declared.typing.TypeFault.TheVariants.{UnknownLabel}
 use Rattle.il_model.specs.Text.{Text}
 use Rattle.il_model.specs.Limits.{program_of}
 use Rattle.il_model.specs.Typing.{judged}
-use Rattle.il_model.specs.Marks.{Mark}
+use Rattle.il_model.specs.Marks.{Mark, address_of}
+use Rattle.il_model.specs.Faulty.{faulty_word}
 use Rattle.il_model.specs.Constants.{step_used}
-use Rattle.il_model.specs.Codes.{is_pointless}
+use Rattle.il_model.specs.Codes.{is_pointless, is_call}
 use Rattle.loader.specs.declared.word.Word.{Word}
+use Rattle.loader.specs.declared.word.Content.{Content}
+use Rattle.loader.specs.declared.word.Content.TheVariants as contents
 use Rattle.loader.specs.declared.fault.LoadFault.{LoadFault}
 use Rattle.loader.specs.declared.fault.LoadFault.TheVariants.{BadCount, BadWord, BadType, BadTarget}
-use Rattle.loader.specs.Tables.{Tables, lines_of}
+use Rattle.loader.specs.Tables.{Tables, operand_in, is_argument, lines_of}
 use Rattle.loader.specs.Reading.{◌>>=◌, agrees, tables_at}
 
 -- ---- places: records of one length are counted from the end
@@ -33,10 +36,14 @@ label_place end (m ∷ ms) = label_place (end - length m.name - 3) ms
 
 -- ---- labels
 
--- the addresses of labels rise from n on, and each is an instruction's
-abbrev pub risen : ℕ → ℕ → ℕ → List Mark → Result Bool LoadFault
-risen end n count [] = Ok true
-risen end n count (m ∷ ms) = if nat_le n m.at && nat_lt m.at count then risen end (suc m.at) count ms else Err (BadTarget (label_place end (m ∷ ms)))
+abbrev pub is_start : Option Word → Bool
+is_start None = false
+is_start (Some w) = not (is_argument w.content)
+
+-- the addresses of labels rise from n on, and at each an instruction begins
+abbrev pub risen : ℕ → ℕ → List Word → List Mark → Result Bool LoadFault
+risen end n words [] = Ok true
+risen end n words (m ∷ ms) = if nat_le n m.at && is_start (slice_get words m.at) then risen end (suc m.at) words ms else Err (BadTarget (label_place end (m ∷ ms)))
 
 -- ---- words
 
@@ -51,16 +58,41 @@ with_used n (Some used) go = go used
 -- how many of the constants are used by the words from the n-th on and those before them, or the first word that uses one before a lower one
 abbrev pub used_from : ℕ → ℕ → List Word → Result ℕ ℕ
 used_from n used [] = Ok used
-used_from n used (w ∷ ws) = with_used n (step_used (constant_in w.line.operand w.code) used) (λ u. used_from (suc n) u ws)
+used_from n used (w ∷ ws) = with_used n (step_used (constant_in (operand_in w.content) w.code) used) (λ u. used_from (suc n) u ws)
 
 abbrev pub earlier : Option ℕ → Result ℕ ℕ → Option ℕ
 earlier o (Ok used) = o
 earlier None (Err n) = Some n
 earlier (Some m) (Err n) = Some (if nat_lt m n then m else n)
 
+abbrev pub sooner : Option ℕ → Option ℕ → Option ℕ
+sooner None o = o
+sooner (Some m) None = Some m
+sooner (Some m) (Some n) = Some (if nat_lt n m then n else m)
+
+-- an empty instruction without a label
+abbrev pub says_nothing : Content → Bool
+says_nothing (contents.Instruction line) = is_pointless line
+says_nothing (contents.Argument side number operand) = false
+
+-- a call or an argument: behind it an argument may stand
+abbrev pub takes_argument : Content → Bool
+takes_argument (contents.Instruction line) = is_call line.op
+takes_argument (contents.Argument side number operand) = true
+
+-- the first argument that stands behind something else; whether one may stand at the front says the first
+abbrev pub stray_from : Bool → List Word → Option ℕ
+stray_from may [] = None
+stray_from may (w ∷ ws) = if is_argument w.content && not may then Some 0 else option_map suc (stray_from (takes_argument w.content) ws)
+
 -- the first word that no spelling has there
-abbrev pub misspelled : List Instr → Result ℕ ℕ → Option ℕ
-misspelled code used = earlier (position is_pointless code) used
+abbrev pub misspelled : List Word → Result ℕ ℕ → Option ℕ
+misspelled words used = earlier (sooner (position (λ (w : Word). says_nothing w.content) words) (stray_from false words)) used
+
+-- the first fault of typing, with the number of the word where it stands
+abbrev pub at_word : Text → Result Bool (TypeFault × ℕ) → Result Bool (TypeFault × ℕ)
+at_word Q (Ok x) = Ok x
+at_word Q (Err f) = Err (f.0, address_of Q.code f.1 + faulty_word Q f.1)
 
 abbrev pub type_fault : ℕ → TypeFault → LoadFault
 type_fault pos UnknownLabel = BadTarget pos
@@ -87,9 +119,9 @@ small (Some Q) = Ok Q
 -- the program of the tables, where its labels rise, its words are spelled and typed, and its constants are used
 unfoldable pub judged_tables : ℕ → Tables → Result Text LoadFault
 judged_tables total t = do
-  Q ← small (program_of t.variables (lines_of t.words))
-  rising ← risen (constant_place total (length t.words) (length t.constants) 0) 0 (length t.words) t.labels
-  fine ← words_fine total (length t.words) (misspelled Q.code (used_from 0 0 t.words)) (judged Q)
+  Q ← small (program_of t.variables t.instances (lines_of t.instances t.words))
+  rising ← risen (constant_place total (length t.words) (length t.constants) 0) 0 t.words t.labels
+  fine ← words_fine total (length t.words) (misspelled t.words (used_from 0 0 t.words)) (at_word Q (judged Q))
   used ← all_used total (length t.words) (length t.constants) (used_from 0 0 t.words)
   Ok Q
 

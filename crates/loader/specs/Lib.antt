@@ -1,7 +1,9 @@
 pub mod Tables
+pub mod Lines
 pub mod LabelTables
 pub mod Reading
 pub mod Judging
 pub mod Linked
 pub mod Faults
 pub mod VariableTables
+pub mod InstanceTables

@@ -2,9 +2,14 @@
 use Rattle.std.specs.Prelude.{◌≡◌, ℕ, ◌-◌, zero, suc, Bool, true, false, List, [], ◌∷◌, ◌++◌, length, take, drop, Option, Some, None, Result, Ok, Err, nat_lt, nat_le, nat_eq, if◌then◌else◌}
 use Rattle.std.specs.Int.{Width, w8, w16, w32, byte_len, from_be_bytes}
 use Rattle.il_model.specs.declared.program.Variable.{Variable}
+use Rattle.il_model.specs.declared.program.Instance.{Instance}
+use Rattle.il_model.specs.declared.program.Side.{Side}
+use Rattle.il_model.specs.Text.{Declarations}
+use Rattle.il_model.specs.Kinds.{kind_of_code}
+use Rattle.loader.specs.declared.word.Content.TheVariants as contents
 use Rattle.il_model.specs.declared.value.Value.{Value}
 use Rattle.il_model.specs.Marks.{Mark}
-use Rattle.il_model.specs.Codes.{is_new_name, is_new_label, length_of, type_of, location_of, initial_of, constant_of, op_of, letters_of, label_there, word_operand}
+use Rattle.il_model.specs.Codes.{is_new_name, is_new_instance, is_new_label, length_of, type_of, location_of, initial_of, constant_of, op_of, letters_of, label_there, word_operand, side_of, argument_number, argument_operand}
 use Rattle.loader.specs.declared.counts.Counts.{Counts}
 use Rattle.loader.specs.declared.word.Word.{Word}
 use Rattle.loader.specs.Tables.{Tables}
@@ -50,15 +55,14 @@ items_from item (suc n) seen bytes = item seen bytes >>= λ x. items_from item n
 abbrev pub count_at : ℕ → List ℕ → Result (ℕ × List ℕ) LoadFault
 count_at limit bytes = number_at w16 bytes >>= λ n. agrees BadCount (nat_le n.0 limit) >>= λ _. Ok n
 
--- instances are no part of a program yet
 unfoldable pub counts_at : List ℕ → Result (Counts × List ℕ) LoadFault
 counts_at bytes = do
   variables ← count_at 512 bytes
-  instances ← count_at 0 variables.1
+  instances ← count_at 128 variables.1
   labels ← count_at 4096 instances.1
   constants ← count_at 20480 labels.1
   words ← count_at 36864 constants.1
-  Ok (record { variables = variables.0; labels = labels.0; constants = constants.0; words = words.0 }, words.1)
+  Ok (record { variables = variables.0; instances = instances.0; labels = labels.0; constants = constants.0; words = words.0 }, words.1)
 
 unfoldable pub header_at : List ℕ → Result (Counts × List ℕ) LoadFault
 header_at bytes = do
@@ -96,6 +100,13 @@ variable_at total seen bytes = do
   value ← lawful (total - length bytes) (initial_of type loc first.0)
   Ok (record { name = name.0; ty = type; location = loc; initial = value }, first.1)
 
+unfoldable pub instance_at : ℕ → List Variable → List Instance → List ℕ → Result (Instance × List ℕ) LoadFault
+instance_at total vs seen bytes = do
+  name ← name_at (total - length bytes) (is_new_instance vs seen) bytes
+  code ← number_at w8 name.1
+  kind ← lawful (total - length bytes) (kind_of_code code.0)
+  Ok (record { name = name.0; kind = kind }, code.1)
+
 -- a label; whether an instruction begins at its address is judged later
 unfoldable pub mark_at : ℕ → List Mark → List ℕ → Result (Mark × List ℕ) LoadFault
 mark_at total seen bytes = do
@@ -111,19 +122,37 @@ constant_at total seen bytes = do
   value ← lawful (total - length bytes) (constant_of seen type bits.0)
   Ok (value, bits.1)
 
--- the n-th word, behind the tables that its number may point to
-unfoldable pub word_at : ℕ → List Variable → List Mark → List Value → ℕ → List ℕ → Result (Word × List ℕ) LoadFault
-word_at pos vs marks constants n bytes = do
-  code ← number_at w8 bytes
-  op ← lawful pos (op_of code.0)
-  letters ← number_at w8 code.1
+-- behind its code, the n-th word where it is an instruction
+unfoldable pub instruction_at : ℕ → Declarations → List Mark → List Value → ℕ → ℕ → List ℕ → Result (Word × List ℕ) LoadFault
+instruction_at pos ds marks constants n code bytes = do
+  op ← lawful pos (op_of code)
+  letters ← number_at w8 bytes
   m ← lawful pos (letters_of op letters.0)
   slot ← number_at w16 letters.1
-  operand ← lawful pos (word_operand vs marks constants op m slot.0)
-  Ok (record { line = record { label = label_there marks n; op = op; modifier = m; operand = operand }; code = slot.0 }, slot.1)
+  operand ← lawful pos (word_operand ds marks constants op m slot.0)
+  Ok (record { content = contents.Instruction (record { label = label_there marks n; op = op; modifier = m; operand = operand; arguments = [] }); code = slot.0 }, slot.1)
 
-abbrev pub next_word : ℕ → List Variable → List Mark → List Value → List Word → List ℕ → Result (Word × List ℕ) LoadFault
-next_word total vs marks constants seen bytes = word_at (total - length bytes) vs marks constants (length seen) bytes
+-- that where it is an argument; whether it follows a call, and whether the call's kind has the field, is judged later
+unfoldable pub argument_at : ℕ → Declarations → List Value → Side → List ℕ → Result (Word × List ℕ) LoadFault
+argument_at pos ds constants side bytes = do
+  number ← number_at w8 bytes
+  field ← lawful pos (argument_number number.0)
+  slot ← number_at w16 number.1
+  operand ← lawful pos (argument_operand ds constants slot.0)
+  Ok (record { content = contents.Argument side field operand; code = slot.0 }, slot.1)
+
+abbrev pub word_by : ℕ → Declarations → List Mark → List Value → ℕ → ℕ → Option Side → List ℕ → Result (Word × List ℕ) LoadFault
+word_by pos ds marks constants n code None bytes = instruction_at pos ds marks constants n code bytes
+word_by pos ds marks constants n code (Some side) bytes = argument_at pos ds constants side bytes
+
+-- the n-th word, behind the tables that its number may point to
+unfoldable pub word_at : ℕ → Declarations → List Mark → List Value → ℕ → List ℕ → Result (Word × List ℕ) LoadFault
+word_at pos ds marks constants n bytes = do
+  code ← number_at w8 bytes
+  word_by pos ds marks constants n code.0 (side_of code.0) code.1
+
+abbrev pub next_word : ℕ → Declarations → List Mark → List Value → List Word → List ℕ → Result (Word × List ℕ) LoadFault
+next_word total ds marks constants seen bytes = word_at (total - length bytes) ds marks constants (length seen) bytes
 
 -- ---- the whole
 
@@ -134,10 +163,11 @@ ended x = agrees Trailing (nat_eq (length x.1) 0) >>= λ _. Ok x.0
 unfoldable pub bodies_at : ℕ → Counts → List ℕ → Result Tables LoadFault
 bodies_at total counts bytes = do
   variables ← items_from (variable_at total) counts.variables [] bytes
-  labels ← items_from (mark_at total) counts.labels [] variables.1
+  instances ← items_from (instance_at total variables.0) counts.instances [] variables.1
+  labels ← items_from (mark_at total) counts.labels [] instances.1
   constants ← items_from (constant_at total) counts.constants [] labels.1
-  words ← items_from (next_word total variables.0 labels.0 constants.0) counts.words [] constants.1
-  ended (record { variables = variables.0; labels = labels.0; constants = constants.0; words = words.0 }, words.1)
+  words ← items_from (next_word total (record { variables = variables.0; instances = instances.0 }) labels.0 constants.0) counts.words [] constants.1
+  ended (record { variables = variables.0; instances = instances.0; labels = labels.0; constants = constants.0; words = words.0 }, words.1)
 
 unfoldable pub tables_at : List ℕ → Result Tables LoadFault
 tables_at bytes = do

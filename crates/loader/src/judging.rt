@@ -1,19 +1,19 @@
 //! The first fault of tables that were read.
 
-ghost use Rattle.std.specs.Prelude.{◌≡◌, ◌+◌, ◌<◌, ◌^◌, Ok, Some};
+ghost use Rattle.std.specs.Prelude.{◌≡◌, ◌+◌, ◌<◌, ◌^◌, false, Ok, Some, option_map};
 ghost use Rattle.std.specs.List.{position};
-ghost use Rattle.il_model.specs.Codes.{is_pointless};
 ghost use Rattle.il_model.specs.Constants.{step_used};
 ghost use Rattle.il_model.specs.Checked.{told};
+ghost use Rattle.loader.specs.Tables.{operand_in, is_argument};
 ghost use Rattle.loader.specs.Reading.{Gives};
-ghost use Rattle.loader.specs.Judging.{word_place, constant_place, label_place, risen, constant_in, used_from, earlier, misspelled, type_fault, words_fine, all_used};
+ghost use Rattle.loader.specs.Judging.{word_place, constant_place, label_place, is_start, risen, constant_in, used_from, earlier, sooner, says_nothing, takes_argument, stray_from, misspelled, type_fault, words_fine, all_used};
 
 use crate::fault::{LoadError, LoadFault};
 use crate::label::Label;
 use crate::reading::agrees;
-use crate::word::Word;
+use crate::word::{Content, Word};
 use il_model::codes::is_pointless;
-use il_model::{Instr, Operand, TypeFault};
+use il_model::{Op, Operand, TypeFault};
 
 fn word_place(total: usize, count: usize, n: usize) -> usize
     ensures { result ≡ word_place total count n }
@@ -40,15 +40,31 @@ fn label_place(end: usize, labels: &[Label]) -> usize
     place
 }
 
-/// Whether the addresses rise, each an instruction's; the fault stands at the label.
-pub fn check_labels(end: usize, count: usize, labels: &[Label]) -> Result<bool, LoadError>
-    ensures { Gives (λ b. b) result (risen end 0 count labels.now) }
+fn is_argument(content: &Content) -> bool
+    ensures { result ≡ is_argument content.now }
+{
+    matches!(content, Content::Argument(_, _, _))
+}
+
+/// Whether a word is there, and an instruction begins with it.
+fn is_start(word: Option<&Word>) -> bool
+    ensures { result ≡ is_start (option_map (λ w. w.now) word.entry) }
+{
+    match word {
+        Some(word) => !is_argument(&word.content),
+        None => false,
+    }
+}
+
+/// Whether the addresses rise, and at each an instruction begins; the fault stands at the label.
+pub fn check_labels(end: usize, words: &[Word], labels: &[Label]) -> Result<bool, LoadError>
+    ensures { Gives (λ b. b) result (risen end 0 words.now labels.now) }
 {
     let mut least = 0;
     let mut rest = labels;
     while let [label, others @ ..] = rest {
         let at = label.at as usize;
-        if at < least || at >= count {
+        if at < least || !is_start(words.get(at)) {
             let position = label_place(end, rest);
             return Err(LoadError::Fault(LoadFault::BadTarget { position }));
         }
@@ -58,10 +74,19 @@ pub fn check_labels(end: usize, count: usize, labels: &[Label]) -> Result<bool, 
     Ok(true)
 }
 
-fn constant_in(word: &Word) -> Option<usize>
-    ensures { result ≡ constant_in word.now.line.operand word.now.code }
+fn operand_in(content: &Content) -> &Operand
+    ensures { result.now ≡ operand_in content.now }
 {
-    match &word.line.operand {
+    match content {
+        Content::Instruction(line) => &line.operand,
+        Content::Argument(_, _, operand) => operand,
+    }
+}
+
+fn constant_in(word: &Word) -> Option<usize>
+    ensures { result ≡ constant_in (operand_in word.now.content) word.now.code }
+{
+    match operand_in(&word.content) {
         Operand::Literal(_) => Some((word.code as usize).saturating_sub(32768)),
         _ => None,
     }
@@ -99,20 +124,65 @@ pub fn used_by(words: &[Word]) -> Result<usize, usize>
     Ok(used)
 }
 
-fn pointless_at(code: &[Instr]) -> Option<usize>
-    ensures { result ≡ position is_pointless code.now }
+/// Whether it is an empty instruction without a label.
+fn says_nothing(content: &Content) -> bool
+    ensures { result ≡ says_nothing content.now }
 {
-    code.iter().position(|line| is_pointless(line))
+    match content {
+        Content::Instruction(line) => is_pointless(line),
+        Content::Argument(_, _, _) => false,
+    }
+}
+
+fn silent_word(words: &[Word]) -> Option<usize>
+    ensures { result ≡ position (λ w. says_nothing w.content) words.now }
+{
+    words.iter().position(|word| says_nothing(&word.content))
+}
+
+/// Whether an argument may stand behind it.
+fn takes_argument(content: &Content) -> bool
+    ensures { result ≡ takes_argument content.now }
+{
+    match content {
+        Content::Instruction(line) => line.op == Op::Cal,
+        Content::Argument(_, _, _) => true,
+    }
+}
+
+/// The first argument that stands behind neither a call nor another argument.
+fn stray_word(words: &[Word]) -> Option<usize>
+    ensures { result ≡ stray_from false words.now }
+{
+    let mut may = false;
+    for n in 0..words.len() {
+        let content = &words[n].content;
+        if is_argument(content) && !may {
+            return Some(n);
+        }
+        may = takes_argument(content);
+    }
+    None
+}
+
+fn sooner(m: Option<usize>, n: Option<usize>) -> Option<usize>
+    ensures { result ≡ sooner m n }
+{
+    match (m, n) {
+        (Some(m), Some(n)) => if n < m { Some(n) } else { Some(m) },
+        (Some(m), None) => Some(m),
+        (None, n) => n,
+    }
 }
 
 /// The first word that no spelling has there.
-pub fn misspelled(code: &[Instr], used: Result<usize, usize>) -> Option<usize>
-    ensures { result ≡ misspelled code.now used }
+pub fn misspelled(words: &[Word], used: Result<usize, usize>) -> Option<usize>
+    ensures { result ≡ misspelled words.now used }
 {
-    let empty = pointless_at(code);
+    let first = sooner(silent_word(words), stray_word(words));
     match used {
-        Ok(_) => empty,
-        Err(n) => match empty {
+        Ok(_) => first,
+        Err(n) => match first {
             Some(m) => if m < n { Some(m) } else { Some(n) },
             None => Some(n),
         },

@@ -3,12 +3,19 @@
 #![tactic(auto)]
 
 mod counts;
+mod declared;
 mod fault;
+mod grouping;
 mod image;
+mod instance;
 mod judging;
 mod label;
+mod linking;
 mod loading;
+mod operands;
 mod reading;
+mod tables;
+mod typing;
 mod variable;
 mod word;
 

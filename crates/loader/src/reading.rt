@@ -1,25 +1,25 @@
 //! Reading the tables of an image.
 
-ghost use Rattle.std.specs.Prelude.{◌≡◌, Ok, Some, [], slice_get, IfOk};
+ghost use Rattle.std.specs.Prelude.{◌≡◌, [], IfOk};
 ghost use Rattle.std.specs.Int.{w8, w16, w32};
-ghost use Rattle.std.specs.Option.{option_map};
-ghost use Rattle.il_model.specs.declared.program.Operand.TheVariants as operands;
-ghost use Rattle.il_model.specs.Codes.{is_new_name, is_new_label, label_there, target_name, raw_operand, operand_of, value_operand, numbered_operand, word_operand, constant_of, is_free, location_of};
-ghost use Rattle.il_model.specs.Image.{plain_code};
-ghost use Rattle.loader.specs.Reading.{Gives, number_at, lawful, agrees, items_from, count_at, counts_at, header_at, spelled_name_at, name_at, variable_at, mark_at, constant_at, word_at, next_word};
+ghost use Rattle.il_model.specs.Codes.{is_new_name, is_new_instance, is_new_label, argument_number, constant_of, is_free, location_of};
+ghost use Rattle.loader.specs.Reading.{Gives, number_at, lawful, agrees, items_from, count_at, counts_at, header_at, spelled_name_at, name_at, variable_at, instance_at, mark_at, constant_at, instruction_at, argument_at, word_at, next_word};
 
 use crate::counts::Counts;
+use crate::declared::Declared;
 use crate::fault::{LoadError, LoadFault};
+use crate::instance::Instances;
 use crate::label::{Label, Labels};
+use crate::operands::{argument_operand, label_there, word_operand};
 use crate::variable::Variables;
-use crate::word::Word;
+use crate::word::{Content, Word};
 use il_model::codes::{
-    any_loc, initial_of, is_formed, is_type, length_of, letters_of, location_code, op_of, type_of,
+    any_loc, initial_of, is_type, length_of, letters_of, location_code, op_of, side_of, type_of,
 };
 use il_model::constant_table::Constants;
 use il_model::resolve::loc_type;
 use il_model::value::make;
-use il_model::{Instr, Loc, Modifier, Name, Op, Operand, Ty, Value, Variable};
+use il_model::{Arguments, BlockKind, Instance, Instr, Loc, Name, Side, Ty, Value, Variable};
 use std::alloc::Global;
 
 fn u8_at(bytes: &[u8]) -> Result<(u8, &[u8]), LoadError>
@@ -89,13 +89,14 @@ fn counts_at(bytes: &[u8]) -> Result<(Counts, &[u8]), LoadError>
     ensures { Gives (λ x. (x.0, x.1.now)) result (counts_at bytes.now) }
 {
     let (variables, rest) = count_at(512, bytes)?;
-    let (_, rest) = count_at(0, rest)?;
+    let (instances, rest) = count_at(128, rest)?;
     let (labels, rest) = count_at(4096, rest)?;
     let (constants, rest) = count_at(20480, rest)?;
     let (words, rest) = count_at(36864, rest)?;
     Ok((
         Counts {
             variables,
+            instances,
             labels,
             constants,
             words,
@@ -138,6 +139,31 @@ fn variable_name_at<'a>(
 {
     let (name, rest) = spelled_name_at(position, bytes)?;
     agrees(LoadFault::BadWord { position }, seen.is_new(name))?;
+    Ok((name, rest))
+}
+
+/// Whether a name is lawful and neither a variable nor an instance has it.
+fn is_new_instance(variables: &Variables, seen: &Instances, name: &[u8]) -> bool
+    ensures { result ≡ is_new_instance variables.now seen.now name.now }
+{
+    variables.is_new(name) && !seen.number_of(name).is_some()
+}
+
+/// The name of an instance that no variable and none of these has.
+#[tactic(auto, unfolding(crate::specs::Reading::name_at))]
+fn instance_name_at<'a>(
+    position: usize,
+    variables: &Variables,
+    seen: &Instances,
+    bytes: &'a [u8],
+) -> Result<(&'a [u8], &'a [u8]), LoadError>
+    ensures { Gives (λ x. (x.0.now, x.1.now)) result (name_at position (is_new_instance variables.now seen.now) bytes.entry.now) }
+{
+    let (name, rest) = spelled_name_at(position, bytes)?;
+    agrees(
+        LoadFault::BadWord { position },
+        is_new_instance(variables, seen, name),
+    )?;
     Ok((name, rest))
 }
 
@@ -206,6 +232,29 @@ fn variable_at<'a>(
     Ok((found, name, rest))
 }
 
+/// An instance, and the bytes of its name.
+#[tactic(auto, unfolding(crate::specs::Reading::instance_at))]
+fn instance_at<'a>(
+    alloc: Global,
+    total: usize,
+    variables: &Variables,
+    seen: &Instances,
+    bytes: &'a [u8],
+) -> Result<(Instance, &'a [u8], &'a [u8]), LoadError>
+    ensures found { Gives (λ x. (x.0, x.2.now)) result (instance_at total variables.now seen.now bytes.entry.now) }
+    ensures name { IfOk result (λ x. x.1.now ≡ x.0.name) }
+{
+    let position = total.saturating_sub(bytes.len());
+    let (name, rest) = instance_name_at(position, variables, seen, bytes)?;
+    let (code, rest) = u8_at(rest)?;
+    let kind = lawful(position, BlockKind::of_code(code))?;
+    let found = Instance {
+        name: Name::of(Vec::from_slice(alloc, name)?),
+        kind,
+    };
+    Ok((found, name, rest))
+}
+
 /// A label.
 #[tactic(auto, unfolding(crate::specs::Reading::mark_at))]
 fn mark_at<'a>(
@@ -250,153 +299,32 @@ fn constant_at<'a>(
     Ok((value, rest))
 }
 
-/// The name of the first label at an address.
-fn label_there(alloc: Global, labels: &Labels, n: usize) -> Result<Option<Name>, LoadError>
-    ensures { Gives (λ o. o) result (Ok (label_there labels.now n)) }
+/// Any number below 8 may be a field's.
+fn argument_number(n: u8) -> Option<u8>
+    ensures { result ≡ argument_number n }
 {
-    match labels.name_at(n) {
-        Some(name) => Ok(Some(Name::of(Vec::from_slice(alloc, name)?))),
-        None => Ok(None),
-    }
+    if n < 8 { Some(n) } else { None }
 }
 
-fn target_name(alloc: Global, labels: &Labels, n: u16) -> Result<Name, LoadError>
-    ensures { Gives (λ name. name) result (Ok (target_name (label_there labels.now n))) }
-{
-    match label_there(alloc, labels, n as usize)? {
-        Some(name) => Ok(name),
-        None => Ok(Name::of(Vec::new(alloc))),
-    }
-}
-
-fn raw_operand(alloc: Global, vs: &Variables, n: u16) -> Result<Option<Operand>, LoadError>
-    ensures { Gives (λ o. o) result (Ok (raw_operand vs.now n)) }
-{
-    if n < 16384 {
-        return match any_loc(n) {
-            Some(loc) => Ok(Some(Operand::Direct(loc))),
-            None => Ok(None),
-        };
-    }
-    if n == 65535 {
-        return Ok(Some(Operand::Absent));
-    }
-    match vs.as_slice().get(n as usize - 16384) {
-        Some(v) => Ok(Some(Operand::Variable(v.name.copy(alloc)?))),
-        None => Ok(None),
-    }
-}
-
-fn plain_code(vs: &Variables, operand: &Operand) -> usize
-    ensures { result ≡ plain_code vs.now operand.now }
-{
-    match operand {
-        Operand::Direct(loc) => location_code(Some(*loc)),
-        Operand::Variable(name) => match vs.number_of(name.bytes()) {
-            Some(i) => 16384 + i,
-            None => 65535,
-        },
-        _ => 65535,
-    }
-}
-
-fn operand_of(alloc: Global, vs: &Variables, n: u16) -> Result<Option<Operand>, LoadError>
-    ensures { Gives (λ o. o) result (Ok (operand_of vs.now n)) }
-{
-    match raw_operand(alloc, vs, n)? {
-        Some(operand) => {
-            if plain_code(vs, &operand) == n as usize {
-                Ok(Some(operand))
-            } else {
-                Ok(None)
-            }
-        }
-        None => Ok(None),
-    }
-}
-
-fn literal_at(constants: &[Value], k: usize) -> Option<Operand>
-    ensures { result ≡ option_map operands.Literal (slice_get constants.now k) }
-{
-    match constants.get(k) {
-        Some(v) => Some(Operand::Literal(*v)),
-        None => None,
-    }
-}
-
-fn value_operand(
-    alloc: Global,
-    vs: &Variables,
-    constants: &[Value],
-    n: u16,
-) -> Result<Option<Operand>, LoadError>
-    ensures { Gives (λ o. o) result (Ok (value_operand vs.now constants.now n)) }
-{
-    if n < 32768 || n == 65535 {
-        operand_of(alloc, vs, n)
-    } else {
-        Ok(literal_at(constants, n as usize - 32768))
-    }
-}
-
-fn numbered_operand(
-    alloc: Global,
-    vs: &Variables,
-    labels: &Labels,
-    constants: &[Value],
-    op: Op,
-    n: u16,
-) -> Result<Option<Operand>, LoadError>
-    ensures { Gives (λ o. o) result (Ok (numbered_operand vs.now labels.now constants.now op n)) }
-{
-    if op == Op::Jmp {
-        Ok(Some(Operand::Label(target_name(alloc, labels, n)?)))
-    } else {
-        value_operand(alloc, vs, constants, n)
-    }
-}
-
-fn word_operand(
-    alloc: Global,
-    vs: &Variables,
-    labels: &Labels,
-    constants: &[Value],
-    op: Op,
-    m: Modifier,
-    n: u16,
-) -> Result<Option<Operand>, LoadError>
-    ensures { Gives (λ o. o) result (Ok (word_operand vs.now labels.now constants.now op m n)) }
-{
-    match numbered_operand(alloc, vs, labels, constants, op, n)? {
-        Some(operand) => {
-            if is_formed(op, m, &operand) {
-                Ok(Some(operand))
-            } else {
-                Ok(None)
-            }
-        }
-        None => Ok(None),
-    }
-}
-
-#[tactic(auto, unfolding(crate::specs::Reading::word_at))]
-fn word_at<'a>(
+/// The n-th word behind its code, where it is an instruction.
+#[tactic(auto, unfolding(crate::specs::Reading::instruction_at))]
+fn instruction_at<'a>(
     alloc: Global,
     position: usize,
-    vs: &Variables,
+    ds: &Declared,
     labels: &Labels,
     constants: &[Value],
     n: usize,
+    code: u8,
     bytes: &'a [u8],
 ) -> Result<(Word, &'a [u8]), LoadError>
-    ensures { Gives (λ x. (x.0, x.1.now)) result (word_at position vs.now labels.now constants.now n bytes.entry.now) }
+    ensures { Gives (λ x. (x.0, x.1.now)) result (instruction_at position ds.now labels.now constants.now n code bytes.entry.now) }
 {
-    let (code, rest) = u8_at(bytes)?;
     let op = lawful(position, op_of(code))?;
-    let (letters, rest) = u8_at(rest)?;
+    let (letters, rest) = u8_at(bytes)?;
     let modifier = lawful(position, letters_of(op, letters))?;
     let (code, rest) = u16_at(rest)?;
-    let operand = word_operand(alloc, vs, labels, constants, op, modifier, code)?;
+    let operand = word_operand(alloc, ds, labels, constants, op, modifier, code)?;
     let operand = lawful(position, operand)?;
     let label = label_there(alloc, labels, n)?;
     let line = Instr {
@@ -404,8 +332,50 @@ fn word_at<'a>(
         op,
         modifier,
         operand,
+        arguments: Arguments::of(Vec::new(alloc)),
     };
-    Ok((Word { line, code }, rest))
+    let content = Content::Instruction(line);
+    Ok((Word { content, code }, rest))
+}
+
+/// A word behind its code, where it is an argument.
+#[tactic(auto, unfolding(crate::specs::Reading::argument_at))]
+fn argument_at<'a>(
+    alloc: Global,
+    position: usize,
+    ds: &Declared,
+    constants: &[Value],
+    side: Side,
+    bytes: &'a [u8],
+) -> Result<(Word, &'a [u8]), LoadError>
+    ensures { Gives (λ x. (x.0, x.1.now)) result (argument_at position ds.now constants.now side bytes.entry.now) }
+{
+    let (number, rest) = u8_at(bytes)?;
+    let number = lawful(position, argument_number(number))?;
+    let (code, rest) = u16_at(rest)?;
+    let operand = argument_operand(alloc, ds, constants, code)?;
+    let operand = lawful(position, operand)?;
+    let content = Content::Argument(side, number, operand);
+    Ok((Word { content, code }, rest))
+}
+
+#[tactic(auto, unfolding(crate::specs::Reading::word_at))]
+fn word_at<'a>(
+    alloc: Global,
+    position: usize,
+    ds: &Declared,
+    labels: &Labels,
+    constants: &[Value],
+    n: usize,
+    bytes: &'a [u8],
+) -> Result<(Word, &'a [u8]), LoadError>
+    ensures { Gives (λ x. (x.0, x.1.now)) result (word_at position ds.now labels.now constants.now n bytes.entry.now) }
+{
+    let (code, rest) = u8_at(bytes)?;
+    match side_of(code) {
+        Some(side) => argument_at(alloc, position, ds, constants, side, rest),
+        None => instruction_at(alloc, position, ds, labels, constants, n, code, rest),
+    }
 }
 
 pub fn variables_of<'a>(
@@ -420,6 +390,25 @@ pub fn variables_of<'a>(
     let mut rest = bytes;
     for _ in 0..count {
         let (one, name, after) = variable_at(alloc, total, &seen, rest)?;
+        seen = seen.with(one, name)?;
+        rest = after;
+    }
+    Ok((seen, rest))
+}
+
+pub fn instances_of<'a>(
+    alloc: Global,
+    total: usize,
+    variables: &Variables,
+    count: u16,
+    bytes: &'a [u8],
+) -> Result<(Instances<'a>, &'a [u8]), LoadError>
+    ensures { Gives (λ x. (x.0, x.1.now)) result (items_from (instance_at total variables.now) count [] bytes.entry.now) }
+{
+    let mut seen = Instances::new(alloc);
+    let mut rest = bytes;
+    for _ in 0..count {
+        let (one, name, after) = instance_at(alloc, total, variables, &seen, rest)?;
         seen = seen.with(one, name)?;
         rest = after;
     }
@@ -466,33 +455,33 @@ pub fn constants_of(
 fn next_word<'a>(
     alloc: Global,
     total: usize,
-    vs: &Variables,
+    ds: &Declared,
     labels: &Labels,
     constants: &[Value],
     seen: &[Word],
     bytes: &'a [u8],
 ) -> Result<(Word, &'a [u8]), LoadError>
-    ensures { Gives (λ x. (x.0, x.1.now)) result (next_word total vs.now labels.now constants.now seen.now bytes.entry.now) }
+    ensures { Gives (λ x. (x.0, x.1.now)) result (next_word total ds.now labels.now constants.now seen.now bytes.entry.now) }
 {
     let position = total.saturating_sub(bytes.len());
-    word_at(alloc, position, vs, labels, constants, seen.len(), bytes)
+    word_at(alloc, position, ds, labels, constants, seen.len(), bytes)
 }
 
 pub fn words_of<'a>(
     alloc: Global,
     total: usize,
-    vs: &Variables,
+    ds: &Declared,
     labels: &Labels,
     constants: &[Value],
     count: u16,
     bytes: &'a [u8],
 ) -> Result<(Vec<Word>, &'a [u8]), LoadError>
-    ensures { Gives (λ x. (x.0.items, x.1.now)) result (items_from (next_word total vs.now labels.now constants.now) count [] bytes.entry.now) }
+    ensures { Gives (λ x. (x.0.items, x.1.now)) result (items_from (next_word total ds.now labels.now constants.now) count [] bytes.entry.now) }
 {
     let mut found = Vec::new(alloc);
     let mut rest = bytes;
     for _ in 0..count {
-        let (one, after) = next_word(alloc, total, vs, labels, constants, found.as_slice(), rest)?;
+        let (one, after) = next_word(alloc, total, ds, labels, constants, found.as_slice(), rest)?;
         found.push(one)?;
         rest = after;
     }

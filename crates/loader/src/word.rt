@@ -1,10 +1,19 @@
 //! Words as they are read.
 
-use il_model::Instr;
+use il_model::{Instr, Operand, Side};
 
-/// An instruction, and the number that stood for its operand.
+/// What a word says.
+#[derive(Debug, Drop)]
+pub enum Content {
+    /// An instruction, still without its arguments.
+    Instruction(Instr),
+    /// An argument of the call before it: the number of its field, and its operand.
+    Argument(Side, u8, Operand),
+}
+
+/// A word, and the number that stood for its operand.
 #[derive(Debug, Drop)]
 pub struct Word {
-    pub line: Instr,
+    pub content: Content,
     pub code: u16,
 }

@@ -7,7 +7,7 @@ use Rattle.il_model.specs.declared.typing.TypeFault.{TypeFault}
 use Rattle.il_model.specs.Typing.{IsTyped, fault_number}
 use Rattle.il_model.specs.Settled.{settled}
 use Rattle.il_model.specs.Image.{spelling}
-use Rattle.il_model.specs.Scan.{answers_of}
+use Rattle.controller_model.specs.Scan.{answers_of}
 use Rattle.il_reader.specs.Faults as Read
 use Rattle.il_reader.specs.Texts.{SourceText, Reads, source_of}
 use Rattle.il_reader.specs.declared.fault.Fault as read_faults

@@ -2,9 +2,9 @@
 use Rattle.std.specs.Prelude.{Option, Some, None}
 use Rattle.il_model.specs.declared.value.Stop.{Stop}
 use Rattle.il_model.specs.Text.{Text}
-use Rattle.il_model.specs.State.{State}
-use Rattle.il_model.specs.Step.{Outcome, End, Stopped}
-use Rattle.il_model.specs.Scan.{Control, cold_control}
+use Rattle.controller_model.specs.State.{State}
+use Rattle.controller_model.specs.Step.{Outcome, End, Stopped}
+use Rattle.controller_model.specs.Scan.{Control, cold_control}
 
 -- a run ends at its end, or stops
 abbrev pub ended_by : Option Stop → State → Outcome

@@ -1,7 +1,7 @@
 //! The scans of one program, one after the other.
 
 ghost use Rattle.std.specs.Prelude.{◌≡◌, Some, IfOk, option_map};
-ghost use Rattle.il_model.specs.Scan.{ran, is_past_end, next_count, scanned, commanded, answers_from};
+ghost use Rattle.controller_model.specs.Scan.{ran, is_past_end, next_count, scanned, commanded, answers_from};
 ghost use Rattle.machine.specs.Kept.{IsMachineOf};
 ghost use Rattle.plc_tool.specs.Running.{ended_by, cold_running};
 

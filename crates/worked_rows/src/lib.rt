@@ -5,6 +5,8 @@
 #[cfg(test)]
 mod block_rows;
 #[cfg(test)]
+mod call_rows;
+#[cfg(test)]
 mod first_path_rows;
 #[cfg(test)]
 mod image_bytes_rows;

@@ -252,7 +252,7 @@ fn counts_and_ends(rt: HostRuntime) -> Result<(), Fail> {
     let alloc = rt.alloc();
     let rows: [Row; 5] = [
         ([513, 0, 0, 0, 0], b"", BAD_COUNT),
-        ([0, 1, 0, 0, 0], b"", BAD_COUNT),
+        ([0, 129, 0, 0, 0], b"", BAD_COUNT),
         ([0, 0, 4097, 0, 0], b"", BAD_COUNT),
         ([0, 0, 0, 20481, 0], b"", BAD_COUNT),
         ([0, 0, 0, 0, 36865], b"", BAD_COUNT),
@@ -297,4 +297,97 @@ fn one_byte_changed(rt: HostRuntime) -> Result<(), Fail> {
         assert_eq!(rt; told(alloc, bytes.as_slice()), wanted, "at {place}");
     }
     Ok(())
+}
+
+#[test]
+fn images_of_calls(rt: HostRuntime) -> Result<(), Fail> {
+    let rows: [Row; 4] = [
+        // C of CTU, called with CU := %IX0.0, PV := 2, CV => %QW0, Q => %QX0.0
+        (
+            [0, 1, 0, 1, 5],
+            b"\x01C\x05\x01\0\0\0\x02\x15\0\0\0\x1A\0\0\0\x1A\x02\x80\0\x1B\x04\x14\0\x1B\x03\x10\0",
+            Outcome::Loaded,
+        ),
+        // fields as operands
+        (
+            [0, 1, 0, 0, 2],
+            b"\x02T1\x09\x01\0\x50\x02\x02\0\x50\0",
+            Outcome::Loaded,
+        ),
+        // a label behind a call's arguments
+        (
+            [0, 1, 1, 0, 3],
+            b"\x02T1\x09\x01L\0\x02\x15\0\0\0\x1A\0\0\0\x14\0\0\x02",
+            Outcome::Loaded,
+        ),
+        // CALC behind LD
+        (
+            [0, 1, 0, 0, 2],
+            b"\x02T1\x09\x01\0\0\0\x15\x02\0\0",
+            Outcome::Loaded,
+        ),
+    ];
+    wants(&rt, rt.alloc(), &rows)
+}
+
+#[test]
+fn faults_of_instances(rt: HostRuntime) -> Result<(), Fail> {
+    let rows: [Row; 5] = [
+        ([0, 1, 0, 0, 0], b"\x02T1\x0B", word(16)),
+        ([0, 1, 0, 0, 0], b"\x02T1\0", word(16)),
+        ([0, 1, 0, 0, 0], b"\x02TP\x09", word(16)),
+        ([0, 2, 0, 0, 0], b"\x02T1\x09\x02T1\x08", word(20)),
+        (
+            [1, 1, 0, 0, 0],
+            b"\x01X\0\xFF\xFF\0\0\0\0\x01X\x09",
+            word(25),
+        ),
+    ];
+    wants(&rt, rt.alloc(), &rows)
+}
+
+#[test]
+fn faults_of_the_words_of_calls(rt: HostRuntime) -> Result<(), Fail> {
+    let rows: [Row; 13] = [
+        // no such instance, no instance, no such field
+        ([0, 1, 0, 0, 1], b"\x02T1\x09\x15\0\0\x01", word(20)),
+        ([0, 1, 0, 0, 1], b"\x02T1\x09\x15\0\xFF\xFF", word(20)),
+        ([0, 1, 0, 0, 1], b"\x02T1\x09\x01\0\x50\x04", word(20)),
+        ([0, 1, 0, 0, 1], b"\x02T1\x09\x01\0\x50\x08", word(20)),
+        // a field's number past 7, an argument without an operand, letters that CAL hasn't
+        (
+            [0, 1, 0, 0, 2],
+            b"\x02T1\x09\x15\0\0\0\x1A\x08\0\0",
+            word(24),
+        ),
+        (
+            [0, 1, 0, 0, 2],
+            b"\x02T1\x09\x15\0\0\0\x1A\0\xFF\xFF",
+            word(24),
+        ),
+        ([0, 1, 0, 0, 1], b"\x02T1\x09\x15\x01\0\0", word(20)),
+        // an argument behind no call
+        ([0, 1, 0, 0, 2], b"\x02T1\x09\x01\0\0\0\x1A\0\0\0", word(24)),
+        ([0, 1, 0, 0, 1], b"\x02T1\x09\x1A\0\0\0", word(20)),
+        // a label at an argument
+        (
+            [0, 1, 1, 0, 2],
+            b"\x02T1\x09\x01L\0\x01\x15\0\0\0\x1A\0\0\0",
+            target(20),
+        ),
+        // the kind's fields: no such number, an output as an input, at the argument's own word
+        (
+            [0, 1, 0, 0, 3],
+            b"\x02T1\x09\x15\0\0\0\x1A\0\0\0\x1A\x06\x14\0",
+            ty(28),
+        ),
+        ([0, 1, 0, 0, 2], b"\x02T1\x09\x15\0\0\0\x1A\x02\0\0", ty(24)),
+        // the condition's fault stands at the call, in front of its arguments'
+        (
+            [0, 1, 0, 0, 2],
+            b"\x02T1\x09\x15\x02\0\0\x1A\x02\0\0",
+            ty(20),
+        ),
+    ];
+    wants(&rt, rt.alloc(), &rows)
 }

@@ -4,8 +4,8 @@ use declarations::{DeclError, resolve};
 use il_model::op::Op;
 use il_model::program::{Area, Loc, Operand, Program};
 use il_model::written::literal;
-use il_model::{Literal, Value};
-use il_reader::{ReadError, read};
+use il_model::{Literal, Side, Value};
+use il_reader::{Behind, Call, Line, ReadError, Source, read};
 use std::alloc::{AllocError, Global};
 use std::process::Abort;
 use std::test::Fail;
@@ -48,6 +48,28 @@ fn told(alloc: Global, text: &[u8]) -> Outcome {
 fn wants(rt: &impl Abort, alloc: Global, rows: &[(&[u8], Outcome)]) {
     for (n, (text, wanted)) in rows.iter().enumerate() {
         assert_eq!(rt; told(alloc, text), *wanted, "in row {n}");
+    }
+}
+
+/// What the reader alone makes of a text: the number of its blocks and lines, or its fault.
+fn read_alone(alloc: Global, text: &[u8]) -> Outcome {
+    match read(alloc, text) {
+        Ok(source) => Outcome::Good(source.blocks().len(), source.lines().len()),
+        Err(ReadError::Memory) => Outcome::Memory,
+        Err(ReadError::Fault(fault)) => {
+            Outcome::Read(fault.kind.number(), fault.place.line, fault.place.column)
+        }
+    }
+}
+
+/// The call in the first line.
+fn first_call<'s>(source: &'s Source<'_>) -> Option<&'s Call<'s>> {
+    match source.lines().first() {
+        Some(Line::Plain(operation)) => match &operation.behind {
+            Behind::Called(call) => Some(call),
+            _ => None,
+        },
+        _ => None,
     }
 }
 
@@ -129,7 +151,7 @@ mod tests {
             (b"S( %QX0.0", Outcome::Read(5, 1, 2)),
             (b"VAR X : INT := ; END_VAR", Outcome::Read(5, 1, 16)),
             (b"VAR X : INT := X; END_VAR", Outcome::Read(5, 1, 16)),
-            (b"LD A.B", Outcome::Read(5, 1, 5)),
+            (b"LD A.", Outcome::Read(5, 1, 6)),
             (
                 b"VAR A, B AT %QX0.0 : BOOL; END_VAR",
                 Outcome::Read(5, 1, 10),
@@ -147,6 +169,97 @@ mod tests {
             (b"PROGRAM P LD %IX0.0 END_PROGRAM", Outcome::Read(5, 1, 21)),
         ];
         wants(&rt, rt.alloc(), &rows);
+    }
+
+    #[test]
+    fn calls_and_fields_as_the_reader_takes_them(rt: HostRuntime) {
+        let rows: [(&[u8], Outcome); 39] = [
+            // with parentheses and without
+            (b"CAL T1", Outcome::Good(0, 1)),
+            (b"CAL T1()", Outcome::Good(0, 1)),
+            (b"CALC T1(\n)", Outcome::Good(0, 1)),
+            (b"L: CALCN T1", Outcome::Good(0, 1)),
+            (b"CAL T1(* () *)", Outcome::Good(0, 1)),
+            (b"CAL T1(IN := X, PT := T#2s, Q => Y)", Outcome::Good(0, 1)),
+            (b"CAL T1(Q => 5)", Outcome::Good(0, 1)),
+            (b"CAL TRUE(TRUE := TRUE)", Outcome::Good(0, 1)),
+            // line ends inside are white space
+            (
+                b"CAL T1(\n\nIN\n:=\nX\n,\nPT := T#2s\n)\nLD X",
+                Outcome::Good(0, 2),
+            ),
+            (b"CAL T1 (IN := T2\n.\nQ\n)", Outcome::Good(0, 1)),
+            // and nowhere else
+            (b"CAL\nT1", Outcome::Read(5, 1, 4)),
+            (b"CAL T1\n()", Outcome::Read(5, 2, 1)),
+            (b"LD T1\n.Q", Outcome::Read(5, 2, 1)),
+            (b"LD T1.\nQ", Outcome::Read(5, 1, 7)),
+            // fields
+            (b"LD T1.Q", Outcome::Good(0, 1)),
+            (b"ANDN( T1 . TRUE\n)", Outcome::Good(0, 2)),
+            (b"LD T1.", Outcome::Read(5, 1, 7)),
+            (b"LD T1.5", Outcome::Read(5, 1, 7)),
+            (b"LD T1.Q.R", Outcome::Read(5, 1, 8)),
+            (b"LD TRUE.Q", Outcome::Read(5, 1, 8)),
+            (b"CAL T1.Q", Outcome::Read(5, 1, 7)),
+            // any word may be a field, so the fault is behind it
+            (b"CAL T1(NOT Q => X)", Outcome::Read(5, 1, 12)),
+            (b"CAL T1(X)", Outcome::Read(5, 1, 9)),
+            (b"CAL T1(X, 5)", Outcome::Read(5, 1, 9)),
+            (b"CAL T1(5)", Outcome::Read(5, 1, 8)),
+            (b"CAL T1(,)", Outcome::Read(5, 1, 8)),
+            (b"CAL T1(IN := X,)", Outcome::Read(5, 1, 16)),
+            (b"CAL T1(IN := X,\n\n)", Outcome::Read(5, 3, 1)),
+            (b"CAL T1(IN := X", Outcome::Read(5, 1, 15)),
+            (b"CAL T1(IN := X Q => Y)", Outcome::Read(5, 1, 16)),
+            (b"CAL T1(IN := X\nQ => Y)", Outcome::Read(5, 2, 1)),
+            (b"CAL T1(IN := )", Outcome::Read(5, 1, 14)),
+            (b"CAL T1(IN := TRUE.Q)", Outcome::Read(5, 1, 18)),
+            (b"CAL T1(IN = X)", Outcome::Read(2, 1, 11)),
+            (b"CAL T1()()", Outcome::Read(5, 1, 9)),
+            // no instance
+            (b"CAL", Outcome::Read(5, 1, 4)),
+            (b"CAL 5", Outcome::Read(5, 1, 5)),
+            (b"CAL(T1)", Outcome::Read(5, 1, 4)),
+            (b"CAL T1 X", Outcome::Read(5, 1, 8)),
+        ];
+        for (n, (text, wanted)) in rows.iter().enumerate() {
+            assert_eq!(rt; read_alone(rt.alloc(), text), *wanted, "in row {n}");
+        }
+    }
+
+    #[test]
+    fn arguments_in_the_order_written(rt: HostRuntime) {
+        let text = b"CALCN T1(Q => Y, IN := T2.Q,\nQ => Z)";
+        let wanted: [(&[u8], Side); 3] = [
+            (b"Q", Side::Output),
+            (b"IN", Side::Input),
+            (b"Q", Side::Output),
+        ];
+        let Ok(source) = read(rt.alloc(), text) else {
+            return assert!(rt; false, "not read");
+        };
+        let Some(call) = first_call(&source) else {
+            return assert!(rt; false, "no call");
+        };
+        assert_eq!(rt; call.instance.text, b"T1".as_slice());
+        assert_eq!(rt; call.arguments().len(), 3);
+        for (argument, (field, side)) in call.arguments().iter().zip(wanted.iter()) {
+            assert_eq!(rt; argument.field.text, *field);
+            assert_eq!(rt; argument.side, *side);
+        }
+    }
+
+    #[test]
+    fn no_parentheses_are_no_arguments(rt: HostRuntime) {
+        let texts: [&[u8]; 2] = [b"CAL T1", b"CAL T1()"];
+        for text in texts.iter() {
+            let Ok(source) = read(rt.alloc(), text) else {
+                return assert!(rt; false, "not read");
+            };
+            let none = first_call(&source).map(|call| call.arguments().len());
+            assert_eq!(rt; none, Some(0));
+        }
     }
 
     #[test]
@@ -173,7 +286,7 @@ mod tests {
             (b"VAR X : LINT; END_VAR", Outcome::Declared(2, 1, 9)),
             (b"VAR X : LD; END_VAR", Outcome::Declared(2, 1, 9)),
             (b"VAR X : FOO := TRUE; END_VAR", Outcome::Declared(2, 1, 9)),
-            (b"VAR X : TON; END_VAR", Outcome::Declared(2, 1, 9)),
+            (b"VAR X : TONE; END_VAR", Outcome::Declared(2, 1, 9)),
             (
                 b"VAR X AT %IX0.0 : FOO; END_VAR",
                 Outcome::Declared(2, 1, 19),
@@ -443,8 +556,8 @@ OR(";
     }
 
     #[test]
-    fn literals(rt: HostRuntime) {
-        let rows: [(&[u8], Option<Literal>); 58] = [
+    fn numbers_and_truths(rt: HostRuntime) {
+        let rows: [(&[u8], Option<Literal>); 33] = [
             (b"0", Some(Literal::Bare(0))),
             (b"+7", Some(Literal::Bare(7))),
             (b"-2147483648", Some(Literal::Bare(-2_147_483_648))),
@@ -462,6 +575,31 @@ OR(";
             (b"BOOL#1", Some(Literal::Typed(Value::Bool(true)))),
             (b"bool#false", Some(Literal::Typed(Value::Bool(false)))),
             (b"TRUE", Some(Literal::Typed(Value::Bool(true)))),
+            (b"-16#FF", None),
+            (b"INT#-16#F", None),
+            (b"-INT#5", None),
+            (b"BOOL#01", None),
+            (b"BOOL#2", None),
+            (b"FOO#5", None),
+            (b"INT#", None),
+            (b"16#", None),
+            (b"16#G", None),
+            (b"2#2", None),
+            (b"5X", None),
+            (b"5.", None),
+            (b"1__0", None),
+            (b"1_", None),
+            (b"5-3", None),
+            (b"-", None),
+        ];
+        for (n, (text, wanted)) in rows.iter().enumerate() {
+            assert_eq!(rt; literal(text), *wanted, "in row {n}");
+        }
+    }
+
+    #[test]
+    fn durations(rt: HostRuntime) {
+        let rows: [(&[u8], Option<Literal>); 25] = [
             (b"T#25h_15m", Some(Literal::Typed(Value::Time(90_900_000)))),
             (b"T#1.5s", Some(Literal::Typed(Value::Time(1500)))),
             (b"T#1.0005s", None),
@@ -496,22 +634,6 @@ OR(";
             (b"T#5.s", None),
             (b"T#5", None),
             (b"T#", None),
-            (b"-16#FF", None),
-            (b"INT#-16#F", None),
-            (b"-INT#5", None),
-            (b"BOOL#01", None),
-            (b"BOOL#2", None),
-            (b"FOO#5", None),
-            (b"INT#", None),
-            (b"16#", None),
-            (b"16#G", None),
-            (b"2#2", None),
-            (b"5X", None),
-            (b"5.", None),
-            (b"1__0", None),
-            (b"1_", None),
-            (b"5-3", None),
-            (b"-", None),
         ];
         for (n, (text, wanted)) in rows.iter().enumerate() {
             assert_eq!(rt; literal(text), *wanted, "in row {n}");
@@ -531,8 +653,7 @@ OR(";
     }
 
     #[test]
-    fn limits(rt: HostRuntime) -> Result<(), Fail> {
-        let alloc = rt.alloc();
+    fn names_of_32_letters_and_one_more(rt: HostRuntime) {
         let rows: [(&[u8], Outcome); 4] = [
             (
                 b"VAR A2345678901234567890123456789012 : BOOL; END_VAR",
@@ -551,66 +672,44 @@ OR(";
                 Outcome::Read(2, 1, 4),
             ),
         ];
-        wants(&rt, alloc, &rows);
+        wants(&rt, rt.alloc(), &rows);
+    }
 
-        let variables = repeated(alloc, b"VAR\n", b"A", b" : BOOL;\n", 512, b"END_VAR")?;
-        assert_eq!(rt; told(alloc, variables.as_slice()), Outcome::Good(512, 0));
-        let variables = repeated(
-            alloc,
-            b"VAR\n",
-            b"A",
-            b" : BOOL;\n",
-            512,
-            b"B : BOOL; END_VAR",
-        )?;
-        assert_eq!(rt;
-            told(alloc, variables.as_slice()),
-            Outcome::Declared(8, 514, 1)
-        );
-        let variables = repeated(
-            alloc,
-            b"VAR\n",
-            b"A",
-            b" : BOOL;\n",
-            512,
-            b"A0000 : BOOL; END_VAR",
-        )?;
-        assert_eq!(rt;
-            told(alloc, variables.as_slice()),
-            Outcome::Declared(1, 514, 1)
-        );
-        let variables = repeated(
-            alloc,
-            b"VAR\n",
-            b"A",
-            b" : BOOL;\n",
-            512,
-            b"B : FOO; END_VAR",
-        )?;
-        assert_eq!(rt;
-            told(alloc, variables.as_slice()),
-            Outcome::Declared(2, 514, 5)
-        );
+    #[test]
+    fn as_many_variables_as_there_may_be_and_one_more(rt: HostRuntime) -> Result<(), Fail> {
+        let alloc = rt.alloc();
+        let rows: [(&[u8], Outcome); 4] = [
+            (b"END_VAR", Outcome::Good(512, 0)),
+            (b"B : BOOL; END_VAR", Outcome::Declared(8, 514, 1)),
+            (b"A0000 : BOOL; END_VAR", Outcome::Declared(1, 514, 1)),
+            (b"B : FOO; END_VAR", Outcome::Declared(2, 514, 5)),
+        ];
+        for (last, wanted) in rows {
+            let text = repeated(alloc, b"VAR\n", b"A", b" : BOOL;\n", 512, last)?;
+            assert_eq!(rt; told(alloc, text.as_slice()), wanted);
+        }
+        Ok(())
+    }
 
-        let lines = repeated(alloc, b"", b"LD %IX0.0 (*", b"*)\n", 4096, b"\n")?;
-        assert_eq!(rt; told(alloc, lines.as_slice()), Outcome::Good(0, 4096));
-        let lines = repeated(alloc, b"", b"LD %IX0.0 (*", b"*)\n", 4096, b"  LD %IX0.0")?;
-        assert_eq!(rt;
-            told(alloc, lines.as_slice()),
-            Outcome::Declared(8, 4097, 3)
-        );
+    #[test]
+    fn as_many_instructions_as_there_may_be_and_one_more(rt: HostRuntime) -> Result<(), Fail> {
+        let alloc = rt.alloc();
+        let rows: [(&[u8], usize, &[u8], Outcome); 4] = [
+            (b"", 4096, b"\n", Outcome::Good(0, 4096)),
+            (b"", 4096, b"  LD 1", Outcome::Declared(8, 4097, 3)),
+            (b"L:\n", 4095, b"M: LD 1", Outcome::Declared(8, 4097, 1)),
+            (b"L:\n", 4095, b"LD: LD 1", Outcome::Declared(7, 4097, 1)),
+        ];
+        for (first, count, last, wanted) in rows {
+            let text = repeated(alloc, first, b"LD 1 (*", b"*)\n", count, last)?;
+            assert_eq!(rt; told(alloc, text.as_slice()), wanted);
+        }
+        Ok(())
+    }
 
-        let lines = repeated(alloc, b"L:\n", b"LD 1 (*", b"*)\n", 4095, b"M: LD 1")?;
-        assert_eq!(rt;
-            told(alloc, lines.as_slice()),
-            Outcome::Declared(8, 4097, 1)
-        );
-        let lines = repeated(alloc, b"L:\n", b"LD 1 (*", b"*)\n", 4095, b"LD: LD 1")?;
-        assert_eq!(rt;
-            told(alloc, lines.as_slice()),
-            Outcome::Declared(7, 4097, 1)
-        );
-
+    #[test]
+    fn as_long_a_text_as_there_may_be_and_one_byte_more(rt: HostRuntime) -> Result<(), Fail> {
+        let alloc = rt.alloc();
         let mut text = vec![in alloc; b' '; 2_097_152]?;
         assert_eq!(rt; told(alloc, text.as_slice()), Outcome::Good(0, 0));
         text.push(b'$')?;

@@ -2,7 +2,9 @@
 
 use assembler::{AsmError, assemble};
 use il_model::words::mnemonic_from;
-use il_model::{Area, Instr, Loc, Modifier, Name, Op, Operand, Program, Ty, Value, Variable};
+use il_model::{
+    Area, Arguments, Instr, Loc, Modifier, Name, Op, Operand, Program, Ty, Value, Variable,
+};
 use std::alloc::{AllocError, Global};
 use std::test::Fail;
 
@@ -77,6 +79,7 @@ fn instruction(alloc: Global, row: Row) -> Result<Instr, AllocError> {
         op,
         modifier,
         operand: operand(alloc, given)?,
+        arguments: Arguments::of(Vec::new(alloc)),
     })
 }
 
@@ -100,7 +103,7 @@ fn program(alloc: Global, rows: &[Row]) -> Result<Option<Program>, Fail> {
     for row in rows {
         code.push(instruction(alloc, *row)?)?;
     }
-    Ok(Program::new(variables, code))
+    Ok(Program::new(variables, Vec::new(alloc), code))
 }
 
 /// What the assembler gives for the rows: 0 and how many bytes, or a fault's number and its instruction.
@@ -274,7 +277,7 @@ fn equal_constants_are_one(rt: HostRuntime) -> Result<(), Fail> {
     for row in &rows {
         code.push(instruction(rt.alloc(), *row)?)?;
     }
-    let Some(program) = Program::new(Vec::new(rt.alloc()), code) else {
+    let Some(program) = Program::new(Vec::new(rt.alloc()), Vec::new(rt.alloc()), code) else {
         assert!(rt; false);
         return Ok(());
     };

@@ -2,12 +2,18 @@ use Rattle.std.proofs.Common.{◌∙◌, ap, sym}
 use Rattle.il_model.specs.Settled.{settled}
 use Rattle.assembler.proofs.Encoding.{settled_spelling}
 use Rattle.assembler.proofs.Literals.{literals_count}
+use Rattle.assembler.proofs.SettledLines.{few_arguments}
 use Rattle.assembler.proofs.assembling.assemble.Goals as goal
 
-pub encode-requires : goal.encode-requires
-encode-requires c =
+pub encode-requires-clause-literals : goal.encode-requires-clause-literals
+encode-requires-clause-literals c =
     let is = c.in_ok-literals.ensures in
     literals_count c.in_ok-program.program is.0 c.as_slice.result.now is.1 (c.as_slice.ensures.value ∙ is.2)
+
+pub encode-requires-clause-few : goal.encode-requires-clause-few
+encode-requires-clause-few c =
+    let is = c.in_ok-literals.ensures in
+    few_arguments c.in_ok-program.program is.0 is.1
 
 pub returns : goal.returns
 returns c =

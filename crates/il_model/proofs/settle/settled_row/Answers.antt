@@ -1,21 +1,24 @@
-use Rattle.std.proofs.Common.{sym, ap, ◌∙◌, false}
-use Rattle.il_model.specs.declared.value.Ty.{Ty}
-use Rattle.il_model.specs.declared.typing.Kind.TheVariants as kinds
-use Rattle.il_model.specs.Text.{Text}
-use Rattle.il_model.specs.Row.{row}
-use Rattle.il_model.specs.Typing.{source_row}
-use Rattle.il_model.proofs.Settling.{literal_row, other_row}
+use Rattle.std.proofs.Common.{ap, sym, ◌∙◌, true, []}
+use Rattle.std.specs.Prelude.{map, Option, Result}
+use Rattle.il_model.specs.declared.kind.BlockKind.{BlockKind}
+use Rattle.il_model.specs.declared.typing.Effect.{Effect}
+use Rattle.il_model.specs.declared.typing.TypeFault.{TypeFault}
+use Rattle.il_model.specs.Resolved.{source_of, called_kind}
+use Rattle.il_model.specs.Typing.{source_row, arguments_fault, with_fault}
+use Rattle.il_model.specs.Settled.{as_settled, settled_line}
+use Rattle.il_model.proofs.ArgumentFaults.{all_settled}
+use Rattle.il_model.proofs.Settling.{called_settled}
 use Rattle.il_model.proofs.settle.settled_row.Goals as goal
 
-pub returns-in-Some : goal.returns-in-Some
-returns-in-Some c =
-    c.row_of.ensures
-    ∙ ap (λ (t : Ty). row c.args.cr c.args.top c.args.depth c.args.line.now.op c.args.line.now.modifier (kinds.Typed t false)) c.ty.ensures
-    ∙ sym (literal_row c.args.program.now c.args.cr c.args.top c.args.depth c.args.line.now c.in-Some.v (sym c.requires ∙ c.in-Some.is))
-
-pub returns-in-None : goal.returns-in-None
-returns-in-None c =
-    c.source_row.ensures
-    ∙ ap (λ (Q : Text). source_row Q c.args.cr c.args.top c.args.depth c.args.line.now c.source_of.result) c.program.ensures
-    ∙ ap (source_row c.args.program.now c.args.cr c.args.top c.args.depth c.args.line.now) c.source_of.ensures
-    ∙ sym (other_row c.args.program.now c.args.cr c.args.top c.args.depth c.args.line.now (sym c.requires ∙ c.in-None.is))
+pub returns : goal.returns
+returns c =
+    let Q = c.args.program.now in
+    let line = c.args.line.now in
+    let settled = settled_line c.args.cr line in
+    let fault =
+    c.arguments_fault.ensures
+    ∙ ap (λ (kind : Option BlockKind). arguments_fault Q kind [] (map (as_settled true) c.as_slice.result.now)) (c.called_kind-kind.ensures ∙ sym (called_settled Q c.args.cr line.op line.modifier line.operand))
+    ∙ ap (arguments_fault Q (called_kind Q settled.operand) []) (ap (map (as_settled true)) c.as_slice.ensures ∙ all_settled line.arguments) in
+    c.with_fault.ensures
+    ∙ ap (λ (r : Result Effect TypeFault). with_fault r c.arguments_fault.result) c.operand_row-row.ensures
+    ∙ ap (with_fault (source_row Q c.args.cr c.args.top c.args.depth settled (source_of Q settled.operand))) fault

@@ -6,4 +6,4 @@ use Rattle.il_reader.proofs.Loop.{with_front}
 use Rattle.il_reader.proofs.lines.named_lines.Given as goal
 
 abbrev pub invariant-loop : goal.invariant-loop
-invariant-loop l = with_front (map line l.found.items) (many ends_named line_at (l.limit - l.counter) (tokens_of l.rest)) ≡ many ends_named line_at l.limit (tokens_of l.bytes)
+invariant-loop l = with_front (map line l.found.items) (many ends_named (line_at l.limit) (l.limit - l.counter) (tokens_of l.rest)) ≡ many ends_named (line_at l.limit) l.limit (tokens_of l.bytes)

@@ -1,5 +1,5 @@
 use Rattle.std.proofs.Common.{◌≡◌, ◌-◌}
-use Rattle.il_model.specs.Scan.{ran}
+use Rattle.controller_model.specs.Scan.{ran}
 use Rattle.machine.specs.Kept.{IsMachineOf}
 use Rattle.plc_tool.proofs.scan.run.Given as goal
 

@@ -1,5 +1,5 @@
 use Rattle.std.proofs.Common.{◌≡◌, drop}
-use Rattle.il_model.specs.Scan.{answers_from}
+use Rattle.controller_model.specs.Scan.{answers_from}
 use Rattle.plc_tool.proofs.Answered.{behind}
 use Rattle.plc_tool.proofs.scan.Scans.answers.Given as goal
 

@@ -1,0 +1,26 @@
+use Rattle.std.proofs.Common.{◌≡◌, ◌++◌, ◌∷◌, [], sym, ◌∙◌, map}
+use Rattle.std.proofs.lemmas.Result.{err_from_is_err_and}
+use Rattle.std.proofs.lemmas.List.{map_push}
+use Rattle.il_reader.specs.Tokens.{tokens_of, token, after}
+use Rattle.il_reader.specs.Reading.{many, mapped}
+use Rattle.il_reader.specs.Grammar.{argument, ends_arguments, next_argument_at}
+use Rattle.il_reader.proofs.Loop.{goes_on, ends, stopped, ran_out, refuses_first}
+use Rattle.il_reader.proofs.calls.arguments_from.Goals as goal
+
+pub returns-then-at_arguments_end : goal.returns-then-at_arguments_end
+returns-then-at_arguments_end c = stopped ends_arguments next_argument_at (map argument c.loop.found.items) c.args.limit c.loop.counter (tokens_of c.loop.rest.now) (mapped (λ xs. argument c.args.head ∷ xs) (many ends_arguments next_argument_at c.args.limit) (tokens_of c.args.bytes.now)) c.loop-test.true (sym c.at_arguments_end.ensures ∙ c.if-at_arguments_end.true) c.loop.invariant
+
+pub returns-in_err-one : goal.returns-in_err-one
+returns-in_err-one c =
+    let p = err_from_is_err_and c.from_residual-in_err-one.result c.from_residual-in_err-one.ensures.1 in
+    rw (p.1, p.2) (ends c.in_err-one.field-0.0 ends_arguments next_argument_at (map argument c.loop.found.items) c.args.limit c.loop.counter (tokens_of c.loop.rest.now) (mapped (λ xs. argument c.args.head ∷ xs) (many ends_arguments next_argument_at c.args.limit) (tokens_of c.args.bytes.now)) c.loop-test.true (sym c.at_arguments_end.ensures ∙ c.if-at_arguments_end.false) c.in_err-one.ensures c.loop.invariant)
+
+pub loop-preserved : goal.loop-preserved
+loop-preserved c =
+    let e : map argument c.push-in-loop.new.self.items ≡ map argument c.loop.found.items ++ argument c.in_ok-one.one ∷ [] = rw c.in_ok-push-2.ensures.items (map_push _ c.loop.found.items c.in_ok-one.one) in
+    rw e (goes_on ends_arguments next_argument_at (map argument c.loop.found.items) c.args.limit c.loop.counter (tokens_of c.loop.rest.now) (tokens_of c.in_ok-one.after.now) (argument c.in_ok-one.one) (mapped (λ xs. argument c.args.head ∷ xs) (many ends_arguments next_argument_at c.args.limit) (tokens_of c.args.bytes.now)) c.loop-test.true (sym c.at_arguments_end.ensures ∙ c.if-at_arguments_end.false) c.in_ok-one.ensures c.loop.invariant)
+
+pub returns : goal.returns
+returns c =
+    let t = token c.next.result.0 in
+    rw (c.refused.ensures, ← refuses_first (tokens_of c.loop.rest.now) t (after t.kind (tokens_of c.next.result.1.now)) c.next.ensures.value) (ran_out ends_arguments next_argument_at (map argument c.loop.found.items) c.args.limit c.loop.counter (tokens_of c.loop.rest.now) (mapped (λ xs. argument c.args.head ∷ xs) (many ends_arguments next_argument_at c.args.limit) (tokens_of c.args.bytes.now)) c.loop-test.false c.loop.invariant)

@@ -1,0 +1,126 @@
+//! Calls of instances (IEC 61131-3:2003, 3.2.3: CAL with a list of inputs and outputs).
+
+ghost use Rattle.std.specs.Prelude.{◌≡◌, ◌∷◌, map, option_map};
+ghost use Rattle.il_reader.specs.Tokens.{tokens_of, token};
+ghost use Rattle.il_reader.specs.Reading.{Gives, many, mapped};
+ghost use Rattle.il_reader.specs.Grammar.{argument, call, side_at, argument_at, ends_arguments, next_argument_at, inside_at, arguments_at, call_at};
+
+use crate::contents::{Argument, Call};
+use crate::fault::Failure;
+use crate::lexeme::{Kind, next};
+use crate::operands::inner_operand_read;
+use crate::reading::{expected, is, past_breaks, refused};
+use il_model::Side;
+use std::alloc::Global;
+
+#[tactic(auto, unfolding(crate::specs::Grammar::side_at))]
+fn side_read(bytes: &[u8]) -> Result<(Side, &[u8]), Failure>
+    ensures { Gives (λ x. (x.0, tokens_of x.1.now)) result (side_at (tokens_of bytes.now)) }
+{
+    let (t, _) = next(bytes);
+    if is(Kind::Arrow, t) {
+        let (_, rest) = expected(Kind::Arrow, bytes)?;
+        Ok((Side::Output, rest))
+    } else {
+        let (_, rest) = expected(Kind::Assign, bytes)?;
+        Ok((Side::Input, rest))
+    }
+}
+
+#[tactic(auto, unfolding(crate::specs::Grammar::argument_at))]
+fn argument_read(bytes: &[u8]) -> Result<(Argument<'_>, &[u8]), Failure>
+    ensures { Gives (λ x. (argument x.0, tokens_of x.1.now)) result (argument_at (tokens_of bytes.now)) }
+{
+    let (field, rest) = expected(Kind::Name, past_breaks(bytes))?;
+    let (side, rest) = side_read(past_breaks(rest))?;
+    let (operand, rest) = inner_operand_read(past_breaks(rest))?;
+    Ok((
+        Argument {
+            field,
+            side,
+            operand,
+        },
+        rest,
+    ))
+}
+
+#[tactic(auto, unfolding(crate::specs::Grammar::ends_arguments))]
+fn at_arguments_end(bytes: &[u8]) -> bool
+    ensures { result ≡ ends_arguments (tokens_of bytes.now) }
+{
+    let (t, _) = next(past_breaks(bytes));
+    !is(Kind::Comma, t)
+}
+
+#[tactic(auto, unfolding(crate::specs::Grammar::next_argument_at))]
+fn next_argument(bytes: &[u8]) -> Result<(Argument<'_>, &[u8]), Failure>
+    ensures { Gives (λ x. (argument x.0, tokens_of x.1.now)) result (next_argument_at (tokens_of bytes.now)) }
+{
+    let (_, rest) = expected(Kind::Comma, past_breaks(bytes))?;
+    argument_read(rest)
+}
+
+// The first argument and those behind it.
+fn arguments_from<'a>(
+    alloc: Global,
+    limit: usize,
+    head: Argument<'a>,
+    bytes: &'a [u8],
+) -> Result<(Vec<Argument<'a>>, &'a [u8]), Failure>
+    ensures { Gives (λ x. (map argument x.0.items, tokens_of x.1.now)) result (mapped (λ xs. argument head.entry ∷ xs) (many ends_arguments next_argument_at limit) (tokens_of bytes.entry.now)) }
+{
+    let mut found = Vec::new(alloc);
+    found.push(head)?;
+    let mut rest = bytes;
+    for _ in 0..limit {
+        if at_arguments_end(rest) {
+            return Ok((found, rest));
+        }
+        let (one, after) = next_argument(rest)?;
+        found.push(one)?;
+        rest = after;
+    }
+    Err(refused(next(rest).0))
+}
+
+#[tactic(auto, unfolding(crate::specs::Grammar::inside_at))]
+fn inside(alloc: Global, limit: usize, bytes: &[u8]) -> Result<(Vec<Argument<'_>>, &[u8]), Failure>
+    ensures { Gives (λ x. (map argument x.0.items, tokens_of x.1.now)) result (inside_at limit (tokens_of bytes.now)) }
+{
+    let (t, _) = next(past_breaks(bytes));
+    if is(Kind::Close, t) {
+        Ok((Vec::new(alloc), bytes))
+    } else {
+        let (head, rest) = argument_read(bytes)?;
+        arguments_from(alloc, limit, head, rest)
+    }
+}
+
+#[tactic(auto, unfolding(crate::specs::Grammar::arguments_at))]
+fn arguments_read(
+    alloc: Global,
+    limit: usize,
+    bytes: &[u8],
+) -> Result<(Option<Vec<Argument<'_>>>, &[u8]), Failure>
+    ensures { Gives (λ x. (option_map (λ xs. map argument xs.items) x.0, tokens_of x.1.now)) result (arguments_at limit (tokens_of bytes.now)) }
+{
+    let (t, _) = next(bytes);
+    if is(Kind::Open, t) {
+        let (_, rest) = expected(Kind::Open, bytes)?;
+        let (found, rest) = inside(alloc, limit, rest)?;
+        let (_, rest) = expected(Kind::Close, past_breaks(rest))?;
+        Ok((Some(found), rest))
+    } else {
+        Ok((None, bytes))
+    }
+}
+
+/// An instance and what it is called with.
+#[tactic(auto, unfolding(crate::specs::Grammar::call_at))]
+pub fn call_read(alloc: Global, limit: usize, bytes: &[u8]) -> Result<(Call<'_>, &[u8]), Failure>
+    ensures { Gives (λ x. (call x.0, tokens_of x.1.now)) result (call_at limit (tokens_of bytes.now)) }
+{
+    let (instance, rest) = expected(Kind::Name, bytes)?;
+    let (written, rest) = arguments_read(alloc, limit, rest)?;
+    Ok((Call { instance, written }, rest))
+}

@@ -1,0 +1,143 @@
+//! Operands: literals, direct addresses, variables and fields of instances (IEC 61131-3:2003, B.2.2 and 2.5.2.1).
+
+ghost use Rattle.std.specs.Prelude.{◌≡◌, ◌<◌, true, option_map};
+ghost use Rattle.il_reader.specs.Tokens.{tokens_of, token};
+ghost use Rattle.il_reader.specs.Reading.{Gives, kind_code};
+ghost use Rattle.il_reader.specs.Grammar.{operand, is_truth, is_variable, is_constant, variable_at, constant_at, field_at, inner_field_at, named_by, lone_at, operand_at, inner_operand_at};
+
+use crate::contents::Operand;
+use crate::fault::Failure;
+use crate::lexeme::{Kind, Lexeme, next};
+use crate::reading::{expected, is, past_breaks, refused};
+use il_model::words::is_spelled;
+
+fn truth(t: Lexeme) -> bool
+    ensures { result ≡ is_truth (token t.entry) }
+{
+    is_spelled(b"TRUE", t.text) || is_spelled(b"FALSE", t.text)
+}
+
+fn variable(t: Lexeme) -> bool
+    ensures value { result ≡ is_variable (token t.entry) }
+    ensures inner { result ≡ true → kind_code t.entry.kind < 14 }
+{
+    is(Kind::Name, t) && !truth(t)
+}
+
+#[tactic(auto, unfolding(crate::specs::Grammar::is_constant))]
+fn constant(t: Lexeme) -> bool
+    ensures value { result ≡ is_constant (token t.entry) }
+    ensures inner { result ≡ true → kind_code t.entry.kind < 14 }
+{
+    if is(Kind::Name, t) {
+        truth(t)
+    } else {
+        is(Kind::Literal, t)
+    }
+}
+
+#[tactic(auto, unfolding(crate::specs::Grammar::variable_at))]
+fn variable_read(bytes: &[u8]) -> Result<(Lexeme<'_>, &[u8]), Failure>
+    ensures { Gives (λ x. (token x.0, tokens_of x.1.now)) result (variable_at (tokens_of bytes.now)) }
+{
+    let (t, rest) = next(bytes);
+    if variable(t) {
+        Ok((t, rest))
+    } else {
+        Err(refused(t))
+    }
+}
+
+/// A literal, TRUE or FALSE.
+#[tactic(auto, unfolding(crate::specs::Grammar::constant_at))]
+pub fn constant_read(bytes: &[u8]) -> Result<(Lexeme<'_>, &[u8]), Failure>
+    ensures { Gives (λ x. (token x.0, tokens_of x.1.now)) result (constant_at (tokens_of bytes.now)) }
+{
+    let (t, rest) = next(bytes);
+    if constant(t) {
+        Ok((t, rest))
+    } else {
+        Err(refused(t))
+    }
+}
+
+#[tactic(auto, unfolding(crate::specs::Grammar::field_at))]
+fn field_read(bytes: &[u8]) -> Result<(Option<Lexeme<'_>>, &[u8]), Failure>
+    ensures { Gives (λ x. (option_map token x.0, tokens_of x.1.now)) result (field_at (tokens_of bytes.now)) }
+{
+    let (t, _) = next(bytes);
+    if is(Kind::Dot, t) {
+        let (_, rest) = expected(Kind::Dot, bytes)?;
+        let (field, rest) = expected(Kind::Name, rest)?;
+        Ok((Some(field), rest))
+    } else {
+        Ok((None, bytes))
+    }
+}
+
+#[tactic(auto, unfolding(crate::specs::Grammar::inner_field_at))]
+fn inner_field_read(bytes: &[u8]) -> Result<(Option<Lexeme<'_>>, &[u8]), Failure>
+    ensures { Gives (λ x. (option_map token x.0, tokens_of x.1.now)) result (inner_field_at (tokens_of bytes.now)) }
+{
+    let (t, _) = next(past_breaks(bytes));
+    if is(Kind::Dot, t) {
+        let (_, rest) = expected(Kind::Dot, past_breaks(bytes))?;
+        let (field, rest) = expected(Kind::Name, past_breaks(rest))?;
+        Ok((Some(field), rest))
+    } else {
+        Ok((None, bytes))
+    }
+}
+
+fn named<'a>(t: Lexeme<'a>, field: Option<Lexeme<'a>>) -> Operand<'a>
+    ensures { operand result ≡ named_by (token t.entry) (option_map token field.entry) }
+{
+    match field {
+        None => Operand::Named(t),
+        Some(field) => Operand::Field(t, field),
+    }
+}
+
+#[tactic(auto, unfolding(crate::specs::Grammar::lone_at))]
+fn lone_read(bytes: &[u8]) -> Result<(Operand<'_>, &[u8]), Failure>
+    ensures { Gives (λ x. (operand x.0, tokens_of x.1.now)) result (lone_at (tokens_of bytes.now)) }
+{
+    let (t, _) = next(bytes);
+    if is(Kind::Address, t) {
+        let (t, rest) = expected(Kind::Address, bytes)?;
+        Ok((Operand::Direct(t), rest))
+    } else {
+        let (t, rest) = constant_read(bytes)?;
+        Ok((Operand::Constant(t), rest))
+    }
+}
+
+/// An operand on a line.
+#[tactic(auto, unfolding(crate::specs::Grammar::operand_at))]
+pub fn operand_read(bytes: &[u8]) -> Result<(Operand<'_>, &[u8]), Failure>
+    ensures { Gives (λ x. (operand x.0, tokens_of x.1.now)) result (operand_at (tokens_of bytes.now)) }
+{
+    let (t, _) = next(bytes);
+    if variable(t) {
+        let (t, rest) = variable_read(bytes)?;
+        let (field, rest) = field_read(rest)?;
+        Ok((named(t, field), rest))
+    } else {
+        lone_read(bytes)
+    }
+}
+
+/// An operand between the parentheses of a call, where line ends are white space.
+#[tactic(auto, unfolding(crate::specs::Grammar::inner_operand_at))]
+pub fn inner_operand_read(bytes: &[u8]) -> Result<(Operand<'_>, &[u8]), Failure>
+    ensures { Gives (λ x. (operand x.0, tokens_of x.1.now)) result (inner_operand_at (tokens_of bytes.now)) }
+{
+    let (t, _) = next(bytes);
+    if variable(t) {
+        let (t, rest) = variable_read(bytes)?;
+        let (field, rest) = inner_field_read(rest)?;
+        Ok((named(t, field), rest))
+    } else {
+        lone_read(bytes)
+    }
+}

@@ -1,0 +1,93 @@
+//! A function block instance of a run.
+
+ghost use Rattle.std.specs.Prelude.{◌≡◌, option_map};
+ghost use Rattle.controller_model.specs.State.{field_value, with_input};
+ghost use Rattle.controller_model.specs.Step.{called};
+ghost use Rattle.controller_model.specs.Cold.{zero_of, cold_inputs, cold_instance};
+
+use arrayvec::ArrayVec;
+use function_blocks::any::Block;
+use il_model::{BlockKind, Instance, Ty, Value};
+use std::marker::Model;
+
+/// The values of the inputs, in the order of the kind's fields, and the block, which keeps the outputs.
+#[derive(Debug, Drop)]
+pub struct InstanceState {
+    inputs: ArrayVec<Value, 8>,
+    block: Block,
+}
+
+impl Model for InstanceState {
+    ghost use Rattle.controller_model.specs.State.{BlockInstance};
+
+    ghost Value = { BlockInstance };
+
+    ghost view = { λ x. record { inputs = x.inputs.items; block = x.block } };
+}
+
+impl InstanceState {
+    /// An instance that was never called.
+    pub fn cold(declared: &Instance) -> InstanceState
+        ensures { result ≡ cold_instance declared.now }
+    {
+        InstanceState {
+            inputs: cold_inputs(declared.kind),
+            block: Block::cold(declared.kind),
+        }
+    }
+
+    /// The value of the field with that number; None where the kind has fewer.
+    pub fn field(&self, n: u8) -> Option<Value>
+        ensures { result ≡ field_value n self.now }
+    {
+        if (n as usize) < self.inputs.len() {
+            self.inputs.as_slice().get(n as usize).copied()
+        } else {
+            self.block.output(n)
+        }
+    }
+
+    /// Writes the input with that number; None where that is no input.
+    pub fn set_input(&mut self, n: u8, v: Value) -> Option<()>
+        ensures { with_input n v self.old ≡ option_map (λ _. self.new) result }
+    {
+        if (n as usize) < self.inputs.len() {
+            self.inputs[n as usize] = v;
+            Some(())
+        } else {
+            None
+        }
+    }
+
+    /// Calls the block with the values of the inputs.
+    pub fn call(&mut self, now: u64)
+        ensures { self.new ≡ called now self.old }
+    {
+        self.block.call(self.inputs.as_slice(), now);
+    }
+}
+
+/// FALSE, 0, or no time.
+fn zero_of(ty: Ty) -> Value
+    ensures { result ≡ zero_of ty }
+{
+    match ty {
+        Ty::Bool => Value::Bool(false),
+        Ty::Int => Value::Int(0),
+        Ty::Dint => Value::Dint(0),
+        Ty::Time => Value::Time(0),
+    }
+}
+
+/// The inputs of a kind before any value was stored.
+fn cold_inputs(kind: BlockKind) -> ArrayVec<Value, 8>
+    ensures { result.items ≡ cold_inputs kind }
+{
+    let mut inputs = ArrayVec::new();
+    for field in kind.fields() {
+        if field.is_input() {
+            inputs.push(zero_of(field.ty()));
+        }
+    }
+    inputs
+}
