@@ -1,10 +1,11 @@
 # make demo [EXAMPLE=crossing|bottles|motor|tank|pumps|interlock]   runs plc on a real program, and prints a line for each scan
+# make demo EXAMPLE=bottles SESSION=_session  a session of the debugger with that program
 # make plc                                    proves the program and builds it: build/plc
 # make test                                   the whole gate
 
 EXAMPLE ?= crossing
 IL = examples/$(EXAMPLE).il
-COMMANDS = examples/$(EXAMPLE).json
+COMMANDS = examples/$(EXAMPLE)$(SESSION).json
 
 .PHONY: demo plc test
 

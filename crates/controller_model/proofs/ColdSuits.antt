@@ -20,7 +20,7 @@ use Rattle.il_model.specs.Fits.{IsVariable, AreItems, IsText}
 use Rattle.controller_model.specs.State.{State, written_in}
 use Rattle.il_model.specs.Areas.{area_of}
 use Rattle.il_model.specs.Cells.{clear_cells}
-use Rattle.controller_model.specs.Cold.{same_area, with_first, with_firsts, first_cells, cold, started}
+use Rattle.controller_model.specs.Cold.{same_area, with_first, with_firsts, first_cells, cold, started, rested}
 use Rattle.il_model.specs.Resolved.{is_labelled}
 use Rattle.il_model.specs.Typing.{Shape, shape_at, arrived}
 use Rattle.controller_model.specs.Suits.{AreCells, HasValues, HasShape, Suits}
@@ -107,3 +107,6 @@ cold_suits Q is =
 pub started_suits : (Q : Text) (s : State) (inputs : Cells) → Suits Q s → AreCells inputs → Suits Q (started s inputs)
 started_suits Q s inputs suits are =
     at_start Q (started s inputs) (record { own = suits.values.own; instances = suits.values.instances; input = are; output = suits.values.output; memory = suits.values.memory }) refl refl refl
+
+pub rested_suits : (Q : Text) (s : State) → Suits Q s → Suits Q (rested s)
+rested_suits Q s suits = at_start Q (rested s) (record { own = suits.values.own; instances = suits.values.instances; input = suits.values.input; output = suits.values.output; memory = suits.values.memory }) refl refl refl

@@ -4,3 +4,7 @@ pub mod Safe
 pub mod Calls
 pub mod NeverStuck
 pub mod ColdSuits
+pub mod Turns
+pub mod Agrees
+pub mod SameEnd
+pub mod WorkedRows

@@ -3,4 +3,7 @@ pub mod Step
 pub mod Suits
 pub mod Cold
 pub mod Slots
+pub mod Forces
 pub mod Scan
+pub mod Commands
+pub mod Carried

@@ -1,4 +1,23 @@
-//! What a program does: the state of a run, one instruction, one scan after another, the state before the first, and what slots
-//! name. Definitions alone, with the law that a typed program is never stuck; it uses il_model, where programs and their types are
-//! defined, and function_blocks, where the blocks' equations are.
+//! What a program does: the state of a run, one instruction, one scan, one command of a controller after another, and what slots
+//! and names of slots stand for. Definitions with the plain types that they speak of, and two laws: a typed program is never
+//! stuck, and breakpoints change nothing but where a scan is held. It uses il_model, where programs and their types are defined,
+//! and function_blocks, where the blocks' equations are.
 #![tactic(auto)]
+
+ghost use Rattle.std.specs.Prelude.{ℕ, List};
+ghost use Rattle.il_model.specs.declared.cells.InImage.{InImage};
+ghost use Rattle.il_model.specs.Text.{Text};
+ghost use Rattle.controller_model.specs.Commands.{Control};
+ghost use Rattle.controller_model.specs.Carried.{Onward, EndsTheSame};
+
+mod forces;
+mod phase;
+
+pub use forces::{Forces, Mask};
+pub use phase::{Phase, ScanOut};
+
+/// Breakpoints change nothing but where a scan is held: one with any breakpoints, carried on by Step and Continue alone until it
+/// ends, has the answer, and leaves the state, that it has and leaves without breakpoints, the breakpoints aside.
+pub fn ends_the_same()
+    ensures { (Q : Text) (budget : ℕ) (s : Control) (inputs : InImage) (moment : ℕ) (gs : List Onward) → EndsTheSame Q budget s inputs moment gs }
+{}

@@ -29,7 +29,7 @@ use Rattle.il_model.specs.declared.codes.Usage.{Usage}
 use Rattle.il_model.specs.declared.codes.Form as usage
 use Rattle.il_model.specs.declared.codes.Form.TheVariants as usages
 use Rattle.il_model.specs.Text.{Text, Declarations}
-use Rattle.il_model.specs.Values.{ty_of, number_of, made}
+use Rattle.il_model.specs.Values.{ty_of, number_of, made, zero_of}
 use Rattle.il_model.specs.Literals.{literal_of}
 use Rattle.il_model.specs.Names.{same_name, is_reserved, is_lawful_name}
 use Rattle.il_model.specs.Resolved.{instance_in}
@@ -57,8 +57,8 @@ use Rattle.declarations.specs.declared.fault.Refusal.{Refusal}
 use Rattle.declarations.specs.declared.variables.Plan.{Plan}
 use Rattle.declarations.specs.declared.variables.DeclaredType.{DeclaredType}
 use Rattle.declarations.specs.declared.variables.DeclaredType.TheVariants.{Elementary, Block}
-use Rattle.declarations.specs.Locations as written
-use Rattle.declarations.specs.Resolution.{◌>>=◌, each, refused, capitals, declared_type, nothing, has_name, has_instance, is_full, new_name, suits, free_loc, free_location, found_type, known_type, variable, zero_of, same_type, fitting, fitted, is_input, written_value, elementary_value, first_value, planned_value, with_declared, declare_name, declare_located, declare_listed, declare_by, declare, declare_block, direct, constant, argument_of, pushed_argument, behind_arguments, behind_of, opens, with_opening, instruction_of, room, label_of, instruct_labelled, instruct_plain, instruct}
+use Rattle.il_model.specs.Locations as written
+use Rattle.declarations.specs.Resolution.{◌>>=◌, each, refused, capitals, declared_type, nothing, has_name, has_instance, is_full, new_name, suits, free_loc, free_location, found_type, known_type, variable, same_type, fitting, fitted, is_input, written_value, elementary_value, first_value, planned_value, with_declared, declare_name, declare_located, declare_listed, declare_by, declare, declare_block, direct, constant, argument_of, pushed_argument, behind_arguments, behind_of, opens, with_opening, instruction_of, room, label_of, instruct_labelled, instruct_plain, instruct}
 use Rattle.declarations.specs.Resolution as resolution
 use Rattle.declarations.proofs.Capitals.{capitals_lawful, capitals_length}
 use Rattle.declarations.proofs.Places.{IsPlace, location_place, code_again, code_small, located_again}

@@ -1,4 +1,3 @@
-pub mod LocationLaws
 pub mod Steps
 pub mod Capitals
 pub mod Places

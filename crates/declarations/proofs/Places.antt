@@ -12,8 +12,8 @@ use Rattle.il_model.specs.Literal.{integer_of}
 use Rattle.il_model.specs.Image.{loc_code}
 use Rattle.il_model.specs.Typing.{loc_type}
 use Rattle.il_model.specs.Codes.{any_loc, is_type, is_taken, location_of}
-use Rattle.declarations.specs.Locations as written
-use Rattle.declarations.specs.Locations.{bit_of, word_of, area_of, bit_at, word_at, place_at, place_in, dot_at}
+use Rattle.il_model.specs.Locations as written
+use Rattle.il_model.specs.Locations.{bit_of, word_of, area_of, bit_at, word_at, place_at, place_in, dot_at}
 
 -- a bit or a word of an area
 abbrev pub IsPlace : Loc → Type 0

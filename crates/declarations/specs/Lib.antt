@@ -1,4 +1,3 @@
 pub mod DeclaredTables
 pub mod Faults
-pub mod Locations
 pub mod Resolution

@@ -21,7 +21,7 @@ use Rattle.il_model.specs.Kinds.{kind_of_name}
 use Rattle.il_model.specs.Resolved.{instance_in}
 use Rattle.il_model.specs.Names.{is_reserved}
 use Rattle.il_model.specs.Words.{upper, spells}
-use Rattle.il_model.specs.Values.{ty_of, number_of, made}
+use Rattle.il_model.specs.Values.{ty_of, zero_of, number_of, made}
 use Rattle.il_model.specs.Literals.{literal_of}
 use Rattle.il_model.specs.Areas.{area_of}
 use Rattle.il_model.specs.Image.{loc_code}
@@ -42,7 +42,7 @@ use Rattle.declarations.specs.declared.fault.Failure.TheVariants as failures
 use Rattle.declarations.specs.declared.fault.Fault.{Fault}
 use Rattle.declarations.specs.declared.fault.DeclError.{DeclError}
 use Rattle.declarations.specs.declared.fault.DeclError.TheVariants as errors
-use Rattle.declarations.specs.Locations.{location_of}
+use Rattle.il_model.specs.Locations.{location_of}
 
 infixl 10 ◌>>=◌
 abbrev pub ◌>>=◌ : {A B : Type 0} → Result A Refusal → (A → Result B Refusal) → Result B Refusal
@@ -144,13 +144,6 @@ abbrev pub variable : List ℕ → Ty → Option Loc → Value → Variable
 variable name type location initial = record { name = name; ty = type; location = location; initial = initial }
 
 -- ---- initial values
-
--- FALSE, 0, or no time
-abbrev pub zero_of : Ty → Value
-zero_of types.Bool = values.Bool false
-zero_of types.Int = values.Int (pos 0)
-zero_of types.Dint = values.Dint (pos 0)
-zero_of types.Time = values.Time (pos 0)
 
 abbrev pub same_type : Ty → Ty → Bool
 same_type types.Bool types.Bool = true

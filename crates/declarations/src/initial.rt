@@ -2,7 +2,7 @@
 
 ghost use Rattle.std.specs.Prelude.{◌≡◌, option_map};
 ghost use Rattle.il_reader.specs.Tokens.{token};
-ghost use Rattle.declarations.specs.Resolution.{Gives, zero_of, same_type, fitting, is_input, written_value, elementary_value, first_value, planned_value};
+ghost use Rattle.declarations.specs.Resolution.{Gives, same_type, fitting, is_input, written_value, elementary_value, first_value, planned_value};
 
 use crate::fault::{DeclKind, Failure};
 use crate::variables::{DeclaredType, refused};
@@ -11,17 +11,6 @@ use il_model::program::{Area, Loc};
 use il_model::value::{Ty, Value, make};
 use il_model::written::literal;
 use il_reader::Lexeme;
-
-fn zero(ty: Ty) -> Value
-    ensures { result ≡ zero_of ty }
-{
-    match ty {
-        Ty::Bool => Value::Bool(false),
-        Ty::Int => Value::Int(0),
-        Ty::Dint => Value::Dint(0),
-        Ty::Time => Value::Time(0),
-    }
-}
 
 fn same_type(a: Ty, b: Ty) -> bool
     ensures { result ≡ same_type a b }
@@ -72,7 +61,7 @@ fn elementary_value(
     ensures { Gives (λ v. v) result (elementary_value ty location (option_map token initial.entry)) }
 {
     match initial {
-        None => Ok(zero(ty)),
+        None => Ok(Value::zero(ty)),
         Some(t) => written_value(ty, location, t).ok_or(refused(DeclKind::BadInitial, t)),
     }
 }
@@ -97,7 +86,7 @@ pub fn planned_value(ty: Option<DeclaredType>, initial: Option<Lexeme>) -> Value
     ensures { result ≡ planned_value ty (option_map token initial.entry) }
 {
     match (ty, initial) {
-        (Some(DeclaredType::Elementary(ty)), None) => zero(ty),
+        (Some(DeclaredType::Elementary(ty)), None) => Value::zero(ty),
         (Some(DeclaredType::Elementary(ty)), Some(t)) => {
             written_value(ty, None, t).unwrap_or(Value::Bool(false))
         }

@@ -7,9 +7,9 @@ ghost use Rattle.declarations.specs.Resolution.{Gives, constant, operand_of, opt
 
 use crate::declared::Declared;
 use crate::fault::{DeclKind, Failure, Refusal};
-use crate::location::location;
 use crate::variables::{capital_name, refused};
 use il_model::literal::Literal;
+use il_model::location::location;
 use il_model::name::{Name, is_reserved};
 use il_model::op::{Modifier, Op};
 use il_model::program::{Argument, Arguments, Instr, Operand};

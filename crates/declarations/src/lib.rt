@@ -6,7 +6,6 @@ mod declared;
 mod fault;
 mod initial;
 mod instructions;
-mod location;
 mod resolving;
 mod variables;
 

@@ -8,8 +8,8 @@ ghost use Rattle.declarations.specs.Resolution.{Gives, capitals, type_of, declar
 use crate::declared::Declared;
 use crate::fault::{DeclKind, Failure, Refusal};
 use crate::initial::{first_value, planned_value};
-use crate::location::location;
 use il_model::kind::BlockKind;
+use il_model::location::location;
 use il_model::name::{Name, is_reserved};
 use il_model::program::{Instance, Loc, Variable};
 use il_model::resolve::loc_type;

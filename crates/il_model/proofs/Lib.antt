@@ -17,5 +17,6 @@ pub mod Indexing
 pub mod Decimals
 pub mod Declaring
 pub mod LiteralLaws
+pub mod LocationLaws
 pub mod HeldNumbers
 pub mod ConstantKeys

@@ -25,4 +25,5 @@ pub mod NameTables
 pub mod Lawful
 pub mod Durations
 pub mod Literals
+pub mod Locations
 pub mod Declarable

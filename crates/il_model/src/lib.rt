@@ -4,6 +4,7 @@
 #![tactic(auto)]
 
 pub mod arguments;
+pub mod budget;
 pub mod cells;
 pub mod check;
 pub mod codes;
@@ -15,6 +16,7 @@ pub mod fetched;
 pub mod indexed;
 pub mod kind;
 pub mod literal;
+pub mod location;
 pub mod name;
 pub mod op;
 pub mod program;
@@ -26,6 +28,7 @@ pub mod value;
 pub mod words;
 pub mod written;
 
+pub use budget::Budget;
 pub use cells::{Cells, InImage, OutImage};
 pub use command::{Answer, Command, Refusal};
 pub use fetched::{Deferred, Fetched, Passed, PassedArguments, Source};

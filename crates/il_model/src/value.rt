@@ -1,7 +1,7 @@
 //! Types and values.
 
 ghost use Rattle.std.specs.Prelude.{◌≡◌};
-ghost use Rattle.il_model.specs.Values.{ty_of, number_of, made};
+ghost use Rattle.il_model.specs.Values.{ty_of, zero_of, number_of, made};
 ghost use Rattle.il_model.specs.Constants.{same_value};
 
 /// An elementary type (IEC 61131-3:2003, 2.3.1).
@@ -49,6 +49,18 @@ impl Stop {
 }
 
 impl Value {
+    /// FALSE, 0, or no time.
+    pub fn zero(ty: Ty) -> Value
+        ensures { result ≡ zero_of ty }
+    {
+        match ty {
+            Ty::Bool => Value::Bool(false),
+            Ty::Int => Value::Int(0),
+            Ty::Dint => Value::Dint(0),
+            Ty::Time => Value::Time(0),
+        }
+    }
+
     /// The type of a value.
     pub fn ty(self) -> Ty
         ensures { result ≡ ty_of self }

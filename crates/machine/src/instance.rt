@@ -3,11 +3,11 @@
 ghost use Rattle.std.specs.Prelude.{◌≡◌, option_map};
 ghost use Rattle.controller_model.specs.State.{field_value, with_input};
 ghost use Rattle.controller_model.specs.Step.{called};
-ghost use Rattle.controller_model.specs.Cold.{zero_of, cold_inputs, cold_instance};
+ghost use Rattle.controller_model.specs.Cold.{cold_inputs, cold_instance};
 
 use arrayvec::ArrayVec;
 use function_blocks::any::Block;
-use il_model::{BlockKind, Instance, Ty, Value};
+use il_model::{BlockKind, Instance, Value};
 use std::marker::Model;
 
 /// The values of the inputs, in the order of the kind's fields, and the block, which keeps the outputs.
@@ -67,18 +67,6 @@ impl InstanceState {
     }
 }
 
-/// FALSE, 0, or no time.
-fn zero_of(ty: Ty) -> Value
-    ensures { result ≡ zero_of ty }
-{
-    match ty {
-        Ty::Bool => Value::Bool(false),
-        Ty::Int => Value::Int(0),
-        Ty::Dint => Value::Dint(0),
-        Ty::Time => Value::Time(0),
-    }
-}
-
 /// The inputs of a kind before any value was stored.
 fn cold_inputs(kind: BlockKind) -> ArrayVec<Value, 8>
     ensures { result.items ≡ cold_inputs kind }
@@ -86,7 +74,7 @@ fn cold_inputs(kind: BlockKind) -> ArrayVec<Value, 8>
     let mut inputs = ArrayVec::new();
     for field in kind.fields() {
         if field.is_input() {
-            inputs.push(zero_of(field.ty()));
+            inputs.push(Value::zero(field.ty()));
         }
     }
     inputs

@@ -1,6 +1,7 @@
 //! The program `plc`: the words of its call, the files that they name, and the status it ends with.
 #![tactic(auto)]
 
+use il_model::Budget;
 use plc_tool::Fault;
 use plc_words::{Words, WordsError, read_words};
 use std::io::{BufWriter, Write};
@@ -23,8 +24,18 @@ fn called<W: Write, E: Write>(rt: &HostRuntime, out: &mut W, err: &mut E) -> u8 
         Err(error) => return plc_tool::tell_words(&error, out, err),
     };
     match read_words(rt.alloc(), given.as_slice()) {
-        Ok(Words::Run { source, commands }) => run(rt, source, commands, out, err),
+        Ok(words) => perform(rt, words, out, err),
         Err(error) => plc_tool::tell_words(&error, out, err),
+    }
+}
+
+fn perform<W: Write, E: Write>(rt: &HostRuntime, words: Words, out: &mut W, err: &mut E) -> u8 {
+    match words {
+        Words::Run {
+            source,
+            commands,
+            budget,
+        } => run(rt, source, commands, budget, out, err),
     }
 }
 
@@ -40,6 +51,7 @@ fn run<W: Write, E: Write>(
     rt: &HostRuntime,
     source: &str,
     commands: &str,
+    budget: Budget,
     out: &mut W,
     err: &mut E,
 ) -> u8 {
@@ -48,7 +60,14 @@ fn run<W: Write, E: Write>(
         Err(fault) => return plc_tool::tell(fault, err),
     };
     match file(rt, commands) {
-        Ok(commands) => plc_tool::run(rt.alloc(), source.as_slice(), commands.as_slice(), out, err),
+        Ok(commands) => plc_tool::run(
+            rt.alloc(),
+            source.as_slice(),
+            commands.as_slice(),
+            budget,
+            out,
+            err,
+        ),
         Err(fault) => plc_tool::run_unread(rt.alloc(), source.as_slice(), fault, out, err),
     }
 }

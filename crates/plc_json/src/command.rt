@@ -5,10 +5,31 @@ ghost use Rattle.plc_json.specs.Faults.{IsFaultOf};
 ghost use Rattle.plc_json.specs.declared.command.JsonFault.TheVariants.{Memory};
 
 use crate::image::in_image;
-use il_model::Command;
-use serde_json::{Map, Value};
-use std::alloc::{AllocFailed, Global};
+use il_model::{Command, Value};
+use serde_json::{Map, Value as Json};
+use std::alloc::{AllocError, AllocFailed, Global};
 use thiserror::Error;
+
+/// A command as a file has it: names where a command has slots.
+#[derive(Debug, Drop)]
+pub enum NamedCommand {
+    /// A command without a name.
+    Plain(Command),
+    /// Lays a value over the location that is called so.
+    Force {
+        name: String,
+        /// BOOL for a truth value, INT for a number.
+        value: Value,
+    },
+    /// Takes the value off again.
+    Unforce {
+        name: String,
+    },
+    /// Reads the location, the variable or the instance's field that is called so.
+    Read {
+        name: String,
+    },
+}
 
 /// Why a text gives no commands.
 #[derive(Clone, Copy, Debug, PartialEq, Eq, Error)]
@@ -19,6 +40,14 @@ pub enum JsonFault {
     /// Memory ran out.
     #[error("out of memory")]
     Memory,
+}
+
+impl From<AllocError> for JsonFault {
+    ghost from_gives = { λ _ e. e ≡ Memory };
+
+    fn from(_error: AllocError) -> JsonFault {
+        JsonFault::Memory
+    }
 }
 
 impl<T: Drop> From<AllocFailed<T>> for JsonFault {
@@ -44,41 +73,106 @@ impl From<serde_json::Error> for JsonFault {
 /// The commands of a text, in its order.
 ///
 /// Every command is judged before any is given. `Shape` is the answer where the text is no JSON (RFC 8259), where the value
-/// is no array of commands of the shape that this crate gives (another key, a key too many or one left out), where a bit
-/// or a word lies outside its area or is given twice, and where a number has a fraction or an exponent, is `-0`, or lies
-/// outside its field's type. Of equal keys in one object the last counts. `Memory` comes where memory ran out.
-pub fn commands(alloc: Global, text: &[u8]) -> Result<Vec<Command>, JsonFault> {
-    let value = Value::from_slice(alloc, text)?;
-    let items = value.as_array().ok_or(JsonFault::Shape)?;
+/// is no array of commands of the shapes that this crate gives (another word or key, a key too many or one left out), where
+/// a bit or a word lies outside its area or is given twice, and where a number has a fraction or an exponent, is `-0`, or
+/// lies outside its field's type. Any text is a name, and what is forced is judged whatever the name. Of equal keys in one
+/// object the last counts. `Memory` comes where memory ran out.
+pub fn commands(alloc: Global, text: &[u8]) -> Result<Vec<NamedCommand>, JsonFault> {
+    let json = Json::from_slice(alloc, text)?;
+    let items = json.as_array().ok_or(JsonFault::Shape)?;
     let mut commands = Vec::new(alloc);
     for item in items {
-        commands.push(command(item).ok_or(JsonFault::Shape)?)?;
+        commands.push(command(alloc, item)?)?;
     }
     Ok(commands)
 }
 
-/// One command: an object with one member, whose key is the command's name.
-fn command(value: &Value) -> Option<Command> {
-    let (name, argument) = only_member(value.as_object()?)?;
-    match name {
-        "scan" => scan(argument.as_object()?),
+/// One command: a word, or an object with one member, whose key is the command's name.
+fn command(alloc: Global, json: &Json) -> Result<NamedCommand, JsonFault> {
+    match json {
+        Json::String(word) => plain(word_alone(word.as_str())),
+        Json::Object(members) => {
+            let (key, argument) = only_member(members).ok_or(JsonFault::Shape)?;
+            keyed(alloc, key, argument)
+        }
+        _ => Err(JsonFault::Shape),
+    }
+}
+
+fn plain(command: Option<Command>) -> Result<NamedCommand, JsonFault> {
+    Ok(NamedCommand::Plain(command.ok_or(JsonFault::Shape)?))
+}
+
+fn word_alone(word: &str) -> Option<Command> {
+    match word {
+        "step" => Some(Command::Step),
+        "continue" => Some(Command::Continue),
+        "cr" => Some(Command::ReadCr),
+        "reset" => Some(Command::Reset),
         _ => None,
     }
 }
 
-fn only_member(members: &Map<String, Value>) -> Option<(&str, &Value)> {
+fn only_member(members: &Map<String, Json>) -> Option<(&str, &Json)> {
     if members.len() != 1 {
         return None;
     }
-    let (name, value) = members.iter().next()?;
-    Some((name.as_str(), value))
+    let (key, argument) = members.iter().next()?;
+    Some((key.as_str(), argument))
 }
 
-fn scan(members: &Map<String, Value>) -> Option<Command> {
+fn keyed(alloc: Global, key: &str, argument: &Json) -> Result<NamedCommand, JsonFault> {
+    match key {
+        "scan" => plain(scan(argument)),
+        "break" => plain(position(argument).map(Command::SetBreak)),
+        "clear" => plain(position(argument).map(Command::ClearBreak)),
+        "force" => force(alloc, argument),
+        "unforce" => Ok(NamedCommand::Unforce {
+            name: name(alloc, argument)?,
+        }),
+        "read" => Ok(NamedCommand::Read {
+            name: name(alloc, argument)?,
+        }),
+        _ => Err(JsonFault::Shape),
+    }
+}
+
+fn scan(argument: &Json) -> Option<Command> {
+    let members = argument.as_object()?;
     if members.len() != 3 {
         return None;
     }
     let inputs = in_image(members.get("ix")?, members.get("iw")?)?;
     let moment = members.get("moment")?.as_u64()?;
     Some(Command::Scan { inputs, moment })
+}
+
+fn position(argument: &Json) -> Option<u16> {
+    u16::try_from(argument.as_u64()?).ok()
+}
+
+/// A pair of a name and the value that is forced there.
+fn force(alloc: Global, argument: &Json) -> Result<NamedCommand, JsonFault> {
+    let pair = argument.as_array().ok_or(JsonFault::Shape)?;
+    let [called, value] = pair.as_slice() else {
+        return Err(JsonFault::Shape);
+    };
+    let value = forced_value(value).ok_or(JsonFault::Shape)?;
+    Ok(NamedCommand::Force {
+        name: name(alloc, called)?,
+        value,
+    })
+}
+
+/// A truth value for a bit, a number for a word.
+fn forced_value(json: &Json) -> Option<Value> {
+    match json.as_bool() {
+        Some(truth) => Some(Value::Bool(truth)),
+        None => Some(Value::Int(i16::try_from(json.as_i64()?).ok()?)),
+    }
+}
+
+fn name(alloc: Global, json: &Json) -> Result<String, JsonFault> {
+    let name = json.as_str().ok_or(JsonFault::Shape)?;
+    Ok(String::from_str(alloc, name)?)
 }

@@ -1,4 +1,4 @@
 pub mod Meaning
-pub mod Running
+pub mod Named
 pub mod Status
 pub mod Told

@@ -1,19 +1,20 @@
 -- What a text means: its program, and the answers to commands.
-use Rattle.std.specs.Prelude.{◌≡◌, ℕ, List, Option, Some, None, Result, Ok, Err}
-use Rattle.il_model.specs.declared.command.Command.{Command}
+use Rattle.std.specs.Prelude.{◌≡◌, ℕ, List, map, Result, Ok, Err}
 use Rattle.il_model.specs.declared.command.Answer.{Answer}
 use Rattle.il_model.specs.Text.{Text}
 use Rattle.il_model.specs.declared.typing.TypeFault.{TypeFault}
 use Rattle.il_model.specs.Typing.{IsTyped, fault_number}
 use Rattle.il_model.specs.Settled.{settled}
 use Rattle.il_model.specs.Image.{spelling}
-use Rattle.controller_model.specs.Scan.{answers_of}
+use Rattle.controller_model.specs.Commands.{answers_of}
 use Rattle.il_reader.specs.Faults as Read
 use Rattle.il_reader.specs.Texts.{SourceText, Reads, source_of}
 use Rattle.il_reader.specs.declared.fault.Fault as read_faults
 use Rattle.declarations.specs.Faults as Declared
 use Rattle.declarations.specs.Resolution.{resolution_of}
 use Rattle.declarations.specs.declared.fault.Fault as declaration_faults
+use Rattle.plc_json.specs.declared.command.NamedCommand.{NamedCommand}
+use Rattle.plc_tool.specs.Named.{meant}
 use Rattle.plc_tool.specs.declared.fault.Fault.{Fault}
 use Rattle.plc_tool.specs.declared.fault.Fault.TheVariants as faults
 
@@ -35,12 +36,16 @@ pub record IsSpelled (program : Text) (bytes : List ℕ) : Type 0 where
   pub settled : settled program ≡ Ok typed
   pub spelled : bytes ≡ spelling typed
 
--- what is answered is what the definitions give for the text's typed program, at 10000 instructions a scan
-pub record IsAnswered (text : List ℕ) (commands : List Command) (answers : List Answer) : Type 0 where
+-- what a controller of the program answers to commands with names, at so many instructions a scan
+abbrev pub answers_to : Text → ℕ → List NamedCommand → List Answer
+answers_to Q budget commands = answers_of Q budget (map (meant Q) commands)
+
+-- what is answered is what the definitions give for the text's typed program
+pub record IsAnswered (text : List ℕ) (budget : ℕ) (commands : List NamedCommand) (answers : List Answer) : Type 0 where
   pub program : Text
   pub is : IsTypedProgramOfText text program
   pub typed : IsTyped program
-  pub answers_are : answers_of program 10000 commands ≡ Some answers
+  pub answers_are : answers ≡ answers_to program budget commands
 
 -- ---- the same as a function, with the first fault that is told
 
@@ -64,17 +69,13 @@ read_by (Err f) = Err (faults.Read (Read.kind_number f.kind) f.place.line f.plac
 abbrev pub program_of_text : List ℕ → Result Text Fault
 program_of_text text = read_by (source_of text)
 
-abbrev pub all_scans : Option (List Answer) → Result (List Answer) Fault
-all_scans (Some answers) = Ok answers
-all_scans None = Err faults.Commands
-
-abbrev pub answered_by : List Command → Result Text Fault → Result (List Answer) Fault
-answered_by commands (Ok P) = all_scans (answers_of P 10000 commands)
-answered_by commands (Err f) = Err f
+abbrev pub answered_by : ℕ → List NamedCommand → Result Text Fault → Result (List Answer) Fault
+answered_by budget commands (Ok P) = Ok (answers_to P budget commands)
+answered_by budget commands (Err f) = Err f
 
 -- what a text answers to commands
-abbrev pub meaning : List ℕ → List Command → Result (List Answer) Fault
-meaning text commands = answered_by commands (program_of_text text)
+abbrev pub meaning : List ℕ → ℕ → List NamedCommand → Result (List Answer) Fault
+meaning text budget commands = answered_by budget commands (program_of_text text)
 
 -- What a call answered, seen by view, is this, unless memory ran out.
 abbrev pub Tells : {Y : Type 0} → Fault → Result Y Fault → Type 0

@@ -1,4 +1,4 @@
-//! The answers of a text to commands: reader, names, assembler, loader and machine, one after the other.
+//! The answers of a text to commands: reader, names, assembler, loader and controller, one after the other.
 
 ghost use Rattle.std.specs.Prelude.{◌≡◌, Ok, IfOk, IfErr};
 ghost use Rattle.il_model.specs.Declarable.{IsDeclared};
@@ -6,16 +6,15 @@ ghost use Rattle.il_model.specs.Settled.{settled};
 ghost use Rattle.plc_tool.specs.Meaning.{IsSpelled, IsTypedProgramOfText, IsAnswered, Gives, typed_program, program_of_text, meaning};
 
 use crate::fault::Fault;
-use crate::scan::Scans;
+use crate::naming::answers_of;
 use assembler::assemble;
+use debugger::Controller;
 use declarations::resolve;
-use il_model::{Answer, Command, Program};
+use il_model::{Answer, Budget, Program};
 use il_reader::read;
 use loader::{Image, LoadError, load};
+use plc_json::NamedCommand;
 use std::alloc::Global;
-
-/// How many instructions a scan may perform.
-const BUDGET: u32 = 10000;
 
 /// The image that the assembler wrote: the loader takes it back, unless memory runs out.
 fn loaded(alloc: Global, program: &Program, bytes: &[u8]) -> Result<Image, Fault>
@@ -51,18 +50,20 @@ pub fn image(alloc: Global, text: &[u8]) -> Result<Image, Fault>
     image_of(alloc, &program)
 }
 
-/// The answers of a text to commands, or the first fault.
-pub fn answers(alloc: Global, text: &[u8], commands: &[Command]) -> Result<Vec<Answer>, Fault>
+/// The answers of a text to commands, each scan within the budget; or the first fault.
+pub fn answers(
+    alloc: Global,
+    text: &[u8],
+    budget: Budget,
+    commands: &[NamedCommand],
+) -> Result<Vec<Answer>, Fault>
     // What is answered is what the definitions give for the text's program.
-    ensures found { IfOk result (λ v. IsAnswered text.now commands.now v.items) }
+    ensures found { IfOk result (λ v. IsAnswered text.now budget.instructions commands.now v.items) }
     // Which answers or which fault it is, unless memory runs out.
-    ensures exact { Gives (λ v. v.items) result (meaning text.now commands.now) }
+    ensures exact { Gives (λ v. v.items) result (meaning text.now budget.instructions commands.now) }
 {
     let image = image(alloc, text)?;
     image.lawful();
-    let mut scans = Scans::new(alloc, image)?;
-    match scans.answers(alloc, BUDGET, commands)? {
-        Some(answers) => Ok(answers),
-        None => Err(Fault::Commands),
-    }
+    let mut controller = Controller::new(alloc, image, budget)?;
+    Ok(answers_of(alloc, &mut controller, commands)?)
 }

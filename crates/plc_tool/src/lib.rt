@@ -7,11 +7,10 @@ mod calls;
 mod fault;
 mod layers;
 mod line;
-mod scan;
+mod naming;
 mod telling;
 
 pub use calls::{run, run_unread};
 pub use fault::Fault;
 pub use line::AnswerLine;
-pub use scan::Scans;
 pub use telling::{tell, tell_words};

@@ -1,11 +1,15 @@
 //! The forms of a call.
 
 use crate::error::WordsError;
-use clap::{Arg, ArgAction, ArgMatches, Command};
+use clap::{Arg, ArgAction, ArgMatches, Command, value_parser};
+use il_model::Budget;
 use std::alloc::{AllocError, Global};
 use std::convert::AsStr;
 
 const VERSION: &str = "0.1.0";
+
+/// The word of the option `--budget`.
+const BUDGET: &str = "budget";
 
 const NO_FORM: &str = "error: the words name no form of call\n";
 
@@ -15,19 +19,43 @@ const STATUSES: &str = "Exit status:
   2  a device failed, or memory ran out
   3  these words are no call of the program";
 
-const SCANS: &str = "COMMANDS is a JSON array of scans:
-  [{\"scan\":{\"ix\":[0],\"iw\":[[3,-2]],\"moment\":0}}]
-where ix has the numbers of the TRUE bits (%IXb.n is bit 8b+n), iw pairs of a word's number and value,
-and moment is in milliseconds. All other bits are FALSE, all other words 0.
+const COMMANDS: &str = "COMMANDS is a JSON array. Each command in it is answered by one line:
+  {\"scan\":{\"ix\":[0],\"iw\":[[3,-2]],\"moment\":0}}
+                             runs the program once on these inputs: ix has the numbers of the TRUE
+                             bits (%IXb.n is bit 8b+n), iw pairs of a word's number and value, moment
+                             is in milliseconds; all other bits are FALSE, all other words 0
+  {\"break\":2}                holds each later scan before instruction 2, counted from 0
+  {\"clear\":2}                takes that breakpoint away
+  \"step\"                     performs one instruction of the held scan
+  \"continue\"                 goes on with the held scan
+  \"cr\"                       tells the current result of the held or stopped scan
+  \"reset\"                    starts cold again; forces, breakpoints, moment and count stay
+  {\"force\":[\"%IX0.0\",true]}  lays a value over a location of %I or %Q: a truth value over a bit,
+                             a number over a word
+  {\"unforce\":\"%IX0.0\"}       takes it off again
+  {\"read\":\"T1.ET\"}           tells the value of a location, a variable or an instance's field
 
-Each scan is answered by one line: outputs, the count of scans, the TRUE bits as QXb.n, the words
-that aren't 0 as QWk=v. A fault is one line on standard error.";
+Answers:
+  outputs S ..               scan number S is done: its TRUE bits as QXb.n, its words that aren't 0
+                             as QWk=v
+  held P                     the scan is held before instruction P
+  stopped WHY P              the scan stopped at instruction P: overflow, zerodivisor or budget
+  value V                    a value, as TRUE, INT#5, DINT#5 or T#5ms
+  done
+  refused N                  1 no scan is held, 2 no such instruction, 3 no such name or it can't be
+                             forced, 4 a value of another type, 5 there is no current result
+
+A fault is one line on standard error.";
 
 /// What the words ask for.
 #[derive(Clone, Copy, Debug, PartialEq, Eq)]
 pub enum Words<'a> {
-    /// Runs the program of a file over the commands of another.
-    Run { source: &'a str, commands: &'a str },
+    /// Runs the program of a file over the commands of another, each scan within the budget.
+    Run {
+        source: &'a str,
+        commands: &'a str,
+        budget: Budget,
+    },
 }
 
 /// What the words of a call ask for; the first word is the program's own name.
@@ -55,13 +83,24 @@ fn program<'a>(alloc: Global) -> Result<Command<'a>, AllocError> {
 fn run_command<'a>(alloc: Global) -> Result<Command<'a>, AllocError> {
     Command::new(alloc, "run")
         .about("Runs a program over a file of commands, and prints one answer a line")
-        .after_help(SCANS)
+        .after_help(COMMANDS)
         .arg(file(alloc, "SOURCE").help("The program's text, in Instruction List"))?
-        .arg(file(alloc, "COMMANDS").help("The commands, in JSON"))
+        .arg(file(alloc, "COMMANDS").help("The commands, in JSON"))?
+        .arg(budget(alloc))
 }
 
 fn file<'a>(alloc: Global, name: &'a str) -> Arg<'a> {
     Arg::new(alloc, name).required(true).action(ArgAction::Set)
+}
+
+/// The option is refused where it is given twice, or no number in its range.
+fn budget<'a>(alloc: Global) -> Arg<'a> {
+    Arg::new(alloc, BUDGET)
+        .long(BUDGET)
+        .value_name("B")
+        .value_parser(value_parser!(u32).range(1..=1_000_000))
+        .default_value("10000")
+        .help("How many instructions a scan may perform, 1 to 1000000")
 }
 
 fn form_of<'a>(matches: &ArgMatches<'a>) -> Option<Words<'a>> {
@@ -70,6 +109,7 @@ fn form_of<'a>(matches: &ArgMatches<'a>) -> Option<Words<'a>> {
         "run" => Some(Words::Run {
             source: inner.get_str("SOURCE")?,
             commands: inner.get_str("COMMANDS")?,
+            budget: Budget::new(inner.get_one::<u32>(BUDGET)?)?,
         }),
         _ => None,
     }

@@ -1,46 +1,28 @@
 //! Programs with function block instances: what they answer scan by scan, and each fault at its place.
 
+use crate::printed::{Row, SCAN, wants};
 use std::alloc::{AllocError, Global};
-use std::process::Abort;
 use std::test::Fail;
 
-/// What a program and its commands come to on both streams.
-fn lines(alloc: Global, source: &[u8], commands: &[u8]) -> Result<Vec<u8>, AllocError> {
-    let mut out = Vec::new(alloc);
-    let mut err = Vec::new(alloc);
-    plc_tool::run(alloc, source, commands, &mut out, &mut err);
-    out.extend_from_slice(err.as_slice())?;
-    Ok(out)
-}
-
-/// A text, its commands, and the lines that are printed.
-type Row = (&'static [u8], &'static [u8], &'static [u8]);
-
-fn wants(rt: &impl Abort, alloc: Global, rows: &[Row]) -> Result<(), Fail> {
-    for (n, (source, commands, wanted)) in rows.iter().enumerate() {
-        let printed = lines(alloc, source, commands)?;
-        assert_eq!(rt; printed.as_slice(), *wanted, "in row {n}");
-    }
-    Ok(())
-}
-
 /// Five scans with `%IX0.0` FALSE, TRUE, TRUE, FALSE, TRUE.
-const F_T_T_F_T: &[u8] = b"[{\"scan\":{\"ix\":[],\"iw\":[],\"moment\":0}},\
-{\"scan\":{\"ix\":[0],\"iw\":[],\"moment\":1}},\
-{\"scan\":{\"ix\":[0],\"iw\":[],\"moment\":2}},\
-{\"scan\":{\"ix\":[],\"iw\":[],\"moment\":3}},\
-{\"scan\":{\"ix\":[0],\"iw\":[],\"moment\":4}}]";
+const F_T_T_F_T: &[u8] = br#"[
+    {"scan":{"ix":[],"iw":[],"moment":0}},
+    {"scan":{"ix":[0],"iw":[],"moment":1}},
+    {"scan":{"ix":[0],"iw":[],"moment":2}},
+    {"scan":{"ix":[],"iw":[],"moment":3}},
+    {"scan":{"ix":[0],"iw":[],"moment":4}}
+]"#;
 
 /// Four scans at the moments 0, 50, 40 and 100.
-const THERE_AND_BACK: &[u8] = b"[{\"scan\":{\"ix\":[],\"iw\":[],\"moment\":0}},\
-{\"scan\":{\"ix\":[],\"iw\":[],\"moment\":50}},\
-{\"scan\":{\"ix\":[],\"iw\":[],\"moment\":40}},\
-{\"scan\":{\"ix\":[],\"iw\":[],\"moment\":100}}]";
+const THERE_AND_BACK: &[u8] = br#"[
+    {"scan":{"ix":[],"iw":[],"moment":0}},
+    {"scan":{"ix":[],"iw":[],"moment":50}},
+    {"scan":{"ix":[],"iw":[],"moment":40}},
+    {"scan":{"ix":[],"iw":[],"moment":100}}
+]"#;
 
-const ONE: &[u8] = b"[{\"scan\":{\"ix\":[],\"iw\":[],\"moment\":0}}]";
-
-const TWO: &[u8] =
-    b"[{\"scan\":{\"ix\":[],\"iw\":[],\"moment\":0}},{\"scan\":{\"ix\":[],\"iw\":[],\"moment\":0}}]";
+const TWO_SCANS: &[u8] =
+    br#"[{"scan":{"ix":[],"iw":[],"moment":0}},{"scan":{"ix":[],"iw":[],"moment":0}}]"#;
 
 const COUNTED: &[u8] =
     b"outputs 1\noutputs 2 QW0=1\noutputs 3 QW0=1\noutputs 4 QW0=1\noutputs 5 QX0.0 QW0=2\n";
@@ -83,7 +65,7 @@ fn time_does_not_go_back(rt: HostRuntime) -> Result<(), Fail> {
 fn a_falling_edge_at_the_first_call(rt: HostRuntime) -> Result<(), Fail> {
     let rows: [Row; 1] = [(
         b"VAR E : F_TRIG; END_VAR\nCAL E(CLK := FALSE, Q => %QX0.0)",
-        TWO,
+        TWO_SCANS,
         b"outputs 1 QX0.0\noutputs 2\n",
     )];
     wants(&rt, rt.alloc(), &rows)
@@ -94,22 +76,22 @@ fn calls_under_a_condition(rt: HostRuntime) -> Result<(), Fail> {
     let rows: [Row; 4] = [
         (
             b"VAR E : R_TRIG; END_VAR\nLD FALSE\nCALC E(CLK := TRUE, Q => %QX0.0)\nLD E.CLK\nST %QX0.1",
-            ONE,
+            SCAN,
             b"outputs 1\n",
         ),
         (
             b"VAR E : R_TRIG; END_VAR\nLD TRUE\nCALC E(CLK := TRUE, Q => %QX0.0)\nLD E.CLK\nST %QX0.1",
-            ONE,
+            SCAN,
             b"outputs 1 QX0.0 QX0.1\n",
         ),
         (
             b"VAR E : R_TRIG; END_VAR\nLD FALSE\nCALCN E(CLK := TRUE, Q => %QX0.0)\nST %QX0.1",
-            ONE,
+            SCAN,
             b"outputs 1 QX0.0\n",
         ),
         (
             b"VAR E : R_TRIG; END_VAR\nLD TRUE\nCALCN E(CLK := TRUE, Q => %QX0.0)\nST %QX0.1",
-            ONE,
+            SCAN,
             b"outputs 1 QX0.1\n",
         ),
     ];
@@ -122,18 +104,18 @@ fn arguments_in_their_order(rt: HostRuntime) -> Result<(), Fail> {
         // an operand sees what the arguments before it stored: both edges are there, and CV stays
         (
             b"VAR C : CTUD; END_VAR\nCAL C(PV := 3, CU := 1, CD := C.CU, CV => %QW0)",
-            ONE,
+            SCAN,
             b"outputs 1\n",
         ),
         (
             b"VAR C : CTUD; END_VAR\nCAL C(PV := 3, CD := C.CU, CU := 1, CV => %QW0)",
-            ONE,
+            SCAN,
             b"outputs 1 QW0=1\n",
         ),
         // outputs are stored behind the call, wherever they are written; the last to a place stays
         (
             b"VAR L : SR; E : R_TRIG; END_VAR\nCAL L(Q1 => E.CLK, S1 := TRUE)\nCAL E(Q => %QX0.0)\nLD E.CLK\nST %QX0.1",
-            ONE,
+            SCAN,
             b"outputs 1 QX0.0 QX0.1\n",
         ),
     ];
@@ -154,7 +136,7 @@ CAL G(CU := TRUE, CD := FALSE, R := FALSE, LD := FALSE, PV := 1, QU => %QX0.6, Q
 CAL H(IN := TRUE, PT := 100, Q => %QX1.0)
 CAL I(IN := TRUE, PT := T#100ms, Q => %QX1.1)
 CAL J(IN := TRUE, PT := T#100ms, Q => %QX1.2)",
-        ONE,
+        SCAN,
         b"outputs 1 QX0.0 QX0.1 QX0.2 QX0.3 QX0.4 QX0.6 QX1.0 QX1.2 QW0=1 QW1=5 QW2=1\n",
     )];
     wants(&rt, rt.alloc(), &rows)
@@ -165,39 +147,43 @@ fn faults_of_names(rt: HostRuntime) -> Result<(), Fail> {
     let rows: [Row; 9] = [
         (
             b"VAR A : INT; a : TON; END_VAR",
-            ONE,
+            SCAN,
             b"plc: decl 1 at 1:14\n",
         ),
         (
             b"VAR A : TON; B, a : INT; END_VAR",
-            ONE,
+            SCAN,
             b"plc: decl 1 at 1:17\n",
         ),
-        (b"VAR T1 : TON := 5; END_VAR", ONE, b"plc: decl 6 at 1:17\n"),
+        (
+            b"VAR T1 : TON := 5; END_VAR",
+            SCAN,
+            b"plc: decl 6 at 1:17\n",
+        ),
         (
             b"VAR T1 AT %IX0.0 : TON; END_VAR",
-            ONE,
+            SCAN,
             b"plc: decl 4 at 1:11\n",
         ),
-        (b"VAR TP : TON; END_VAR", ONE, b"plc: decl 7 at 1:5\n"),
+        (b"VAR TP : TON; END_VAR", SCAN, b"plc: decl 7 at 1:5\n"),
         (
             b"VAR T1 : TON; END_VAR\nLD T1",
-            ONE,
+            SCAN,
             b"plc: decl 3 at 2:4\n",
         ),
         (
             b"VAR X : BOOL; END_VAR\nLD X.Q",
-            ONE,
+            SCAN,
             b"plc: decl 3 at 2:4\n",
         ),
         (
             b"VAR X : BOOL; END_VAR\nCAL X",
-            ONE,
+            SCAN,
             b"plc: decl 3 at 2:5\n",
         ),
         (
             b"VAR T1 : TON; END_VAR\nCAL T1(FOO := 5, PT := X)",
-            ONE,
+            SCAN,
             b"plc: decl 3 at 2:24\n",
         ),
     ];
@@ -205,76 +191,90 @@ fn faults_of_names(rt: HostRuntime) -> Result<(), Fail> {
 }
 
 #[test]
-fn faults_of_fields_and_arguments(rt: HostRuntime) -> Result<(), Fail> {
-    let rows: [Row; 14] = [
+fn faults_of_fields(rt: HostRuntime) -> Result<(), Fail> {
+    let rows: [Row; 3] = [
         (
             b"VAR T1 : TON; END_VAR\nLD T1.FOO",
-            ONE,
+            SCAN,
             b"plc: asm 8 at 0\n",
         ),
         (
             b"VAR T1 : TON; END_VAR\nADD T1.CLK",
-            ONE,
-            b"plc: asm 8 at 0\n",
-        ),
-        (
-            b"VAR T1 : TON; END_VAR\nCAL T1(FOO := 5)",
-            ONE,
-            b"plc: asm 8 at 0\n",
-        ),
-        (
-            b"VAR T1 : TON; END_VAR\nCAL T1(Q := TRUE)",
-            ONE,
-            b"plc: asm 8 at 0\n",
-        ),
-        (
-            b"VAR T1 : TON; END_VAR\nCAL T1(IN => %QX0.0)",
-            ONE,
-            b"plc: asm 8 at 0\n",
-        ),
-        (
-            b"VAR T1 : TON; END_VAR\nCAL T1(IN := TRUE, in := TRUE)",
-            ONE,
-            b"plc: asm 8 at 0\n",
-        ),
-        (
-            b"VAR T1 : TON; END_VAR\nCAL T1(PT := TRUE, Q => %IX0.0, IN := T1.CU)",
-            ONE,
+            SCAN,
             b"plc: asm 8 at 0\n",
         ),
         (
             b"VAR T1 : TON; END_VAR\nLD TRUE\nST T1.Q",
-            ONE,
+            SCAN,
             b"plc: asm 7 at 1\n",
+        ),
+    ];
+    wants(&rt, rt.alloc(), &rows)
+}
+
+#[test]
+fn faults_of_arguments(rt: HostRuntime) -> Result<(), Fail> {
+    let rows: [Row; 8] = [
+        (
+            b"VAR T1 : TON; END_VAR\nCAL T1(FOO := 5)",
+            SCAN,
+            b"plc: asm 8 at 0\n",
+        ),
+        (
+            b"VAR T1 : TON; END_VAR\nCAL T1(Q := TRUE)",
+            SCAN,
+            b"plc: asm 8 at 0\n",
+        ),
+        (
+            b"VAR T1 : TON; END_VAR\nCAL T1(IN => %QX0.0)",
+            SCAN,
+            b"plc: asm 8 at 0\n",
+        ),
+        (
+            b"VAR T1 : TON; END_VAR\nCAL T1(IN := TRUE, in := TRUE)",
+            SCAN,
+            b"plc: asm 8 at 0\n",
+        ),
+        (
+            b"VAR T1 : TON; END_VAR\nCAL T1(PT := TRUE, Q => %IX0.0, IN := T1.CU)",
+            SCAN,
+            b"plc: asm 8 at 0\n",
         ),
         (
             b"VAR T1 : TON; END_VAR\nCAL T1(PT := TRUE, Q => %IX0.0)",
-            ONE,
+            SCAN,
             b"plc: asm 7 at 0\n",
         ),
         (
             b"VAR T1 : TON; END_VAR\nCAL T1(Q => 5)",
-            ONE,
+            SCAN,
             b"plc: asm 7 at 0\n",
         ),
         (
+            b"VAR T1 : TON; END_VAR\nCAL T1(PT := TRUE)",
+            SCAN,
+            b"plc: asm 1 at 0\n",
+        ),
+    ];
+    wants(&rt, rt.alloc(), &rows)
+}
+
+#[test]
+fn faults_of_calls(rt: HostRuntime) -> Result<(), Fail> {
+    let rows: [Row; 3] = [
+        (
             b"VAR T1 : TON; END_VAR\nCALC T1(PT := TRUE)",
-            ONE,
+            SCAN,
             b"plc: asm 2 at 0\n",
         ),
         (
             b"VAR T1 : TON; END_VAR\nLD 5\nCALCN T1",
-            ONE,
+            SCAN,
             b"plc: asm 1 at 1\n",
         ),
         (
-            b"VAR T1 : TON; END_VAR\nCAL T1(PT := TRUE)",
-            ONE,
-            b"plc: asm 1 at 0\n",
-        ),
-        (
             b"VAR T1 : TON; END_VAR\nLD TRUE\nAND( TRUE\nCAL T1(FOO := 1)\n)",
-            ONE,
+            SCAN,
             b"plc: asm 5 at 2\n",
         ),
     ];
@@ -300,10 +300,10 @@ fn instances(alloc: Global, count: usize) -> Result<Vec<u8>, AllocError> {
 #[test]
 fn as_many_instances_as_there_may_be_and_one_more(rt: HostRuntime) -> Result<(), Fail> {
     let most = instances(rt.alloc(), 128)?;
-    let printed = lines(rt.alloc(), most.as_slice(), ONE)?;
-    assert_eq!(rt; printed.as_slice(), b"outputs 1\n".as_slice());
     let more = instances(rt.alloc(), 129)?;
-    let refused = lines(rt.alloc(), more.as_slice(), ONE)?;
-    assert_eq!(rt; refused.as_slice(), b"plc: decl 8 at 130:1\n".as_slice());
-    Ok(())
+    let rows: [Row; 2] = [
+        (most.as_slice(), SCAN, b"outputs 1\n"),
+        (more.as_slice(), SCAN, b"plc: decl 8 at 130:1\n"),
+    ];
+    wants(&rt, rt.alloc(), &rows)
 }

@@ -1,12 +1,14 @@
-//! The edge of the program: words, commands in JSON, lines, faults and statuses.
+//! The edge of the program: words, lines, faults and statuses.
 
-use il_model::{Answer, Cells, Command, OutImage, Refusal, Stop, Value};
+use crate::printed::{DEFAULT_BUDGET, SCAN};
+use il_model::{Answer, Budget, Cells, OutImage, Refusal, Stop, Value};
 use plc_json::JsonFault;
 use plc_tool::{AnswerLine, Fault};
 use plc_words::{Words, WordsError, read_words};
 use std::alloc::{AllocError, Global};
 use std::io;
 use std::io::Write;
+use std::process::Abort;
 use std::test::Fail;
 
 /// A stream that takes so many bytes and then fails; a flush fails where it says so.
@@ -34,16 +36,32 @@ impl Write for Narrow {
 
 const SOURCE: &[u8] = b"LD %IX0.0\nST %QX0.0\n";
 
-const ONE_SCAN: &[u8] = b"[{\"scan\":{\"ix\":[],\"iw\":[],\"moment\":0}}]";
-
 #[test]
-fn words_name_a_form(rt: HostRuntime) {
-    let run = read_words(rt.alloc(), &["plc", "run", "a.il", "b.json"]);
-    let expected = Words::Run {
-        source: "a.il",
-        commands: "b.json",
-    };
-    assert!(rt; matches!(run, Ok(words) if words == expected));
+fn words_name_a_form(rt: HostRuntime) -> Result<(), Fail> {
+    for (given, instructions) in [
+        (["plc", "run", "a.il", "b.json"].as_slice(), DEFAULT_BUDGET),
+        (
+            ["plc", "run", "a.il", "b.json", "--budget", "5"].as_slice(),
+            5,
+        ),
+        (["plc", "run", "a.il", "--budget=1", "b.json"].as_slice(), 1),
+        (
+            ["plc", "run", "--budget", "1000000", "a.il", "b.json"].as_slice(),
+            1_000_000,
+        ),
+    ] {
+        let expected = Words::Run {
+            source: "a.il",
+            commands: "b.json",
+            budget: Budget::new(instructions).ok_or("no budget")?,
+        };
+        let words = read_words(rt.alloc(), given);
+        assert!(rt;
+            matches!(words, Ok(words) if words == expected),
+            "{given:?}"
+        );
+    }
+    Ok(())
 }
 
 #[test]
@@ -53,7 +71,7 @@ fn help_and_version_are_shown(rt: HostRuntime) -> Result<(), Fail> {
         (["plc", "help"].as_slice(), "Usage: plc <COMMAND>\n"),
         (
             ["plc", "run", "-h"].as_slice(),
-            "Usage: plc run <SOURCE> <COMMANDS>\n",
+            "Usage: plc run [OPTIONS] <SOURCE> <COMMANDS>\n",
         ),
         (["plc", "--version"].as_slice(), "plc 0.1.0\n"),
     ] {
@@ -94,6 +112,48 @@ fn other_words_are_bad(rt: HostRuntime) -> Result<(), Fail> {
     Ok(())
 }
 
+#[test]
+fn budgets_out_of_range_are_bad(rt: HostRuntime) -> Result<(), Fail> {
+    for (given, text) in [
+        (
+            ["--budget", "0"].as_slice(),
+            "error: invalid value '0' for '--budget <B>'",
+        ),
+        (
+            ["--budget=1000001"].as_slice(),
+            "error: invalid value '1000001' for '--budget <B>'",
+        ),
+        (
+            ["--budget=-1"].as_slice(),
+            "error: invalid value '-1' for '--budget <B>'",
+        ),
+        (
+            ["--budget=4294967297"].as_slice(),
+            "error: invalid value '4294967297' for '--budget <B>'",
+        ),
+        (
+            ["--budget", "five"].as_slice(),
+            "error: invalid value 'five' for '--budget <B>'",
+        ),
+        (
+            ["--budget", "5", "--budget=5"].as_slice(),
+            "error: the argument '--budget <B>' cannot be used multiple times",
+        ),
+        (
+            ["--budget"].as_slice(),
+            "error: a value is required for '--budget <B>' but none was supplied",
+        ),
+    ] {
+        let mut words = Vec::from_slice(rt.alloc(), &["plc", "run", "a", "b"])?;
+        words.extend_from_slice(given)?;
+        let (status, out, err) = told(rt.alloc(), words.as_slice())?;
+        assert_eq!(rt; status, 3, "{given:?}");
+        assert!(rt; err.as_str().contains(text), "{err}");
+        assert!(rt; out.as_str().is_empty(), "{out}");
+    }
+    Ok(())
+}
+
 /// The status of words that ask for no work, and what stands on both streams.
 fn told(alloc: Global, given: &[&str]) -> Result<(u8, String, String), Fail> {
     let mut out = Vec::new(alloc);
@@ -119,79 +179,6 @@ fn words_without_text_are_bad(rt: HostRuntime) -> Result<(), Fail> {
     let memory = WordsError::from(AllocError);
     assert_eq!(rt; plc_tool::tell_words(&memory, &mut out, &mut err), 2);
     Ok(())
-}
-
-#[test]
-fn scans_in_json_give_their_images(rt: HostRuntime) -> Result<(), Fail> {
-    let text =
-        b"[{\"scan\":{\"iw\":[[3,-2],[63,32767]],\"moment\":18446744073709551615,\"ix\":[0,511]}},\n\
-        {\"scan\":{\"ix\":[],\"iw\":[],\"moment\":1,\"moment\":7}}]";
-    let commands = plc_json::commands(rt.alloc(), text.as_slice());
-    let Ok(commands) = commands else {
-        return Err(Fail::from("refused"));
-    };
-    let [
-        Command::Scan { inputs, moment },
-        Command::Scan {
-            inputs: none,
-            moment: later,
-        },
-    ] = commands.as_slice()
-    else {
-        return Err(Fail::from("other commands"));
-    };
-    let mut cells = Cells::clear();
-    cells.bits[0] = true;
-    cells.bits[511] = true;
-    cells.words[3] = -2;
-    cells.words[63] = 32767;
-    assert!(rt; inputs.cells == cells);
-    assert_eq!(rt; *moment, u64::MAX);
-    assert!(rt; none.cells == Cells::clear());
-    assert_eq!(rt; *later, 7);
-    assert!(rt;
-        matches!(plc_json::commands(rt.alloc(), b"[]".as_slice()), Ok(none) if none.is_empty())
-    );
-    Ok(())
-}
-
-#[test]
-fn other_shapes_are_refused(rt: HostRuntime) {
-    for text in [
-        b"".as_slice(),
-        b"{}".as_slice(),
-        b"[] x".as_slice(),
-        b"[{}]".as_slice(),
-        b"[[]]".as_slice(),
-        b"[\"step\"]".as_slice(),
-        b"[\"\xff\"]".as_slice(),
-        b"[{\"break\":2}]".as_slice(),
-        b"[{\"Scan\":{\"ix\":[],\"iw\":[],\"moment\":0}}]".as_slice(),
-        b"[{\"scan\":[]}]".as_slice(),
-        b"[{\"scan\":{\"ix\":[],\"iw\":[]}}]".as_slice(),
-        b"[{\"scan\":{\"ix\":[],\"iw\":[],\"moment\":0,\"f\":1}}]".as_slice(),
-        b"[{\"scan\":{\"ix\":[],\"iw\":[],\"moment\":0},\"break\":2}]".as_slice(),
-        b"[{\"scan\":{\"ix\":0,\"iw\":[],\"moment\":0}}]".as_slice(),
-        b"[{\"scan\":{\"ix\":[0,0],\"iw\":[],\"moment\":0}}]".as_slice(),
-        b"[{\"scan\":{\"ix\":[512],\"iw\":[],\"moment\":0}}]".as_slice(),
-        b"[{\"scan\":{\"ix\":[-1],\"iw\":[],\"moment\":0}}]".as_slice(),
-        b"[{\"scan\":{\"ix\":[true],\"iw\":[],\"moment\":0}}]".as_slice(),
-        b"[{\"scan\":{\"ix\":[],\"iw\":[0],\"moment\":0}}]".as_slice(),
-        b"[{\"scan\":{\"ix\":[],\"iw\":[[0]],\"moment\":0}}]".as_slice(),
-        b"[{\"scan\":{\"ix\":[],\"iw\":[[0,1,2]],\"moment\":0}}]".as_slice(),
-        b"[{\"scan\":{\"ix\":[],\"iw\":[[64,1]],\"moment\":0}}]".as_slice(),
-        b"[{\"scan\":{\"ix\":[],\"iw\":[[0,0],[0,0]],\"moment\":0}}]".as_slice(),
-        b"[{\"scan\":{\"ix\":[],\"iw\":[[0,32768]],\"moment\":0}}]".as_slice(),
-        b"[{\"scan\":{\"ix\":[],\"iw\":[[0,-32769]],\"moment\":0}}]".as_slice(),
-        b"[{\"scan\":{\"ix\":[],\"iw\":[],\"moment\":-1}}]".as_slice(),
-        b"[{\"scan\":{\"ix\":[],\"iw\":[],\"moment\":-0}}]".as_slice(),
-        b"[{\"scan\":{\"ix\":[],\"iw\":[],\"moment\":1.0}}]".as_slice(),
-        b"[{\"scan\":{\"ix\":[],\"iw\":[],\"moment\":1e0}}]".as_slice(),
-        b"[{\"scan\":{\"ix\":[],\"iw\":[],\"moment\":18446744073709551616}}]".as_slice(),
-    ] {
-        let commands = plc_json::commands(rt.alloc(), text);
-        assert!(rt; matches!(commands, Err(JsonFault::Shape)), "{text:?}");
-    }
 }
 
 fn outputs(count: u64, cells: Cells) -> Answer {
@@ -250,76 +237,67 @@ fn answers_print_their_lines(rt: HostRuntime) -> Result<(), Fail> {
     Ok(())
 }
 
-#[test]
-fn faults_print_their_lines(rt: HostRuntime) {
-    for (fault, line, status) in [
-        (
-            Fault::Read {
-                number: 5,
-                line: 1,
-                column: 6,
-            },
-            b"plc: read 5 at 1:6\n".as_slice(),
-            1,
-        ),
-        (
-            Fault::Declaration {
-                number: 3,
-                line: 2,
-                column: 4,
-            },
-            b"plc: decl 3 at 2:4\n".as_slice(),
-            1,
-        ),
-        (
-            Fault::Assembly {
-                number: 2,
-                instruction: 0,
-            },
-            b"plc: asm 2 at 0\n".as_slice(),
-            1,
-        ),
-        (Fault::Load { number: 8 }, b"plc: load 8\n".as_slice(), 1),
-        (
-            Fault::LoadAt {
-                number: 5,
-                position: 25,
-            },
-            b"plc: load 5 at 25\n".as_slice(),
-            1,
-        ),
-        (Fault::Commands, b"plc: commands\n".as_slice(), 1),
-        (
-            Fault::from(JsonFault::Shape),
-            b"plc: commands\n".as_slice(),
-            1,
-        ),
-        (Fault::Device, b"plc: device\n".as_slice(), 2),
-        (
-            Fault::from(io::Error::from(io::ErrorKind::NotFound)),
-            b"plc: device\n".as_slice(),
-            2,
-        ),
-        (Fault::Memory, b"plc: memory\n".as_slice(), 2),
-        (
-            Fault::from(io::Error::from(AllocError)),
-            b"plc: memory\n".as_slice(),
-            2,
-        ),
-        (
-            Fault::from(JsonFault::Memory),
-            b"plc: memory\n".as_slice(),
-            2,
-        ),
-    ] {
-        let mut err = Vec::new(rt.alloc());
-        assert_eq!(rt; plc_tool::tell(fault, &mut err), status);
-        assert_eq!(rt; err.as_slice(), line);
+fn prints(rt: &impl Abort, alloc: Global, rows: &[(Fault, u8, &[u8])]) {
+    for (fault, status, line) in rows {
+        let mut err = Vec::new(alloc);
+        assert_eq!(rt; plc_tool::tell(*fault, &mut err), *status);
+        assert_eq!(rt; err.as_slice(), *line);
     }
 }
 
 #[test]
-fn a_failing_stream_is_a_device_fault(rt: HostRuntime) {
+fn faults_of_a_source_print_their_lines(rt: HostRuntime) {
+    let read = Fault::Read {
+        number: 5,
+        line: 1,
+        column: 6,
+    };
+    let declared = Fault::Declaration {
+        number: 3,
+        line: 2,
+        column: 4,
+    };
+    let assembled = Fault::Assembly {
+        number: 2,
+        instruction: 0,
+    };
+    let loaded = Fault::Load { number: 8 };
+    let loaded_at = Fault::LoadAt {
+        number: 5,
+        position: 25,
+    };
+    let rows: [(Fault, u8, &[u8]); 5] = [
+        (read, 1, b"plc: read 5 at 1:6\n"),
+        (declared, 1, b"plc: decl 3 at 2:4\n"),
+        (assembled, 1, b"plc: asm 2 at 0\n"),
+        (loaded, 1, b"plc: load 8\n"),
+        (loaded_at, 1, b"plc: load 5 at 25\n"),
+    ];
+    prints(&rt, rt.alloc(), &rows);
+}
+
+#[test]
+fn other_faults_print_their_lines(rt: HostRuntime) {
+    let no_file = io::Error::from(io::ErrorKind::NotFound);
+    let rows: [(Fault, u8, &[u8]); 7] = [
+        (Fault::Commands, 1, b"plc: commands\n"),
+        (Fault::from(JsonFault::Shape), 1, b"plc: commands\n"),
+        (Fault::Device, 2, b"plc: device\n"),
+        (Fault::from(no_file), 2, b"plc: device\n"),
+        (Fault::Memory, 2, b"plc: memory\n"),
+        (
+            Fault::from(io::Error::from(AllocError)),
+            2,
+            b"plc: memory\n",
+        ),
+        (Fault::from(JsonFault::Memory), 2, b"plc: memory\n"),
+    ];
+    prints(&rt, rt.alloc(), &rows);
+}
+
+#[test]
+fn a_failing_stream_is_a_device_fault(rt: HostRuntime) -> Result<(), Fail> {
+    let budget = Budget::new(DEFAULT_BUDGET).ok_or("no budget")?;
     for (room, flushes, status, line) in [
         (9, true, 2, b"plc: device\n".as_slice()),
         (10, true, 0, b"".as_slice()),
@@ -327,18 +305,30 @@ fn a_failing_stream_is_a_device_fault(rt: HostRuntime) {
     ] {
         let mut out = Narrow { room, flushes };
         let mut err = Vec::new(rt.alloc());
-        let status_given = plc_tool::run(rt.alloc(), SOURCE, ONE_SCAN, &mut out, &mut err);
+        let status_given = plc_tool::run(rt.alloc(), SOURCE, SCAN, budget, &mut out, &mut err);
         assert_eq!(rt; status_given, status);
         assert_eq!(rt; err.as_slice(), line);
     }
+    Ok(())
 }
 
 #[test]
 fn unread_commands_are_told_after_the_source(rt: HostRuntime) {
-    let mut out = Vec::new(rt.alloc());
-    let mut err = Vec::new(rt.alloc());
-    let status = plc_tool::run_unread(rt.alloc(), SOURCE, Fault::Device, &mut out, &mut err);
-    assert_eq!(rt; status, 2);
-    assert_eq!(rt; err.as_slice(), b"plc: device\n".as_slice());
-    assert!(rt; out.is_empty());
+    for (source, status, line) in [
+        (SOURCE, 2, b"plc: device\n".as_slice()),
+        (b"LD Z".as_slice(), 1, b"plc: decl 3 at 1:4\n".as_slice()),
+    ] {
+        let mut out = Vec::new(rt.alloc());
+        let mut err = Vec::new(rt.alloc());
+        let status_given = plc_tool::run_unread(
+            rt.alloc(),
+            source,
+            Fault::Device,
+            &mut out,
+            &mut err,
+        );
+        assert_eq!(rt; status_given, status);
+        assert_eq!(rt; err.as_slice(), line);
+        assert!(rt; out.is_empty());
+    }
 }

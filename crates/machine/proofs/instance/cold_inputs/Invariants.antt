@@ -2,7 +2,8 @@ use Rattle.std.proofs.Common.{◌≡◌, ◌≤◌, ◌++◌, drop, map, length}
 use Rattle.std.specs.Prelude.{filter}
 use Rattle.il_model.specs.declared.kind.Field.{Field}
 use Rattle.il_model.specs.Kinds.{field_type, is_input}
-use Rattle.controller_model.specs.Cold.{zero_of, cold_inputs}
+use Rattle.il_model.specs.Values.{zero_of}
+use Rattle.controller_model.specs.Cold.{cold_inputs}
 use Rattle.machine.proofs.instance.cold_inputs.Given as goal
 
 abbrev pub invariant-loop-field : goal.invariant-loop-field

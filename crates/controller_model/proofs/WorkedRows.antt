@@ -1,0 +1,86 @@
+-- Worked rows of scans and of the debugger, by computing the command table.
+use Rattle.std.proofs.Common.{◌≡◌, ℕ, Bool, true, false, List, [], ◌∷◌, replicate, Option, Some, None, refl}
+use Rattle.std.specs.Prelude.{ℤ, pos, slice_set}
+use Rattle.il_model.specs.declared.value.Value.{Value}
+use Rattle.il_model.specs.declared.value.Value.TheVariants as values
+use Rattle.il_model.specs.declared.value.Stop.TheVariants as stops
+use Rattle.il_model.specs.declared.op.Op.{Op}
+use Rattle.il_model.specs.declared.op.Op.TheVariants as ops
+use Rattle.il_model.specs.declared.program.Instr.{Instr}
+use Rattle.il_model.specs.declared.program.Area.TheVariants as areas
+use Rattle.il_model.specs.declared.program.Loc.TheVariants.{Bit, Word}
+use Rattle.il_model.specs.declared.program.Operand.{Operand}
+use Rattle.il_model.specs.declared.program.Operand.TheVariants as operands
+use Rattle.il_model.specs.declared.cells.OutImage.{OutImage}
+use Rattle.il_model.specs.declared.cells.InImage.{InImage}
+use Rattle.il_model.specs.declared.slot.Slot.{Slot}
+use Rattle.il_model.specs.declared.command.Command.{Command}
+use Rattle.il_model.specs.declared.command.Command.TheVariants as commands
+use Rattle.il_model.specs.declared.command.Answer.{Answer}
+use Rattle.il_model.specs.declared.command.Answer.TheVariants as answers
+use Rattle.il_model.specs.declared.command.Refusal.TheVariants as refusals
+use Rattle.il_model.specs.Cells.{clear_cells, clear_inputs, safe_image}
+use Rattle.il_model.specs.Text.{Text}
+use Rattle.controller_model.specs.Commands.{answers_of}
+
+abbrev line : Op → Operand → Instr
+line op operand = record { label = None; op = op; modifier = record { negated = false; conditional = false; opens = false }; operand = operand; arguments = [] }
+
+abbrev code : List Instr → Text
+code lines = record { variables = []; instances = []; code = lines }
+
+abbrev number : ℕ → Operand
+number n = operands.Literal (values.Int (pos n))
+
+abbrev bits : Bool → List Bool
+bits b = slice_set (replicate 512 false) 0 b
+
+-- a scan at a moment with the first input bit as given
+abbrev scan : Bool → Command
+scan b = commands.Scan (record { cells = record { bits = bits b; words = replicate 64 (pos 0) } }) 0
+
+abbrev outputs : ℕ → Bool → ℕ → Answer
+outputs count b n = answers.Outputs count (record { cells = record { bits = bits b; words = slice_set (replicate 64 (pos 0)) 0 (pos n) } })
+
+abbrev first_input : Slot
+first_input = record { 0 = 0 }
+
+abbrev first_output : Slot
+first_output = record { 0 = 4096 }
+
+-- no instruction: one scan, all FALSE and 0
+nothing_to_do : answers_of (code []) 10 (scan false ∷ []) ≡ outputs 1 false 0 ∷ []
+nothing_to_do = refl
+
+abbrev overflowing : Text
+overflowing = code (line ops.Ld (number 32767) ∷ line ops.Add (number 1) ∷ [])
+
+abbrev overflow : Answer
+overflow = answers.Stopped stops.Overflow 1 safe_image
+
+-- a stop stays until a reset, and its current result can be read
+overflow_stays : answers_of overflowing 10 (scan false ∷ scan false ∷ commands.ReadCr ∷ commands.Step ∷ commands.Reset ∷ commands.ReadCr ∷ scan false ∷ [])
+    ≡ overflow ∷ overflow ∷ answers.Value (values.Int (pos 32767)) ∷ answers.Refused refusals.NotHeld ∷ answers.Done ∷ answers.Refused refusals.NotHeld ∷ overflow ∷ []
+overflow_stays = refl
+
+abbrev copying : Text
+copying = code (line ops.Ld (operands.Direct (Bit areas.Input 0)) ∷ line ops.St (operands.Direct (Bit areas.Output 0)) ∷ line ops.Ld (number 5) ∷ line ops.St (operands.Direct (Word areas.Output 0)) ∷ [])
+
+-- held at a breakpoint; another scan changes nothing; a step; then to the end
+held_and_on : answers_of copying 10 (commands.SetBreak 4 ∷ commands.SetBreak 2 ∷ scan true ∷ scan false ∷ commands.ReadCr ∷ commands.Step ∷ commands.Continue ∷ commands.Continue ∷ [])
+    ≡ answers.Refused refusals.BadPosition ∷ answers.Done ∷ answers.Held 2 ∷ answers.Held 2 ∷ answers.Value (values.Bool true) ∷ answers.Held 3 ∷ outputs 1 true 5 ∷ answers.Refused refusals.NotHeld ∷ []
+held_and_on = refl
+
+-- the budget comes before the breakpoint
+budget_first : answers_of copying 2 (commands.SetBreak 2 ∷ scan true ∷ []) ≡ answers.Done ∷ answers.Stopped stops.Budget 2 safe_image ∷ []
+budget_first = refl
+
+-- a forced input is read in the place of the one handed in, until it is freed
+forced_input : answers_of copying 10 (commands.Force first_input (values.Bool true) ∷ scan false ∷ commands.Unforce first_input ∷ scan false ∷ [])
+    ≡ answers.Done ∷ outputs 1 true 5 ∷ answers.Done ∷ outputs 2 false 5 ∷ []
+forced_input = refl
+
+-- a forced output is released, and %Q itself stays as the program left it
+forced_output : answers_of copying 10 (commands.Force first_output (values.Bool true) ∷ scan false ∷ commands.ReadVar first_output ∷ commands.Force first_output (values.Int (pos 1)) ∷ commands.Force (record { 0 = 8192 }) (values.Bool true) ∷ [])
+    ≡ answers.Done ∷ outputs 1 true 5 ∷ answers.Value (values.Bool false) ∷ answers.Refused refusals.BadType ∷ answers.Refused refusals.BadSlot ∷ []
+forced_output = refl

@@ -1,0 +1,291 @@
+//! A controller of one program.
+
+ghost use Rattle.std.specs.Prelude.{◌≡◌, IfOk};
+ghost use Rattle.il_model.specs.declared.command.Refusal.TheVariants.{BadSlot};
+ghost use Rattle.il_model.specs.declared.command.Command.TheVariants.{Reset};
+ghost use Rattle.il_model.specs.declared.command.Answer.TheVariants.{Stopped};
+ghost use Rattle.il_model.specs.Cells.{safe_image};
+ghost use Rattle.controller_model.specs.Slots.{places_of, peeked};
+ghost use Rattle.controller_model.specs.Commands.{answer_of, phase_of, answered, scanned, gone_on, every, flagged, forcible_at, forced_at, unforced_at, shown, result_read, applied};
+ghost use Rattle.debugger.specs.Owned.{cold_owned};
+
+use controller_model::{Phase, ScanOut};
+use il_model::codes::any_loc;
+use il_model::{Answer, Area, Budget, Command, InImage, Loc, OutImage, Refusal, Slot, Stop, Value};
+use loader::Image;
+use scan_cycle::ScanCycle;
+use std::alloc::{AllocError, Global};
+use std::marker::Model;
+
+/// A controller: it owns the image of its program, and all that the program's scans and the debugger leave.
+#[derive(Debug, Drop)]
+pub struct Controller {
+    image: Image,
+    budget: Budget,
+    cycle: ScanCycle,
+    breaks: Vec<bool>,
+    phase: Phase,
+}
+
+impl Model for Controller {
+    ghost use Rattle.debugger.specs.Owned.{Owned, IsKept};
+
+    ghost Value = { Owned };
+
+    ghost view = { λ c. record { program = c.image; budget = c.budget.instructions; control = record { cycle = c.cycle.cycle; breaks = c.breaks.items; phase = c.phase } } };
+
+    ghost invariant = { λ c. IsKept c.image c.budget.instructions c.cycle c.breaks.items };
+}
+
+/// A stop, which releases the safe image.
+fn stopped(stop: Stop, position: u16) -> Answer
+    ensures { result ≡ Stopped stop position safe_image }
+{
+    Answer::Stopped {
+        stop,
+        position,
+        image: OutImage::safe(),
+    }
+}
+
+/// What a scan tells, as an answer; an end has the count of scans.
+fn answer_of(count: u64, out: ScanOut) -> Answer
+    ensures { result ≡ answer_of count out }
+{
+    match out {
+        ScanOut::Done(image) => Answer::Outputs { count, image },
+        ScanOut::Held(position) => Answer::Held(position),
+        ScanOut::Stopped(stop, position) => stopped(stop, position),
+    }
+}
+
+/// Whether a scan that told so is still open.
+fn phase_of(out: ScanOut) -> Phase
+    ensures { result ≡ phase_of out }
+{
+    match out {
+        ScanOut::Done(_) => Phase::Idle,
+        ScanOut::Held(_) => Phase::Held,
+        ScanOut::Stopped(stop, _) => Phase::Stopped(stop),
+    }
+}
+
+/// The location of the inputs or of the outputs that a slot is.
+fn forcible_at(slot: Slot) -> Option<Loc>
+    ensures { result ≡ forcible_at slot.0 }
+{
+    match any_loc(slot.0)? {
+        Loc::Bit(Area::Memory, _) | Loc::Word(Area::Memory, _) => None,
+        loc => Some(loc),
+    }
+}
+
+impl Controller {
+    /// A controller of this image that never ran: all variables at their first values, no forces, no breakpoints, no scan
+    /// open, and 0 for the count of scans and the greatest moment. A scan may perform as many instructions as the budget says. It
+    /// fails only where memory runs out.
+    pub fn new(alloc: Global, image: Image, budget: Budget) -> Result<Controller, AllocError>
+        ensures { IfOk result (λ c. c ≡ cold_owned image budget.instructions) }
+    {
+        let cycle = ScanCycle::new(alloc, &image)?;
+        let breaks = vec![in alloc; false; image.len()]?;
+        Ok(Controller {
+            image,
+            budget,
+            cycle,
+            breaks,
+            phase: Phase::Idle,
+        })
+    }
+
+    /// The image of its program.
+    pub fn image(&self) -> &Image
+        ensures { result.now ≡ self.now.program }
+    {
+        &self.image
+    }
+
+    /// The answer to what a scan told, and the phase that it leaves.
+    fn tell(&mut self, out: ScanOut) -> Answer
+        ensures answered { (result, self.new.control) ≡ answered self.old.control (out, self.old.control.cycle) }
+        ensures program { self.new.program ≡ self.old.program }
+        ensures budget { self.new.budget ≡ self.old.budget }
+    {
+        self.phase = phase_of(out);
+        answer_of(self.cycle.count(), out)
+    }
+
+    fn scan(&mut self, inputs: &InImage, moment: u64) -> Answer
+        ensures scanned { (result, self.new.control) ≡ scanned self.old.program self.old.budget self.old.control inputs.now moment self.old.control.phase }
+        ensures program { self.new.program ≡ self.old.program }
+        ensures budget { self.new.budget ≡ self.old.budget }
+    {
+        match self.phase {
+            Phase::Idle => {
+                self.cycle.begin(inputs, moment);
+                let out = self.cycle.run_to(&self.image, &self.breaks, self.budget);
+                self.tell(out)
+            }
+            Phase::Held => Answer::Held(self.cycle.pos()),
+            Phase::Stopped(stop) => stopped(stop, self.cycle.pos()),
+        }
+    }
+
+    /// A held scan goes on over its instruction, to the first of these breakpoints.
+    fn go_on(&mut self, breaks: &[bool; 4096]) -> Answer
+        ensures went { (result, self.new.control) ≡ gone_on self.old.program self.old.budget self.old.control breaks.now self.old.control.phase }
+        ensures program { self.new.program ≡ self.old.program }
+        ensures budget { self.new.budget ≡ self.old.budget }
+    {
+        match self.phase {
+            Phase::Held => {
+                let out = self.cycle.step_over(&self.image, breaks, self.budget);
+                self.tell(out)
+            }
+            Phase::Idle | Phase::Stopped(_) => Answer::Refused(Refusal::NotHeld),
+        }
+    }
+
+    /// It goes on with a breakpoint at every position, so to the next one.
+    fn step(&mut self) -> Answer
+        ensures went { (result, self.new.control) ≡ gone_on self.old.program self.old.budget self.old.control every self.old.control.phase }
+        ensures program { self.new.program ≡ self.old.program }
+        ensures budget { self.new.budget ≡ self.old.budget }
+    {
+        let every = [true; 4096];
+        self.go_on(&every)
+    }
+
+    /// It goes on to the first of its own breakpoints.
+    fn run_on(&mut self) -> Answer
+        ensures went { (result, self.new.control) ≡ gone_on self.old.program self.old.budget self.old.control self.old.control.breaks self.old.control.phase }
+        ensures program { self.new.program ≡ self.old.program }
+        ensures budget { self.new.budget ≡ self.old.budget }
+    {
+        match self.phase {
+            Phase::Held => {
+                let out = self.cycle.step_over(&self.image, &self.breaks, self.budget);
+                self.tell(out)
+            }
+            Phase::Idle | Phase::Stopped(_) => Answer::Refused(Refusal::NotHeld),
+        }
+    }
+
+    fn flag(&mut self, position: u16, set: bool) -> Answer
+        ensures flagged { (result, self.new.control) ≡ flagged self.old.program self.old.control position set }
+        ensures program { self.new.program ≡ self.old.program }
+        ensures budget { self.new.budget ≡ self.old.budget }
+    {
+        let position = position as usize;
+        if position < self.image.len() {
+            self.breaks[position] = set;
+            Answer::Done
+        } else {
+            Answer::Refused(Refusal::BadPosition)
+        }
+    }
+
+    fn force(&mut self, slot: Slot, v: Value) -> Answer
+        ensures forced { (result, self.new.control) ≡ forced_at self.old.control v (forcible_at slot.0) }
+        ensures program { self.new.program ≡ self.old.program }
+        ensures budget { self.new.budget ≡ self.old.budget }
+    {
+        match forcible_at(slot) {
+            None => Answer::Refused(Refusal::BadSlot),
+            Some(loc) => {
+                if self.cycle.force(loc, v) {
+                    Answer::Done
+                } else {
+                    Answer::Refused(Refusal::BadType)
+                }
+            }
+        }
+    }
+
+    fn unforce(&mut self, slot: Slot) -> Answer
+        ensures unforced { (result, self.new.control) ≡ unforced_at self.old.control (forcible_at slot.0) }
+        ensures program { self.new.program ≡ self.old.program }
+        ensures budget { self.new.budget ≡ self.old.budget }
+    {
+        match forcible_at(slot) {
+            None => Answer::Refused(Refusal::BadSlot),
+            Some(loc) => {
+                if self.cycle.unforce(loc) {
+                    Answer::Done
+                } else {
+                    Answer::Refused(Refusal::BadType)
+                }
+            }
+        }
+    }
+
+    fn read(&self, slot: Slot) -> Answer
+        ensures { (result, self.now.control) ≡ shown self.now.control (peeked (places_of self.now.program) self.now.control.cycle.state slot.0) BadSlot }
+    {
+        match self.cycle.peek(slot) {
+            Some(v) => Answer::Value(v),
+            None => Answer::Refused(Refusal::BadSlot),
+        }
+    }
+
+    fn read_cr(&self) -> Answer
+        ensures { (result, self.now.control) ≡ result_read self.now.control self.now.control.phase }
+    {
+        match self.phase {
+            Phase::Idle => Answer::Refused(Refusal::NotHeld),
+            Phase::Held | Phase::Stopped(_) => match self.cycle.cr() {
+                Some(v) => Answer::Value(v),
+                None => Answer::Refused(Refusal::NoResult),
+            },
+        }
+    }
+
+    fn reset(&mut self) -> Answer
+        ensures reset { (result, self.new.control) ≡ applied self.old.program self.old.budget self.old.control Reset }
+        ensures program { self.new.program ≡ self.old.program }
+        ensures budget { self.new.budget ≡ self.old.budget }
+    {
+        self.cycle.reset(&self.image);
+        self.phase = Phase::Idle;
+        Answer::Done
+    }
+
+    /// Performs a command and answers it; it takes no memory. No scan is open while the controller is idle; an open one is held
+    /// at a breakpoint, or was stopped. What is refused changes nothing.
+    ///
+    /// Idle, `Scan` latches its inputs and its moment, which doesn't go back, counts one scan, and runs: to the end, with the
+    /// answer `Outputs`, and the controller is idle again; to a breakpoint, with `Held`; or to a stop, with `Stopped` and the
+    /// safe image. `Step`, `Continue` and `ReadCr` are refused as `NotHeld`.
+    ///
+    /// Held, `Step` performs the instruction at the position, and `Continue` goes on over it to the next breakpoint; both answer as
+    /// `Scan` does, and draw on the budget of the one scan. `Scan` answers `Held` again and changes nothing. `ReadCr` tells the
+    /// current result, or is refused as `NoResult`.
+    ///
+    /// Stopped, `Scan` answers `Stopped` again, with the safe image, and changes nothing. `Step` and `Continue` are refused as
+    /// `NotHeld`; `ReadCr` is as when held. Only `Reset` leads out of it.
+    ///
+    /// In all three: `SetBreak` and `ClearBreak` are `Done`, or refused as `BadPosition` past the last instruction. `Force` and
+    /// `Unforce` are `Done`, or refused as `BadSlot` where the slot is no location of `%I` or `%Q` (IEC 61131-3:2003, 2.4.1.1), also
+    /// that of a variable that lies there, and then as `BadType` where a bit is given no BOOL or a word no INT; a force of an
+    /// input counts from the next scan on, one of an output from the next end of a scan on, and `%Q` itself keeps its value.
+    /// `ReadVar` tells the value of any slot, or is refused as `BadSlot`. `Reset` is `Done`: all variables at their first values,
+    /// the controller idle; forces, breakpoints, the moment and the count stay.
+    pub fn apply(&mut self, command: &Command) -> Answer
+        ensures applied { (result, self.new.control) ≡ applied self.old.program self.old.budget self.old.control command.now }
+        ensures program { self.new.program ≡ self.old.program }
+        ensures budget { self.new.budget ≡ self.old.budget }
+    {
+        match *command {
+            Command::Scan { inputs, moment } => self.scan(&inputs, moment),
+            Command::SetBreak(position) => self.flag(position, true),
+            Command::ClearBreak(position) => self.flag(position, false),
+            Command::Step => self.step(),
+            Command::Continue => self.run_on(),
+            Command::Force(slot, v) => self.force(slot, v),
+            Command::Unforce(slot) => self.unforce(slot),
+            Command::ReadVar(slot) => self.read(slot),
+            Command::ReadCr => self.read_cr(),
+            Command::Reset => self.reset(),
+        }
+    }
+}

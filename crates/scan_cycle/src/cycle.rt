@@ -1,0 +1,188 @@
+//! What is kept from scan to scan, and the calls of a scan.
+
+ghost use Rattle.std.specs.Prelude.{◌≡◌, ◌<◌, is_some, unwrap_or, IfOk};
+ghost use Rattle.il_model.specs.Text.{Text};
+ghost use Rattle.controller_model.specs.Forces.{with_forces};
+ghost use Rattle.controller_model.specs.Slots.{peeked};
+ghost use Rattle.controller_model.specs.Scan.{begun, ran_to, stepped_over, seen, with_force, without_force, cold_again};
+ghost use Rattle.scan_cycle.specs.Kept.{cold_kept, IsCycleOf};
+ghost use Rattle.scan_cycle.specs.Told.{came_to, IsLeft};
+
+use crate::forces::{force, no_forces, unforce, with_forces};
+use crate::run::{Came, run, run_over};
+use controller_model::{Forces, ScanOut};
+use il_model::{Budget, InImage, Loc, OutImage, Slot, Value};
+use loader::Image;
+use machine::Machine;
+use std::alloc::{AllocError, Global};
+use std::marker::Model;
+
+/// A machine with what is kept from scan to scan: the number of scans begun, the greatest moment, in milliseconds, the
+/// forces of inputs and outputs, and how many instructions an open scan has performed.
+#[derive(Debug, Drop)]
+pub struct ScanCycle {
+    machine: Machine,
+    count: u64,
+    moment: u64,
+    forces: Forces,
+    performed: u32,
+}
+
+impl Model for ScanCycle {
+    ghost use Rattle.scan_cycle.specs.Kept.{KeptCycle};
+
+    ghost Value = { KeptCycle };
+
+    ghost view = { λ c. record { cycle = record { state = c.machine.state; count = c.count; moment = c.moment; forces = c.forces; performed = c.performed }; places = c.machine.places } };
+}
+
+impl ScanCycle {
+    /// A scan cycle that never ran, of a machine for this image; it fails only where memory runs out.
+    pub fn new(alloc: Global, image: &Image) -> Result<ScanCycle, AllocError>
+        ensures cold { IfOk result (λ c. c ≡ cold_kept image.now) }
+        ensures kept { IfOk result (IsCycleOf image.now) }
+    {
+        Ok(ScanCycle {
+            machine: Machine::new(alloc, image)?,
+            count: 0,
+            moment: 0,
+            forces: no_forces(),
+            performed: 0,
+        })
+    }
+
+    /// Begins a scan: it is counted, up to the greatest number of 64 bits; its moment, in milliseconds, is no less than the
+    /// last one's; the inputs are latched with the forces over them; the run is at position 0. A scan that is open is given up.
+    pub fn begin(&mut self, inputs: &InImage, moment: u64)
+        ensures begun { self.new ≡ record self.old { cycle = begun self.old.cycle inputs.now moment } }
+        ensures kept { (Q : Text) → IsCycleOf Q self.old → IsCycleOf Q self.new }
+    {
+        let latched = InImage {
+            cells: with_forces(&self.forces.input, &inputs.cells),
+        };
+        self.machine.start(&latched);
+        self.count = self.count.saturating_add(1);
+        self.moment = moment.max(self.moment);
+        self.performed = 0;
+    }
+
+    /// Runs an open scan on. Before each instruction, in this order: the end, or what comes after RET, is Done, with the
+    /// outputs and the forces over them; as many instructions performed as the budget has is Stopped; a breakpoint is Held.
+    /// `breaks` has a flag for each instruction; one that it lacks is no breakpoint. Done leaves the machine at rest; Held and
+    /// Stopped leave it at the instruction that comes next or was refused, and only Held keeps how many were performed.
+    pub fn run_to(&mut self, image: &Image, breaks: &[bool], budget: Budget) -> ScanOut
+        requires { IsCycleOf image.now self.old }
+        ensures run { (result, self.new.cycle) ≡ ran_to image.now breaks.now budget.instructions self.old.cycle }
+        ensures kept { IsCycleOf image.now self.new }
+        ensures performed { self.new.cycle.performed < budget.instructions }
+    {
+        let left = budget.instructions.saturating_sub(self.performed);
+        let came = run(&mut self.machine, image, self.moment, breaks, left);
+        self.tell(came, budget)
+    }
+
+    /// Performs the instruction that a scan is held at, and runs on as `run_to` does; a budget used up before is Stopped.
+    pub fn step_over(&mut self, image: &Image, breaks: &[bool], budget: Budget) -> ScanOut
+        requires { IsCycleOf image.now self.old }
+        ensures run { (result, self.new.cycle) ≡ stepped_over image.now breaks.now budget.instructions self.old.cycle }
+        ensures kept { IsCycleOf image.now self.new }
+        ensures performed { self.new.cycle.performed < budget.instructions }
+    {
+        let left = budget.instructions.saturating_sub(self.performed);
+        let came = run_over(&mut self.machine, image, self.moment, breaks, left);
+        self.tell(came, budget)
+    }
+
+    /// What a run comes to, seen from outside; its end brings the machine to rest.
+    fn tell(&mut self, came: Came, budget: Budget) -> ScanOut
+        requires { IsLeft budget.instructions came }
+        ensures seen { (result, self.new.cycle) ≡ seen budget.instructions self.old.cycle (came_to came self.old.cycle.state) }
+        ensures kept { (Q : Text) → IsCycleOf Q self.old → IsCycleOf Q self.new }
+        ensures performed { self.new.cycle.performed < budget.instructions }
+    {
+        match came {
+            Came::Ended => {
+                let outputs = self.released();
+                self.machine.rest();
+                self.performed = 0;
+                ScanOut::Done(outputs)
+            }
+            Came::Paused(left) => {
+                self.performed = budget.instructions - left;
+                ScanOut::Held(self.machine.pos())
+            }
+            Came::Halted(stop) => {
+                self.performed = 0;
+                ScanOut::Stopped(stop, self.machine.pos())
+            }
+        }
+    }
+
+    /// The outputs with the forces over them, which change `%Q` itself in nothing.
+    fn released(&self) -> OutImage
+        ensures { result.cells ≡ with_forces self.now.cycle.forces.output self.now.cycle.state.output }
+    {
+        OutImage {
+            cells: with_forces(&self.forces.output, &self.machine.outputs().cells),
+        }
+    }
+
+    /// Forces a location of `%I` or `%Q` (IEC 61131-3:2003 2.4.1.1) from the next latch or release on: a bit to a BOOL, a word to an INT. False, and nothing changed, where the location
+    /// is of another area or the value of another type.
+    pub fn force(&mut self, loc: Loc, v: Value) -> bool
+        ensures told { result ≡ is_some (with_force self.old.cycle loc v) }
+        ensures forced { self.new ≡ record self.old { cycle = unwrap_or (with_force self.old.cycle loc v) self.old.cycle } }
+        ensures kept { (Q : Text) → IsCycleOf Q self.old → IsCycleOf Q self.new }
+        ensures performed { self.new.cycle.performed ≡ self.old.cycle.performed }
+    {
+        force(&mut self.forces, loc, v)
+    }
+
+    /// Frees a location of `%I` or `%Q`, forced or not. False, and nothing changed, where it is of another area.
+    pub fn unforce(&mut self, loc: Loc) -> bool
+        ensures told { result ≡ is_some (without_force self.old.cycle loc) }
+        ensures unforced { self.new ≡ record self.old { cycle = unwrap_or (without_force self.old.cycle loc) self.old.cycle } }
+        ensures kept { (Q : Text) → IsCycleOf Q self.old → IsCycleOf Q self.new }
+        ensures performed { self.new.cycle.performed ≡ self.old.cycle.performed }
+    {
+        unforce(&mut self.forces, loc)
+    }
+
+    /// Back to the cold machine, with no scan open; forces, moment and count stay. It takes no memory.
+    pub fn reset(&mut self, image: &Image)
+        requires { IsCycleOf image.now self.old }
+        ensures cold { self.new ≡ record self.old { cycle = cold_again image.now self.old.cycle } }
+        ensures kept { IsCycleOf image.now self.new }
+    {
+        self.machine.reset(image);
+        self.performed = 0;
+    }
+
+    /// The value of a location, a variable or a field; none where the slot is none of these.
+    pub fn peek(&self, slot: Slot) -> Option<Value>
+        ensures { result ≡ peeked self.now.places self.now.cycle.state slot.0 }
+    {
+        self.machine.peek(slot)
+    }
+
+    /// The current result, if there is one.
+    pub fn cr(&self) -> Option<Value>
+        ensures { result ≡ self.now.cycle.state.cr }
+    {
+        self.machine.cr()
+    }
+
+    /// The number of the instruction that comes next.
+    pub fn pos(&self) -> u16
+        ensures { result ≡ self.now.cycle.state.position }
+    {
+        self.machine.pos()
+    }
+
+    /// How many scans were begun, up to the greatest number of 64 bits.
+    pub fn count(&self) -> u64
+        ensures { result ≡ self.now.cycle.count }
+    {
+        self.count
+    }
+}

@@ -1,0 +1,114 @@
+//! Values forced in place of the cells of an area.
+
+ghost use Rattle.std.specs.Prelude.{◌≡◌, length, is_some, unwrap_or, nat_lt, slice_set};
+ghost use Rattle.il_model.specs.Areas.{area_of};
+ghost use Rattle.controller_model.specs.Forces.{laid, with_forces, no_mask, no_forces, with_bit, with_word, masked, unmasked, forced, unforced};
+
+use controller_model::{Forces, Mask};
+use il_model::{Area, Cells, Loc, Value};
+
+/// No forces.
+pub fn no_forces() -> Forces
+    ensures { result ≡ no_forces }
+{
+    Forces {
+        input: no_mask(),
+        output: no_mask(),
+    }
+}
+
+fn no_mask() -> Mask
+    ensures { result ≡ no_mask }
+{
+    Mask {
+        bits: [None; 512],
+        words: [None; 64],
+    }
+}
+
+/// The cells of an area with the forces laid over them.
+pub fn with_forces(mask: &Mask, cells: &Cells) -> Cells
+    ensures { result ≡ with_forces mask.now cells.now }
+{
+    let mut forced = *cells;
+    lay(&mask.bits, &mut forced.bits);
+    lay(&mask.words, &mut forced.words);
+    forced
+}
+
+fn lay<T: Copy>(mask: &[Option<T>], cells: &mut [T])
+    requires { length mask.now ≡ length cells.old }
+    ensures { cells.new ≡ laid mask.now cells.old }
+{
+    for i in 0..mask.len() {
+        if let Some(x) = mask[i] {
+            cells[i] = x;
+        }
+    }
+}
+
+/// Forces a location of the inputs or outputs; false, and nothing changed, where it is of another area, or the value isn't of
+/// its type.
+pub fn force(forces: &mut Forces, loc: Loc, v: Value) -> bool
+    ensures told { result ≡ is_some (forced forces.old loc v) }
+    ensures forced { forces.new ≡ unwrap_or (forced forces.old loc v) forces.old }
+{
+    match area(loc) {
+        Area::Input => force_in(&mut forces.input, loc, v),
+        Area::Output => force_in(&mut forces.output, loc, v),
+        Area::Memory => false,
+    }
+}
+
+/// Frees a location of the inputs or outputs; false, and nothing changed, where it is of another area.
+pub fn unforce(forces: &mut Forces, loc: Loc) -> bool
+    ensures told { result ≡ is_some (unforced forces.old loc) }
+    ensures unforced { forces.new ≡ unwrap_or (unforced forces.old loc) forces.old }
+{
+    match area(loc) {
+        Area::Input => unforce_in(&mut forces.input, loc),
+        Area::Output => unforce_in(&mut forces.output, loc),
+        Area::Memory => false,
+    }
+}
+
+fn area(loc: Loc) -> Area
+    ensures { result ≡ area_of loc }
+{
+    match loc {
+        Loc::Bit(area, _) | Loc::Word(area, _) => area,
+    }
+}
+
+fn force_in(mask: &mut Mask, loc: Loc, v: Value) -> bool
+    ensures told { result ≡ is_some (masked mask.old loc v) }
+    ensures forced { mask.new ≡ unwrap_or (masked mask.old loc v) mask.old }
+{
+    match (loc, v) {
+        (Loc::Bit(_, n), Value::Bool(b)) => set(&mut mask.bits, n, Some(b)),
+        (Loc::Word(_, n), Value::Int(z)) => set(&mut mask.words, n, Some(z)),
+        _ => false,
+    }
+}
+
+fn unforce_in(mask: &mut Mask, loc: Loc) -> bool
+    ensures told { result ≡ is_some (unmasked mask.old loc) }
+    ensures unforced { mask.new ≡ unwrap_or (unmasked mask.old loc) mask.old }
+{
+    match loc {
+        Loc::Bit(_, n) => set(&mut mask.bits, n, None),
+        Loc::Word(_, n) => set(&mut mask.words, n, None),
+    }
+}
+
+/// Sets what a cell is forced to; false, and nothing changed, where there is no such cell.
+fn set<T: Copy>(mask: &mut [Option<T>], n: u16, force: Option<T>) -> bool
+    ensures told { result ≡ nat_lt n (length mask.old) }
+    ensures set { mask.new ≡ slice_set mask.old n force }
+{
+    let is_there = (n as usize) < mask.len();
+    if is_there {
+        mask[n as usize] = force;
+    }
+    is_there
+}

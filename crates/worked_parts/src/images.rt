@@ -1,0 +1,29 @@
+//! Images of small programs, by their bytes.
+
+use loader::{Image, load};
+use std::alloc::Global;
+use std::test::Fail;
+
+/// `VAR A : BOOL; B AT %QX0.1 : BOOL; END_VAR`, `LD %IX0.0`, `STN A`, `STN B`.
+pub const THREE_STORES: &[u8] =
+    b"ILPC\0\x01\0\x02\0\0\0\0\0\0\0\x03\x01A\0\xff\xff\0\0\0\0\x01B\0\x10\x01\0\0\0\0\x01\0\0\0\x02\x01\x40\0\x02\x01\x40\x01";
+
+/// `LD %IX0.0`, `ST %QX0.0`, `LD 5`, `ST %QW0`.
+pub const WIRE_AND_FIVE: &[u8] =
+    b"ILPC\0\x01\0\0\0\0\0\0\0\x01\0\x04\x01\0\0\0\x05\x01\0\0\0\x02\0\x10\0\x01\0\x80\0\x02\0\x14\0";
+
+/// `LD 1`, `DIV %IW0`.
+pub const ONE_DIVIDED: &[u8] =
+    b"ILPC\0\x01\0\0\0\0\0\0\0\x01\0\x02\x01\0\0\0\x01\x01\0\x80\0\x0c\0\x04\0";
+
+/// `VAR N : INT := 5; X AT %IX0.0 : BOOL; C : CTU; T1 : TON; END_VAR`.
+pub const NAMES: &[u8] =
+    b"ILPC\0\x01\0\x02\0\x02\0\0\0\0\0\0\x01N\x01\xff\xff\0\0\0\x05\x01X\0\0\0\0\0\0\0\x01C\x05\x02T1\x09";
+
+/// The image of these bytes.
+pub fn image(alloc: Global, bytes: &[u8]) -> Result<Image, Fail> {
+    match load(alloc, bytes) {
+        Ok(image) => Ok(image),
+        Err(_) => Err(Fail::from("no image")),
+    }
+}
