@@ -8,3 +8,6 @@ pub mod Turns
 pub mod Agrees
 pub mod SameEnd
 pub mod WorkedRows
+pub mod Fitting
+pub mod ForcedSlots
+pub mod SameBlocks

@@ -1,2 +1,8 @@
 pub mod Found
 pub mod LocationCodes
+pub mod Opens
+pub mod Opened
+pub mod States
+pub mod ForcesAgain
+pub mod SavedAgain
+pub mod Making

@@ -7,11 +7,19 @@ ghost use Rattle.il_model.specs.declared.command.Answer.TheVariants.{Stopped};
 ghost use Rattle.il_model.specs.Cells.{safe_image};
 ghost use Rattle.controller_model.specs.Slots.{places_of, peeked};
 ghost use Rattle.controller_model.specs.Commands.{answer_of, phase_of, answered, scanned, gone_on, every, flagged, forcible_at, forced_at, unforced_at, shown, result_read, applied};
-ghost use Rattle.debugger.specs.Owned.{cold_owned};
+ghost use Rattle.controller_model.specs.Snapshots.{saved_phase, saved};
+ghost use Rattle.scan_cycle.specs.Parts.{performed_in};
+ghost use Rattle.debugger.specs.Owned.{cold_owned, IsController};
+ghost use Rattle.debugger.specs.Restored.{Restores};
 
+use crate::shape::fits;
+use crate::snap_error::SnapError;
 use controller_model::{Phase, ScanOut};
 use il_model::codes::any_loc;
-use il_model::{Answer, Area, Budget, Command, InImage, Loc, OutImage, Refusal, Slot, Stop, Value};
+use il_model::{
+    Answer, Area, Budget, Command, InImage, Loc, OutImage, Refusal, SavedPhase, Slot, Snapshot,
+    Stop, Value,
+};
 use loader::Image;
 use scan_cycle::ScanCycle;
 use std::alloc::{AllocError, Global};
@@ -34,7 +42,7 @@ impl Model for Controller {
 
     ghost view = { λ c. record { program = c.image; budget = c.budget.instructions; control = record { cycle = c.cycle.cycle; breaks = c.breaks.items; phase = c.phase } } };
 
-    ghost invariant = { λ c. IsKept c.image c.budget.instructions c.cycle c.breaks.items };
+    ghost invariant = { λ c. IsKept c.image c.budget.instructions c.cycle c.breaks.items c.phase };
 }
 
 /// A stop, which releases the safe image.
@@ -70,8 +78,30 @@ fn phase_of(out: ScanOut) -> Phase
     }
 }
 
+/// What a snapshot has of a phase; a held scan has performed so many instructions.
+fn saved_phase(phase: Phase, performed: u32) -> SavedPhase
+    ensures { result ≡ saved_phase phase performed }
+{
+    match phase {
+        Phase::Idle => SavedPhase::Idle,
+        Phase::Held => SavedPhase::Held { performed },
+        Phase::Stopped(stop) => SavedPhase::Stopped(stop),
+    }
+}
+
+/// The phase that a snapshot has.
+fn restored_phase(phase: SavedPhase) -> Phase
+    ensures { saved_phase result (performed_in phase) ≡ phase }
+{
+    match phase {
+        SavedPhase::Idle => Phase::Idle,
+        SavedPhase::Held { .. } => Phase::Held,
+        SavedPhase::Stopped(stop) => Phase::Stopped(stop),
+    }
+}
+
 /// The location of the inputs or of the outputs that a slot is.
-fn forcible_at(slot: Slot) -> Option<Loc>
+pub(crate) fn forcible_at(slot: Slot) -> Option<Loc>
     ensures { result ≡ forcible_at slot.0 }
 {
     match any_loc(slot.0)? {
@@ -105,14 +135,52 @@ impl Controller {
         &self.image
     }
 
-    /// The answer to what a scan told, and the phase that it leaves.
-    fn tell(&mut self, out: ScanOut) -> Answer
-        ensures answered { (result, self.new.control) ≡ answered self.old.control (out, self.old.control.cycle) }
-        ensures program { self.new.program ≡ self.old.program }
-        ensures budget { self.new.budget ≡ self.old.budget }
+    /// What a snapshot is to have of it: all that its answers depend on but its image and its budget. It fails only where memory
+    /// runs out.
+    pub fn save(&self, alloc: Global) -> Result<Snapshot, AllocError>
+        ensures saved { IfOk result (λ s. s ≡ saved self.now.control) }
+        ensures lawful { IfOk result (λ s. IsController self.now) }
     {
-        self.phase = phase_of(out);
-        answer_of(self.cycle.count(), out)
+        self.cycle.whole();
+        let mut snapshot = self.cycle.parts(alloc)?;
+        snapshot.breaks = Vec::from_slice(alloc, self.breaks.as_slice())?;
+        snapshot.phase = saved_phase(self.phase, self.cycle.performed());
+        Ok(snapshot)
+    }
+
+    /// The controller of this image and this budget that a snapshot is of.
+    ///
+    /// `BadShape`: the snapshot doesn't fit. It has a value of its type for each variable, an instance of its kind for each
+    /// instance, with a value of its type for each input, a flag for each instruction, and forces of locations of `%I` and `%Q`
+    /// (IEC 61131-3:2003, 2.4.1.1), rising by slot, each to a value of its type. A held or stopped scan is at an instruction, with
+    /// a current result and deferred operators of the types on arrival there, and a held one has performed fewer instructions than
+    /// the budget says; without an open scan there is no current result and no deferred operator, and the position is 0. All this is
+    /// judged before the blocks.
+    ///
+    /// `BadBlock`: it fits, but the words of a block are no state of its kind. `Memory`: it fits, and memory ran out.
+    pub fn restore(
+        alloc: Global,
+        image: Image,
+        budget: Budget,
+        snapshot: &Snapshot,
+    ) -> Result<Controller, SnapError>
+        ensures { Restores image budget.instructions snapshot.now result }
+    {
+        if !fits(&image, budget, snapshot) {
+            return Err(SnapError::BadShape);
+        }
+        let breaks = Vec::from_slice(alloc, snapshot.breaks.as_slice())?;
+        let Some(cycle) = ScanCycle::from_parts(alloc, &image, snapshot)? else {
+            return Err(SnapError::BadBlock);
+        };
+        cycle.whole();
+        Ok(Controller {
+            image,
+            budget,
+            cycle,
+            breaks,
+            phase: restored_phase(snapshot.phase),
+        })
     }
 
     fn scan(&mut self, inputs: &InImage, moment: u64) -> Answer
@@ -122,9 +190,11 @@ impl Controller {
     {
         match self.phase {
             Phase::Idle => {
+                self.image.lawful();
                 self.cycle.begin(inputs, moment);
                 let out = self.cycle.run_to(&self.image, &self.breaks, self.budget);
-                self.tell(out)
+                self.phase = phase_of(out);
+                answer_of(self.cycle.count(), out)
             }
             Phase::Held => Answer::Held(self.cycle.pos()),
             Phase::Stopped(stop) => stopped(stop, self.cycle.pos()),
@@ -139,8 +209,10 @@ impl Controller {
     {
         match self.phase {
             Phase::Held => {
+                self.image.lawful();
                 let out = self.cycle.step_over(&self.image, breaks, self.budget);
-                self.tell(out)
+                self.phase = phase_of(out);
+                answer_of(self.cycle.count(), out)
             }
             Phase::Idle | Phase::Stopped(_) => Answer::Refused(Refusal::NotHeld),
         }
@@ -164,8 +236,10 @@ impl Controller {
     {
         match self.phase {
             Phase::Held => {
+                self.image.lawful();
                 let out = self.cycle.step_over(&self.image, &self.breaks, self.budget);
-                self.tell(out)
+                self.phase = phase_of(out);
+                answer_of(self.cycle.count(), out)
             }
             Phase::Idle | Phase::Stopped(_) => Answer::Refused(Refusal::NotHeld),
         }

@@ -3,8 +3,21 @@
 //! scan_cycle (one scan).
 #![tactic(auto)]
 
+ghost use Rattle.std.specs.Prelude.{Result};
+ghost use Rattle.debugger.specs.declared.snap_error.SnapError.{SnapError};
+ghost use Rattle.debugger.specs.Owned.{Owned};
+ghost use Rattle.debugger.specs.Restored.{RestoresTheSame};
+
 mod controller;
 mod names;
+mod shape;
+mod snap_error;
 
 pub use controller::Controller;
 pub use names::slot;
+pub use snap_error::SnapError;
+
+/// What is saved of a controller is restored, with the same image and budget, to the same controller, unless memory runs out.
+pub fn restores_the_same()
+    ensures { (o : Owned) (r : Result Owned SnapError) → RestoresTheSame o r }
+{}

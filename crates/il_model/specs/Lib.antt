@@ -27,3 +27,5 @@ pub mod Durations
 pub mod Literals
 pub mod Locations
 pub mod Declarable
+pub mod Counted
+pub mod Snapshots

@@ -1,2 +1,3 @@
 pub mod Attempt
 pub mod Kept
+pub mod Parts

@@ -1,13 +1,16 @@
 //! A function block instance of a run.
 
-ghost use Rattle.std.specs.Prelude.{◌≡◌, option_map};
+ghost use Rattle.std.specs.Prelude.{◌≡◌, ◌≤◌, length, IfOk, option_map};
 ghost use Rattle.controller_model.specs.State.{field_value, with_input};
 ghost use Rattle.controller_model.specs.Step.{called};
 ghost use Rattle.controller_model.specs.Cold.{cold_inputs, cold_instance};
+ghost use Rattle.controller_model.specs.Snapshots.{saved_instance};
+ghost use Rattle.machine.specs.Parts.{IsLawful, HasFewInputs, Restores};
 
 use arrayvec::ArrayVec;
 use function_blocks::any::Block;
-use il_model::{BlockKind, Instance, Value};
+use il_model::{BlockKind, Instance, SavedInstance, Value};
+use std::alloc::{AllocError, Global};
 use std::marker::Model;
 
 /// The values of the inputs, in the order of the kind's fields, and the block, which keeps the outputs.
@@ -34,6 +37,28 @@ impl InstanceState {
             inputs: cold_inputs(declared.kind),
             block: Block::cold(declared.kind),
         }
+    }
+
+    /// What a snapshot has of it.
+    pub fn saved(&self, alloc: Global) -> Result<SavedInstance, AllocError>
+        ensures saved { IfOk result (λ x. x ≡ saved_instance self.now) }
+        ensures lawful { IfOk result (λ x. IsLawful self.now) }
+    {
+        Ok(SavedInstance {
+            kind: self.block.kind(),
+            inputs: Vec::from_slice(alloc, self.inputs.as_slice())?,
+            words: self.block.save(),
+        })
+    }
+
+    /// The instance that a snapshot has; None where its words are no state of its kind.
+    pub fn restored(saved: &SavedInstance) -> Option<InstanceState>
+        requires { HasFewInputs saved.now }
+        ensures { Restores saved.now result }
+    {
+        let block = Block::restore(saved.kind, saved.words)?;
+        let inputs = restored_inputs(saved.inputs.as_slice());
+        Some(InstanceState { inputs, block })
     }
 
     /// The value of the field with that number; None where the kind has fewer.
@@ -65,6 +90,18 @@ impl InstanceState {
     {
         self.block.call(self.inputs.as_slice(), now);
     }
+}
+
+/// The values of the inputs that a snapshot has.
+fn restored_inputs(values: &[Value]) -> ArrayVec<Value, 8>
+    requires { length values.now ≤ 8 }
+    ensures { result.items ≡ values.now }
+{
+    let mut inputs = ArrayVec::new();
+    for value in values {
+        inputs.push(*value);
+    }
+    inputs
 }
 
 /// The inputs of a kind before any value was stored.

@@ -2,11 +2,16 @@
 //! definitions), function_blocks (the blocks) and loader (the image).
 #![tactic(auto)]
 
+mod arrival;
 mod cells;
 mod instance;
 mod machine;
 mod out;
+mod parts;
+mod shape;
 mod state;
 
+pub use arrival::has_type;
 pub use machine::Machine;
 pub use out::StepOut;
+pub use shape::{fits_run, fits_values};

@@ -1,7 +1,10 @@
 //! The program `plc`: the words of its call, the files that they name, and the status it ends with.
 #![tactic(auto)]
 
-use il_model::Budget;
+mod new_file;
+
+use il_model::{Budget, Counted};
+use new_file::NewFile;
 use plc_tool::Fault;
 use plc_words::{Words, WordsError, read_words};
 use std::io::{BufWriter, Write};
@@ -31,6 +34,8 @@ fn called<W: Write, E: Write>(rt: &HostRuntime, out: &mut W, err: &mut E) -> u8 
 
 fn perform<W: Write, E: Write>(rt: &HostRuntime, words: Words, out: &mut W, err: &mut E) -> u8 {
     match words {
+        Words::Asm { source, image } => asm(rt, source, image, out, err),
+        Words::List { image } => list(rt, image, out, err),
         Words::Run {
             source,
             commands,
@@ -45,6 +50,35 @@ fn given_words(rt: &HostRuntime) -> Result<Vec<String>, WordsError> {
 
 fn file(rt: &HostRuntime, path: &str) -> Result<Vec<u8>, Fault> {
     Ok(fs::read(rt, path)?)
+}
+
+fn asm<W: Write, E: Write>(
+    rt: &HostRuntime,
+    source: &str,
+    image: &str,
+    out: &mut W,
+    err: &mut E,
+) -> u8 {
+    match file(rt, source) {
+        Ok(source) => {
+            let mut image = NewFile::at(rt, image);
+            plc_tool::asm(rt.alloc(), source.as_slice(), &mut image, out, err)
+        }
+        Err(fault) => plc_tool::tell(fault, err),
+    }
+}
+
+fn list<W: Write, E: Write>(rt: &HostRuntime, image: &str, out: &mut W, err: &mut E) -> u8 {
+    let image = match file(rt, image) {
+        Ok(image) => image,
+        Err(fault) => return plc_tool::tell(fault, err),
+    };
+    let mut counted = Counted::new(&mut *out);
+    let status = plc_tool::list(rt.alloc(), image.as_slice(), &mut counted, err);
+    match out.flush() {
+        Err(error) if status == 0 => plc_tool::tell(Fault::from(error), err),
+        _ => status,
+    }
 }
 
 fn run<W: Write, E: Write>(

@@ -1,4 +1,4 @@
--- What the assembler writes of a declared program is loaded as its typed program.
+-- What the assembler writes of a declared program is loaded as its typed program, and is the image of the text.
 use Rattle.std.proofs.Common.{◌≡◌, List, ℕ, Result, Ok, Err, ap, subst, ◌∙◌}
 use Rattle.il_model.specs.Text.{Text}
 use Rattle.il_model.specs.Fits.{IsImage}
@@ -10,7 +10,7 @@ use Rattle.loader.specs.declared.fault.LoadFault.{LoadFault}
 use Rattle.loader.specs.declared.fault.LoadError.{LoadError}
 use Rattle.loader.specs.declared.fault.LoadError.TheVariants as errors
 use Rattle.loader.specs.Reading.{Fails}
-use Rattle.plc_tool.specs.Meaning.{IsSpelled}
+use Rattle.plc_tool.specs.Meaning.{IsSpelled, IsProgramOf, IsImageOfText}
 
 ok_is : (Q i : Text) → (let r : Result Text LoadFault = Ok Q in r ≡ Ok i) → Q ≡ i
 ok_is Q i e = cc
@@ -25,3 +25,11 @@ pub not_refused : (P : Text) (e : LoadError) (f : LoadFault) (bytes : List ℕ) 
 not_refused P e f bytes is-fault is s only =
     let h = only s.typed (declared_image P s.typed is s.settled) s.spelled in
     no_fault s.typed f (subst (λ (x : LoadError). let r : Result Text LoadFault = Ok s.typed in Fails x r) is-fault h)
+
+pub image_of_text_is : (text : List ℕ) (P Q : Text) (bytes : List ℕ) → IsDeclared P → IsProgramOf text P → settled P ≡ Ok Q → bytes ≡ spelling Q → IsImageOfText text bytes
+image_of_text_is text P Q bytes declared is s spelled = record {
+  program = Q;
+  is = record { program = P; is = is; settled = s };
+  image = declared_image P Q declared s;
+  spelled = spelled;
+}

@@ -1,11 +1,17 @@
 -- What a text means: its program, and the answers to commands.
-use Rattle.std.specs.Prelude.{◌≡◌, ℕ, List, map, Result, Ok, Err}
+use Rattle.std.specs.Prelude.{◌≡◌, ℕ, List, ◌++◌, map, take, codes, Option, Result, Ok, Err}
+use Rattle.std.specs.Fmt.{decimal}
+use Rattle.std.specs.Io.KnownBytes.{Appends}
 use Rattle.il_model.specs.declared.command.Answer.{Answer}
 use Rattle.il_model.specs.Text.{Text}
 use Rattle.il_model.specs.declared.typing.TypeFault.{TypeFault}
 use Rattle.il_model.specs.Typing.{IsTyped, fault_number}
 use Rattle.il_model.specs.Settled.{settled}
+use Rattle.il_model.specs.Marks.{words_in}
 use Rattle.il_model.specs.Image.{spelling}
+use Rattle.il_model.specs.Fits.{IsImage}
+use Rattle.il_model.specs.Counted.{Failed}
+use Rattle.il_model.specs.declared.counted.CountedWrite.{Ghosts as CountedWriter}
 use Rattle.controller_model.specs.Commands.{answers_of}
 use Rattle.il_reader.specs.Faults as Read
 use Rattle.il_reader.specs.Texts.{SourceText, Reads, source_of}
@@ -13,8 +19,12 @@ use Rattle.il_reader.specs.declared.fault.Fault as read_faults
 use Rattle.declarations.specs.Faults as Declared
 use Rattle.declarations.specs.Resolution.{resolution_of}
 use Rattle.declarations.specs.declared.fault.Fault as declaration_faults
+use Rattle.loader.specs.declared.fault.LoadFault.{LoadFault}
+use Rattle.loader.specs.Judging.{image_of}
+use Rattle.lister.specs.Listing.{listing}
 use Rattle.plc_json.specs.declared.command.NamedCommand.{NamedCommand}
 use Rattle.plc_tool.specs.Named.{meant}
+use Rattle.plc_tool.specs.Told.{of_bytes}
 use Rattle.plc_tool.specs.declared.fault.Fault.{Fault}
 use Rattle.plc_tool.specs.declared.fault.Fault.TheVariants as faults
 
@@ -35,6 +45,39 @@ pub record IsSpelled (program : Text) (bytes : List ℕ) : Type 0 where
   pub typed : Text
   pub settled : settled program ≡ Ok typed
   pub spelled : bytes ≡ spelling typed
+
+-- the bytes are the image of the program that the text says
+pub record IsImageOfText (text bytes : List ℕ) : Type 0 where
+  pub program : Text
+  pub is : IsTypedProgramOfText text program
+  pub image : IsImage program
+  pub spelled : bytes ≡ spelling program
+
+-- the line that tells how many words the program's image has, those of arguments too
+abbrev pub words_line : Text → List ℕ
+words_line Q = (codes "words " ++ decimal (words_in Q.code)) ++ codes "\n"
+
+-- the image of the program that the text says was written, and on another writer that line
+pub record IsAssembled (text : List ℕ) (image image_after out out_after : Option (List ℕ)) : Type 0 where
+  pub program : Text
+  pub is : IsTypedProgramOfText text program
+  pub image_written : Appends image image_after (spelling program)
+  pub line_written : Appends out out_after (words_line program)
+
+-- the listing of the image that the bytes are was written
+pub record IsListed (bytes : List ℕ) (old new : Option (List ℕ)) : Type 0 where
+  pub program : Text
+  pub image : IsImage program
+  pub spelled : bytes ≡ spelling program
+  pub written : Appends old new (listing program)
+
+-- the writer failed in the call, behind a beginning of the listing of the image that the bytes are
+pub record IsCutShort {W : Type 0} (w : CountedWriter W) (bytes : List ℕ) (old new : W) : Type 0 where
+  pub program : Text
+  pub image : IsImage program
+  pub spelled : bytes ≡ spelling program
+  pub written : (n : ℕ) × Appends (w.held old) (w.held new) (take n (listing program))
+  pub device : Failed (w.faults old) (w.faults new)
 
 -- what a controller of the program answers to commands with names, at so many instructions a scan
 abbrev pub answers_to : Text → ℕ → List NamedCommand → List Answer
@@ -69,6 +112,22 @@ read_by (Err f) = Err (faults.Read (Read.kind_number f.kind) f.place.line f.plac
 abbrev pub program_of_text : List ℕ → Result Text Fault
 program_of_text text = read_by (source_of text)
 
+abbrev pub spelled_by : Result Text Fault → Result (List ℕ) Fault
+spelled_by (Ok Q) = Ok (spelling Q)
+spelled_by (Err f) = Err f
+
+-- the bytes of the image of a text, or that fault
+abbrev pub image_of_text : List ℕ → Result (List ℕ) Fault
+image_of_text text = spelled_by (program_of_text text)
+
+abbrev pub loaded_by : Result Text LoadFault → Result Text Fault
+loaded_by (Ok Q) = Ok Q
+loaded_by (Err f) = Err (of_bytes f)
+
+-- the program that bytes spell, or the first fault of bytes that are no image
+abbrev pub program_of_bytes : List ℕ → Result Text Fault
+program_of_bytes bytes = loaded_by (image_of bytes)
+
 abbrev pub answered_by : ℕ → List NamedCommand → Result Text Fault → Result (List Answer) Fault
 answered_by budget commands (Ok P) = Ok (answers_to P budget commands)
 answered_by budget commands (Err f) = Err f
@@ -85,3 +144,8 @@ Tells f m = m ≡ Err f
 abbrev pub Gives : {X Y : Type 0} → (X → Y) → Result X Fault → Result Y Fault → Type 0
 Gives view (Ok x) m = m ≡ Ok (view x)
 Gives view (Err f) m = Tells f m
+
+-- What a call that looks for a program found, unless memory ran out: one whose typed program this is, or its fault.
+abbrev pub Says : Result Text Fault → Result Text Fault → Type 0
+Says (Ok P) m = m ≡ typed_program P
+Says (Err f) m = Tells f m

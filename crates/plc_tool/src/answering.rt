@@ -1,9 +1,9 @@
-//! The answers of a text to commands: reader, names, assembler, loader and controller, one after the other.
+//! The image of a text and its answers to commands: reader, names, assembler, loader and controller, one after the other.
 
 ghost use Rattle.std.specs.Prelude.{◌≡◌, Ok, IfOk, IfErr};
 ghost use Rattle.il_model.specs.Declarable.{IsDeclared};
 ghost use Rattle.il_model.specs.Settled.{settled};
-ghost use Rattle.plc_tool.specs.Meaning.{IsSpelled, IsTypedProgramOfText, IsAnswered, Gives, typed_program, program_of_text, meaning};
+ghost use Rattle.plc_tool.specs.Meaning.{IsSpelled, IsProgramOf, IsTypedProgramOfText, IsImageOfText, IsAnswered, Says, Gives, typed_program, program_of_text, image_of_text, meaning};
 
 use crate::fault::Fault;
 use crate::naming::answers_of;
@@ -40,14 +40,34 @@ fn image_of(alloc: Global, program: &Program) -> Result<Image, Fault>
     loaded(alloc, program, bytes.as_slice())
 }
 
+/// The program of a text, or the first fault of the first layer that refuses it.
+fn program(alloc: Global, text: &[u8]) -> Result<Program, Fault>
+    ensures declared { IfOk result (λ p. IsDeclared p) }
+    ensures found { IfOk result (λ p. IsProgramOf text.now p) }
+    ensures exact { Says result (program_of_text text.now) }
+{
+    let source = read(alloc, text)?;
+    Ok(resolve(alloc, source)?)
+}
+
 /// The image of the program of a text, or the first fault of the first layer that refuses it.
 pub fn image(alloc: Global, text: &[u8]) -> Result<Image, Fault>
     ensures found { IfOk result (λ i. IsTypedProgramOfText text.now i) }
     ensures exact { Gives (λ i. i) result (program_of_text text.now) }
 {
-    let source = read(alloc, text)?;
-    let program = resolve(alloc, source)?;
+    let program = program(alloc, text)?;
     image_of(alloc, &program)
+}
+
+/// The bytes of the image of the program of a text, or the first fault of the first layer that refuses it.
+pub fn image_bytes(alloc: Global, text: &[u8]) -> Result<Vec<u8>, Fault>
+    // They spell the text's typed program.
+    ensures found { IfOk result (λ v. IsImageOfText text.now v.items) }
+    // Which bytes or which fault it is, unless memory runs out.
+    ensures exact { Gives (λ v. v.items) result (image_of_text text.now) }
+{
+    let program = program(alloc, text)?;
+    Ok(assemble(alloc, &program)?)
 }
 
 /// The answers of a text to commands, each scan within the budget; or the first fault.

@@ -1,12 +1,14 @@
 //! The printed fault of each layer's error.
 
 ghost use Rattle.std.specs.Prelude.{◌≡◌};
+ghost use Rattle.plc_tool.specs.declared.fault.Fault.TheVariants.{Device};
 ghost use Rattle.plc_tool.specs.Told.{of_read, of_declaration, of_assembly, of_load};
 
 use crate::fault::Fault;
 use assembler::AsmError;
 use declarations::DeclError;
 use il_reader::ReadError;
+use lister::ListFault;
 use loader::{LoadError, LoadFault};
 
 impl From<ReadError> for Fault {
@@ -66,6 +68,16 @@ impl From<LoadError> for Fault {
             ) => Fault::LoadAt { number, position },
             LoadError::Fault(_) => Fault::Load { number },
             LoadError::Memory => Fault::Memory,
+        }
+    }
+}
+
+impl From<ListFault> for Fault {
+    ghost from_gives = { λ _ fault. fault ≡ Device };
+
+    fn from(error: ListFault) -> Fault {
+        match error {
+            ListFault::Device => Fault::Device,
         }
     }
 }

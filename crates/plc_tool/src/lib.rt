@@ -3,14 +3,17 @@
 #![tactic(auto)]
 
 mod answering;
+mod assembly;
 mod calls;
 mod fault;
 mod layers;
 mod line;
+mod listing;
 mod naming;
 mod telling;
 
-pub use calls::{run, run_unread};
+pub use answering::image_bytes;
+pub use calls::{asm, list, run, run_unread};
 pub use fault::Fault;
 pub use line::AnswerLine;
 pub use telling::{tell, tell_words};

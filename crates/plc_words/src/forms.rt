@@ -15,7 +15,7 @@ const NO_FORM: &str = "error: the words name no form of call\n";
 
 const STATUSES: &str = "Exit status:
   0  good
-  1  the source or the other file was refused
+  1  the source, the image or the commands were refused
   2  a device failed, or memory ran out
   3  these words are no call of the program";
 
@@ -47,9 +47,28 @@ Answers:
 
 A fault is one line on standard error.";
 
+const ASSEMBLY: &str =
+    "Prints one line, 'words N': how many words the image has, those of arguments too.
+The file IMAGE is made, or written over, only where the source is good.
+A fault is one line on standard error.";
+
+const LISTING: &str =
+    "The listing is the image's program as text, in one spelling: VAR, a line for each variable and each
+instance, END_VAR, a line for each instruction. It assembles to the same image.
+A fault is one line on standard error.";
+
 /// What the words ask for.
 #[derive(Clone, Copy, Debug, PartialEq, Eq)]
 pub enum Words<'a> {
+    /// Writes the image of a program to a file.
+    Asm {
+        source: &'a str,
+        image: &'a str,
+    },
+    /// Prints the listing of an image.
+    List {
+        image: &'a str,
+    },
     /// Runs the program of a file over the commands of another, each scan within the budget.
     Run {
         source: &'a str,
@@ -77,7 +96,24 @@ fn program<'a>(alloc: Global) -> Result<Command<'a>, AllocError> {
         .after_help(STATUSES)
         .arg_required_else_help(true)
         .subcommand_required(true)
+        .subcommand(asm_command(alloc)?)?
+        .subcommand(list_command(alloc)?)?
         .subcommand(run_command(alloc)?)
+}
+
+fn asm_command<'a>(alloc: Global) -> Result<Command<'a>, AllocError> {
+    Command::new(alloc, "asm")
+        .about("Assembles a program, and writes its image to a file")
+        .after_help(ASSEMBLY)
+        .arg(file(alloc, "SOURCE").help("The program's text, in Instruction List"))?
+        .arg(file(alloc, "IMAGE").help("The file for the image"))
+}
+
+fn list_command<'a>(alloc: Global) -> Result<Command<'a>, AllocError> {
+    Command::new(alloc, "list")
+        .about("Prints the listing of an image")
+        .after_help(LISTING)
+        .arg(file(alloc, "IMAGE").help("The image, as asm writes it"))
 }
 
 fn run_command<'a>(alloc: Global) -> Result<Command<'a>, AllocError> {
@@ -106,6 +142,13 @@ fn budget<'a>(alloc: Global) -> Arg<'a> {
 fn form_of<'a>(matches: &ArgMatches<'a>) -> Option<Words<'a>> {
     let (name, inner) = matches.subcommand()?;
     match name {
+        "asm" => Some(Words::Asm {
+            source: inner.get_str("SOURCE")?,
+            image: inner.get_str("IMAGE")?,
+        }),
+        "list" => Some(Words::List {
+            image: inner.get_str("IMAGE")?,
+        }),
         "run" => Some(Words::Run {
             source: inner.get_str("SOURCE")?,
             commands: inner.get_str("COMMANDS")?,

@@ -1,17 +1,22 @@
 //! What is kept from scan to scan, and the calls of a scan.
 
-ghost use Rattle.std.specs.Prelude.{◌≡◌, ◌<◌, is_some, unwrap_or, IfOk};
+ghost use Rattle.std.specs.Prelude.{◌≡◌, ◌<◌, true, is_some, unwrap_or, IfOk, IfSome, option_map};
 ghost use Rattle.il_model.specs.Text.{Text};
 ghost use Rattle.controller_model.specs.Forces.{with_forces};
 ghost use Rattle.controller_model.specs.Slots.{peeked};
 ghost use Rattle.controller_model.specs.Scan.{begun, ran_to, stepped_over, seen, with_force, without_force, cold_again};
+ghost use Rattle.controller_model.specs.Snapshots.{fit_forces};
+ghost use Rattle.machine.specs.Parts.{FitsMachine, AreLawful};
 ghost use Rattle.scan_cycle.specs.Kept.{cold_kept, IsCycleOf};
+ghost use Rattle.scan_cycle.specs.Parts.{HasCycle, performed_in, RestoresCycle, AreMasks};
 ghost use Rattle.scan_cycle.specs.Told.{came_to, IsLeft};
 
-use crate::forces::{force, no_forces, unforce, with_forces};
+use crate::forces::{
+    force, no_forces, restored_forces, saved_forces, unforce, whole_forces, with_forces,
+};
 use crate::run::{Came, run, run_over};
 use controller_model::{Forces, ScanOut};
-use il_model::{Budget, InImage, Loc, OutImage, Slot, Value};
+use il_model::{Budget, InImage, Loc, OutImage, SavedPhase, Slot, Snapshot, Value};
 use loader::Image;
 use machine::Machine;
 use std::alloc::{AllocError, Global};
@@ -36,6 +41,16 @@ impl Model for ScanCycle {
     ghost view = { λ c. record { cycle = record { state = c.machine.state; count = c.count; moment = c.moment; forces = c.forces; performed = c.performed }; places = c.machine.places } };
 }
 
+/// How many instructions a held scan has performed.
+fn performed_in(phase: SavedPhase) -> u32
+    ensures { result ≡ performed_in phase }
+{
+    match phase {
+        SavedPhase::Held { performed } => performed,
+        SavedPhase::Idle | SavedPhase::Stopped(_) => 0,
+    }
+}
+
 impl ScanCycle {
     /// A scan cycle that never ran, of a machine for this image; it fails only where memory runs out.
     pub fn new(alloc: Global, image: &Image) -> Result<ScanCycle, AllocError>
@@ -49,6 +64,56 @@ impl ScanCycle {
             forces: no_forces(),
             performed: 0,
         })
+    }
+
+    /// What a snapshot has of it: all but the breakpoints and whether a scan is open. It fails only where memory runs out.
+    pub fn parts(&self, alloc: Global) -> Result<Snapshot, AllocError>
+        ensures has { IfOk result (λ s. HasCycle s self.now.cycle) }
+        ensures lawful { IfOk result (λ s. AreLawful self.now.cycle.state.instances) }
+    {
+        let mut parts = self.machine.parts(alloc)?;
+        parts.forces = saved_forces(alloc, &self.forces)?;
+        parts.count = self.count;
+        parts.moment = self.moment;
+        Ok(parts)
+    }
+
+    /// The scan cycle that a snapshot has, where its values, its types on arrival and its forces fit the image; None where the words
+    /// of a block are no state of its kind. It fails only where memory runs out.
+    pub fn from_parts(
+        alloc: Global,
+        image: &Image,
+        parts: &Snapshot,
+    ) -> Result<Option<ScanCycle>, AllocError>
+        requires machine { FitsMachine image.now parts.now }
+        requires forces { fit_forces 0 parts.now.forces ≡ true }
+        ensures cycle { IfOk result (λ o. RestoresCycle parts.now (option_map (λ c. c.cycle) o)) }
+        ensures kept { IfOk result (λ o. IfSome o (IsCycleOf image.now)) }
+    {
+        let Some(machine) = Machine::from_parts(alloc, image, parts)? else {
+            return Ok(None);
+        };
+        Ok(Some(ScanCycle {
+            machine,
+            count: parts.count,
+            moment: parts.moment,
+            forces: restored_forces(parts.forces.as_slice()),
+            performed: performed_in(parts.phase),
+        }))
+    }
+
+    /// A held scan has performed so many instructions; 0 unless one is held.
+    pub fn performed(&self) -> u32
+        ensures { result ≡ self.now.cycle.performed }
+    {
+        self.performed
+    }
+
+    /// There is a place for the force of each input and output. For proofs; it does nothing.
+    pub fn whole(&self)
+        ensures { AreMasks self.now.cycle.forces }
+    {
+        whole_forces(&self.forces);
     }
 
     /// Begins a scan: it is counted, up to the greatest number of 64 bits; its moment, in milliseconds, is no less than the

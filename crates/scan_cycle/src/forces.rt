@@ -1,11 +1,15 @@
 //! Values forced in place of the cells of an area.
 
-ghost use Rattle.std.specs.Prelude.{◌≡◌, length, is_some, unwrap_or, nat_lt, slice_set};
+ghost use Rattle.std.specs.Prelude.{◌≡◌, ◌≤◌, ◌+◌, ◌++◌, true, length, is_some, unwrap_or, nat_lt, slice_set, OnOk, IfOk};
 ghost use Rattle.il_model.specs.Areas.{area_of};
 ghost use Rattle.controller_model.specs.Forces.{laid, with_forces, no_mask, no_forces, with_bit, with_word, masked, unmasked, forced, unforced};
+ghost use Rattle.controller_model.specs.Snapshots.{forced_bits, forced_words, forced_from, forced_slots, fit_forces};
+ghost use Rattle.scan_cycle.specs.Parts.{forced_word, IsMask, AreMasks};
 
 use controller_model::{Forces, Mask};
-use il_model::{Area, Cells, Loc, Value};
+use il_model::codes::any_loc;
+use il_model::{Area, Cells, ForcedSlot, Loc, Slot, Value};
+use std::alloc::{AllocError, Global};
 
 /// No forces.
 pub fn no_forces() -> Forces
@@ -111,4 +115,103 @@ fn set<T: Copy>(mask: &mut [Option<T>], n: u16, force: Option<T>) -> bool
         mask[n as usize] = force;
     }
     is_there
+}
+
+/// Appends the slots of forced bits; the first bit has the number `base`.
+fn save_bits(
+    slots: &mut Vec<ForcedSlot>,
+    base: u16,
+    bits: &[Option<bool>],
+) -> Result<(), AllocError>
+    requires { base + length bits.now ≤ 65536 }
+    ensures { OnOk result (slots.new.items ≡ slots.old.items ++ forced_bits base bits.now) }
+{
+    for i in 0..bits.len() {
+        if let Some(b) = bits[i] {
+            slots.push(ForcedSlot {
+                slot: Slot(base + i as u16),
+                value: Value::Bool(b),
+            })?;
+        }
+    }
+    Ok(())
+}
+
+/// The slot of a word, where it is forced.
+fn forced_word(n: u16, force: Option<i16>) -> Option<ForcedSlot>
+    ensures { result ≡ forced_word n force }
+{
+    match force {
+        Some(z) => Some(ForcedSlot {
+            slot: Slot(n),
+            value: Value::Int(z),
+        }),
+        None => None,
+    }
+}
+
+/// Appends the slots of forced words; the first word has the number `base`.
+fn save_words(
+    slots: &mut Vec<ForcedSlot>,
+    base: u16,
+    words: &[Option<i16>],
+) -> Result<(), AllocError>
+    requires { base + length words.now ≤ 65536 }
+    ensures { OnOk result (slots.new.items ≡ slots.old.items ++ forced_words base words.now) }
+{
+    for i in 0..words.len() {
+        if let Some(forced) = forced_word(base + i as u16, words[i]) {
+            slots.push(forced)?;
+        }
+    }
+    Ok(())
+}
+
+/// Appends the slots of an area's forces; the area's codes begin at `base`.
+fn save_mask(slots: &mut Vec<ForcedSlot>, base: u16, mask: &Mask) -> Result<(), AllocError>
+    requires { base ≤ 4096 }
+    ensures { OnOk result (slots.new.items ≡ slots.old.items ++ forced_from base mask.now) }
+{
+    save_bits(slots, base, &mask.bits)?;
+    save_words(slots, base + 1024, &mask.words)
+}
+
+/// What is forced, rising by slot.
+pub fn saved_forces(alloc: Global, forces: &Forces) -> Result<Vec<ForcedSlot>, AllocError>
+    ensures { IfOk result (λ v. v.items ≡ forced_slots forces.now) }
+{
+    let mut slots = Vec::new(alloc);
+    save_mask(&mut slots, 0, &forces.input)?;
+    save_mask(&mut slots, 4096, &forces.output)?;
+    Ok(slots)
+}
+
+/// A mask has a place for each cell of its area. For proofs; it does nothing.
+fn whole(mask: &Mask)
+    ensures { IsMask mask.now }
+{
+    let _bit = mask.bits[0];
+    let _word = mask.words[0];
+}
+
+/// Forces have a place for each cell. For proofs; it does nothing.
+pub fn whole_forces(forces: &Forces)
+    ensures { AreMasks forces.now }
+{
+    whole(&forces.input);
+    whole(&forces.output);
+}
+
+/// The forces of slots that rise and have values of their types.
+pub fn restored_forces(slots: &[ForcedSlot]) -> Forces
+    requires { fit_forces 0 slots.now ≡ true }
+    ensures { forced_slots result ≡ slots.now }
+{
+    let mut forces = no_forces();
+    for forced in slots {
+        if let Some(loc) = any_loc(forced.slot.0) {
+            let _is_set = force(&mut forces, loc, forced.value);
+        }
+    }
+    forces
 }

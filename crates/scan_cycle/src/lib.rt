@@ -9,3 +9,4 @@ mod run;
 
 pub use controller_model::ScanOut;
 pub use cycle::ScanCycle;
+pub use machine::{fits_run, fits_values, has_type};

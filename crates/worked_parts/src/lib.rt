@@ -16,3 +16,5 @@ mod machine_rows;
 mod process_image_rows;
 #[cfg(test)]
 mod replication_rows;
+#[cfg(test)]
+mod snapshot_rows;

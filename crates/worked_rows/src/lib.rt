@@ -13,6 +13,10 @@ mod json_rows;
 #[cfg(test)]
 mod language_rows;
 #[cfg(test)]
+mod listing_rows;
+#[cfg(test)]
+mod plants;
+#[cfg(test)]
 mod plc_rows;
 #[cfg(test)]
 mod printed;

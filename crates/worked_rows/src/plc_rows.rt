@@ -65,6 +65,19 @@ fn words_name_a_form(rt: HostRuntime) -> Result<(), Fail> {
 }
 
 #[test]
+fn words_name_the_forms_of_images(rt: HostRuntime) {
+    let assembling = read_words(rt.alloc(), &["plc", "asm", "a.il", "a.image"]);
+    let expected = Words::Asm {
+        source: "a.il",
+        image: "a.image",
+    };
+    assert!(rt; matches!(assembling, Ok(words) if words == expected));
+    let listing = read_words(rt.alloc(), &["plc", "list", "a.image"]);
+    let expected = Words::List { image: "a.image" };
+    assert!(rt; matches!(listing, Ok(words) if words == expected));
+}
+
+#[test]
 fn help_and_version_are_shown(rt: HostRuntime) -> Result<(), Fail> {
     for (given, shown) in [
         (["plc", "--help"].as_slice(), "Usage: plc <COMMAND>\n"),
@@ -72,6 +85,14 @@ fn help_and_version_are_shown(rt: HostRuntime) -> Result<(), Fail> {
         (
             ["plc", "run", "-h"].as_slice(),
             "Usage: plc run [OPTIONS] <SOURCE> <COMMANDS>\n",
+        ),
+        (
+            ["plc", "asm", "--help"].as_slice(),
+            "Usage: plc asm <SOURCE> <IMAGE>\n",
+        ),
+        (
+            ["plc", "list", "-h"].as_slice(),
+            "Usage: plc list <IMAGE>\n",
         ),
         (["plc", "--version"].as_slice(), "plc 0.1.0\n"),
     ] {
@@ -98,6 +119,14 @@ fn other_words_are_bad(rt: HostRuntime) -> Result<(), Fail> {
         (
             ["plc", "run", "a", "b", "c"].as_slice(),
             "error: unexpected argument 'c' found\n",
+        ),
+        (
+            ["plc", "asm", "a"].as_slice(),
+            "error: the following required arguments were not provided:\n  <IMAGE>\n",
+        ),
+        (
+            ["plc", "list", "a", "b"].as_slice(),
+            "error: unexpected argument 'b' found\n",
         ),
         (
             ["plc", "run", "a", "b", "--loud"].as_slice(),

@@ -1,6 +1,6 @@
 //! What the program prints for a text and its commands.
 
-use il_model::Budget;
+use il_model::{Budget, Counted};
 use std::alloc::Global;
 use std::process::Abort;
 use std::test::Fail;
@@ -42,4 +42,59 @@ pub fn wants_within(
 /// Wants the lines of each row from a call that names no budget.
 pub fn wants(rt: &impl Abort, alloc: Global, rows: &[Row]) -> Result<(), Fail> {
     wants_within(rt, alloc, DEFAULT_BUDGET, rows)
+}
+
+/// What `asm` or `list` ended with and wrote: its status, the image, and what stands on both streams.
+#[derive(Drop)]
+pub struct Written {
+    pub status: u8,
+    pub image: Vec<u8>,
+    pub out: Vec<u8>,
+    pub err: Vec<u8>,
+}
+
+/// What `asm` does with a source.
+pub fn assembled(alloc: Global, source: &[u8]) -> Written {
+    let mut image = Vec::new(alloc);
+    let mut out = Vec::new(alloc);
+    let mut err = Vec::new(alloc);
+    let status = plc_tool::asm(alloc, source, &mut image, &mut out, &mut err);
+    Written {
+        status,
+        image,
+        out,
+        err,
+    }
+}
+
+/// What `list` does with the bytes of an image.
+pub fn listed(alloc: Global, image: &[u8]) -> Written {
+    let mut out = Vec::new(alloc);
+    let mut err = Vec::new(alloc);
+    let status = plc_tool::list(alloc, image, &mut Counted::new(&mut out), &mut err);
+    Written {
+        status,
+        image: Vec::new(alloc),
+        out,
+        err,
+    }
+}
+
+fn is_good(rt: &impl Abort, written: &Written) {
+    assert_eq!(rt; written.err.as_slice(), b"".as_slice());
+    assert_eq!(rt; written.status, 0);
+}
+
+/// The image of a source, which is to be good.
+pub fn image_of(rt: &impl Abort, alloc: Global, source: &[u8]) -> Vec<u8> {
+    let written = assembled(alloc, source);
+    is_good(rt, &written);
+    written.image
+}
+
+/// The listing of an image, which is to be good.
+pub fn listing_of(rt: &impl Abort, alloc: Global, image: &[u8]) -> Vec<u8> {
+    let written = listed(alloc, image);
+    is_good(rt, &written);
+    written.out
 }

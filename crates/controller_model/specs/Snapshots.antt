@@ -1,0 +1,150 @@
+-- What a snapshot has of a controller's state, and which snapshots are of a program's shape.
+use Rattle.std.specs.Prelude.{ℕ, suc, ◌+◌, Bool, true, false, ◌&&◌, List, [], ◌∷◌, ◌++◌, length, map, filter, reverse, Option, Some, None, is_none, is_some, Result, Ok, Err, nat_lt, nat_le, nat_eq, ℤ, not}
+use Rattle.std.specs.Option.{option_map}
+use Rattle.il_model.specs.declared.typing.TypeFault.{TypeFault}
+use Rattle.il_model.specs.declared.value.Ty.{Ty}
+use Rattle.il_model.specs.declared.value.Value.{Value}
+use Rattle.il_model.specs.declared.value.Value.TheVariants as values
+use Rattle.il_model.specs.declared.kind.BlockKind.{BlockKind}
+use Rattle.il_model.specs.declared.program.Instance.{Instance}
+use Rattle.il_model.specs.declared.program.Variable.{Variable}
+use Rattle.il_model.specs.declared.program.Loc.{Loc}
+use Rattle.il_model.specs.declared.fetched.Deferred.{Deferred}
+use Rattle.il_model.specs.declared.typing.Held.{Held}
+use Rattle.il_model.specs.declared.op.Op.{Op}
+use Rattle.il_model.specs.declared.slot.Slot.{Slot}
+use Rattle.il_model.specs.declared.snapshot.ForcedSlot.{ForcedSlot}
+use Rattle.il_model.specs.declared.snapshot.SavedPhase.{SavedPhase}
+use Rattle.il_model.specs.declared.snapshot.SavedPhase.TheVariants as saved_phases
+use Rattle.il_model.specs.Snapshots.{SavedBlock, SavedController}
+use Rattle.il_model.specs.Values.{ty_of}
+use Rattle.il_model.specs.Row.{same_type}
+use Rattle.il_model.specs.Kinds.{kind_code}
+use Rattle.il_model.specs.Image.{op_code}
+use Rattle.il_model.specs.Typing.{Shape, shape_at, loc_type}
+use Rattle.il_model.specs.Text.{Text}
+use Rattle.function_blocks.specs.Blocks.{kind_of, block_words}
+use Rattle.controller_model.specs.declared.forces.Mask.{Mask}
+use Rattle.controller_model.specs.declared.forces.Forces.{Forces}
+use Rattle.controller_model.specs.declared.phase.Phase.{Phase}
+use Rattle.controller_model.specs.declared.phase.Phase.TheVariants as phases
+use Rattle.controller_model.specs.State.{State, BlockInstance}
+use Rattle.controller_model.specs.Suits.{held_of, input_types}
+use Rattle.controller_model.specs.Commands.{Control, forcible_at}
+
+-- ---- what a snapshot has of a state
+
+abbrev pub saved_instance : BlockInstance → SavedBlock
+saved_instance x = record { kind = kind_of x.block; inputs = x.inputs; words = block_words x.block }
+
+abbrev pub forced_bits : ℕ → List (Option Bool) → List ForcedSlot
+forced_bits n [] = []
+forced_bits n (None ∷ fs) = forced_bits (suc n) fs
+forced_bits n (Some b ∷ fs) = record { slot = record { 0 = n }; value = values.Bool b } ∷ forced_bits (suc n) fs
+
+abbrev pub forced_words : ℕ → List (Option ℤ) → List ForcedSlot
+forced_words n [] = []
+forced_words n (None ∷ fs) = forced_words (suc n) fs
+forced_words n (Some z ∷ fs) = record { slot = record { 0 = n }; value = values.Int z } ∷ forced_words (suc n) fs
+
+-- the bits of an area from its base on, and then its words
+abbrev pub forced_from : ℕ → Mask → List ForcedSlot
+forced_from base m = forced_bits base m.bits ++ forced_words (base + 1024) m.words
+
+-- what is forced, rising by slot
+abbrev pub forced_slots : Forces → List ForcedSlot
+forced_slots f = forced_from 0 f.input ++ forced_from 4096 f.output
+
+abbrev pub saved_phase : Phase → ℕ → SavedPhase
+saved_phase phases.Idle performed = saved_phases.Idle
+saved_phase phases.Held performed = saved_phases.Held performed
+saved_phase (phases.Stopped stop) performed = saved_phases.Stopped stop
+
+abbrev pub saved : Control → SavedController
+saved s = record {
+  variables = s.cycle.state.own;
+  instances = map saved_instance s.cycle.state.instances;
+  input = s.cycle.state.input;
+  output = s.cycle.state.output;
+  memory = s.cycle.state.memory;
+  cr = s.cycle.state.cr;
+  deferred = reverse s.cycle.state.kept;
+  position = s.cycle.state.position;
+  count = s.cycle.count;
+  moment = s.cycle.moment;
+  forces = forced_slots s.cycle.forces;
+  breaks = s.breaks;
+  phase = saved_phase s.phase s.cycle.performed;
+}
+
+-- ---- the shape of a program's snapshots
+
+abbrev pub are_types : List Value → List Ty → Bool
+are_types [] [] = true
+are_types (v ∷ vs) (t ∷ ts) = same_type (ty_of v) t && are_types vs ts
+are_types vs ts = false
+
+-- the kind of the declared instance, and a value of its type for each input
+abbrev pub fits_instance : Instance → SavedBlock → Bool
+fits_instance d x = nat_eq (kind_code x.kind) (kind_code d.kind) && are_types x.inputs (input_types d.kind)
+
+abbrev pub fit_instances : List Instance → List SavedBlock → Bool
+fit_instances [] [] = true
+fit_instances (d ∷ ds) (x ∷ xs) = fits_instance d x && fit_instances ds xs
+fit_instances ds xs = false
+
+-- a location of %I or %Q by its slot, with a value of its type
+abbrev pub fits_location : Value → Option Loc → Bool
+fits_location v None = false
+fits_location v (Some loc) = elim (loc_type loc) [ Some t ↦ same_type (ty_of v) t | None ↦ false ]
+
+-- each above the one before it
+abbrev pub fit_forces : ℕ → List ForcedSlot → Bool
+fit_forces least [] = true
+fit_forces least (f ∷ fs) = nat_le least f.slot.0 && (fits_location f.value (forcible_at f.slot.0) && fit_forces (suc f.slot.0) fs)
+
+-- ---- the open scan
+
+abbrev pub same_optional : Option Ty → Option Ty → Bool
+same_optional None None = true
+same_optional (Some a) (Some b) = same_type a b
+same_optional a b = false
+
+abbrev pub same_truth : Bool → Bool → Bool
+same_truth true b = b
+same_truth false b = not b
+
+abbrev pub same_held : Held → Held → Bool
+same_held a b = nat_eq (op_code a.op) (op_code b.op) && (same_truth a.negated b.negated && same_type a.ty b.ty)
+
+abbrev pub all_held : List Held → List Held → Bool
+all_held [] [] = true
+all_held (a ∷ xs) (b ∷ ys) = same_held a b && all_held xs ys
+all_held xs ys = false
+
+-- the current result and the deferred operators are of the types on arrival
+abbrev pub fits_types : SavedController → Result Shape (TypeFault × ℕ) → Bool
+fits_types s (Err f) = false
+fits_types s (Ok sh) = same_optional (option_map ty_of s.cr) sh.cr && all_held (map held_of (reverse s.deferred)) sh.kept
+
+-- before an instruction, with its types
+abbrev pub fits_run : Text → SavedController → Bool
+fits_run Q s = nat_lt s.position (length Q.code) && fits_types s (shape_at Q s.position)
+
+abbrev pub is_at_rest : SavedController → Bool
+is_at_rest s = is_none s.cr && (nat_eq (length s.deferred) 0 && nat_eq s.position 0)
+
+-- a held scan has something left of the budget
+abbrev pub fits_phase : Text → ℕ → SavedController → SavedPhase → Bool
+fits_phase Q budget s saved_phases.Idle = is_at_rest s
+fits_phase Q budget s (saved_phases.Held performed) = fits_run Q s && nat_lt performed budget
+fits_phase Q budget s (saved_phases.Stopped stop) = fits_run Q s
+
+-- ---- the whole
+
+abbrev pub fits : Text → ℕ → SavedController → Bool
+fits Q budget s =
+    are_types s.variables (map (λ (v : Variable). v.ty) Q.variables)
+    && (fit_instances Q.instances s.instances
+    && (nat_eq (length s.breaks) (length Q.code)
+    && (fit_forces 0 s.forces && fits_phase Q budget s s.phase)))

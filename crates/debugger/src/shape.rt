@@ -1,0 +1,68 @@
+//! Whether a snapshot fits an image and a budget.
+
+ghost use Rattle.std.specs.Prelude.{◌≡◌};
+ghost use Rattle.controller_model.specs.Commands.{forcible_at};
+ghost use Rattle.controller_model.specs.Snapshots.{fits_location, fit_forces, is_at_rest, fits_phase, fits};
+
+use crate::controller::forcible_at;
+use il_model::resolve::loc_type;
+use il_model::{Budget, ForcedSlot, SavedPhase, Slot, Snapshot, Value};
+use loader::Image;
+use scan_cycle::{fits_run, fits_values, has_type};
+
+/// Whether a slot is a location of `%I` or `%Q`, and the value of its type.
+fn fits_location(value: Value, slot: Slot) -> bool
+    ensures { result ≡ fits_location value (forcible_at slot.0) }
+{
+    match forcible_at(slot) {
+        Some(loc) => match loc_type(loc) {
+            Some(ty) => has_type(value, ty),
+            None => false,
+        },
+        None => false,
+    }
+}
+
+/// Whether the slots rise, and each is a location with a value of its type.
+fn fit_forces(forces: &[ForcedSlot]) -> bool
+    ensures { result ≡ fit_forces 0 forces.now }
+{
+    let mut least = 0;
+    for forced in forces {
+        if (forced.slot.0 as u32) < least || !fits_location(forced.value, forced.slot) {
+            return false;
+        }
+        least = forced.slot.0 as u32 + 1;
+    }
+    true
+}
+
+fn is_at_rest(snapshot: &Snapshot) -> bool
+    ensures { result ≡ is_at_rest snapshot.now }
+{
+    snapshot.cr.is_none() && snapshot.deferred.len() == 0 && snapshot.position == 0
+}
+
+/// Whether the open scan is before an instruction, with its types, and a held one has something left of its budget; without one
+/// the machine is at rest.
+fn fits_phase(image: &Image, budget: Budget, snapshot: &Snapshot) -> bool
+    ensures { result ≡ fits_phase image.now budget.instructions snapshot.now snapshot.now.phase }
+{
+    match snapshot.phase {
+        SavedPhase::Idle => is_at_rest(snapshot),
+        SavedPhase::Held { performed } => {
+            fits_run(image, snapshot) && performed < budget.instructions
+        }
+        SavedPhase::Stopped(_) => fits_run(image, snapshot),
+    }
+}
+
+/// Whether a snapshot is of a controller of this image with this budget, the words of its blocks aside.
+pub fn fits(image: &Image, budget: Budget, snapshot: &Snapshot) -> bool
+    ensures { result ≡ fits image.now budget.instructions snapshot.now }
+{
+    fits_values(image, snapshot)
+        && snapshot.breaks.len() == image.len()
+        && fit_forces(snapshot.forces.as_slice())
+        && fits_phase(image, budget, snapshot)
+}

@@ -1,0 +1,33 @@
+-- A snapshot of a controller, as its definitions see it.
+use Rattle.std.specs.Prelude.{ℕ, Bool, List, Option}
+use Rattle.il_model.specs.declared.value.Value.{Value}
+use Rattle.il_model.specs.declared.value.Stop.{Stop}
+use Rattle.il_model.specs.declared.kind.BlockKind.{BlockKind}
+use Rattle.il_model.specs.declared.cells.Cells.{Cells}
+use Rattle.il_model.specs.declared.slot.Slot.{Slot}
+use Rattle.il_model.specs.declared.fetched.Deferred.{Deferred}
+use Rattle.il_model.specs.declared.snapshot.ForcedSlot.{ForcedSlot}
+use Rattle.il_model.specs.declared.snapshot.SavedPhase.{SavedPhase}
+
+pub record SavedBlock : Type 0 where
+  pub kind : BlockKind
+  -- the values of the inputs, in the order of the kind's fields
+  pub inputs : List Value
+  pub words : List ℕ
+
+pub record SavedController : Type 0 where
+  pub variables : List Value
+  pub instances : List SavedBlock
+  pub input : Cells
+  pub output : Cells
+  pub memory : Cells
+  pub cr : Option Value
+  -- the outermost first
+  pub deferred : List Deferred
+  pub position : ℕ
+  pub count : ℕ
+  pub moment : ℕ
+  -- rising by slot
+  pub forces : List ForcedSlot
+  pub breaks : List Bool
+  pub phase : SavedPhase

@@ -1,0 +1,4 @@
+pub mod Cases
+pub mod Numbers
+pub mod Parts
+pub mod Rows

@@ -1,0 +1,59 @@
+-- Words that are no state, and what a machine of a snapshot's parts is.
+use Rattle.std.proofs.Common.{◌≡◌, ℕ, zero, suc, ◌<◌, ◌≤◌, true, List, [], ◌∷◌, length, map, reverse, get_or, Option, Some, None, refl, sym, ap, subst, ◌∙◌, arith}
+use Rattle.std.specs.Option.{option_map}
+use Rattle.std.proofs.lemmas.List.{reverse-reverse, length-reverse, length-map}
+use Rattle.il_model.specs.declared.program.Place.{Place}
+use Rattle.il_model.specs.declared.program.Variable.{Variable}
+use Rattle.il_model.specs.declared.value.Value.{Value}
+use Rattle.il_model.specs.declared.fetched.Deferred.{Deferred}
+use Rattle.il_model.specs.declared.cells.Cells.{Cells}
+use Rattle.il_model.specs.Snapshots.{SavedBlock, SavedController}
+use Rattle.il_model.specs.Text.{Text}
+use Rattle.il_model.specs.Typing.{shape_at}
+use Rattle.il_model.specs.Values.{ty_of}
+use Rattle.controller_model.specs.State.{State}
+use Rattle.controller_model.specs.Slots.{places_of}
+use Rattle.controller_model.specs.Suits.{AreCells, AreInstances, HasValues, held_of, Suits}
+use Rattle.controller_model.specs.Snapshots.{saved_instance, are_types, fit_instances, fits_types}
+use Rattle.controller_model.proofs.Fitting.{types_of, instances_of, typed_so, few_deferred}
+use Rattle.machine.specs.Kept.{Kept, IsMachineOf}
+use Rattle.machine.specs.Parts.{HasState, FitsMachine, RestoresState, HasNoBlock, HasNoState, Here, Later}
+
+pub lost_at : (xs : List SavedBlock) (i : ℕ) (x : SavedBlock) → i < length xs → x ≡ get_or xs i x → HasNoBlock x → HasNoState xs
+lost_at [] i x lt e none = absurd (omega (arith, lt))
+lost_at (y ∷ xs) zero x lt e none = Here y xs (subst HasNoBlock e none)
+lost_at (y ∷ xs) (suc i) x lt e none = Later y xs (lost_at xs i x (omega (arith, lt)) e none)
+
+pub deferred_few : (Q : Text) (s : SavedController) → FitsMachine Q s → length s.deferred ≤ 16
+deferred_few Q s fits =
+    let t = typed_so Q s fits.types in
+    let few = few_deferred Q s.position t.shape t.types in
+    let same : length s.deferred ≡ length t.shape.kept = sym (length-map (reverse s.deferred) held_of ∙ length-reverse s.deferred) ∙ ap length t.kept in
+    omega (arith, few, same)
+
+pub restored_suits : (Q : Text) (s : SavedController) (st : State) → FitsMachine Q s → HasState s st → AreCells s.input → AreCells s.output → AreCells s.memory → Suits Q st
+restored_suits Q s st fits has i o m =
+    let t = typed_so Q s fits.types in
+    record {
+      values = record {
+        own = ap (map ty_of) (sym has.variables) ∙ types_of s.variables (map (λ (v : Variable). v.ty) Q.variables) fits.variables;
+        instances = instances_of Q.instances st.instances (ap (fit_instances Q.instances) (sym has.instances) ∙ fits.instances);
+        input = subst AreCells has.input i;
+        output = subst AreCells has.output o;
+        memory = subst AreCells has.memory m;
+      };
+      shape = t.shape;
+      types = ap (shape_at Q) (sym has.position) ∙ t.types;
+      has = record {
+        cr = ap (option_map ty_of) (sym has.cr) ∙ t.cr;
+        kept = ap (map held_of) (sym (reverse-reverse st.kept)) ∙ ap (λ (ds : List Deferred). map held_of (reverse ds)) (sym has.deferred) ∙ t.kept;
+      };
+    }
+
+pub restored_kept : (Q : Text) (s : SavedController) (o : Option State) (st : State) (places : List Place) (input output memory : Cells)
+    → FitsMachine Q s → RestoresState s o → o ≡ Some st → places ≡ places_of Q → AreCells input → input ≡ s.input → AreCells output → output ≡ s.output → AreCells memory → memory ≡ s.memory → IsMachineOf Q (record { state = st; places = places })
+restored_kept Q s None st places i o m fits r is lie a b d e f g = absurd cc
+restored_kept Q s (Some t) st places i o m fits r is lie a b d e f g =
+    let same : t ≡ st = cc in
+    let has = subst (HasState s) same r.0 in
+    record { suits = restored_suits Q s st fits has (subst AreCells b a) (subst AreCells e d) (subst AreCells g f); places = lie }

@@ -1,0 +1,9 @@
+use Rattle.std.proofs.Common.{◌≡◌, rules, sym, ◌∙◌, subst}
+use Rattle.std.specs.Prelude.{Option}
+use Rattle.controller_model.specs.State.{BlockInstance}
+use Rattle.machine.specs.Parts.{Restores}
+use Rattle.machine.proofs.Restoring.{lost_at}
+use Rattle.machine.proofs.parts.restored_instances.Goals as goal
+
+pub returns-in_default : goal.returns-in_default
+returns-in_default c = lost_at c.args.saved.now c.loop-x.x-index c.x-item.result c.loop-x-test.true c.x-item.is (subst (Restores c.x-item.result) c.in_default.is c.restored.ensures)

@@ -1,0 +1,57 @@
+//! Function block instances in snapshots, and back.
+
+ghost use Rattle.std.specs.Prelude.{◌≡◌, ◌≤◌, length, map, IfOk, option_map};
+ghost use Rattle.std.specs.List.{AllByRecursion};
+ghost use Rattle.il_model.specs.Snapshots.{SavedBlock};
+ghost use Rattle.controller_model.specs.Snapshots.{saved_instance};
+ghost use Rattle.machine.specs.Parts.{AreLawful, HasFewInputs, RestoresAll};
+
+use crate::instance::InstanceState;
+use arrayvec::ArrayVec;
+use il_model::{Deferred, SavedInstance};
+use std::alloc::{AllocError, Global};
+
+/// What a snapshot has of instances, in order.
+pub fn saved_instances(
+    alloc: Global,
+    instances: &[InstanceState],
+) -> Result<Vec<SavedInstance>, AllocError>
+    ensures saved { IfOk result (λ v. v.items ≡ map saved_instance instances.now) }
+    ensures lawful { IfOk result (λ v. AreLawful instances.now) }
+{
+    let mut saved = Vec::new(alloc);
+    for x in instances {
+        saved.push(x.saved(alloc)?)?;
+    }
+    Ok(saved)
+}
+
+/// The instances that a snapshot has, in order; None where the words of one are no state of its kind.
+pub fn restored_instances(
+    alloc: Global,
+    saved: &[SavedInstance],
+) -> Result<Option<Vec<InstanceState>>, AllocError>
+    requires { AllByRecursion HasFewInputs saved.now }
+    ensures { IfOk result (λ o. RestoresAll saved.now (option_map (λ v. v.items) o)) }
+{
+    let mut instances = Vec::new(alloc);
+    for x in saved {
+        let Some(instance) = InstanceState::restored(x) else {
+            return Ok(None);
+        };
+        instances.push(instance)?;
+    }
+    Ok(Some(instances))
+}
+
+/// The deferred operators of a snapshot.
+pub fn restored_deferred(deferred: &[Deferred]) -> ArrayVec<Deferred, 16>
+    requires { length deferred.now ≤ 16 }
+    ensures { result.items ≡ deferred.now }
+{
+    let mut kept = ArrayVec::new();
+    for x in deferred {
+        kept.push(*x);
+    }
+    kept
+}

@@ -1,0 +1,85 @@
+//! Whether a snapshot has what a machine of an image keeps: values and instances as declared, and the types on arrival.
+
+ghost use Rattle.std.specs.Prelude.{◌≡◌, ◌&&◌, length, map, nat_lt};
+ghost use Rattle.il_model.specs.declared.program.Variable.{Variable};
+ghost use Rattle.controller_model.specs.Suits.{input_types};
+ghost use Rattle.controller_model.specs.Snapshots.{are_types, fits_instance, fit_instances, fits_run};
+
+use crate::arrival::{Arrival, has_type};
+use il_model::{BlockKind, Instance, SavedInstance, Snapshot, Value, Variable};
+use loader::Image;
+
+/// Whether there is a value of its type for each variable, in order.
+fn fit_variables(values: &[Value], variables: &[Variable]) -> bool
+    ensures { result ≡ are_types values.now (map (λ (v : Variable). v.ty) variables.now) }
+{
+    if values.len() != variables.len() {
+        return false;
+    }
+    for i in 0..variables.len() {
+        if !has_type(values[i], variables[i].ty) {
+            return false;
+        }
+    }
+    true
+}
+
+/// Whether there is a value of its type for each input of the kind, in order.
+fn fit_inputs(values: &[Value], kind: BlockKind) -> bool
+    ensures { result ≡ are_types values.now (input_types kind) }
+{
+    let mut rest = values;
+    for field in kind.fields() {
+        if field.is_input() {
+            let [value, more @ ..] = rest else {
+                return false;
+            };
+            if !has_type(*value, field.ty()) {
+                return false;
+            }
+            rest = more;
+        }
+    }
+    rest.is_empty()
+}
+
+fn fits_instance(declared: &Instance, saved: &SavedInstance) -> bool
+    ensures { result ≡ fits_instance declared.now saved.now }
+{
+    saved.kind == declared.kind && fit_inputs(saved.inputs.as_slice(), declared.kind)
+}
+
+/// Whether there is an instance of its kind for each that is declared, in order.
+fn fit_instances(declared: &[Instance], saved: &[SavedInstance]) -> bool
+    ensures { result ≡ fit_instances declared.now saved.now }
+{
+    if declared.len() != saved.len() {
+        return false;
+    }
+    for i in 0..declared.len() {
+        if !fits_instance(&declared[i], &saved[i]) {
+            return false;
+        }
+    }
+    true
+}
+
+/// Whether a snapshot has a value of its type for each variable that the image declares, and an instance of its kind, with a
+/// value of its type for each input, for each instance.
+pub fn fits_values(image: &Image, parts: &Snapshot) -> bool
+    ensures { result ≡ (are_types parts.now.variables (map (λ (v : Variable). v.ty) image.now.variables) && fit_instances image.now.instances parts.now.instances) }
+{
+    fit_variables(parts.variables.as_slice(), image.variables())
+        && fit_instances(image.instances(), parts.instances.as_slice())
+}
+
+/// Whether a snapshot's position is an instruction's, and its current result and deferred operators are of the types on arrival
+/// there.
+pub fn fits_run(image: &Image, parts: &Snapshot) -> bool
+    ensures { result ≡ fits_run image.now parts.now }
+{
+    if parts.position as usize >= image.len() {
+        return false;
+    }
+    Arrival::at(image, parts.position).are_of(parts.cr, parts.deferred.as_slice())
+}

@@ -1,0 +1,32 @@
+//! The listing of the image that bytes are.
+
+ghost use Rattle.std.specs.Prelude.{◌≡◌, ◌≤◌, ◌⊎◌, IfErr, IfOk, OnOk};
+ghost use Rattle.il_model.specs.Fits.{IsImage};
+ghost use Rattle.il_model.specs.Image.{spelling};
+ghost use Rattle.plc_tool.specs.Meaning.{IsListed, IsCutShort, Gives, Tells, program_of_bytes};
+
+use crate::fault::Fault;
+use il_model::CountedWrite;
+use lister::list;
+use loader::{Image, load};
+use std::alloc::Global;
+
+/// The image that bytes are, or the first fault of bytes that are none.
+fn image_in(alloc: Global, bytes: &[u8]) -> Result<Image, Fault>
+    ensures found { IfOk result (λ i. IsImage i × (bytes.now ≡ spelling i)) }
+    ensures exact { Gives (λ i. i) result (program_of_bytes bytes.now) }
+{
+    Ok(load(alloc, bytes)?)
+}
+
+/// Writes the listing of the image that bytes are. Of bytes that are no image it tells the first fault, or that memory ran
+/// out, and writes nothing. It answers Device only where the writer failed in this call; then a beginning of the listing went out.
+pub fn put_listing<W: CountedWrite>(alloc: Global, bytes: &[u8], out: &mut W) -> Result<(), Fault>
+    ensures ok { OnOk result (IsListed bytes.now (W.held out.old) (W.held out.new)) }
+    ensures err { IfErr result (λ e. ((e ≡ Fault.Device) × IsCutShort W.CountedWrite bytes.now out.old out.new)
+        ⊎ (Tells e (program_of_bytes bytes.now) × (out.new ≡ out.old))) }
+    ensures counts { W.faults out.old ≤ W.faults out.new }
+{
+    let image = image_in(alloc, bytes)?;
+    Ok(list(&image, out)?)
+}

@@ -1,0 +1,44 @@
+-- What a snapshot has of a scan cycle.
+use Rattle.std.specs.Prelude.{◌≡◌, ℕ, ℤ, List, length, Option, Some, None}
+use Rattle.il_model.specs.declared.value.Value.TheVariants as values
+use Rattle.il_model.specs.declared.slot.Slot.{Slot}
+use Rattle.il_model.specs.declared.snapshot.ForcedSlot.{ForcedSlot}
+use Rattle.il_model.specs.declared.snapshot.SavedPhase.{SavedPhase}
+use Rattle.il_model.specs.declared.snapshot.SavedPhase.TheVariants as saved_phases
+use Rattle.il_model.specs.Snapshots.{SavedController}
+use Rattle.controller_model.specs.declared.forces.Mask.{Mask}
+use Rattle.controller_model.specs.declared.forces.Forces.{Forces}
+use Rattle.controller_model.specs.Scan.{Cycle}
+use Rattle.controller_model.specs.Snapshots.{forced_slots}
+pub use Rattle.machine.specs.Parts.{HasState, FitsMachine, AreLawful, HasNoBlock, HasNoState, Here, Later}
+
+pub record HasCycle (s : SavedController) (c : Cycle) : Type 0 where
+  pub state : HasState s c.state
+  pub count : s.count ≡ c.count
+  pub moment : s.moment ≡ c.moment
+  pub forces : s.forces ≡ forced_slots c.forces
+
+-- how many instructions a held scan has performed
+abbrev pub performed_in : SavedPhase → ℕ
+performed_in saved_phases.Idle = 0
+performed_in (saved_phases.Held performed) = performed
+performed_in (saved_phases.Stopped stop) = 0
+
+-- a scan cycle with all that, or none where some words are no state
+abbrev pub RestoresCycle : SavedController → Option Cycle → Type 0
+RestoresCycle s (Some c) = HasCycle s c × (c.performed ≡ performed_in s.phase) × AreLawful c.state.instances
+RestoresCycle s None = HasNoState s.instances
+
+-- the slot of a word, where it is forced
+abbrev pub forced_word : ℕ → Option ℤ → Option ForcedSlot
+forced_word n None = None
+forced_word n (Some z) = Some (record { slot = record { 0 = n }; value = values.Int z })
+
+pub record IsMask (m : Mask) : Type 0 where
+  pub bits : length m.bits ≡ 512
+  pub words : length m.words ≡ 64
+
+-- a mask has a place for each cell of its area
+pub record AreMasks (f : Forces) : Type 0 where
+  pub input : IsMask f.input
+  pub output : IsMask f.output
