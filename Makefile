@@ -1,7 +1,7 @@
 # make demo [EXAMPLE=crossing|bottles|motor|tank|pumps|interlock]   runs plc on a real program, and prints a line for each scan
 # make demo EXAMPLE=bottles SESSION=_session  a session of the debugger with that program
 # make plc                                    proves the program and builds it: build/plc
-# make test                                   the whole gate
+# make test                                   the whole gate: that the rows of the examples are those of examples/, and then rt ci
 
 EXAMPLE ?= crossing
 IL = examples/$(EXAMPLE).il
@@ -25,4 +25,5 @@ plc:
 	mkdir -p build && cp crates/plc/out/plc build/plc
 
 test:
+	tools/example-rows --check
 	rt ci

@@ -7,6 +7,7 @@ pub mod ColdSuits
 pub mod Turns
 pub mod Agrees
 pub mod SameEnd
+pub mod Stepping
 pub mod WorkedRows
 pub mod Fitting
 pub mod ForcedSlots

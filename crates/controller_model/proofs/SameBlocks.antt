@@ -1,57 +1,16 @@
--- A lawful block is known by its kind and its words.
-use Rattle.std.proofs.Common.{◌≡◌, ℕ, true, List, [], ◌∷◌, map, refl, sym, ap, ◌∙◌}
+-- A lawful instance is known by what a snapshot has of it, as a block is by its kind and its words.
+use Rattle.std.proofs.Common.{◌≡◌, true, List, [], ◌∷◌, map, refl, ap, ◌∙◌}
 use Rattle.il_model.specs.declared.value.Value.{Value}
-use Rattle.il_model.specs.declared.kind.BlockKind.{BlockKind}
-use Rattle.il_model.specs.declared.kind.BlockKind.TheVariants as kinds
 use Rattle.il_model.specs.Snapshots.{SavedBlock}
 use Rattle.function_blocks.specs.declared.any.Block.{Block}
-use Rattle.function_blocks.specs.declared.any.Block.TheVariants as blocks
-use Rattle.function_blocks.specs.Blocks.{kind_of, is_block, block_words}
-use Rattle.function_blocks.specs.SavedWords.{saved_in}
-use Rattle.function_blocks.specs.Bistables.{bistable_of}
-use Rattle.function_blocks.specs.Edges.{edge_of}
-use Rattle.function_blocks.specs.Counters.{counter_of, ctud_of}
-use Rattle.function_blocks.specs.Timers.{timer_of}
-use Rattle.function_blocks.proofs.Bistables.{bistable_back}
-use Rattle.function_blocks.proofs.Edges.{edge_back}
-use Rattle.function_blocks.proofs.Counters.{ctu_back, ctd_back, ctud_back}
-use Rattle.function_blocks.proofs.Timers.{tp_back, ton_back, tof_back}
+use Rattle.function_blocks.specs.Blocks.{is_block, IsKnown}
 use Rattle.controller_model.specs.State.{BlockInstance}
-use Rattle.controller_model.specs.Snapshots.{saved_instance}
-use Rattle.std.specs.List.{AllByRecursion}
+use Rattle.controller_model.specs.Snapshots.{saved_instance, AreKnown}
 
--- the block that words stand for
-abbrev block_of : BlockKind → List ℕ → Block
-block_of kinds.Sr ws = blocks.Sr (bistable_of (saved_in ws))
-block_of kinds.Rs ws = blocks.Rs (bistable_of (saved_in ws))
-block_of kinds.RTrig ws = blocks.RTrig (edge_of (saved_in ws))
-block_of kinds.FTrig ws = blocks.FTrig (edge_of (saved_in ws))
-block_of kinds.Ctu ws = blocks.Ctu (counter_of (saved_in ws))
-block_of kinds.Ctd ws = blocks.Ctd (counter_of (saved_in ws))
-block_of kinds.Ctud ws = blocks.Ctud (ctud_of (saved_in ws))
-block_of kinds.Tp ws = blocks.Tp (timer_of (saved_in ws))
-block_of kinds.Ton ws = blocks.Ton (timer_of (saved_in ws))
-block_of kinds.Tof ws = blocks.Tof (timer_of (saved_in ws))
-
-block_again : (b : Block) → is_block b ≡ true → block_of (kind_of b) (block_words b) ≡ b
-block_again (blocks.Sr s) h = ap (λ t. blocks.Sr t) (bistable_back s h)
-block_again (blocks.Rs s) h = ap (λ t. blocks.Rs t) (bistable_back s h)
-block_again (blocks.RTrig s) h = ap (λ t. blocks.RTrig t) (edge_back s h)
-block_again (blocks.FTrig s) h = ap (λ t. blocks.FTrig t) (edge_back s h)
-block_again (blocks.Ctu s) h = ap (λ t. blocks.Ctu t) (ctu_back s h)
-block_again (blocks.Ctd s) h = ap (λ t. blocks.Ctd t) (ctd_back s h)
-block_again (blocks.Ctud s) h = ap (λ t. blocks.Ctud t) (ctud_back s h)
-block_again (blocks.Tp s) h = ap (λ t. blocks.Tp t) (tp_back s h)
-block_again (blocks.Ton s) h = ap (λ t. blocks.Ton t) (ton_back s h)
-block_again (blocks.Tof s) h = ap (λ t. blocks.Tof t) (tof_back s h)
-
-block_same : (a b : Block) → is_block a ≡ true → is_block b ≡ true → kind_of a ≡ kind_of b → block_words a ≡ block_words b → a ≡ b
-block_same a b la lb k w = sym (block_again a la) ∙ ap (λ (kind : BlockKind). block_of kind (block_words a)) k ∙ ap (block_of (kind_of b)) w ∙ block_again b lb
-
-instance_same : (x y : BlockInstance) → is_block x.block ≡ true → is_block y.block ≡ true → saved_instance x ≡ saved_instance y → x ≡ y
-instance_same x y lx ly e =
+instance_same : ((a b : Block) → IsKnown a b) → (x y : BlockInstance) → is_block x.block ≡ true → is_block y.block ≡ true → saved_instance x ≡ saved_instance y → x ≡ y
+instance_same known x y lx ly e =
     let inputs : x.inputs ≡ y.inputs = ap (λ (s : SavedBlock). s.inputs) e in
-    let block : x.block ≡ y.block = block_same x.block y.block lx ly (ap (λ (s : SavedBlock). s.kind) e) (ap (λ (s : SavedBlock). s.words) e) in
+    let block : x.block ≡ y.block = known x.block y.block lx ly (ap (λ (s : SavedBlock). s.kind) e) (ap (λ (s : SavedBlock). s.words) e) in
     ap (λ (vs : List Value). let i : BlockInstance = record { inputs = vs; block = x.block } in i) inputs
     ∙ ap (λ (b : Block). let i : BlockInstance = record { inputs = y.inputs; block = b } in i) block
 
@@ -61,10 +20,10 @@ head_same x y xs ys e = cc
 tail_same : {A : Type 0} (x y : A) (xs ys : List A) → x ∷ xs ≡ y ∷ ys → xs ≡ ys
 tail_same x y xs ys e = cc
 
-pub instances_same : (xs ys : List BlockInstance) → AllByRecursion (λ (x : BlockInstance). is_block x.block ≡ true) xs → AllByRecursion (λ (x : BlockInstance). is_block x.block ≡ true) ys → map saved_instance xs ≡ map saved_instance ys → xs ≡ ys
-instances_same [] [] lx ly e = refl
-instances_same [] (y ∷ ys) lx ly e = absurd cc
-instances_same (x ∷ xs) [] lx ly e = absurd cc
-instances_same (x ∷ xs) (y ∷ ys) lx ly e =
-    ap (λ (z : BlockInstance). z ∷ xs) (instance_same x y lx.0 ly.0 (head_same (saved_instance x) (saved_instance y) (map saved_instance xs) (map saved_instance ys) e))
-    ∙ ap (λ zs. y ∷ zs) (instances_same xs ys lx.1 ly.1 (tail_same (saved_instance x) (saved_instance y) (map saved_instance xs) (map saved_instance ys) e))
+pub instances_same : ((a b : Block) → IsKnown a b) → (xs ys : List BlockInstance) → AreKnown xs ys
+instances_same known [] [] lx ly e = refl
+instances_same known [] (y ∷ ys) lx ly e = absurd cc
+instances_same known (x ∷ xs) [] lx ly e = absurd cc
+instances_same known (x ∷ xs) (y ∷ ys) lx ly e =
+    ap (λ (z : BlockInstance). z ∷ xs) (instance_same known x y lx.0 ly.0 (head_same (saved_instance x) (saved_instance y) (map saved_instance xs) (map saved_instance ys) e))
+    ∙ ap (λ zs. y ∷ zs) (instances_same known xs ys lx.1 ly.1 (tail_same (saved_instance x) (saved_instance y) (map saved_instance xs) (map saved_instance ys) e))

@@ -7,4 +7,5 @@ pub mod Forces
 pub mod Scan
 pub mod Commands
 pub mod Carried
+pub mod Stepping
 pub mod Snapshots

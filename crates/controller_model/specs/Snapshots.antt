@@ -1,5 +1,5 @@
 -- What a snapshot has of a controller's state, and which snapshots are of a program's shape.
-use Rattle.std.specs.Prelude.{ℕ, suc, ◌+◌, Bool, true, false, ◌&&◌, List, [], ◌∷◌, ◌++◌, length, map, filter, reverse, Option, Some, None, is_none, is_some, Result, Ok, Err, nat_lt, nat_le, nat_eq, ℤ, not}
+use Rattle.std.specs.Prelude.{◌≡◌, ℕ, suc, ◌+◌, Bool, true, false, ◌&&◌, List, [], ◌∷◌, ◌++◌, length, map, filter, reverse, Option, Some, None, is_none, is_some, Result, Ok, Err, nat_lt, nat_le, nat_eq, ℤ, not}
 use Rattle.std.specs.Option.{option_map}
 use Rattle.il_model.specs.declared.typing.TypeFault.{TypeFault}
 use Rattle.il_model.specs.declared.value.Ty.{Ty}
@@ -23,7 +23,8 @@ use Rattle.il_model.specs.Kinds.{kind_code}
 use Rattle.il_model.specs.Image.{op_code}
 use Rattle.il_model.specs.Typing.{Shape, shape_at, loc_type}
 use Rattle.il_model.specs.Text.{Text}
-use Rattle.function_blocks.specs.Blocks.{kind_of, block_words}
+use Rattle.function_blocks.specs.Blocks.{kind_of, block_words, is_block}
+use Rattle.std.specs.List.{AllByRecursion}
 use Rattle.controller_model.specs.declared.forces.Mask.{Mask}
 use Rattle.controller_model.specs.declared.forces.Forces.{Forces}
 use Rattle.controller_model.specs.declared.phase.Phase.{Phase}
@@ -36,6 +37,10 @@ use Rattle.controller_model.specs.Commands.{Control, forcible_at}
 
 abbrev pub saved_instance : BlockInstance → SavedBlock
 saved_instance x = record { kind = kind_of x.block; inputs = x.inputs; words = block_words x.block }
+
+-- of instances with lawful blocks, those with the same snapshot are the same
+abbrev pub AreKnown : List BlockInstance → List BlockInstance → Type 0
+AreKnown xs ys = AllByRecursion (λ (x : BlockInstance). is_block x.block ≡ true) xs → AllByRecursion (λ (x : BlockInstance). is_block x.block ≡ true) ys → map saved_instance xs ≡ map saved_instance ys → xs ≡ ys
 
 abbrev pub forced_bits : ℕ → List (Option Bool) → List ForcedSlot
 forced_bits n [] = []

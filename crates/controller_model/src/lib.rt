@@ -9,6 +9,11 @@ ghost use Rattle.il_model.specs.declared.cells.InImage.{InImage};
 ghost use Rattle.il_model.specs.Text.{Text};
 ghost use Rattle.controller_model.specs.Commands.{Control};
 ghost use Rattle.controller_model.specs.Carried.{Onward, EndsTheSame};
+ghost use Rattle.controller_model.specs.Stepping.{StepsOnce};
+ghost use Rattle.controller_model.specs.State.{BlockInstance};
+ghost use Rattle.controller_model.specs.Snapshots.{AreKnown};
+
+use function_blocks::any::words_tell_a_block;
 
 mod forces;
 mod phase;
@@ -21,3 +26,15 @@ pub use phase::{Phase, ScanOut};
 pub fn ends_the_same()
     ensures { (Q : Text) (budget : ℕ) (s : Control) (inputs : InImage) (moment : ℕ) (gs : List Onward) → EndsTheSame Q budget s inputs moment gs }
 {}
+
+/// A step of a held scan performs one instruction, wherever breakpoints are, and then the scan is at its end, stopped, or held.
+pub fn a_step_is_one_instruction()
+    ensures { (Q : Text) (budget : ℕ) (s : Control) → StepsOnce Q budget s }
+{}
+
+/// Instances are known by what a snapshot has of them.
+pub fn snapshots_tell_instances()
+    ensures { (xs ys : List BlockInstance) → AreKnown xs ys }
+{
+    words_tell_a_block();
+}

@@ -14,7 +14,7 @@ pub enum ScanOut {
 }
 
 /// Whether a controller has an open scan.
-#[derive(Clone, Copy, Debug, PartialEq, Eq)]
+#[derive(Clone, Copy, PartialEq, Eq)]
 pub enum Phase {
     /// There is none.
     Idle,

@@ -27,7 +27,8 @@ use Rattle.debugger.specs.declared.snap_error.SnapError.{SnapError}
 use Rattle.debugger.specs.declared.snap_error.SnapError.TheVariants.{BadBlock, BadShape, Memory}
 use Rattle.debugger.specs.Owned.{Owned, IsOpen, IsController}
 use Rattle.debugger.specs.Restored.{IsRestored, Restores, IsSame, RestoresTheSame}
-use Rattle.controller_model.proofs.SameBlocks.{instances_same}
+use Rattle.controller_model.specs.State.{BlockInstance}
+use Rattle.controller_model.specs.Snapshots.{AreKnown}
 use Rattle.debugger.proofs.States.{states}
 use Rattle.debugger.proofs.ForcesAgain.{slots_fit, forces_same}
 
@@ -86,9 +87,9 @@ owned_same o p a b c =
     ∙ ap (λ (n : ℕ). let x : Owned = record { program = p.program; budget = n; control = o.control } in x) b
     ∙ ap (λ (k : Control). let x : Owned = record { program = p.program; budget = p.budget; control = k } in x) c
 
-pub one_saved : (o p : Owned) → IsController o → IsController p → o.program ≡ p.program → o.budget ≡ p.budget → saved o.control ≡ saved p.control → o ≡ p
-one_saved o p a b is-program is-budget e =
-    let xs = instances_same o.control.cycle.state.instances p.control.cycle.state.instances a.blocks b.blocks (ap (λ (s : SavedController). s.instances) e) in
+pub one_saved : ((xs ys : List BlockInstance) → AreKnown xs ys) → (o p : Owned) → IsController o → IsController p → o.program ≡ p.program → o.budget ≡ p.budget → saved o.control ≡ saved p.control → o ≡ p
+one_saved known o p a b is-program is-budget e =
+    let xs = known o.control.cycle.state.instances p.control.cycle.state.instances a.blocks b.blocks (ap (λ (s : SavedController). s.instances) e) in
     let kept : o.control.cycle.state.kept ≡ p.control.cycle.state.kept =
     sym (reverse-reverse o.control.cycle.state.kept) ∙ ap (λ (s : SavedController). reverse s.deferred) e ∙ reverse-reverse p.control.cycle.state.kept in
     let forces = forces_same o.control.cycle.forces p.control.cycle.forces a.forces b.forces (ap (λ (s : SavedController). s.forces) e) in
@@ -103,8 +104,8 @@ one_saved o p a b is-program is-budget e =
 true_false : (b : Bool) → b ≡ true → b ≡ false → ⊥
 true_false b e f = cc
 
-pub restored_same : (o : Owned) (r : Result Owned SnapError) → RestoresTheSame o r
-restored_same o (Ok c) = λ is h. one_saved c o h.lawful is h.program h.budget_is h.saved
-restored_same o (Err BadShape) = λ is h. absurd (true_false (fits o.program o.budget (saved o.control)) (saved_fits o is) h)
-restored_same o (Err BadBlock) = λ is h. absurd (states o.control.cycle.state.instances (map saved_instance o.control.cycle.state.instances) refl is.blocks h.1)
-restored_same o (Err Memory) = λ is h. refl
+pub restored_same : ((xs ys : List BlockInstance) → AreKnown xs ys) → (o : Owned) (r : Result Owned SnapError) → RestoresTheSame o r
+restored_same known o (Ok c) = λ is h. one_saved known c o h.lawful is h.program h.budget_is h.saved
+restored_same known o (Err BadShape) = λ is h. absurd (true_false (fits o.program o.budget (saved o.control)) (saved_fits o is) h)
+restored_same known o (Err BadBlock) = λ is h. absurd (states o.control.cycle.state.instances (map saved_instance o.control.cycle.state.instances) refl is.blocks h.1)
+restored_same known o (Err Memory) = λ is h. refl

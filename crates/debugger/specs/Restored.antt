@@ -3,7 +3,7 @@ use Rattle.std.specs.Prelude.{◌≡◌, ℕ, true, false, Result, Ok, Err}
 use Rattle.il_model.specs.Snapshots.{SavedController}
 use Rattle.il_model.specs.Text.{Text}
 use Rattle.controller_model.specs.Snapshots.{saved, fits}
-use Rattle.scan_cycle.specs.Parts.{HasNoState}
+use Rattle.scan_cycle.specs.Parts.{HaveBlocks, HasNoState}
 use Rattle.debugger.specs.declared.snap_error.SnapError.{SnapError}
 use Rattle.debugger.specs.declared.snap_error.SnapError.TheVariants.{BadBlock, BadShape, Memory}
 use Rattle.debugger.specs.Owned.{Owned, IsController}
@@ -21,13 +21,13 @@ pub record IsRestored (Q : Text) (budget : ℕ) (s : SavedController) (c : Owned
   pub fits : fits Q budget s ≡ true
   pub lawful : IsController c
 
--- a snapshot that doesn't fit is a bad shape; one that fits has a controller, unless the words of a block are no state or memory
--- runs out
+-- a snapshot that doesn't fit is a bad shape; one that fits is a bad block where the words of a block are no state; any other has a
+-- controller, unless memory runs out
 abbrev pub Restores : Text → ℕ → SavedController → Result Owned SnapError → Type 0
 Restores Q budget s (Ok c) = IsRestored Q budget s c
 Restores Q budget s (Err BadShape) = fits Q budget s ≡ false
 Restores Q budget s (Err BadBlock) = (fits Q budget s ≡ true) × HasNoState s.instances
-Restores Q budget s (Err Memory) = fits Q budget s ≡ true
+Restores Q budget s (Err Memory) = (fits Q budget s ≡ true) × HaveBlocks s.instances
 
 -- the same controller, unless memory runs out
 abbrev pub IsSame : Owned → Result Owned SnapError → Type 0

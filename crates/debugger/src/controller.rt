@@ -21,12 +21,12 @@ use il_model::{
     Stop, Value,
 };
 use loader::Image;
-use scan_cycle::ScanCycle;
+use scan_cycle::{ScanCycle, have_states};
 use std::alloc::{AllocError, Global};
 use std::marker::Model;
 
 /// A controller: it owns the image of its program, and all that the program's scans and the debugger leave.
-#[derive(Debug, Drop)]
+#[derive(Drop)]
 pub struct Controller {
     image: Image,
     budget: Budget,
@@ -135,6 +135,13 @@ impl Controller {
         &self.image
     }
 
+    /// How many instructions a scan may perform.
+    pub fn budget(&self) -> Budget
+        ensures { result.instructions ≡ self.now.budget }
+    {
+        self.budget
+    }
+
     /// What a snapshot is to have of it: all that its answers depend on but its image and its budget. It fails only where memory
     /// runs out.
     pub fn save(&self, alloc: Global) -> Result<Snapshot, AllocError>
@@ -157,7 +164,7 @@ impl Controller {
     /// the budget says; without an open scan there is no current result and no deferred operator, and the position is 0. All this is
     /// judged before the blocks.
     ///
-    /// `BadBlock`: it fits, but the words of a block are no state of its kind. `Memory`: it fits, and memory ran out.
+    /// `BadBlock`: it fits, but the words of a block are no state of its kind. `Memory`: neither is so, and memory ran out.
     pub fn restore(
         alloc: Global,
         image: Image,
@@ -168,6 +175,9 @@ impl Controller {
     {
         if !fits(&image, budget, snapshot) {
             return Err(SnapError::BadShape);
+        }
+        if !have_states(snapshot.instances.as_slice()) {
+            return Err(SnapError::BadBlock);
         }
         let breaks = Vec::from_slice(alloc, snapshot.breaks.as_slice())?;
         let Some(cycle) = ScanCycle::from_parts(alloc, &image, snapshot)? else {

@@ -8,6 +8,8 @@ ghost use Rattle.debugger.specs.declared.snap_error.SnapError.{SnapError};
 ghost use Rattle.debugger.specs.Owned.{Owned};
 ghost use Rattle.debugger.specs.Restored.{RestoresTheSame};
 
+use controller_model::snapshots_tell_instances;
+
 mod controller;
 mod names;
 mod shape;
@@ -20,4 +22,6 @@ pub use snap_error::SnapError;
 /// What is saved of a controller is restored, with the same image and budget, to the same controller, unless memory runs out.
 pub fn restores_the_same()
     ensures { (o : Owned) (r : Result Owned SnapError) → RestoresTheSame o r }
-{}
+{
+    snapshots_tell_instances();
+}

@@ -48,7 +48,6 @@ fn put_code(codes: &mut BTreeSet<usize>, seen: &[Variable], v: &Variable) -> Res
     requires { AreCodes seen.now codes.old }
     ensures { OnOk result (AreCodes (seen.now ++ v.now ∷ []) codes.new) }
 {
-    let _count = seen.len();
     match v.location {
         Some(loc) => {
             codes.insert(location_code(Some(loc)))?;

@@ -89,14 +89,14 @@ impl DeclError {
 }
 
 /// A fault, and how many bytes the text has from its place on.
-#[derive(Clone, Copy, Debug, PartialEq, Eq)]
+#[derive(Clone, Copy, PartialEq, Eq)]
 pub struct Refusal {
     pub kind: DeclKind,
     pub left: usize,
 }
 
 /// Why resolving ended.
-#[derive(Clone, Copy, Debug, PartialEq, Eq)]
+#[derive(Clone, Copy, PartialEq, Eq)]
 pub enum Failure {
     Refused(Refusal),
     Memory,

@@ -19,14 +19,14 @@ use il_reader::{Declaration, Lexeme, Names};
 use std::alloc::{AllocError, Global};
 
 /// What a type word stands for.
-#[derive(Clone, Copy, Debug, PartialEq, Eq)]
+#[derive(Clone, Copy, PartialEq, Eq)]
 pub enum DeclaredType {
     Elementary(Ty),
     Block(BlockKind),
 }
 
 /// What the names of a list are: their type and their first value, where both are good.
-#[derive(Clone, Copy, Debug)]
+#[derive(Clone, Copy)]
 pub struct Plan {
     pub ty: Option<DeclaredType>,
     pub initial: Value,

@@ -6,3 +6,4 @@ pub mod Counters
 pub mod Timers
 pub mod Outputs
 pub mod KindLaws
+mod Known

@@ -1,5 +1,5 @@
 -- A block of any kind: called with the list of its inputs' values, and its fields by their numbers.
-use Rattle.std.specs.Prelude.{ℕ, ◌-◌, Bool, false, nat_lt, List, [], ◌∷◌, Option, Some, None, ℤ, pos, slice_get, if◌then◌else◌}
+use Rattle.std.specs.Prelude.{◌≡◌, ℕ, ◌-◌, Bool, true, false, nat_lt, List, [], ◌∷◌, Option, Some, None, ℤ, pos, slice_get, if◌then◌else◌}
 use Rattle.il_model.specs.Kinds.{kind_fields, input_count}
 use Rattle.il_model.specs.declared.value.Value.{Value}
 use Rattle.il_model.specs.declared.value.Value.TheVariants as values
@@ -155,3 +155,7 @@ block_words (blocks.Ctud s) = ctud_words s
 block_words (blocks.Tp s) = timer_words s
 block_words (blocks.Ton s) = timer_words s
 block_words (blocks.Tof s) = timer_words s
+
+-- of two lawful blocks of one kind with the same words, both are one
+abbrev pub IsKnown : Block → Block → Type 0
+IsKnown a b = is_block a ≡ true → is_block b ≡ true → kind_of a ≡ kind_of b → block_words a ≡ block_words b → a ≡ b

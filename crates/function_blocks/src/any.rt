@@ -3,7 +3,8 @@
 ghost use Rattle.std.specs.Prelude.{◌≡◌, true, ℕ, List, Option, Some, IfSome, slice_get, option_map};
 ghost use Rattle.il_model.specs.Kinds.{field_type};
 ghost use Rattle.il_model.specs.Values.{ty_of};
-ghost use Rattle.function_blocks.specs.Blocks.{truth_of, int_of, time_of, sr_inputs, rs_inputs, edge_inputs, ctu_inputs, ctd_inputs, ctud_inputs, timer_inputs, bistable_values, edge_values, counter_values, ctud_values, timer_values, kind_of, cold_block, block_after, outputs_of, output_field, output_value, is_block, block_words};
+ghost use Rattle.function_blocks.specs.declared.any.Block.{Block};
+ghost use Rattle.function_blocks.specs.Blocks.{truth_of, int_of, time_of, sr_inputs, rs_inputs, edge_inputs, ctu_inputs, ctd_inputs, ctud_inputs, timer_inputs, bistable_values, edge_values, counter_values, ctud_values, timer_values, kind_of, cold_block, block_after, outputs_of, output_field, output_value, is_block, block_words, IsKnown};
 
 use crate::bistable::{BistableOut, Rs, RsIn, Sr, SrIn};
 use crate::block::FunctionBlock;
@@ -14,7 +15,7 @@ use il_model::kind::BlockKind;
 use il_model::value::Value;
 
 /// A standard function block. Its state is always one of its kind.
-#[derive(Debug, Drop)]
+#[derive(Drop)]
 pub enum Block {
     Sr(Sr),
     Rs(Rs),
@@ -311,3 +312,8 @@ impl Block {
         }
     }
 }
+
+/// A block is known by its kind and its words.
+pub fn words_tell_a_block()
+    ensures { (a b : Block) → IsKnown a b }
+{}

@@ -9,14 +9,14 @@ use il_model::kind::BlockKind;
 use std::marker::Model;
 
 /// The inputs of SR.
-#[derive(Clone, Copy, Debug, PartialEq, Eq)]
+#[derive(Clone, Copy, PartialEq, Eq)]
 pub struct SrIn {
     pub s1: bool,
     pub r: bool,
 }
 
 /// The inputs of RS.
-#[derive(Clone, Copy, Debug, PartialEq, Eq)]
+#[derive(Clone, Copy, PartialEq, Eq)]
 pub struct RsIn {
     pub s: bool,
     pub r1: bool,
@@ -29,7 +29,7 @@ pub struct BistableOut {
 }
 
 /// What SR and RS keep.
-#[derive(Clone, Copy, Debug)]
+#[derive(Clone, Copy)]
 pub struct BistableState {
     /// Called at least once.
     pub called: bool,
@@ -106,7 +106,7 @@ fn bistable_words(s: &BistableState) -> [u64; 4]
 }
 
 /// SR: S1 sets Q1, also where R is TRUE.
-#[derive(Debug, Drop)]
+#[derive(Drop)]
 pub struct Sr {
     state: BistableState,
 }
@@ -178,7 +178,7 @@ impl FunctionBlock for Sr {
 }
 
 /// RS: R1 resets Q1, also where S is TRUE.
-#[derive(Debug, Drop)]
+#[derive(Drop)]
 pub struct Rs {
     state: BistableState,
 }

@@ -10,7 +10,7 @@ use il_model::kind::BlockKind;
 use std::marker::Model;
 
 /// The inputs of CTU.
-#[derive(Clone, Copy, Debug, PartialEq, Eq)]
+#[derive(Clone, Copy, PartialEq, Eq)]
 pub struct CtuIn {
     pub cu: bool,
     pub r: bool,
@@ -18,7 +18,7 @@ pub struct CtuIn {
 }
 
 /// The inputs of CTD.
-#[derive(Clone, Copy, Debug, PartialEq, Eq)]
+#[derive(Clone, Copy, PartialEq, Eq)]
 pub struct CtdIn {
     pub cd: bool,
     pub ld: bool,
@@ -26,7 +26,7 @@ pub struct CtdIn {
 }
 
 /// The inputs of CTUD.
-#[derive(Clone, Copy, Debug, PartialEq, Eq)]
+#[derive(Clone, Copy, PartialEq, Eq)]
 pub struct CtudIn {
     pub cu: bool,
     pub cd: bool,
@@ -51,7 +51,7 @@ pub struct CtudOut {
 }
 
 /// What CTU and CTD keep.
-#[derive(Clone, Copy, Debug)]
+#[derive(Clone, Copy)]
 pub struct CounterState {
     /// Called at least once.
     pub called: bool,
@@ -63,7 +63,7 @@ pub struct CounterState {
 }
 
 /// What CTUD keeps.
-#[derive(Clone, Copy, Debug)]
+#[derive(Clone, Copy)]
 pub struct CtudState {
     /// Called at least once.
     pub called: bool,
@@ -336,7 +336,7 @@ fn ctud_words(s: &CtudState) -> [u64; 4]
 }
 
 /// CTU: an edge of CU counts up to 32767, R sets CV to 0, Q says that CV has reached PV.
-#[derive(Debug, Drop)]
+#[derive(Drop)]
 pub struct Ctu {
     state: CounterState,
 }
@@ -409,7 +409,7 @@ impl FunctionBlock for Ctu {
 }
 
 /// CTD: an edge of CD counts down to -32768, LD sets CV to PV, Q says that CV is 0 or less.
-#[derive(Debug, Drop)]
+#[derive(Drop)]
 pub struct Ctd {
     state: CounterState,
 }
@@ -482,7 +482,7 @@ impl FunctionBlock for Ctd {
 }
 
 /// CTUD: counts up at an edge of CU and down at one of CD, neither at both; R wins over LD, and LD over edges.
-#[derive(Debug, Drop)]
+#[derive(Drop)]
 pub struct Ctud {
     state: CtudState,
 }

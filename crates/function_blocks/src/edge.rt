@@ -9,7 +9,7 @@ use il_model::kind::BlockKind;
 use std::marker::Model;
 
 /// The input of R_TRIG and F_TRIG.
-#[derive(Clone, Copy, Debug, PartialEq, Eq)]
+#[derive(Clone, Copy, PartialEq, Eq)]
 pub struct EdgeIn {
     pub clk: bool,
 }
@@ -21,7 +21,7 @@ pub struct EdgeOut {
 }
 
 /// What R_TRIG and F_TRIG keep.
-#[derive(Clone, Copy, Debug)]
+#[derive(Clone, Copy)]
 pub struct EdgeState {
     /// Called at least once.
     pub called: bool,
@@ -104,7 +104,7 @@ fn edge_words(s: &EdgeState) -> [u64; 4]
 }
 
 /// R_TRIG: Q where CLK is TRUE and was FALSE at the last call.
-#[derive(Debug, Drop)]
+#[derive(Drop)]
 pub struct RTrig {
     state: EdgeState,
 }
@@ -174,7 +174,7 @@ impl FunctionBlock for RTrig {
 }
 
 /// F_TRIG: Q where CLK is FALSE and was TRUE at the last call, or at a first call where CLK is FALSE.
-#[derive(Debug, Drop)]
+#[derive(Drop)]
 pub struct FTrig {
     state: EdgeState,
 }

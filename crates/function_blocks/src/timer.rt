@@ -11,7 +11,7 @@ use il_model::kind::BlockKind;
 use std::marker::Model;
 
 /// The inputs of a timer.
-#[derive(Clone, Copy, Debug, PartialEq, Eq)]
+#[derive(Clone, Copy, PartialEq, Eq)]
 pub struct TimerIn {
     /// IN.
     pub input: bool,
@@ -28,7 +28,7 @@ pub struct TimerOut {
 }
 
 /// What a timer keeps.
-#[derive(Clone, Copy, Debug)]
+#[derive(Clone, Copy)]
 pub struct TimerState {
     /// Called at least once.
     pub called: bool,
@@ -292,7 +292,7 @@ fn cold_timer() -> TimerState
 }
 
 /// TP: an edge of IN starts a pulse of PT, which nothing prolongs; Q is TRUE in it, and ET stays at PT until IN is FALSE.
-#[derive(Debug, Drop)]
+#[derive(Drop)]
 pub struct Tp {
     state: TimerState,
 }
@@ -365,7 +365,7 @@ impl FunctionBlock for Tp {
 }
 
 /// TON: Q is TRUE once IN has been TRUE for PT.
-#[derive(Debug, Drop)]
+#[derive(Drop)]
 pub struct Ton {
     state: TimerState,
 }
@@ -438,7 +438,7 @@ impl FunctionBlock for Ton {
 }
 
 /// TOF: Q is TRUE while IN is TRUE and for PT after it.
-#[derive(Debug, Drop)]
+#[derive(Drop)]
 pub struct Tof {
     state: TimerState,
 }

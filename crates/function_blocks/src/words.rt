@@ -5,7 +5,7 @@ ghost use Rattle.function_blocks.specs.Words.{bit, bits_number, joined_halves, f
 ghost use Rattle.function_blocks.specs.SavedWords.{has_bit, high_of, low_of, words, decoded_words, saved_in, int_or_zero};
 
 /// What the words of a state hold: truths, two numbers, a moment. What a kind doesn't have is FALSE or 0.
-#[derive(Clone, Copy, Debug)]
+#[derive(Clone, Copy)]
 pub struct Saved {
     /// Called at least once.
     pub called: bool,

@@ -20,3 +20,4 @@ pub mod LiteralLaws
 pub mod LocationLaws
 pub mod HeldNumbers
 pub mod ConstantKeys
+pub mod Streams

@@ -29,3 +29,4 @@ pub mod Locations
 pub mod Declarable
 pub mod Counted
 pub mod Snapshots
+pub mod Stream

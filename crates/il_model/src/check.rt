@@ -106,7 +106,7 @@ fn line_row(
 
 /// The types on arrival at an instruction: that of the current result, if there is one, and those of the operators that
 /// wait for a closing parenthesis.
-#[derive(Debug, Drop)]
+#[derive(Drop)]
 pub struct Types {
     cr: Option<Ty>,
     kept: ArrayVec<Held, 16>,
@@ -126,7 +126,6 @@ impl Types {
     pub fn start(program: &Program) -> Types
         ensures { shape_at program.now 0 ≡ Ok result }
     {
-        let _first = is_labelled(program, 0);
         Types {
             cr: None,
             kept: ArrayVec::new(),
@@ -189,6 +188,7 @@ impl Types {
         ensures ok { OnOk result (after_line program.now n self.old line.now ≡ Ok self.new) }
         ensures err { IfErr result (λ f. after_line program.now n self.old line.now ≡ Err f) }
     {
+        // Read for its range: so n + 1 does not wrap.
         let _count = program.code().len();
         let depth = self.depth();
         label_row(program, n, depth, &line.label)?;

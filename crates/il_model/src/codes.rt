@@ -184,7 +184,7 @@ pub fn modifier_of(code: u8) -> Option<Modifier>
 }
 
 /// The letters that an operator takes (IEC 61131-3:2003, table 52).
-#[derive(Clone, Copy, Debug, PartialEq, Eq)]
+#[derive(Clone, Copy, PartialEq, Eq)]
 pub enum LetterSet {
     /// None.
     None,
@@ -199,7 +199,7 @@ pub enum LetterSet {
 }
 
 /// The form of an operator's operand.
-#[derive(Clone, Copy, Debug, PartialEq, Eq)]
+#[derive(Clone, Copy, PartialEq, Eq)]
 pub enum Form {
     /// There is none.
     Absent,
@@ -212,7 +212,7 @@ pub enum Form {
 }
 
 /// What may stand beside an operator.
-#[derive(Clone, Copy, Debug, PartialEq, Eq)]
+#[derive(Clone, Copy, PartialEq, Eq)]
 pub struct Usage {
     pub letters: LetterSet,
     pub form: Form,

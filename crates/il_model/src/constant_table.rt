@@ -94,7 +94,6 @@ impl Constants {
         ensures place { result ≡ position (same_value v) self.now }
         ensures small { IfSome result (λ k. k < 2 ^ 63) }
     {
-        let _count = self.found.len();
         place_in(&self.places, v)
     }
 }

@@ -8,14 +8,14 @@ use crate::literal::{digit, integer};
 use crate::words::{capital, is_spelled};
 
 /// A unit of time: how high it ranks, from milliseconds (0) to days (4), and how many milliseconds it has.
-#[derive(Clone, Copy, Debug, PartialEq, Eq)]
+#[derive(Clone, Copy, PartialEq, Eq)]
 pub struct TimeUnit {
     pub rank: u8,
     pub milliseconds: u32,
 }
 
 /// A number of a unit: the rank of the unit, whether it has decimals, its milliseconds, and what stands behind it.
-#[derive(Clone, Copy, Debug)]
+#[derive(Clone, Copy)]
 pub struct TimePart<'a> {
     pub rank: u8,
     pub broken: bool,

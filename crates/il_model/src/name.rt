@@ -11,7 +11,7 @@ use std::alloc::{AllocError, Global};
 use std::marker::Model;
 
 /// A name: its bytes, in upper case.
-#[derive(Debug, Drop)]
+#[derive(Drop)]
 pub struct Name {
     bytes: Vec<u8>,
 }

@@ -69,7 +69,7 @@ pub const OPS: [Op; 26] = [
 ];
 
 /// The letters after an operator.
-#[derive(Clone, Copy, Debug, PartialEq, Eq)]
+#[derive(Clone, Copy, PartialEq, Eq)]
 pub struct Modifier {
     pub negated: bool,
     pub conditional: bool,
@@ -155,22 +155,26 @@ fn numeric(op: Op, ty: Ty) -> Option<Ty>
 }
 
 /// An operator on the current result and an operand, or none where it has no row at their types.
+#[inline(always)]
 pub fn operate(op: Op, cr: Value, operand: Value) -> Option<Result<Value, Stop>>
     ensures { result ≡ operated op cr operand }
 {
-    match (cr, operand) {
-        (Value::Bool(a), Value::Bool(b)) => truths(op, a, b),
-        (Value::Int(a), Value::Int(b)) => numbers(op, Ty::Int, a as i32, b as i32),
-        (Value::Dint(a), Value::Dint(b)) => numbers(op, Ty::Dint, a, b),
+    let (ty, a, b) = match (cr, operand) {
+        (Value::Bool(a), Value::Bool(b)) => return truths(op, a, b),
+        (Value::Int(a), Value::Int(b)) => (Ty::Int, a as i32, b as i32),
+        (Value::Dint(a), Value::Dint(b)) => (Ty::Dint, a, b),
         (Value::Time(a), Value::Time(b)) => match op {
-            Op::Mul | Op::Div | Op::Mod => None,
-            _ => numbers(op, Ty::Time, a, b),
+            Op::Mul | Op::Div | Op::Mod => return None,
+            _ => (Ty::Time, a, b),
         },
-        _ => None,
-    }
+        _ => return None,
+    };
+    numbers(op, ty, a, b)
 }
 
-fn truths(op: Op, a: bool, b: bool) -> Option<Result<Value, Stop>>
+/// An operator on two truth values, or none where it has no row at BOOL.
+#[inline(always)]
+pub fn truths(op: Op, a: bool, b: bool) -> Option<Result<Value, Stop>>
     ensures { result ≡ on_truths op a b }
 {
     let truth = match op {
@@ -189,12 +193,14 @@ fn truths(op: Op, a: bool, b: bool) -> Option<Result<Value, Stop>>
 }
 
 /// The value of a type with a number, or the stop where it doesn't fit.
+#[inline(always)]
 pub fn within(ty: Ty, z: i64) -> Result<Value, Stop>
     ensures { result ≡ in_type ty z }
 {
     make(ty, z).ok_or(Stop::Overflow)
 }
 
+#[inline(always)]
 fn numbers(op: Op, ty: Ty, a: i32, b: i32) -> Option<Result<Value, Stop>>
     ensures { result ≡ on_numbers op ty a b }
 {
@@ -216,18 +222,21 @@ fn numbers(op: Op, ty: Ty, a: i32, b: i32) -> Option<Result<Value, Stop>>
     }
 }
 
+#[inline(always)]
 fn multiplied(a: i32, b: i32) -> i64
     ensures { result ≡ a *ℤ b }
 {
     a as i64 * b as i64
 }
 
+#[inline(always)]
 fn product(ty: Ty, a: i32, b: i32) -> Result<Value, Stop>
     ensures { result ≡ in_type ty (a *ℤ b) }
 {
     within(ty, multiplied(a, b))
 }
 
+#[inline(always)]
 fn divide(a: i32, b: i32) -> i64
     requires { b ≢ pos 0 }
     ensures { result ≡ int_div a b }
@@ -235,6 +244,7 @@ fn divide(a: i32, b: i32) -> i64
     a as i64 / b as i64
 }
 
+#[inline(always)]
 fn rest(a: i32, b: i32) -> i64
     requires { b ≢ pos 0 }
     ensures { result ≡ int_rem a b }
@@ -242,6 +252,7 @@ fn rest(a: i32, b: i32) -> i64
     a as i64 % b as i64
 }
 
+#[inline(always)]
 fn quotient(ty: Ty, a: i32, b: i32) -> Result<Value, Stop>
     ensures { result ≡ divided ty a b }
 {
@@ -252,6 +263,7 @@ fn quotient(ty: Ty, a: i32, b: i32) -> Result<Value, Stop>
     }
 }
 
+#[inline(always)]
 fn remainder(ty: Ty, a: i32, b: i32) -> Result<Value, Stop>
     ensures { result ≡ rest_of ty a b }
 {

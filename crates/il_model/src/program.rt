@@ -25,7 +25,7 @@ pub enum Loc {
 
 /// Where a value lies: in a variable without a location, by its number in the order of declaration, at a location, or in a
 /// function block instance, by its number and that of its kind's field.
-#[derive(Clone, Copy, Debug, PartialEq, Eq)]
+#[derive(Clone, Copy, PartialEq, Eq)]
 pub enum Place {
     Own(u16),
     At(Loc),
@@ -33,7 +33,7 @@ pub enum Place {
 }
 
 /// A declared variable.
-#[derive(Debug, Drop)]
+#[derive(Drop)]
 pub struct Variable {
     pub name: Name,
     pub ty: Ty,
@@ -42,14 +42,14 @@ pub struct Variable {
 }
 
 /// A declared function block instance (IEC 61131-3:2003, 2.5.2).
-#[derive(Debug, Drop)]
+#[derive(Drop)]
 pub struct Instance {
     pub name: Name,
     pub kind: BlockKind,
 }
 
 /// What an operator is given.
-#[derive(Debug, Drop)]
+#[derive(Drop)]
 pub enum Operand {
     Absent,
     Literal(Value),
@@ -71,7 +71,7 @@ pub enum Side {
 }
 
 /// An argument of a call: `IN := X` or `Q => Y`.
-#[derive(Debug, Drop)]
+#[derive(Drop)]
 pub struct Argument {
     pub field: Name,
     pub side: Side,
@@ -79,7 +79,7 @@ pub struct Argument {
 }
 
 /// The arguments of a call in the order written.
-#[derive(Debug, Drop)]
+#[derive(Drop)]
 pub struct Arguments {
     items: Vec<Argument>,
 }
@@ -112,7 +112,7 @@ impl Arguments {
 }
 
 /// An instruction; only a call has arguments.
-#[derive(Debug, Drop)]
+#[derive(Drop)]
 pub struct Instr {
     pub label: Option<Name>,
     pub op: Op,
@@ -123,7 +123,7 @@ pub struct Instr {
 
 /// A program: its declarations and its instructions, in their order; at most 512 variables, 128 instances and 4096
 /// instructions.
-#[derive(Debug, Drop)]
+#[derive(Drop)]
 pub struct Program {
     pub variables: Vec<Variable>,
     pub instances: Vec<Instance>,

@@ -92,6 +92,7 @@ impl Types {
         ensures err { IfErr result (λ f. after_line program.now n self.old (settled_line self.old.cr line.now) ≡ Err f) }
         ensures unchanged { OnErr result (self.new ≡ self.old) }
     {
+        // Read for its range: so n + 1 does not wrap.
         let _count = program.program().code.len();
         let depth = self.depth();
         label_row(program, n, depth, &line.label)?;

@@ -29,7 +29,7 @@ pub enum SavedPhase {
 }
 
 /// A function block instance: its kind, the values of its inputs in the order of the kind's fields, and the words of its block.
-#[derive(Debug, Drop)]
+#[derive(Drop)]
 pub struct SavedInstance {
     pub kind: BlockKind,
     pub inputs: Vec<Value>,
@@ -45,7 +45,7 @@ impl Model for SavedInstance {
 }
 
 /// A controller as it was when it was saved: all that its answers depend on but its image and its budget.
-#[derive(Debug, Drop)]
+#[derive(Drop)]
 pub struct Snapshot {
     /// A value for each declared variable, in order; one with a location keeps its first value here.
     pub variables: Vec<Value>,

@@ -58,7 +58,7 @@ impl TypeFault {
 }
 
 /// What an operand is to the typing.
-#[derive(Clone, Copy, Debug, PartialEq, Eq)]
+#[derive(Clone, Copy, PartialEq, Eq)]
 pub enum Kind {
     Absent,
     /// Of a type, and whether it may be written.
@@ -74,7 +74,7 @@ pub enum Kind {
 }
 
 /// A deferred operator, with the type of the kept current result.
-#[derive(Clone, Copy, Debug, PartialEq, Eq)]
+#[derive(Clone, Copy, PartialEq, Eq)]
 pub struct Held {
     pub op: Op,
     pub negated: bool,
@@ -82,7 +82,7 @@ pub struct Held {
 }
 
 /// What an instruction does to the types.
-#[derive(Clone, Copy, Debug, PartialEq, Eq)]
+#[derive(Clone, Copy, PartialEq, Eq)]
 pub enum Effect {
     /// The type of the current result is this, or there is none.
     Sets(Option<Ty>),

@@ -87,6 +87,7 @@ impl Value {
 }
 
 /// The value of a type with a number, if that fits.
+#[inline(always)]
 pub fn make(ty: Ty, z: i64) -> Option<Value>
     ensures { result ≡ made ty z }
 {

@@ -5,14 +5,14 @@ use il_model::Side;
 use il_model::words::Mnemonic;
 
 /// An operator with its letters, and how many bytes the text has from its first one on.
-#[derive(Clone, Copy, Debug, PartialEq, Eq)]
+#[derive(Clone, Copy, PartialEq, Eq)]
 pub struct Operator {
     pub mnemonic: Mnemonic,
     pub left: usize,
 }
 
 /// An operand: a literal (or TRUE or FALSE), a direct address, a variable, or the field of an instance, as `T1.Q`.
-#[derive(Clone, Copy, Debug)]
+#[derive(Clone, Copy)]
 pub enum Operand<'a> {
     Constant(Lexeme<'a>),
     Direct(Lexeme<'a>),
@@ -21,7 +21,7 @@ pub enum Operand<'a> {
 }
 
 /// An argument of a call: `IN := X` or `Q => Y`.
-#[derive(Clone, Copy, Debug)]
+#[derive(Clone, Copy)]
 pub struct Argument<'a> {
     pub field: Lexeme<'a>,
     pub side: Side,
@@ -30,7 +30,7 @@ pub struct Argument<'a> {
 
 /// An instance that is called, and the arguments in the order written. `CAL T1` has no parentheses and so no list of
 /// them; it is the same call as `CAL T1()`.
-#[derive(Debug, Drop)]
+#[derive(Drop)]
 pub struct Call<'a> {
     pub instance: Lexeme<'a>,
     pub written: Option<Vec<Argument<'a>>>,
@@ -52,7 +52,7 @@ impl<'a> Call<'a> {
 }
 
 /// What stands behind an operator: nothing, an operand, the label of a jump, a parenthesis with an operand or without, or a call.
-#[derive(Debug, Drop)]
+#[derive(Drop)]
 pub enum Behind<'a> {
     Nothing,
     Given(Operand<'a>),
@@ -62,28 +62,28 @@ pub enum Behind<'a> {
 }
 
 /// An operator with what stands behind it.
-#[derive(Debug, Drop)]
+#[derive(Drop)]
 pub struct Operation<'a> {
     pub operator: Operator,
     pub behind: Behind<'a>,
 }
 
 /// An instruction line: with a label, behind which an operation may stand, or without.
-#[derive(Debug, Drop)]
+#[derive(Drop)]
 pub enum Line<'a> {
     Labelled(Lexeme<'a>, Option<Operation<'a>>),
     Plain(Operation<'a>),
 }
 
 /// Behind the first name of a declaration: where it lies, or the other names.
-#[derive(Debug, Drop)]
+#[derive(Drop)]
 pub enum Names<'a> {
     Located(Lexeme<'a>),
     More(Vec<Lexeme<'a>>),
 }
 
 /// A declaration: `A, B : INT := 5;` or `X AT %IX0.3 : BOOL;`.
-#[derive(Debug, Drop)]
+#[derive(Drop)]
 pub struct Declaration<'a> {
     pub name: Lexeme<'a>,
     pub names: Names<'a>,
@@ -92,7 +92,7 @@ pub struct Declaration<'a> {
 }
 
 /// A program as it is written: its name, where it has one, the blocks of declarations, the instruction lines.
-#[derive(Debug, Drop)]
+#[derive(Drop)]
 pub struct Contents<'a> {
     pub name: Option<Lexeme<'a>>,
     pub blocks: Vec<Vec<Declaration<'a>>>,

@@ -80,14 +80,14 @@ impl ReadError {
 }
 
 /// A fault, and how many bytes the text has from its place on.
-#[derive(Clone, Copy, Debug, PartialEq, Eq)]
+#[derive(Clone, Copy, PartialEq, Eq)]
 pub struct Refusal {
     pub kind: FaultKind,
     pub left: usize,
 }
 
 /// Why reading ended.
-#[derive(Clone, Copy, Debug, PartialEq, Eq)]
+#[derive(Clone, Copy, PartialEq, Eq)]
 pub enum Failure {
     Refused(Refusal),
     Memory,

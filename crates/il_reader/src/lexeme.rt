@@ -9,7 +9,7 @@ use il_model::name::is_well_spelled;
 use il_model::written::literal;
 
 /// What stands at a place of the text.
-#[derive(Clone, Copy, Debug, PartialEq, Eq)]
+#[derive(Clone, Copy, PartialEq, Eq)]
 pub enum Kind {
     Blank,
     Break,
@@ -30,14 +30,14 @@ pub enum Kind {
 }
 
 /// A kind, and how many bytes it takes.
-#[derive(Clone, Copy, Debug, PartialEq, Eq)]
+#[derive(Clone, Copy, PartialEq, Eq)]
 pub struct Piece {
     pub kind: Kind,
     pub len: usize,
 }
 
 /// A token: a slice of the text, and how many bytes the text has from its first one on.
-#[derive(Clone, Copy, Debug)]
+#[derive(Clone, Copy)]
 pub struct Lexeme<'a> {
     pub kind: Kind,
     pub text: &'a [u8],

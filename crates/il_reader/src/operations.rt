@@ -16,7 +16,7 @@ use il_model::words::{Mnemonic, mnemonic_from};
 use std::alloc::Global;
 
 /// What may stand behind an operator: an operand, nothing, a label, an instance that is called, or an operand or a parenthesis.
-#[derive(Clone, Copy, Debug, PartialEq, Eq)]
+#[derive(Clone, Copy, PartialEq, Eq)]
 pub enum Form {
     Operand,
     Nothing,

@@ -11,7 +11,7 @@ use std::alloc::Global;
 use std::marker::Model;
 
 /// A text with what it says. It borrows the text, so that each of its tokens has its place.
-#[derive(Debug, Drop)]
+#[derive(Drop)]
 pub struct Source<'a> {
     text: &'a [u8],
     contents: Contents<'a>,
@@ -62,7 +62,6 @@ impl<'a> Source<'a> {
     pub fn place(&self, left: usize) -> Place
         ensures { result ≡ place_at self.now.text left }
     {
-        let _contents = &self.contents;
         place_of(self.text, left)
     }
 }

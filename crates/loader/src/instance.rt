@@ -90,7 +90,6 @@ impl<'a> Instances<'a> {
         ensures number { result ≡ instance_in self.now name.now }
         ensures small { IfSome result (λ k. k < 2 ^ 63) }
     {
-        let _count = self.found.len();
         self.numbers.get(name).copied()
     }
 

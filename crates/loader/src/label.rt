@@ -10,7 +10,7 @@ use std::collections::BTreeMap;
 use std::marker::Model;
 
 /// A label, and the address where it stands.
-#[derive(Debug, Drop)]
+#[derive(Drop)]
 pub struct Label<'a> {
     pub name: &'a [u8],
     pub at: u16,
@@ -69,7 +69,6 @@ fn put_name<'a>(
     requires { AreNames seen.now names.old }
     ensures { OnOk result (AreNames (seen.now ++ record { name = name.entry.now; at = at } ∷ []) names.new) }
 {
-    let _count = seen.len();
     let address = at as usize;
     if !names.contains_key(&address) {
         names.insert(address, name)?;

@@ -52,7 +52,6 @@ fn put_code(codes: &mut BTreeSet<usize>, seen: &[Variable], v: &Variable) -> Res
     requires { AreCodes seen.now codes.old }
     ensures { OnOk result (AreCodes (seen.now ++ v.now ∷ []) codes.new) }
 {
-    let _count = seen.len();
     match v.location {
         Some(loc) => {
             codes.insert(location_code(Some(loc)))?;
@@ -116,7 +115,6 @@ impl<'a> Variables<'a> {
         ensures number { result ≡ is_number self.now name.now }
         ensures small { IfSome result (λ k. k < 2 ^ 63) }
     {
-        let _count = self.found.len();
         self.numbers.get(name).copied()
     }
 

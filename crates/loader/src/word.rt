@@ -3,7 +3,7 @@
 use il_model::{Instr, Operand, Side};
 
 /// What a word says.
-#[derive(Debug, Drop)]
+#[derive(Drop)]
 pub enum Content {
     /// An instruction, still without its arguments.
     Instruction(Instr),
@@ -12,7 +12,7 @@ pub enum Content {
 }
 
 /// A word, and the number that stood for its operand.
-#[derive(Debug, Drop)]
+#[derive(Drop)]
 pub struct Word {
     pub content: Content,
     pub code: u16,

@@ -2,82 +2,21 @@
 
 ghost use Rattle.std.specs.Prelude.{◌≡◌, ◌<◌, ◌≤◌, ◌+◌, ◌&&◌, length, map, reverse, Ok, option_map};
 ghost use Rattle.il_model.specs.Values.{ty_of};
-ghost use Rattle.il_model.specs.Areas.{area_of};
 ghost use Rattle.il_model.specs.Row.{same_type, HasRoom};
-ghost use Rattle.il_model.specs.Typing.{field_at, place_type, is_input_field, is_writable, source_kind, top_of, applied, arrived, shape_at};
+ghost use Rattle.il_model.specs.Typing.{top_of, applied, arrived, shape_at};
 ghost use Rattle.controller_model.specs.Suits.{held_of};
 ghost use Rattle.controller_model.specs.Snapshots.{same_optional, same_held, all_held};
 
 use arrayvec::ArrayVec;
-use il_model::resolve::{is_output, loc_type};
+use il_model::resolve::kind_of;
 use il_model::typing::row_of;
-use il_model::{Deferred, Effect, Field, Held, Kind, Place, Source, Ty, Value};
+use il_model::{Deferred, Effect, Held, Ty, Value};
 use loader::Image;
 use std::marker::Model;
 
-fn field_at(image: &Image, i: u16, n: u8) -> Option<Field>
-    ensures { result ≡ field_at image.now i n }
-{
-    match image.instances().get(i as usize) {
-        Some(x) => x.kind.field(n),
-        None => None,
-    }
-}
-
-fn place_type(image: &Image, place: Place) -> Option<Ty>
-    ensures { result ≡ place_type image.now place }
-{
-    match place {
-        Place::Own(i) => match image.variables().get(i as usize) {
-            Some(v) => Some(v.ty),
-            None => None,
-        },
-        Place::At(loc) => loc_type(loc),
-        Place::Field(i, n) => match field_at(image, i, n) {
-            Some(field) => Some(field.ty()),
-            None => None,
-        },
-    }
-}
-
-fn is_input_field(field: Option<Field>) -> bool
-    ensures { result ≡ is_input_field field }
-{
-    match field {
-        Some(field) => field.is_input(),
-        None => false,
-    }
-}
-
-fn is_writable(image: &Image, place: Place) -> bool
-    ensures { result ≡ is_writable image.now place }
-{
-    match place {
-        Place::Own(_) => true,
-        Place::At(loc) => is_output(loc),
-        Place::Field(i, n) => is_input_field(field_at(image, i, n)),
-    }
-}
-
-/// What an operand of the image is to the typing.
-fn kind_of(image: &Image, source: Source) -> Kind
-    ensures { result ≡ source_kind image.now source }
-{
-    match source {
-        Source::Absent => Kind::Absent,
-        Source::Constant(v) => Kind::Typed(v.ty(), false),
-        Source::Of(place) => match place_type(image, place) {
-            Some(ty) => Kind::Typed(ty, is_writable(image, place)),
-            None => Kind::Misfit,
-        },
-        Source::Target(_) => Kind::Target,
-        Source::Instance(_) => Kind::Instance,
-    }
-}
-
 /// The types on arrival at an instruction: that of the current result, if there is one, and those of the operators that
 /// wait for a closing parenthesis.
-#[derive(Debug, Drop)]
+#[derive(Drop)]
 pub struct Arrival {
     cr: Option<Ty>,
     kept: ArrayVec<Held, 16>,
@@ -151,7 +90,7 @@ impl Arrival {
             self.kept.len(),
             line.op,
             line.modifier,
-            kind_of(image, line.source),
+            kind_of(image.program(), line.source),
         ) {
             Ok(effect) => {
                 self.apply(effect);

@@ -7,7 +7,17 @@ ghost use Rattle.controller_model.specs.State.{value_in, written_in};
 
 use il_model::{Area, Cells, Loc, Value, Variable};
 
+/// The area of a location.
+pub fn area_of(loc: Loc) -> Area
+    ensures { result ≡ area_of loc }
+{
+    match loc {
+        Loc::Bit(area, _) | Loc::Word(area, _) => area,
+    }
+}
+
 /// The value at a location of an area.
+#[inline(always)]
 pub fn read_cells(cells: &Cells, loc: Loc) -> Option<Value>
     ensures { result ≡ value_in cells.now loc }
 {
@@ -24,6 +34,7 @@ pub fn read_cells(cells: &Cells, loc: Loc) -> Option<Value>
 }
 
 /// Writes a value at a location of an area.
+#[inline(always)]
 pub fn write_cells(cells: &mut Cells, loc: Loc, v: Value) -> Option<()>
     ensures { written_in cells.old loc v ≡ option_map (λ _. cells.new) result }
 {

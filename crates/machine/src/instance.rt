@@ -14,7 +14,7 @@ use std::alloc::{AllocError, Global};
 use std::marker::Model;
 
 /// The values of the inputs, in the order of the kind's fields, and the block, which keeps the outputs.
-#[derive(Debug, Drop)]
+#[derive(Drop)]
 pub struct InstanceState {
     inputs: ArrayVec<Value, 8>,
     block: Block,
@@ -62,6 +62,7 @@ impl InstanceState {
     }
 
     /// The value of the field with that number; None where the kind has fewer.
+    #[inline(always)]
     pub fn field(&self, n: u8) -> Option<Value>
         ensures { result ≡ field_value n self.now }
     {
@@ -73,6 +74,7 @@ impl InstanceState {
     }
 
     /// Writes the input with that number; None where that is no input.
+    #[inline(always)]
     pub fn set_input(&mut self, n: u8, v: Value) -> Option<()>
         ensures { with_input n v self.old ≡ option_map (λ _. self.new) result }
     {

@@ -14,4 +14,4 @@ mod state;
 pub use arrival::has_type;
 pub use machine::Machine;
 pub use out::StepOut;
-pub use shape::{fits_run, fits_values};
+pub use shape::{fits_run, fits_values, have_states};

@@ -1,11 +1,13 @@
 //! Whether a snapshot has what a machine of an image keeps: values and instances as declared, and the types on arrival.
 
-ghost use Rattle.std.specs.Prelude.{◌≡◌, ◌&&◌, length, map, nat_lt};
+ghost use Rattle.std.specs.Prelude.{◌≡◌, ◌&&◌, length, map, nat_lt, MatchBool};
 ghost use Rattle.il_model.specs.declared.program.Variable.{Variable};
 ghost use Rattle.controller_model.specs.Suits.{input_types};
 ghost use Rattle.controller_model.specs.Snapshots.{are_types, fits_instance, fit_instances, fits_run};
+ghost use Rattle.machine.specs.Parts.{HasBlock, HaveBlocks, HasNoBlock, HasNoState};
 
 use crate::arrival::{Arrival, has_type};
+use function_blocks::any::Block;
 use il_model::{BlockKind, Instance, SavedInstance, Snapshot, Value, Variable};
 use loader::Image;
 
@@ -71,6 +73,25 @@ pub fn fits_values(image: &Image, parts: &Snapshot) -> bool
 {
     fit_variables(parts.variables.as_slice(), image.variables())
         && fit_instances(image.instances(), parts.instances.as_slice())
+}
+
+/// Whether the words of an instance are a state of its kind.
+fn has_state(saved: &SavedInstance) -> bool
+    ensures { MatchBool result (HasBlock saved.now) (HasNoBlock saved.now) }
+{
+    Block::restore(saved.kind, saved.words).is_some()
+}
+
+/// Whether the words of each instance are a state of its kind.
+pub fn have_states(instances: &[SavedInstance]) -> bool
+    ensures { MatchBool result (HaveBlocks instances.now) (HasNoState instances.now) }
+{
+    for x in instances {
+        if !has_state(x) {
+            return false;
+        }
+    }
+    true
 }
 
 /// Whether a snapshot's position is an instruction's, and its current result and deferred operators are of the types on arrival

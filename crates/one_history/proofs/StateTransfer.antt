@@ -8,7 +8,7 @@ use Rattle.vr_model.specs.Groups.{primary}
 use Rattle.one_history.proofs.History.{History, IsSound, Grows}
 use Rattle.vr_model.specs.Messages.{PrepareOk, Message}
 use Rattle.vr_model.specs.Replicas.{is_normal, is_view_change, takes_part, ReplicaState}
-use Rattle.vr_model.specs.Rules.{send, behind, is_backup_in, holds_log, adopted, saves_above, on_start_view, on_new_state, on_get_state}
+use Rattle.vr_model.specs.Rules.{send, replies_from, behind, is_backup_in, holds_log, adopted, saves_above, on_start_view, on_new_state, on_get_state}
 use Rattle.one_history.proofs.Facts.{IsCommitted, IsLogOf, LogSays, PartSays, AllSay, ReplicaOk, Good}
 use Rattle.one_history.proofs.Prefixes.{prefix_length, prefix_take, prefix_is}
 use Rattle.one_history.proofs.Later.{committed_later, log_later}
@@ -48,6 +48,15 @@ behind_is f i answer h r u sound ok e =
             follows = λ b leads. absurd (let c : true ≡ false = sym b ∙ ap h.started (sym same) ∙ n.unstarted (ap (primary f) same ∙ leads) in cc);
           }
     ]
+
+-- who isn't the primary sends no replies
+silent : {C A : Type 0} (f i : ℕ) (answer : List C → A) (g : History (Request C)) (u : ℕ) (replies ms : List (Message C A)) → (primary f u ≡ i → ⊥) → AllSay f answer g ms
+    → AllSay f answer g (cond (primary f u == i) replies [] ++ ms)
+silent {C} {A} f i answer g u replies ms ne says = go (primary f u == i) refl
+  where
+    go : (b : Bool) → (primary f u == i) ≡ b → AllSay f answer g (cond b replies [] ++ ms)
+    go true e = absurd (ne (eqb-true _ _ e))
+    go false e = says
 
 -- a replica adopts a view with this log
 good_adopts : {C A : Type 0} (f i : ℕ) (answer : List C → A) (h : History (Request C)) (r : ReplicaState C) (u c : ℕ) (log : List (Request C)) (ms : List (Message C A))
@@ -102,7 +111,7 @@ good_on_start_view {C} {A} f i answer h r s u c log sound ok says =
     good_if f i answer h (behind f i answer r u && leb r.commit_number (length log)) _ _
     (λ e. let p = and_parts (behind f i answer r u) (leb r.commit_number (length log)) e in
     good_adopts f i answer h r u c log _ sound (behind_is f i answer h r u sound ok p.0) says.log (leb-true _ _ p.1) says.commit
-    (λ g got. sent g got (ltb (max r.commit_number (min c (length log))) (length log))))
+    (λ g got. silent f i answer g u _ _ ((behind_is f i answer h r u sound ok p.0).follows says.log.started) (sent g got (ltb (max r.commit_number (min c (length log))) (length log)))))
     (λ e. good_sends f i answer h r [] sound ok tt)
   where
     sent : (g : History (Request C)) → g.accepted i u ≡ length log → (b : Bool) → AllSay {C = C} {A = A} f answer g (cond b (send f i answer (primary f u) (PrepareOk u (length log)) ∷ []) [])
@@ -179,7 +188,7 @@ good_on_new_state {C} {A} f i answer h r u p c part sound ok says =
     length_take n xs l = grind (arith, common_steps)
 
     adopts : Behind f h i r u → p ≤ r.commit_number → r.commit_number ≤ p + length part
-        → Good f answer h i r.stored_view r.commit_number (record { replica = (holds_log f i answer (adopted f i answer r u) (take p r.log ++ part) c).replica; saves = saves_above f i answer r u; sends = (holds_log f i answer (adopted f i answer r u) (take p r.log ++ part) c).sends })
+        → Good f answer h i r.stored_view r.commit_number (record { replica = (holds_log f i answer (adopted f i answer r u) (take p r.log ++ part) c).replica; saves = saves_above f i answer r u; sends = replies_from f i answer (holds_log f i answer (adopted f i answer r u) (take p r.log ++ part) c).replica r.commit_number ++ (holds_log f i answer (adopted f i answer r u) (take p r.log ++ part) c).sends })
     adopts b l m =
         let stands = b.up.stands in
         let mine : take p r.log ≡ take p (h.log r.last_normal_view) = sym (prefix_take p stands.log.within (omega (arith, stands.executed))) in
@@ -187,4 +196,4 @@ good_on_new_state {C} {A} f i answer h r u p c part sound ok says =
         let is : take p r.log ++ part ≡ take p (h.log u) ++ part = ap (λ x. x ++ part) (mine ∙ same) in
         let long : length (take p r.log) ≡ p = length_take p r.log (omega (arith, stands.executed)) in
         good_adopts f i answer h r u c (take p r.log ++ part) _ sound b (subst (IsLogOf h u) (sym is) says.log) (omega (arith, length-append (take p r.log) part)) says.commit
-        (λ g got. (omega arith, tt))
+        (λ g got. silent f i answer g u _ _ (b.follows says.log.started) (omega arith, tt))

@@ -75,10 +75,7 @@ fn list<W: Write, E: Write>(rt: &HostRuntime, image: &str, out: &mut W, err: &mu
     };
     let mut counted = Counted::new(&mut *out);
     let status = plc_tool::list(rt.alloc(), image.as_slice(), &mut counted, err);
-    match out.flush() {
-        Err(error) if status == 0 => plc_tool::tell(Fault::from(error), err),
-        _ => status,
-    }
+    flushed(status, out, err)
 }
 
 fn run<W: Write, E: Write>(
@@ -93,15 +90,26 @@ fn run<W: Write, E: Write>(
         Ok(source) => source,
         Err(fault) => return plc_tool::tell(fault, err),
     };
-    match file(rt, commands) {
-        Ok(commands) => plc_tool::run(
-            rt.alloc(),
-            source.as_slice(),
-            commands.as_slice(),
-            budget,
-            out,
-            err,
-        ),
-        Err(fault) => plc_tool::run_unread(rt.alloc(), source.as_slice(), fault, out, err),
+    let commands = match file(rt, commands) {
+        Ok(commands) => commands,
+        Err(fault) => return plc_tool::run_unread(rt.alloc(), source.as_slice(), fault, err),
+    };
+    let mut counted = Counted::new(&mut *out);
+    let status = plc_tool::run(
+        rt.alloc(),
+        source.as_slice(),
+        commands.as_slice(),
+        budget,
+        &mut counted,
+        err,
+    );
+    flushed(status, out, err)
+}
+
+/// The status of what was written, once it is flushed.
+fn flushed<W: Write, E: Write>(status: u8, out: &mut W, err: &mut E) -> u8 {
+    match out.flush() {
+        Err(error) if status == 0 => plc_tool::tell(Fault::from(error), err),
+        _ => status,
     }
 }

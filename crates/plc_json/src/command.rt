@@ -1,8 +1,11 @@
 //! The commands of a file.
 
-ghost use Rattle.std.specs.Prelude.{◌≡◌};
+ghost use Rattle.std.specs.Prelude.{◌≡◌, Some, None, IfOk, IfErr, string_bytes};
+ghost use Rattle.serde_json.specs.Find.{as_str};
+ghost use Rattle.serde_json.specs.View.{view};
+ghost use Rattle.plc_json.specs.Commands.{position_of, word_alone, forced_value};
 ghost use Rattle.plc_json.specs.Faults.{IsFaultOf};
-ghost use Rattle.plc_json.specs.declared.command.JsonFault.TheVariants.{Memory};
+ghost use Rattle.plc_json.specs.declared.command.JsonFault.TheVariants.{Memory, Shape};
 
 use crate::image::in_image;
 use il_model::{Command, Value};
@@ -103,7 +106,9 @@ fn plain(command: Option<Command>) -> Result<NamedCommand, JsonFault> {
     Ok(NamedCommand::Plain(command.ok_or(JsonFault::Shape)?))
 }
 
-fn word_alone(word: &str) -> Option<Command> {
+fn word_alone(word: &str) -> Option<Command>
+    ensures { result ≡ word_alone word.now }
+{
     match word {
         "step" => Some(Command::Step),
         "continue" => Some(Command::Continue),
@@ -147,7 +152,9 @@ fn scan(argument: &Json) -> Option<Command> {
     Some(Command::Scan { inputs, moment })
 }
 
-fn position(argument: &Json) -> Option<u16> {
+fn position(argument: &Json) -> Option<u16>
+    ensures { result ≡ position_of (view argument.now) }
+{
     u16::try_from(argument.as_u64()?).ok()
 }
 
@@ -165,14 +172,19 @@ fn force(alloc: Global, argument: &Json) -> Result<NamedCommand, JsonFault> {
 }
 
 /// A truth value for a bit, a number for a word.
-fn forced_value(json: &Json) -> Option<Value> {
+fn forced_value(json: &Json) -> Option<Value>
+    ensures { result ≡ forced_value (view json.now) }
+{
     match json.as_bool() {
         Some(truth) => Some(Value::Bool(truth)),
         None => Some(Value::Int(i16::try_from(json.as_i64()?).ok()?)),
     }
 }
 
-fn name(alloc: Global, json: &Json) -> Result<String, JsonFault> {
+fn name(alloc: Global, json: &Json) -> Result<String, JsonFault>
+    ensures found { IfOk result (λ s. as_str (view json.now) ≡ Some (string_bytes s)) }
+    ensures fault { IfErr result (λ e. e ≡ Shape → as_str (view json.now) ≡ None) }
+{
     let name = json.as_str().ok_or(JsonFault::Shape)?;
     Ok(String::from_str(alloc, name)?)
 }

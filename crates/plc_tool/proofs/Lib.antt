@@ -1,1 +1,5 @@
 pub mod Imaged
+mod Numbered
+mod Parts
+mod Told
+mod Answered

@@ -1,4 +1,6 @@
+pub mod Lines
 pub mod Meaning
 pub mod Named
+pub mod Putting
 pub mod Status
 pub mod Told

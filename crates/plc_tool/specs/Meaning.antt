@@ -1,5 +1,5 @@
 -- What a text means: its program, and the answers to commands.
-use Rattle.std.specs.Prelude.{◌≡◌, ℕ, List, ◌++◌, map, take, codes, Option, Result, Ok, Err}
+use Rattle.std.specs.Prelude.{◌≡◌, ◌⊎◌, ℕ, List, ◌++◌, map, take, codes, Option, Result, Ok, Err}
 use Rattle.std.specs.Fmt.{decimal}
 use Rattle.std.specs.Io.KnownBytes.{Appends}
 use Rattle.il_model.specs.declared.command.Answer.{Answer}
@@ -27,6 +27,7 @@ use Rattle.plc_tool.specs.Named.{meant}
 use Rattle.plc_tool.specs.Told.{of_bytes}
 use Rattle.plc_tool.specs.declared.fault.Fault.{Fault}
 use Rattle.plc_tool.specs.declared.fault.Fault.TheVariants as faults
+use Rattle.plc_tool.specs.Status.{status_of}
 
 -- the text says this program
 pub record IsProgramOf (text : List ℕ) (program : Text) : Type 0 where
@@ -149,3 +150,14 @@ Gives view (Err f) m = Tells f m
 abbrev pub Says : Result Text Fault → Result Text Fault → Type 0
 Says (Ok P) m = m ≡ typed_program P
 Says (Err f) m = Tells f m
+
+-- A program is refused: its first fault is one of input.
+pub record IsRefused {Y : Type 0} (m : Result Y Fault) : Type 0 where
+  pub fault : Fault
+  pub input : status_of fault ≡ 1
+  pub is : Tells fault m
+
+-- The fault that is told: that of the program, and else this one; or that memory ran out.
+abbrev pub IsFirstFault : {Y : Type 0} → Result Y Fault → Fault → Fault → Type 0
+IsFirstFault (Ok y) fault told = (told ≡ fault) ⊎ (told ≡ faults.Memory)
+IsFirstFault (Err f) fault told = (told ≡ f) ⊎ (told ≡ faults.Memory)

@@ -4,7 +4,7 @@ ghost use Rattle.std.specs.Prelude.{◌≡◌, ◌<◌, ◌≤◌, ◌^◌, IfEr
 ghost use Rattle.il_model.specs.Text.{Text};
 ghost use Rattle.il_model.specs.Marks.{words_in};
 ghost use Rattle.il_model.specs.Image.{spelling};
-ghost use Rattle.plc_tool.specs.Meaning.{IsAssembled};
+ghost use Rattle.plc_tool.specs.Meaning.{IsAssembled, Tells, image_of_text};
 ghost use Rattle.plc_tool.specs.Status.{status_of};
 
 use crate::answering::image_bytes;
@@ -29,7 +29,7 @@ pub fn put_image<I: Write, W: Write>(
 ) -> Result<(), Fault>
     ensures assembled { OnOk result (IsAssembled text.now
         (I.contents image_out.old) (I.contents image_out.new) (W.contents out.old) (W.contents out.new)) }
-    ensures refused { IfErr result (λ e. status_of e ≡ 1 → (image_out.new ≡ image_out.old) × (out.new ≡ out.old)) }
+    ensures refused { IfErr result (λ e. status_of e ≡ 1 → Tells e (image_of_text text.now) × (image_out.new ≡ image_out.old) × (out.new ≡ out.old)) }
 {
     let image = image_bytes(alloc, text)?;
     image_out.write_all(image.as_slice())?;

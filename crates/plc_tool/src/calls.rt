@@ -1,16 +1,19 @@
 //! The calls of the program, over byte slices and writers, each answering the status.
 
-ghost use Rattle.std.specs.Prelude.{◌≡◌, ◌≤◌, IfErr, IsErr, IsOk};
-ghost use Rattle.plc_tool.specs.Meaning.{IsAssembled, IsListed};
+ghost use Rattle.std.specs.Prelude.{◌≡◌, ◌≤◌, ◌⊎◌, List, IfErr, IsErr, IsOk, OnOk};
+ghost use Rattle.plc_tool.specs.Meaning.{IsAssembled, IsListed, IsRefused, IsFirstFault, image_of_text, program_of_text, program_of_bytes};
+ghost use Rattle.plc_json.specs.declared.command.NamedCommand.{NamedCommand};
+ghost use Rattle.plc_tool.specs.Putting.{IsRun, IsRunCutShort};
 ghost use Rattle.plc_tool.specs.Status.{status_of as status_told};
 
-use crate::answering::{answers, image};
+use crate::answering::image;
 use crate::assembly::put_image;
 use crate::fault::Fault;
-use crate::line::AnswerLine;
 use crate::listing::put_listing;
+use crate::running::put_run;
 use crate::telling::tell;
-use il_model::{Answer, Budget, CountedWrite};
+use il_model::{Budget, CountedWrite};
+use plc_json::NamedCommand;
 use std::alloc::Global;
 use std::io::Write;
 
@@ -27,7 +30,7 @@ pub fn asm<I: Write, W: Write, E: Write>(
     ensures status { result ≤ 2 }
     ensures assembled { result ≡ 0 → IsAssembled source.now
         (I.contents image_out.old) (I.contents image_out.new) (W.contents out.old) (W.contents out.new) }
-    ensures refused { result ≡ 1 → (image_out.new ≡ image_out.old) × (out.new ≡ out.old) }
+    ensures refused { result ≡ 1 → IsRefused (image_of_text source.now) × (image_out.new ≡ image_out.old) × (out.new ≡ out.old) }
 {
     ended(put_image(alloc, source, image_out, out), err)
 }
@@ -37,15 +40,15 @@ pub fn asm<I: Write, W: Write, E: Write>(
 pub fn list<W: CountedWrite, E: Write>(alloc: Global, image: &[u8], out: &mut W, err: &mut E) -> u8
     ensures status { result ≤ 2 }
     ensures listed { result ≡ 0 → IsListed image.now (W.held out.old) (W.held out.new) }
-    ensures refused { result ≡ 1 → out.new ≡ out.old }
+    ensures refused { result ≡ 1 → IsRefused (program_of_bytes image.now) × (out.new ≡ out.old) }
 {
     ended(put_listing(alloc, image, out), err)
 }
 
-/// Runs a source over commands, each scan within the budget, and answers the status: one line on `out` for each command,
-/// or one line on `err` for the first fault. The source is judged first, then the commands, and nothing runs before both
-/// are good. `out` is flushed.
-pub fn run<W: Write, E: Write>(
+/// Runs a source over the commands of a text, and answers the status: the line of each answer on `out` before the next command is
+/// applied, or one line on `err` for the first fault. The source is judged first, then the commands, and nothing runs before both
+/// are good. Of input that is refused nothing is written on `out`.
+pub fn run<W: CountedWrite, E: Write>(
     alloc: Global,
     source: &[u8],
     commands: &[u8],
@@ -53,48 +56,50 @@ pub fn run<W: Write, E: Write>(
     out: &mut W,
     err: &mut E,
 ) -> u8
-    ensures { result ≤ 2 }
+    ensures status { result ≤ 2 }
+    ensures answered { result ≡ 0 → (named : List NamedCommand) × IsRun source.now budget.instructions named (W.held out.old) (W.held out.new) }
+    ensures refused { result ≡ 1 → out.new ≡ out.old }
 {
-    let answers = match plc_json::commands(alloc, commands) {
-        Ok(commands) => answers(alloc, source, budget, commands.as_slice()),
-        Err(fault) => Err(first_fault(alloc, source, Fault::from(fault))),
-    };
-    status_of(answers, out, err)
+    match plc_json::commands(alloc, commands) {
+        Ok(commands) => run_commands(alloc, source, commands.as_slice(), budget, out, err),
+        Err(fault) => run_unread(alloc, source, Fault::from(fault), err),
+    }
 }
 
-/// As `run` where the commands couldn't be read, by this fault: a source that is refused is still answered before it.
-pub fn run_unread<W: Write, E: Write>(
+/// Runs a source over commands, each scan within the budget, and answers the status: the line of each answer on `out` before the
+/// next command is applied, or one line on `err` for the first fault. Of a source that is refused nothing is written on `out`.
+pub fn run_commands<W: CountedWrite, E: Write>(
     alloc: Global,
     source: &[u8],
-    fault: Fault,
+    commands: &[NamedCommand],
+    budget: Budget,
     out: &mut W,
     err: &mut E,
 ) -> u8
-    ensures { result ≤ 2 }
+    ensures status { result ≤ 2 }
+    ensures answered { result ≡ 0 → IsRun source.now budget.instructions commands.now (W.held out.old) (W.held out.new) }
+    ensures refused { result ≡ 1 → IsRefused (program_of_text source.now) × (out.new ≡ out.old) }
+    // Where nothing was written, memory ran out before the first command.
+    ensures cut { result ≡ 2 → IsRunCutShort W.CountedWrite source.now budget.instructions commands.now out.old out.new ⊎ (out.new ≡ out.old) }
 {
-    status_of(Err(first_fault(alloc, source, fault)), out, err)
+    ended(put_run(alloc, source, budget, commands, out), err)
+}
+
+/// As `run` where the commands couldn't be read, by this fault: a source that is refused is still answered before it.
+pub fn run_unread<E: Write>(alloc: Global, source: &[u8], fault: Fault, err: &mut E) -> u8
+    ensures { (result ≡ 1) ⊎ (result ≡ 2) }
+{
+    tell(first_fault(alloc, source, fault), err)
 }
 
 /// A fault of the source comes before that of the commands.
-fn first_fault(alloc: Global, source: &[u8], fault: Fault) -> Fault {
+fn first_fault(alloc: Global, source: &[u8], fault: Fault) -> Fault
+    ensures { IsFirstFault (program_of_text source.now) fault result }
+{
     match image(alloc, source) {
         Ok(_) => fault,
         Err(of_source) => of_source,
     }
-}
-
-fn status_of<W: Write, E: Write>(
-    answers: Result<Vec<Answer>, Fault>,
-    out: &mut W,
-    err: &mut E,
-) -> u8
-    ensures { result ≤ 2 }
-{
-    let printed = match answers {
-        Ok(answers) => print(answers.as_slice(), out),
-        Err(fault) => Err(fault),
-    };
-    ended(printed, err)
 }
 
 /// The status of what was done, its fault told.
@@ -103,17 +108,10 @@ fn ended<E: Write>(done: Result<(), Fault>, err: &mut E) -> u8
     ensures good { result ≡ 0 → IsOk done }
     ensures told { IfErr done (λ e. result ≡ status_told e) }
     ensures faulty { result ≡ 1 → IsErr done }
+    ensures done { OnOk done (result ≡ 0) }
 {
     match done {
         Ok(()) => 0,
         Err(fault) => tell(fault, err),
     }
-}
-
-fn print<W: Write>(answers: &[Answer], out: &mut W) -> Result<(), Fault> {
-    for answer in answers {
-        let line = AnswerLine(answer);
-        writeln!(out, "{line}")?;
-    }
-    Ok(out.flush()?)
 }

@@ -2,8 +2,9 @@
 
 ghost use Rattle.std.specs.Prelude.{◌≡◌};
 ghost use Rattle.plc_tool.specs.Status.{status_of, fault_of};
-ghost use Rattle.plc_tool.specs.declared.fault.Fault.TheVariants.{Memory};
+ghost use Rattle.plc_tool.specs.declared.fault.Fault.TheVariants.{Device, Memory};
 
+use il_model::DeviceFault;
 use plc_json::JsonFault;
 use std::alloc::{AllocError, AllocFailed};
 use std::io;
@@ -91,6 +92,14 @@ impl From<JsonFault> for Fault {
             JsonFault::Shape => Fault::Commands,
             JsonFault::Memory => Fault::Memory,
         }
+    }
+}
+
+impl From<DeviceFault> for Fault {
+    ghost from_gives = { λ _ e. e ≡ Device };
+
+    fn from(_fault: DeviceFault) -> Fault {
+        Fault::Device
     }
 }
 

@@ -10,10 +10,11 @@ mod layers;
 mod line;
 mod listing;
 mod naming;
+mod running;
 mod telling;
 
-pub use answering::image_bytes;
-pub use calls::{asm, list, run, run_unread};
+pub use answering::{answers, image_bytes};
+pub use calls::{asm, list, run, run_commands, run_unread};
 pub use fault::Fault;
 pub use line::AnswerLine;
 pub use telling::{tell, tell_words};

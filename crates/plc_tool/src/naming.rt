@@ -20,7 +20,7 @@ fn slot_meant(image: &Image, name: &str) -> Slot
     slot(image, name.as_bytes()).unwrap_or(NO_SLOT)
 }
 
-fn meant(image: &Image, named: &NamedCommand) -> Command
+pub fn meant(image: &Image, named: &NamedCommand) -> Command
     ensures { result ≡ meant image.now named.now }
 {
     match named {

@@ -58,7 +58,7 @@ instance, END_VAR, a line for each instruction. It assembles to the same image.
 A fault is one line on standard error.";
 
 /// What the words ask for.
-#[derive(Clone, Copy, Debug, PartialEq, Eq)]
+#[derive(Clone, Copy, PartialEq, Eq)]
 pub enum Words<'a> {
     /// Writes the image of a program to a file.
     Asm {

@@ -4,3 +4,4 @@ pub mod Calls
 pub mod Staging
 pub mod Releases
 pub mod Releasing
+pub mod Driver

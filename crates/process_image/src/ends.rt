@@ -133,6 +133,14 @@ impl<J: Naming> ReleasedReader<J> {
     }
 }
 
+/// Of what the writer told and what a reader saw or learnt, one list begins the other. It does nothing: its contract is a law.
+pub fn agree<J: Naming>(told: &Told<J>, reader: &ReleasedReader<J>)
+    ensures { IsPrefix told.now reader.now ⊎ IsPrefix reader.now told.now }
+{
+    let mut longer = reader.front.again();
+    longer.catch_up(&told.front);
+}
+
 // So many readers, which have seen nothing.
 fn readers_of<J: Naming, R: Wait + Drop>(
     alloc: Global,

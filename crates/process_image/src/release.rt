@@ -5,7 +5,7 @@ ghost use Rattle.process_image.specs.Releases.{shown, view_of};
 use il_model::cells::OutImage;
 
 /// An output image with the number of the request that it answers, which is above 0.
-#[derive(Clone, Copy, Debug, PartialEq, Eq)]
+#[derive(Clone, Copy, PartialEq, Eq)]
 pub struct Release {
     pub number: u64,
     pub image: OutImage,

@@ -1,2 +1,4 @@
 pub mod Laid
 pub mod Restored
+pub mod Over
+pub mod Unforced

@@ -1,5 +1,6 @@
 -- What a snapshot has of a scan cycle.
-use Rattle.std.specs.Prelude.{◌≡◌, ℕ, ℤ, List, length, Option, Some, None}
+use Rattle.std.specs.Prelude.{◌≡◌, ℕ, ℤ, Bool, false, List, length, Option, Some, None}
+use Rattle.controller_model.specs.Forces.{no_forces}
 use Rattle.il_model.specs.declared.value.Value.TheVariants as values
 use Rattle.il_model.specs.declared.slot.Slot.{Slot}
 use Rattle.il_model.specs.declared.snapshot.ForcedSlot.{ForcedSlot}
@@ -10,7 +11,7 @@ use Rattle.controller_model.specs.declared.forces.Mask.{Mask}
 use Rattle.controller_model.specs.declared.forces.Forces.{Forces}
 use Rattle.controller_model.specs.Scan.{Cycle}
 use Rattle.controller_model.specs.Snapshots.{forced_slots}
-pub use Rattle.machine.specs.Parts.{HasState, FitsMachine, AreLawful, HasNoBlock, HasNoState, Here, Later}
+pub use Rattle.machine.specs.Parts.{HasState, FitsMachine, AreLawful, HasBlock, HaveBlocks, HasNoBlock, HasNoState, Here, Later}
 
 pub record HasCycle (s : SavedController) (c : Cycle) : Type 0 where
   pub state : HasState s c.state
@@ -42,3 +43,7 @@ pub record IsMask (m : Mask) : Type 0 where
 pub record AreMasks (f : Forces) : Type 0 where
   pub input : IsMask f.input
   pub output : IsMask f.output
+
+-- there are no forces, or there may be
+abbrev pub MayForce : Bool → Forces → Type 0
+MayForce may f = may ≡ false → f ≡ no_forces

@@ -11,11 +11,9 @@ ghost use Rattle.scan_cycle.specs.Kept.{cold_kept, IsCycleOf};
 ghost use Rattle.scan_cycle.specs.Parts.{HasCycle, performed_in, RestoresCycle, AreMasks};
 ghost use Rattle.scan_cycle.specs.Told.{came_to, IsLeft};
 
-use crate::forces::{
-    force, no_forces, restored_forces, saved_forces, unforce, whole_forces, with_forces,
-};
+use crate::force_table::ForceTable;
 use crate::run::{Came, run, run_over};
-use controller_model::{Forces, ScanOut};
+use controller_model::ScanOut;
 use il_model::{Budget, InImage, Loc, OutImage, SavedPhase, Slot, Snapshot, Value};
 use loader::Image;
 use machine::Machine;
@@ -24,12 +22,12 @@ use std::marker::Model;
 
 /// A machine with what is kept from scan to scan: the number of scans begun, the greatest moment, in milliseconds, the
 /// forces of inputs and outputs, and how many instructions an open scan has performed.
-#[derive(Debug, Drop)]
+#[derive(Drop)]
 pub struct ScanCycle {
     machine: Machine,
     count: u64,
     moment: u64,
-    forces: Forces,
+    forces: ForceTable,
     performed: u32,
 }
 
@@ -61,7 +59,7 @@ impl ScanCycle {
             machine: Machine::new(alloc, image)?,
             count: 0,
             moment: 0,
-            forces: no_forces(),
+            forces: ForceTable::none(),
             performed: 0,
         })
     }
@@ -72,7 +70,7 @@ impl ScanCycle {
         ensures lawful { IfOk result (λ s. AreLawful self.now.cycle.state.instances) }
     {
         let mut parts = self.machine.parts(alloc)?;
-        parts.forces = saved_forces(alloc, &self.forces)?;
+        parts.forces = self.forces.saved(alloc)?;
         parts.count = self.count;
         parts.moment = self.moment;
         Ok(parts)
@@ -97,7 +95,7 @@ impl ScanCycle {
             machine,
             count: parts.count,
             moment: parts.moment,
-            forces: restored_forces(parts.forces.as_slice()),
+            forces: ForceTable::restored(parts.forces.as_slice()),
             performed: performed_in(parts.phase),
         }))
     }
@@ -113,7 +111,7 @@ impl ScanCycle {
     pub fn whole(&self)
         ensures { AreMasks self.now.cycle.forces }
     {
-        whole_forces(&self.forces);
+        self.forces.whole();
     }
 
     /// Begins a scan: it is counted, up to the greatest number of 64 bits; its moment, in milliseconds, is no less than the
@@ -123,7 +121,7 @@ impl ScanCycle {
         ensures kept { (Q : Text) → IsCycleOf Q self.old → IsCycleOf Q self.new }
     {
         let latched = InImage {
-            cells: with_forces(&self.forces.input, &inputs.cells),
+            cells: self.forces.over_inputs(&inputs.cells),
         };
         self.machine.start(&latched);
         self.count = self.count.saturating_add(1);
@@ -188,7 +186,7 @@ impl ScanCycle {
         ensures { result.cells ≡ with_forces self.now.cycle.forces.output self.now.cycle.state.output }
     {
         OutImage {
-            cells: with_forces(&self.forces.output, &self.machine.outputs().cells),
+            cells: self.forces.over_outputs(&self.machine.outputs().cells),
         }
     }
 
@@ -200,7 +198,7 @@ impl ScanCycle {
         ensures kept { (Q : Text) → IsCycleOf Q self.old → IsCycleOf Q self.new }
         ensures performed { self.new.cycle.performed ≡ self.old.cycle.performed }
     {
-        force(&mut self.forces, loc, v)
+        self.forces.force(loc, v)
     }
 
     /// Frees a location of `%I` or `%Q`, forced or not. False, and nothing changed, where it is of another area.
@@ -210,7 +208,7 @@ impl ScanCycle {
         ensures kept { (Q : Text) → IsCycleOf Q self.old → IsCycleOf Q self.new }
         ensures performed { self.new.cycle.performed ≡ self.old.cycle.performed }
     {
-        unforce(&mut self.forces, loc)
+        self.forces.unforce(loc)
     }
 
     /// Back to the cold machine, with no scan open; forces, moment and count stay. It takes no memory.

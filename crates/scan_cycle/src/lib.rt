@@ -4,9 +4,10 @@
 #![tactic(auto)]
 
 mod cycle;
+mod force_table;
 mod forces;
 mod run;
 
 pub use controller_model::ScanOut;
 pub use cycle::ScanCycle;
-pub use machine::{fits_run, fits_values, has_type};
+pub use machine::{fits_run, fits_values, has_type, have_states};

@@ -27,6 +27,8 @@ pub record OneHistory {C A : Type 0} (f : ℕ) (answer : List C → A) (early la
   pub rising : IsRising (committed f answer early)
   -- it has only requests that were submitted by then
   pub submitted : IsFrom (world f answer early).submitted (committed f answer early)
+  -- of which each client's numbers rise, so no pair of client and number was submitted twice
+  pub submitted_rising : IsRising (world f answer early).submitted
   -- and none with a number that its client has yet to give
   pub numbers : (m : Request C) → IsAmong (world f answer early).submitted m → m.number ≤ given ((world f answer early).clients m.client)
   -- every reply that was sent has the answer of the commands up to its request's place in it

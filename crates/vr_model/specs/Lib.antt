@@ -14,3 +14,4 @@ pub mod Stores
 pub mod Interleaving
 pub mod StandsFor
 pub mod BestLog
+pub mod Membership

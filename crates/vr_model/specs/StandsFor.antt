@@ -1,5 +1,5 @@
--- Which message of the rules a message of the code stands for: each with a whole log stands for itself.
-use Rattle.std.specs.Prelude.{List, map, option_map}
+-- Which messages of the rules a message of the code stands for: today each carries a whole log, and stands for the one that says the same.
+use Rattle.std.specs.Prelude.{◌≡◌, List, map, option_map}
 use Rattle.il_model.specs.declared.command.Command.{Command}
 use Rattle.il_model.specs.declared.command.Answer.{Answer}
 use Rattle.vr_model.specs.declared.message.Request as code
@@ -14,14 +14,14 @@ use Rattle.vr_model.specs.Logs.{Request}
 use Rattle.vr_model.specs.Messages.{DoViewChange, PrimaryState, Party, Replica, Client, Body, RequestMessage, Prepare, PrepareOk, Commit, Reply, StartViewChange, DoViewChangeMessage, StartView, Recovery, RecoveryResponseMessage, GetState, NewState, Message}
 
 abbrev pub request_of : code.Request → Request Command
-request_of e = record { client = e.client; number = e.number; command = e.command }
+request_of e = record { client = e.client.number; number = e.number; command = e.command }
 
 abbrev pub requests_of : List code.Request → List (Request Command)
 requests_of es = map request_of es
 
 abbrev pub party_of : party.Party → Party
 party_of (party_is.Replica s) = Replica s
-party_of (party_is.Client c) = Client c
+party_of (party_is.Client c) = Client c.number
 
 abbrev pub state_of : primary.PrimaryState → PrimaryState Command
 state_of p = record { commit_number = p.commit_number; log = requests_of p.log.items }
@@ -49,3 +49,11 @@ message_of m = record { from = party_of m.from; to = party_of m.to; body = body_
 -- what is sent, in order
 abbrev pub messages_of : List sent.Message → List (Message Command Answer)
 messages_of ms = map message_of ms
+
+-- The message stands for that one. Contracts say this word, since a message that carries less than a whole log can stand for many.
+abbrev pub Stands : sent.Message → Message Command Answer → Type 0
+Stands m meant = message_of m ≡ meant
+
+-- each of these messages stands for the one at its place
+abbrev pub AllStand : List sent.Message → List (Message Command Answer) → Type 0
+AllStand ms meant = messages_of ms ≡ meant

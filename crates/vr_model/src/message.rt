@@ -1,11 +1,13 @@
 //! Messages (Viewstamped Replication Revisited, sections 4.1 to 4.3 and 5.2).
 
+use crate::client::ClientNumber;
 use il_model::{Answer, Command};
+use std::alloc::{AllocError, Global};
 
 /// What a client asks for, under a number of its own.
 #[derive(Clone, Copy, Debug, PartialEq, Eq)]
 pub struct Request {
-    pub client: u8,
+    pub client: ClientNumber,
     pub number: u64,
     pub command: Command,
 }
@@ -14,7 +16,7 @@ pub struct Request {
 #[derive(Clone, Copy, Debug, PartialEq, Eq)]
 pub enum Party {
     Replica(u8),
-    Client(u8),
+    Client(ClientNumber),
 }
 
 /// What a primary adds to its RECOVERYRESPONSE.
@@ -107,6 +109,130 @@ pub struct Message {
     pub from: Party,
     pub to: Party,
     pub body: Body,
+}
+
+impl PrimaryState {
+    ghost use Rattle.std.specs.Prelude.{◌≡◌, IfOk};
+    ghost use Rattle.vr_model.specs.StandsFor.{state_of};
+
+    /// An equal one. It fails only where memory runs out.
+    pub fn copy(&self, alloc: Global) -> Result<PrimaryState, AllocError>
+        ensures { IfOk result (λ state. state_of state ≡ state_of self.now) }
+    {
+        Ok(PrimaryState {
+            commit_number: self.commit_number,
+            log: Vec::from_slice(alloc, self.log.as_slice())?,
+        })
+    }
+}
+
+impl Body {
+    ghost use Rattle.std.specs.Prelude.{◌≡◌, IfOk};
+    ghost use Rattle.vr_model.specs.StandsFor.{body_of};
+
+    /// An equal one. It fails only where memory runs out.
+    pub fn copy(&self, alloc: Global) -> Result<Body, AllocError>
+        ensures { IfOk result (λ body. body_of body ≡ body_of self.now) }
+    {
+        match self {
+            Body::Request(request) => Ok(Body::Request(*request)),
+            Body::Prepare {
+                view,
+                request,
+                op_number,
+                commit_number,
+            } => Ok(Body::Prepare {
+                view: *view,
+                request: *request,
+                op_number: *op_number,
+                commit_number: *commit_number,
+            }),
+            Body::PrepareOk { view, op_number } => Ok(Body::PrepareOk {
+                view: *view,
+                op_number: *op_number,
+            }),
+            Body::Commit {
+                view,
+                commit_number,
+            } => Ok(Body::Commit {
+                view: *view,
+                commit_number: *commit_number,
+            }),
+            Body::Reply {
+                view,
+                number,
+                answer,
+            } => Ok(Body::Reply {
+                view: *view,
+                number: *number,
+                answer: *answer,
+            }),
+            Body::StartViewChange { view } => Ok(Body::StartViewChange { view: *view }),
+            Body::DoViewChange {
+                view,
+                last_normal_view,
+                commit_number,
+                log,
+            } => Ok(Body::DoViewChange {
+                view: *view,
+                last_normal_view: *last_normal_view,
+                commit_number: *commit_number,
+                log: Vec::from_slice(alloc, log.as_slice())?,
+            }),
+            Body::StartView {
+                view,
+                commit_number,
+                log,
+            } => Ok(Body::StartView {
+                view: *view,
+                commit_number: *commit_number,
+                log: Vec::from_slice(alloc, log.as_slice())?,
+            }),
+            Body::Recovery { nonce, stored_view } => Ok(Body::Recovery {
+                nonce: *nonce,
+                stored_view: *stored_view,
+            }),
+            Body::RecoveryResponse { view, nonce, state } => Ok(Body::RecoveryResponse {
+                view: *view,
+                nonce: *nonce,
+                state: match state {
+                    Some(state) => Some(state.copy(alloc)?),
+                    None => None,
+                },
+            }),
+            Body::GetState { view, op_number } => Ok(Body::GetState {
+                view: *view,
+                op_number: *op_number,
+            }),
+            Body::NewState {
+                view,
+                op_number,
+                commit_number,
+                log,
+            } => Ok(Body::NewState {
+                view: *view,
+                op_number: *op_number,
+                commit_number: *commit_number,
+                log: Vec::from_slice(alloc, log.as_slice())?,
+            }),
+        }
+    }
+}
+
+impl Message {
+    ghost use Rattle.std.specs.Prelude.{◌≡◌, IfOk};
+    ghost use Rattle.vr_model.specs.StandsFor.{message_of};
+
+    /// An equal one. It fails only where memory runs out.
+    pub fn copy(&self, alloc: Global) -> Result<Message, AllocError>
+        ensures { IfOk result (λ message. message_of message ≡ message_of self.now) }
+    {
+        Ok(Message {
+            from: self.from,
+            to: self.to,
+            body: self.body.copy(alloc)?,
+        })
+    }
 }
 
 /// What a step sends, in order.

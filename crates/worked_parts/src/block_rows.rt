@@ -591,31 +591,58 @@ fn words_are_judged(rt: HostRuntime) {
     }
 }
 
+/// Wants the fields of a kind to be found by number and by name, its inputs first.
+fn finds_fields(rt: &impl Abort, kind: BlockKind) {
+    for (number, &field) in (0u8..).zip(kind.fields()) {
+        assert_eq!(rt;
+            (kind.field(number), kind.field_number(field.name())),
+            (Some(field), Some(number))
+        );
+        assert_eq!(rt; field.is_input(), number < kind.input_count());
+    }
+}
+
 /// Kinds by code and name, fields by number and name.
 #[test]
 fn kinds_and_fields_are_found(rt: HostRuntime) {
     for kind in BlockKind::ALL {
-        assert_eq!(rt; BlockKind::of_code(kind.code()), Some(kind));
-        assert_eq!(rt; BlockKind::of_name(kind.name()), Some(kind));
-        for (number, &field) in (0u8..).zip(kind.fields()) {
-            assert_eq!(rt; kind.field(number), Some(field));
-            assert_eq!(rt; kind.field_number(field.name()), Some(number));
-            assert_eq!(rt; field.is_input(), number < kind.input_count());
-        }
+        let found = (
+            BlockKind::of_code(kind.code()),
+            BlockKind::of_name(kind.name()),
+        );
+        assert_eq!(rt; found, (Some(kind), Some(kind)));
+        finds_fields(&rt, kind);
     }
-    assert_eq!(rt; BlockKind::of_code(0), None);
-    assert_eq!(rt; BlockKind::of_code(11), None);
+}
+
+#[test]
+fn other_codes_and_names_are_of_nothing(rt: HostRuntime) {
+    assert_eq!(rt;
+        (BlockKind::of_code(0), BlockKind::of_code(11)),
+        (None, None)
+    );
     assert_eq!(rt; BlockKind::of_name(b"TO"), None);
     assert_eq!(rt; BlockKind::of_name(b"R_TRIG"), Some(BlockKind::RTrig));
     assert_eq!(rt; BlockKind::Tof.field_number(b"CV"), None);
+    let (fourth, third) = (BlockKind::Ctud.field(4), BlockKind::Ton.field(3));
     assert_eq!(rt;
-        BlockKind::Ctud.field(4).map(|field| field.ty()),
-        Some(Ty::Int)
+        (
+            fourth.map(|field| field.ty()),
+            third.map(|field| field.ty())
+        ),
+        (Some(Ty::Int), Some(Ty::Time))
     );
-    assert_eq!(rt;
-        BlockKind::Ton.field(3).map(|field| field.ty()),
-        Some(Ty::Time)
-    );
+}
+
+/// Wants a block to show its outputs alone.
+fn shows_outputs(rt: &impl Abort, block: &Block) {
+    let kind = block.kind();
+    for number in 0..9 {
+        assert_eq!(rt;
+            block.output(number).is_some(),
+            number >= kind.input_count() && kind.field(number).is_some()
+        );
+    }
 }
 
 /// A block of each kind is cold, is called with values, shows its outputs alone and comes back from its words.
@@ -623,20 +650,13 @@ fn kinds_and_fields_are_found(rt: HostRuntime) {
 fn blocks_of_any_kind(rt: HostRuntime) {
     for kind in BlockKind::ALL {
         let mut block = Block::cold(kind);
-        assert_eq!(rt; block.kind(), kind);
-        assert_eq!(rt; block.save(), [0, 0, 0, 0]);
+        assert_eq!(rt; (block.kind(), block.save()), (kind, [0, 0, 0, 0]));
         block.call(&[Value::Bool(true), Value::Time(5)], 7);
-        assert_eq!(rt; block.save()[0] % 2, 1);
-        for number in 0..9 {
-            assert_eq!(rt;
-                block.output(number).is_some(),
-                number >= kind.input_count() && kind.field(number).is_some()
-            );
-        }
-        match Block::restore(kind, block.save()) {
-            Some(again) => assert_eq!(rt; again.save(), block.save()),
-            None => assert!(rt; false, "{kind:?}"),
-        }
+        let words = block.save();
+        assert_eq!(rt; words[0] % 2, 1);
+        shows_outputs(&rt, &block);
+        let again = Block::restore(kind, words).map(|again| again.save());
+        assert_eq!(rt; again, Some(words));
     }
 }
 

@@ -1,8 +1,11 @@
 //! One scan after another on an image, without a controller.
+ghost use Rattle.scan_cycle.specs.Kept.{IsCycleOf};
 
 use crate::images::{WIRE_AND_FIVE, image};
 use il_model::{Area, Budget, InImage, Loc, OutImage, Slot, Value};
+use loader::Image;
 use scan_cycle::{ScanCycle, ScanOut};
+use std::process::Abort;
 use std::test::Fail;
 
 /// `%QX0.0` and `%QW0`; all else is FALSE and 0.
@@ -13,6 +16,46 @@ fn outputs(bit: bool, word: i16) -> OutImage {
     outputs
 }
 
+/// Wants a cycle that runs with these breakpoints to end so.
+fn runs(
+    rt: &impl Abort,
+    cycle: &mut ScanCycle,
+    image: &Image,
+    breaks: &[bool],
+    budget: Budget,
+    wanted: ScanOut,
+)
+    requires { IsCycleOf image.now cycle.old }
+    ensures { IsCycleOf image.now cycle.new }
+{
+    assert_eq!(rt; cycle.run_to(image, breaks, budget), wanted);
+}
+
+/// Wants a cycle that is carried on with these breakpoints to end so.
+fn goes_on(
+    rt: &impl Abort,
+    cycle: &mut ScanCycle,
+    image: &Image,
+    breaks: &[bool],
+    budget: Budget,
+    wanted: ScanOut,
+)
+    requires { IsCycleOf image.now cycle.old }
+    ensures { IsCycleOf image.now cycle.new }
+{
+    assert_eq!(rt; cycle.step_over(image, breaks, budget), wanted);
+}
+
+/// Wants this position and this current result in the first scan.
+fn stands(rt: &impl Abort, cycle: &ScanCycle, position: u16, cr: Option<Value>) {
+    assert_eq!(rt; (cycle.count(), cycle.pos(), cycle.cr()), (1, position, cr));
+}
+
+/// Wants this value of this slot.
+fn shows(rt: &impl Abort, cycle: &ScanCycle, slot: u16, value: Value) {
+    assert_eq!(rt; cycle.peek(Slot(slot)), Some(value));
+}
+
 #[test]
 fn a_cycle_runs_to_a_break_and_on(rt: HostRuntime) -> Result<(), Fail> {
     let image = image(rt.alloc(), WIRE_AND_FIVE)?;
@@ -21,23 +64,40 @@ fn a_cycle_runs_to_a_break_and_on(rt: HostRuntime) -> Result<(), Fail> {
     let mut inputs = InImage::clear();
     inputs.cells.bits[0] = true;
     cycle.begin(&inputs, 7);
-    assert_eq!(rt; (cycle.count(), cycle.pos(), cycle.cr()), (1, 0, None));
+    stands(&rt, &cycle, 0, None);
     let third = [false, false, true, false];
-    assert_eq!(rt; cycle.run_to(&image, &third, budget), ScanOut::Held(2));
-    assert_eq!(rt; cycle.run_to(&image, &third, budget), ScanOut::Held(2));
-    assert_eq!(rt; cycle.cr(), Some(Value::Bool(true)));
-    assert_eq!(rt;
-        cycle.step_over(&image, &[true; 4], budget),
-        ScanOut::Held(3)
+    runs(&rt, &mut cycle, &image, &third, budget, ScanOut::Held(2));
+    runs(&rt, &mut cycle, &image, &third, budget, ScanOut::Held(2));
+    stands(&rt, &cycle, 2, Some(Value::Bool(true)));
+    goes_on(
+        &rt,
+        &mut cycle,
+        &image,
+        &[true; 4],
+        budget,
+        ScanOut::Held(3),
     );
-    assert_eq!(rt; (cycle.pos(), cycle.cr()), (3, Some(Value::Int(5))));
-    assert_eq!(rt;
-        cycle.step_over(&image, &third, budget),
-        ScanOut::Done(outputs(true, 5))
-    );
-    assert_eq!(rt; (cycle.count(), cycle.pos(), cycle.cr()), (1, 0, None));
-    assert_eq!(rt; cycle.peek(Slot(0x1400)), Some(Value::Int(5)));
+    stands(&rt, &cycle, 3, Some(Value::Int(5)));
+    let done = ScanOut::Done(outputs(true, 5));
+    goes_on(&rt, &mut cycle, &image, &third, budget, done);
+    stands(&rt, &cycle, 0, None);
+    shows(&rt, &cycle, 0x1400, Value::Int(5));
     Ok(())
+}
+
+/// Wants a force to be taken or not.
+fn forces(
+    rt: &impl Abort,
+    cycle: &mut ScanCycle,
+    image: &Image,
+    location: Loc,
+    value: Value,
+    is_taken: bool,
+)
+    requires { IsCycleOf image.now cycle.old }
+    ensures { IsCycleOf image.now cycle.new }
+{
+    assert_eq!(rt; cycle.force(location, value), is_taken);
 }
 
 #[test]
@@ -45,21 +105,21 @@ fn a_cycle_keeps_its_forces(rt: HostRuntime) -> Result<(), Fail> {
     let image = image(rt.alloc(), WIRE_AND_FIVE)?;
     let budget = Budget::new(10_000).ok_or("no budget")?;
     let mut cycle = ScanCycle::new(rt.alloc(), &image)?;
-    assert!(rt; cycle.force(Loc::Bit(Area::Input, 0), Value::Bool(true)));
-    assert!(rt; cycle.force(Loc::Word(Area::Output, 0), Value::Int(-3)));
-    assert!(rt; !cycle.force(Loc::Word(Area::Output, 0), Value::Dint(9)));
-    assert!(rt; !cycle.force(Loc::Word(Area::Output, 64), Value::Int(9)));
-    assert!(rt; !cycle.force(Loc::Bit(Area::Memory, 0), Value::Bool(true)));
+    let (bit, word) = (Loc::Bit(Area::Input, 0), Loc::Word(Area::Output, 0));
+    let (past, memory) = (Loc::Word(Area::Output, 64), Loc::Bit(Area::Memory, 0));
+    forces(&rt, &mut cycle, &image, bit, Value::Bool(true), true);
+    forces(&rt, &mut cycle, &image, word, Value::Int(-3), true);
+    forces(&rt, &mut cycle, &image, word, Value::Dint(9), false);
+    forces(&rt, &mut cycle, &image, past, Value::Int(9), false);
+    forces(&rt, &mut cycle, &image, memory, Value::Bool(true), false);
     cycle.begin(&InImage::clear(), 0);
-    assert_eq!(rt;
-        cycle.run_to(&image, &[], budget),
-        ScanOut::Done(outputs(true, -3))
-    );
-    assert_eq!(rt; cycle.peek(Slot(0x1400)), Some(Value::Int(5)));
+    let done = ScanOut::Done(outputs(true, -3));
+    runs(&rt, &mut cycle, &image, &[], budget, done);
+    shows(&rt, &cycle, 0x1400, Value::Int(5));
     cycle.reset(&image);
-    assert_eq!(rt; cycle.peek(Slot(0x1400)), Some(Value::Int(0)));
+    shows(&rt, &cycle, 0x1400, Value::Int(0));
     assert!(rt; cycle.unforce(Loc::Word(Area::Output, 0)));
     assert!(rt; !cycle.unforce(Loc::Word(Area::Memory, 0)));
-    assert_eq!(rt; cycle.count(), 1);
+    stands(&rt, &cycle, 0, None);
     Ok(())
 }

@@ -1,5 +1,7 @@
-//! Worked rows of the parts that stand beside a text and its image: function blocks, the machine and what drives it, the
-//! choice of a log, process images. It has tests alone, uses the crates of those parts, and no crate uses it.
+//! Worked rows of what is called directly: function blocks, the machine and what drives it, snapshots, the choice of a log, frames,
+//! process images, Modbus, and what no line of the program shows. A test is a table that is handed to a function with one loop, and what
+//! it makes is made and dropped in that function. The crate has tests alone, uses the crates of those parts, and no crate uses it; what
+//! the program prints are rows of `worked_rows`.
 #![tactic(auto)]
 
 #[cfg(test)]
@@ -9,12 +11,34 @@ mod controller_rows;
 #[cfg(test)]
 mod cycle_rows;
 #[cfg(test)]
+mod driver_rows;
+#[cfg(test)]
 mod images;
 #[cfg(test)]
+mod json_rows;
+#[cfg(test)]
+mod limit_rows;
+#[cfg(test)]
+mod line_rows;
+#[cfg(test)]
 mod machine_rows;
+#[cfg(test)]
+mod modbus_rows;
 #[cfg(test)]
 mod process_image_rows;
 #[cfg(test)]
 mod replication_rows;
 #[cfg(test)]
-mod snapshot_rows;
+mod restored_rows;
+#[cfg(test)]
+mod saved;
+#[cfg(test)]
+mod spoilt_rows;
+#[cfg(test)]
+mod stream_rows;
+#[cfg(test)]
+mod text_rows;
+#[cfg(test)]
+mod wire_rows;
+#[cfg(test)]
+mod word_rows;

@@ -1,23 +1,54 @@
 //! A machine that performs an image, one instruction after another.
+ghost use Rattle.machine.specs.Kept.{IsMachineOf};
 
 use crate::images::{THREE_STORES, image};
 use il_model::{InImage, Slot, Value};
+use loader::Image;
 use machine::{Machine, StepOut};
+use std::process::Abort;
 use std::test::Fail;
+
+/// Wants one step to end so.
+fn steps(rt: &impl Abort, machine: &mut Machine, image: &Image, wanted: StepOut)
+    requires { IsMachineOf image.now machine.old }
+    ensures { IsMachineOf image.now machine.new }
+{
+    assert!(rt; machine.step(image, 0) == wanted);
+}
+
+/// Wants these values of these slots.
+fn shows(rt: &impl Abort, machine: &Machine, rows: &[(u16, Option<Value>)]) {
+    for (slot, value) in rows.iter() {
+        assert_eq!(rt; machine.peek(Slot(*slot)), *value);
+    }
+}
+
+/// Wants these two outputs.
+fn releases(rt: &impl Abort, machine: &Machine, first: bool, second: bool) {
+    let outputs = machine.outputs();
+    assert_eq!(rt;
+        (outputs.cells.bits[0], outputs.cells.bits[1]),
+        (first, second)
+    );
+}
+
+/// Wants this current result and this position.
+fn stands(rt: &impl Abort, machine: &Machine, cr: Option<Value>, position: u16) {
+    assert!(rt; machine.cr() == cr && machine.pos() == position);
+}
 
 #[test]
 fn a_machine_steps_through_its_image(rt: HostRuntime) -> Result<(), Fail> {
     let image = image(rt.alloc(), THREE_STORES)?;
     let mut machine = Machine::new(rt.alloc(), &image)?;
-    assert!(rt; machine.cr().is_none() && machine.pos() == 0);
+    stands(&rt, &machine, None, 0);
     machine.start(&InImage::clear());
-    assert!(rt; machine.step(&image, 0) == StepOut::Next);
-    assert!(rt; machine.step(&image, 0) == StepOut::Next);
-    assert!(rt; machine.step(&image, 0) == StepOut::Next);
-    assert!(rt; machine.pos() == 3);
-    assert!(rt; machine.step(&image, 0) == StepOut::End);
-    assert!(rt; machine.cr() == Some(Value::Bool(false)));
-    for (slot, value) in [
+    steps(&rt, &mut machine, &image, StepOut::Next);
+    steps(&rt, &mut machine, &image, StepOut::Next);
+    steps(&rt, &mut machine, &image, StepOut::Next);
+    stands(&rt, &machine, Some(Value::Bool(false)), 3);
+    steps(&rt, &mut machine, &image, StepOut::End);
+    let rows = [
         (0x4000, Some(Value::Bool(true))),
         (0x4001, Some(Value::Bool(true))),
         (0x1001, Some(Value::Bool(true))),
@@ -25,12 +56,11 @@ fn a_machine_steps_through_its_image(rt: HostRuntime) -> Result<(), Fail> {
         (0x2400, Some(Value::Int(0))),
         (0x4002, None),
         (0x8000, None),
-    ] {
-        assert_eq!(rt; machine.peek(Slot(slot)), value);
-    }
-    assert!(rt; machine.outputs().cells.bits[1] && !machine.outputs().cells.bits[0]);
+    ];
+    shows(&rt, &machine, &rows);
+    releases(&rt, &machine, false, true);
     machine.reset(&image);
-    assert!(rt; machine.peek(Slot(0x4000)) == Some(Value::Bool(false)));
-    assert!(rt; !machine.outputs().cells.bits[1]);
+    shows(&rt, &machine, &[(0x4000, Some(Value::Bool(false)))]);
+    releases(&rt, &machine, false, false);
     Ok(())
 }

@@ -61,32 +61,59 @@ fn the_4097th_write_since_a_sample_is_refused(rt: HostRuntime) {
     fills_up(&rt, &mut stage.handle(&rt));
 }
 
+/// What is written.
+#[derive(Clone, Copy)]
+enum Write<'a> {
+    Bits(&'a [bool]),
+    Words(&'a [i16]),
+}
+
+/// An address, what is written there, and the answer.
+type Row<'a> = (usize, Write<'a>, Result<Ticket, StageError>);
+
+fn writes<S: Staging, R: Abort>(rt: &R, staging: &mut S, rows: &[Row]) {
+    for (n, (address, write, answer)) in rows.iter().enumerate() {
+        let given = match write {
+            Write::Bits(bits) => write_bits(staging, *address, bits),
+            Write::Words(words) => write_words(staging, *address, words),
+        };
+        assert_eq!(rt; given, *answer, "in row {n}");
+    }
+}
+
+/// Wants these inputs to be shown, and twice to be sampled under this number.
+fn samples<S: Staging, R: Abort>(rt: &R, staging: &mut S, inputs: InImage, next: u64) {
+    assert_eq!(rt; staging.read(), inputs);
+    for _ in 0..2 {
+        assert_eq!(rt; staging.sample(), Sample { inputs, next });
+    }
+}
+
+fn ticket(number: u64) -> Result<Ticket, StageError> {
+    Ok(Ticket { number })
+}
+
 fn keeps_within_the_areas<S: Staging, R: Abort>(rt: &R, staging: &mut S) {
-    assert_eq!(rt;
-        write_bits(staging, 510, &[true; 3]),
-        Err(StageError::Address)
-    );
-    assert_eq!(rt; write_words(staging, 63, &[1; 2]), Err(StageError::Address));
-    assert_eq!(rt; write_bits(staging, 513, &[]), Err(StageError::Address));
+    let past: [Row; 3] = [
+        (510, Write::Bits(&[true; 3]), Err(StageError::Address)),
+        (63, Write::Words(&[1; 2]), Err(StageError::Address)),
+        (513, Write::Bits(&[]), Err(StageError::Address)),
+    ];
+    writes(rt, staging, &past);
     assert_eq!(rt; staging.read(), InImage::clear());
-    assert_eq!(rt; write_bits(staging, 512, &[]), Ok(Ticket { number: 0 }));
-    assert_eq!(rt;
-        write_bits(staging, 510, &[true; 2]),
-        Ok(Ticket { number: 1 })
-    );
-    assert_eq!(rt;
-        write_words(staging, 62, &[-2, 9]),
-        Ok(Ticket { number: 2 })
-    );
-    assert_eq!(rt; write_words(staging, 63, &[5]), Ok(Ticket { number: 3 }));
+    let within: [Row; 4] = [
+        (512, Write::Bits(&[]), ticket(0)),
+        (510, Write::Bits(&[true; 2]), ticket(1)),
+        (62, Write::Words(&[-2, 9]), ticket(2)),
+        (63, Write::Words(&[5]), ticket(3)),
+    ];
+    writes(rt, staging, &within);
     let mut inputs = InImage::clear();
     inputs.cells.bits[510] = true;
     inputs.cells.bits[511] = true;
     inputs.cells.words[62] = -2;
     inputs.cells.words[63] = 5;
-    assert_eq!(rt; staging.read(), inputs);
-    assert_eq!(rt; staging.sample(), Sample { inputs, next: 4 });
-    assert_eq!(rt; staging.sample(), Sample { inputs, next: 4 });
+    samples(rt, staging, inputs, 4);
 }
 
 #[test]
@@ -94,6 +121,23 @@ fn a_write_past_its_area_is_refused(rt: HostRuntime) {
     keeps_within_the_areas(&rt, &mut StageBook::new(rt.alloc()));
     let stage = Stage::new(StageBook::new(rt.alloc()));
     keeps_within_the_areas(&rt, &mut stage.handle(&rt));
+}
+
+#[test]
+fn a_book_keeps_its_writes_behind_a_lock(rt: HostRuntime) {
+    let mut book = StageBook::new(rt.alloc());
+    assert_eq!(rt;
+        write_words(&mut book, 62, &[-2, 9]),
+        Ok(Ticket { number: 0 })
+    );
+    let stage = Stage::new(book);
+    let mut staging = stage.handle(&rt);
+    let words = staging.read().cells.words;
+    assert_eq!(rt; (words[62], words[63]), (-2, 9));
+    assert_eq!(rt;
+        write_bits(&mut staging, 0, &[true]),
+        Ok(Ticket { number: 1 })
+    );
 }
 
 const WRITES: usize = 100;
@@ -204,13 +248,13 @@ fn word_below(writes: &[Written], number: u64) -> i16 {
         .map_or(0, |w| w.word)
 }
 
-#[test]
-fn each_sample_replays_the_writes_below_its_number(rt: HostRuntime) -> Result<(), Fail> {
+// One round: each ticket is given once, and each sample replays the writes below its number.
+fn replays<R: Threads + Wait + Abort + Sync>(rt: &R, alloc: Global) -> Result<(), Fail> {
     let Test {
         first,
         second,
         samples,
-    } = in_three_threads(&rt, rt.alloc());
+    } = in_three_threads(rt, alloc);
     let mut writes = first?;
     writes.extend_from_slice(second?.as_slice())?;
     assert_eq!(rt; writes.len(), 2 * WRITES);
@@ -220,9 +264,20 @@ fn each_sample_replays_the_writes_below_its_number(rt: HostRuntime) -> Result<()
     let samples = samples?;
     for sample in &samples {
         let word = word_below(writes.as_slice(), sample.next);
-        assert_eq!(rt; sample.inputs, full_of(word));
+        assert!(rt; sample.inputs == full_of(word), "below {}", sample.next);
     }
     assert_eq!(rt; samples.last().map(|s| s.next), Some(200));
+    Ok(())
+}
+
+// In one round a sampler may come too late to meet a writer; in so many it doesn't.
+const ROUNDS: usize = 64;
+
+#[test]
+fn each_sample_replays_the_writes_below_its_number(rt: HostRuntime) -> Result<(), Fail> {
+    for _ in 0..ROUNDS {
+        replays(&rt, rt.alloc())?;
+    }
     Ok(())
 }
 
@@ -252,6 +307,22 @@ fn publish<J: Naming, P: Pen<J>>(
     }
 }
 
+/// Releases, each by its number, and how they are answered.
+fn publishes<J: Naming, P: Pen<J>, R: Abort>(
+    rt: &R,
+    writer: &mut ReleasedWriter<J, P>,
+    rows: &[(u64, Result<(), PublishError>)],
+) {
+    for (number, answer) in rows.iter() {
+        assert_eq!(rt; publish(writer, release(*number)), *answer, "{number}");
+    }
+}
+
+/// Wants a reader to read the release of this number.
+fn reads<J: Naming, R: Abort>(rt: &R, reader: &mut ReleasedReader<J>, number: u64) {
+    assert_eq!(rt; reader.read(), view(number));
+}
+
 fn in_one_thread<J: Naming, R: Wait + Abort>(
     rt: &R,
     alloc: Global,
@@ -262,19 +333,17 @@ fn in_one_thread<J: Naming, R: Wait + Abort>(
     let (mut writer, mut readers) = released::<J, &R>(list, alloc, rt, 2)?;
     let mut first = readers.pop().ok_or("two readers")?;
     let mut second = readers.pop().ok_or("two readers")?;
-    assert_eq!(rt; first.read(), view(0));
-    assert_eq!(rt; publish(&mut writer, release(0)), Err(PublishError::Stale));
-    assert_eq!(rt; publish(&mut writer, release(4)), Ok(()));
-    assert_eq!(rt; publish(&mut writer, release(4)), Err(PublishError::Stale));
+    let stale = Err(PublishError::Stale);
+    reads(rt, &mut first, 0);
+    publishes(rt, &mut writer, &[(0, stale), (4, Ok(())), (4, stale)]);
     second.learn(writer.tell());
-    assert_eq!(rt; second.read(), view(4));
-    assert_eq!(rt; first.read(), view(4));
-    assert_eq!(rt; publish(&mut writer, release(9)), Ok(()));
-    assert_eq!(rt; publish(&mut writer, release(7)), Err(PublishError::Stale));
+    reads(rt, &mut second, 4);
+    reads(rt, &mut first, 4);
+    publishes(rt, &mut writer, &[(9, Ok(())), (7, stale)]);
     second.learn(writer.tell());
     drop(writer);
-    assert_eq!(rt; second.read(), view(9));
-    assert_eq!(rt; first.read(), view(4));
+    reads(rt, &mut second, 9);
+    reads(rt, &mut first, 4);
     Ok(())
 }
 

@@ -2,20 +2,20 @@
 
 use il_model::Command;
 use log_choice::choose;
-use std::alloc::{AllocError, Global};
+use std::alloc::Global;
+use std::process::Abort;
 use std::test::Fail;
-use vr_model::{Config, DoViewChange, Request};
+use vr_model::{ClientNumber, Config, DoViewChange, Request};
 
-fn kept(
-    alloc: Global,
-    replica: u8,
-    last_normal_view: u64,
-    op_number: u64,
-) -> Result<DoViewChange, AllocError> {
+/// The number of a replica, its last normal view, and how long its log is.
+type Kept = (u8, u64, u64);
+
+fn kept(alloc: Global, (replica, last_normal_view, op_number): Kept) -> Result<DoViewChange, Fail> {
+    let client = ClientNumber::new(0).ok_or("no client")?;
     let mut log = Vec::new(alloc);
     for number in 0..op_number {
         log.push(Request {
-            client: 0,
+            client,
             number,
             command: Command::Step,
         })?;
@@ -28,26 +28,29 @@ fn kept(
     })
 }
 
-#[test]
-fn the_later_view_wins_over_the_longer_log(rt: HostRuntime) -> Result<(), Fail> {
-    let members = vec![in rt.alloc(); kept(rt.alloc(), 0, 2, 3)?, kept(rt.alloc(), 1, 1, 7)?]?;
-    assert_eq!(rt; choose(&members), 0);
-    let turned = vec![in rt.alloc(); kept(rt.alloc(), 1, 1, 7)?, kept(rt.alloc(), 0, 2, 3)?]?;
-    assert_eq!(rt; choose(&turned), 1);
+/// Wants the member at this place to be chosen.
+fn chooses(rt: &impl Abort, alloc: Global, rows: &[Kept], place: usize) -> Result<(), Fail> {
+    let mut members = Vec::new(alloc);
+    for row in rows {
+        members.push(kept(alloc, *row)?)?;
+    }
+    if members.is_empty() {
+        return Err(Fail::from("no members"));
+    }
+    assert_eq!(rt; choose(&members), place);
     Ok(())
 }
 
 #[test]
+fn the_later_view_wins_over_the_longer_log(rt: HostRuntime) -> Result<(), Fail> {
+    chooses(&rt, rt.alloc(), &[(0, 2, 3), (1, 1, 7)], 0)?;
+    chooses(&rt, rt.alloc(), &[(1, 1, 7), (0, 2, 3)], 1)
+}
+
+#[test]
 fn of_one_view_the_longer_log_wins_and_then_the_lower_number(rt: HostRuntime) -> Result<(), Fail> {
-    let members = vec![in rt.alloc();
-        kept(rt.alloc(), 3, 1, 4)?,
-        kept(rt.alloc(), 4, 1, 5)?,
-        kept(rt.alloc(), 2, 1, 5)?,
-    ]?;
-    assert_eq!(rt; choose(&members), 2);
-    let same = vec![in rt.alloc(); kept(rt.alloc(), 1, 0, 1)?, kept(rt.alloc(), 1, 0, 1)?]?;
-    assert_eq!(rt; choose(&same), 0);
-    Ok(())
+    chooses(&rt, rt.alloc(), &[(3, 1, 4), (4, 1, 5), (2, 1, 5)], 2)?;
+    chooses(&rt, rt.alloc(), &[(1, 0, 1), (1, 0, 1)], 0)
 }
 
 #[test]

@@ -1,0 +1,53 @@
+-- Replies over a staging that tells its book, and over one that doesn't.
+use Rattle.std.proofs.Common.{◌≡◌, ℕ, true, false, List, sym, ◌∙◌, ap, refl, Option, Some, None, Result, Ok, Err, IfOk, OnErr, ◌↔◌}
+use Rattle.il_model.specs.declared.cells.Cells.{Cells}
+use Rattle.il_model.specs.Cells.{clear_cells}
+use Rattle.process_image.specs.Book.{Book, Change, is_full}
+use Rattle.process_image.specs.Calls.{Does, read_gave, wrote as wrote_call}
+use Rattle.process_image.specs.Staging.{Changed}
+use Rattle.process_image.specs.declared.book.Ticket.{Ticket}
+use Rattle.process_image.specs.declared.book.StageError.{StageError}
+use Rattle.process_image.specs.declared.book.StageError.TheVariants.{Full}
+use Rattle.modbus_gateway.specs.declared.request.Exception.TheVariants.{ServerDeviceFailure}
+use Rattle.modbus_gateway.specs.declared.request.Image.{Image}
+use Rattle.modbus_gateway.specs.declared.request.Image.TheVariants.{Staged, Released}
+use Rattle.modbus_gateway.specs.Replies.{Replies, LooksAt, image_cells, read_outcome, write_outcome, exception_of}
+
+-- nothing was asked of the staging
+pub untouched : (told : Option Book) (answer : List ℕ) → Replies told told (λ staged refused. read_outcome answer) answer
+untouched None answer = (refl, clear_cells, false, refl)
+untouched (Some b) answer = (is_full b, λ e. e, refl, refl)
+
+-- its cells were read
+looked : (before after : Option Book) (f : Cells → List ℕ) (answer : List ℕ) (cells : Cells) → Changed before after (λ b c. Does b (read_gave cells) c) → answer ≡ f cells
+    → Replies before after (λ staged refused. read_outcome (f staged)) answer
+looked None after f answer cells h e = (h, cells, false, e)
+looked (Some b) None f answer cells h e = absurd h
+looked (Some b) (Some c) f answer cells h e = (is_full b, λ z. z, h.0, e ∙ ap f h.1)
+
+-- the cells of an image were looked at
+pub shown : (image : Image) (before after : Option Book) (released cells : Cells) (f : Cells → List ℕ) (answer : List ℕ) → LooksAt image before after released cells → answer ≡ f cells
+    → Replies before after (λ staged refused. read_outcome (f (image_cells image staged released))) answer
+shown Staged before after released cells f answer h e = looked before after f answer cells h e
+shown Released before after released cells f answer h e = rw (h.0, e, h.1) (untouched before (f released))
+
+-- what a write tells of its book
+abbrev pub Wrote : Change → Type 0 → Result Ticket StageError → Book → Book → Type 0
+Wrote change Within r b c = IfOk r (λ t. Does b (wrote_call change t.number) c) × OnErr r (c ≡ b) × ((r ≡ Err Full) ↔ (Within × (is_full b ≡ true)))
+
+not_full : (b : Book) → is_full b ≡ false → is_full b ≡ true → false ≡ true
+not_full b e h = sym e ∙ h
+
+-- a write got its ticket
+pub took : (before after : Option Book) (t : Ticket) (change : Change) (Within : Type 0) (pdu answer : List ℕ) → Changed before after (Wrote change Within (Ok t))
+    → Replies before after (λ staged refused. write_outcome refused pdu change answer) answer
+took None after t change Within pdu answer h = (h, clear_cells, false, refl)
+took (Some b) None t change Within pdu answer h = absurd h
+took (Some b) (Some c) t change Within pdu answer h = (false, not_full b h.0.2, h.0.0, refl)
+
+-- a write was refused
+pub declined : (before after : Option Book) (e : StageError) (change : Change) (Within : Type 0) (pdu reply answer : List ℕ) → Changed before after (Wrote change Within (Err e)) → reply ≡ exception_of pdu ServerDeviceFailure
+    → Replies before after (λ staged refused. write_outcome refused pdu change answer) reply
+declined None after e change Within pdu reply answer h is = (h, clear_cells, true, is)
+declined (Some b) None e change Within pdu reply answer h is = absurd h
+declined (Some b) (Some c) e change Within pdu reply answer h is = (true, λ _. refl, h.1, is)

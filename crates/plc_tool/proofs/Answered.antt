@@ -1,0 +1,39 @@
+-- What a run puts is the answers of the text.
+use Rattle.std.proofs.Common.{◌≡◌, ◌⊎◌, inl, inr, ℕ, List, Result, Ok, Err, ap, arith}
+use Rattle.std.specs.Prelude.{OnOk, IfErr}
+use Rattle.il_model.specs.Text.{Text}
+use Rattle.il_model.specs.Typing.{IsTyped}
+use Rattle.il_model.specs.declared.counted.CountedWrite.{Ghosts as CountedWriter}
+use Rattle.debugger.specs.Owned.{Owned, cold_owned}
+use Rattle.plc_json.specs.declared.command.NamedCommand.{NamedCommand}
+use Rattle.plc_tool.specs.declared.fault.Fault.{Fault}
+use Rattle.plc_tool.specs.Lines.{lines_of}
+use Rattle.plc_tool.specs.Meaning.{IsTypedProgramOfText, IsAnswered, Tells, program_of_text}
+use Rattle.plc_tool.specs.Named.{answers_by}
+use Rattle.plc_tool.specs.Putting.{Puts, IsRun, IsRunCutShort, IsWhyStopped}
+
+pub are_answers : (text : List ℕ) (budget : ℕ) (commands : List NamedCommand) (Q : Text) (c : Owned) → IsTypedProgramOfText text Q → IsTyped Q → c ≡ cold_owned Q budget → IsAnswered text budget commands (answers_by c commands)
+are_answers text budget commands Q c is typed cold = record {
+  program = Q;
+  is = is;
+  typed = typed;
+  answers_are = ap (λ (o : Owned). answers_by o commands) cold;
+}
+
+module _ {W : Type 0} (w : CountedWriter W) (text : List ℕ) (budget : ℕ) (commands : List NamedCommand) (c : Owned) (old new : W) (are : IsAnswered text budget commands (answers_by c commands)) where
+  pub is_run : (r : Result (Unit {0}) Fault) → Puts w (lines_of (answers_by c commands)) old new r → OnOk r (IsRun text budget commands (w.held old) (w.held new))
+  is_run (Ok x) h = record { answers = answers_by c commands; are = are; written = h.sent }
+  is_run (Err e) h = tt
+
+  pub is_cut_short : (r : Result (Unit {0}) Fault) → Puts w (lines_of (answers_by c commands)) old new r
+      → IfErr r (λ e. IsRunCutShort w text budget commands old new × IsWhyStopped e (w.faults old) (w.faults new) ⊎ Tells e (program_of_text text) × new ≡ old)
+  is_cut_short (Ok x) h = tt
+  is_cut_short (Err e) h = inl (record { answers = answers_by c commands; are = are; written = h.sent }, h.why)
+
+-- a status of 2 is that of a fault
+pub cut_short : {W : Type 0} (w : CountedWriter W) (text : List ℕ) (budget : ℕ) (commands : List NamedCommand) (old new : W) (r : Result (Unit {0}) Fault) (status : ℕ) → status ≡ 2 → OnOk r (status ≡ 0)
+    → IfErr r (λ e. IsRunCutShort w text budget commands old new × IsWhyStopped e (w.faults old) (w.faults new) ⊎ Tells e (program_of_text text) × new ≡ old)
+    → IsRunCutShort w text budget commands old new ⊎ new ≡ old
+cut_short w text budget commands old new (Ok x) status two none h = absurd (omega arith)
+cut_short w text budget commands old new (Err e) status two none (inl h) = inl h.0
+cut_short w text budget commands old new (Err e) status two none (inr h) = inr h.1

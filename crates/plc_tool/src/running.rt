@@ -1,0 +1,56 @@
+//! The answers of a text to commands, each written as it comes.
+
+ghost use Rattle.std.specs.Prelude.{◌≡◌, ◌≤◌, ◌⊎◌, IfErr, OnOk};
+ghost use Rattle.plc_tool.specs.Lines.{lines_of};
+ghost use Rattle.plc_tool.specs.Meaning.{Tells, program_of_text};
+ghost use Rattle.plc_tool.specs.Named.{answers_by};
+ghost use Rattle.plc_tool.specs.Putting.{Puts, IsRun, IsRunCutShort, IsWhyStopped};
+ghost use Rattle.plc_tool.specs.Status.{status_of};
+
+use crate::answering::image;
+use crate::fault::Fault;
+use crate::line::put_line;
+use crate::naming::meant;
+use debugger::Controller;
+use il_model::{Budget, CountedWrite};
+use plc_json::NamedCommand;
+use std::alloc::Global;
+
+/// Applies commands to a controller, one after another; each name is looked up at its command's turn, and the line of each answer
+/// is written before the next command.
+fn put_answers<W: CountedWrite>(
+    alloc: Global,
+    controller: &mut Controller,
+    commands: &[NamedCommand],
+    out: &mut W,
+) -> Result<(), Fault>
+    ensures { Puts W.CountedWrite (lines_of (answers_by controller.old commands.now)) out.old out.new result }
+{
+    for named in commands {
+        let command = meant(controller.image(), named);
+        let answer = controller.apply(&command);
+        put_line(alloc, &answer, out)?;
+    }
+    Ok(())
+}
+
+/// Writes the answers of a text to commands, a line each, each scan within the budget. Of a text that is refused it tells the first
+/// fault and writes nothing. Where the writer fails or memory runs out, a beginning of the lines went out.
+pub fn put_run<W: CountedWrite>(
+    alloc: Global,
+    text: &[u8],
+    budget: Budget,
+    commands: &[NamedCommand],
+    out: &mut W,
+) -> Result<(), Fault>
+    ensures ok { OnOk result (IsRun text.now budget.instructions commands.now (W.held out.old) (W.held out.new)) }
+    ensures err { IfErr result (λ e. (IsRunCutShort W.CountedWrite text.now budget.instructions commands.now out.old out.new
+        × IsWhyStopped e (W.faults out.old) (W.faults out.new))
+        ⊎ (Tells e (program_of_text text.now) × (out.new ≡ out.old))) }
+    ensures counts { W.faults out.old ≤ W.faults out.new }
+{
+    let image = image(alloc, text)?;
+    image.lawful();
+    let mut controller = Controller::new(alloc, image, budget)?;
+    put_answers(alloc, &mut controller, commands, out)
+}

@@ -1,0 +1,9 @@
+pub mod Lists
+pub mod Tables
+pub mod Shown
+pub mod Acting
+pub mod Replicas
+pub mod Clients
+pub mod Nodes
+pub mod Delivered
+pub mod Reached

@@ -1,0 +1,51 @@
+-- What a trace owes to its schedule.
+use Rattle.std.specs.Prelude.{◌≡◌, ℕ, List, length, map, Some, None}
+use Rattle.std.specs.List.{slice_get}
+use Rattle.il_model.specs.declared.command.Command.{Command}
+use Rattle.il_model.specs.declared.command.Answer.{Answer}
+use Rattle.vr_model.specs.Groups.{group_size}
+use Rattle.vr_model.specs.Replicas.{ReplicaState}
+use Rattle.vr_model.specs.World.{Event, Completion, start, first_replica}
+use Rattle.vr_model.specs.Report.{Report, report, first_refusal, AllComplete, Explains}
+use Rattle.vr_model.specs.StandsFor.{AllStand, requests_of}
+use Rattle.schedules.specs.declared.event.WorldEvent.{WorldEvent}
+use Rattle.schedules.specs.declared.trace.Trace as code
+use Rattle.schedules.specs.declared.fault.WorldError.{WorldError}
+use Rattle.schedules.specs.declared.fault.WorldError.TheVariants.{BadSchedule, Memory}
+use Rattle.vr_model.specs.Membership.{Membership}
+use Rattle.schedules.specs.Events.{events_of, number_of}
+use Rattle.schedules.specs.Standing.{releases_of}
+
+-- The trace is this report: its order, lengths, releases and lost events, and messages that stand for those that were sent.
+pub record IsReport (trace : code.Trace) (r : Report Command Answer) : Type 0 where
+  pub order : requests_of trace.order.items ≡ r.order
+  pub lengths : trace.lengths.items ≡ r.lengths
+  pub releases : releases_of trace.releases.items ≡ r.releases
+  pub sent : AllStand trace.sent.items r.sent
+  pub lost : trace.lost.items ≡ r.lost
+
+-- they are the replicas of a group, each in its place, and have done nothing yet
+pub record AreNew {M : Type 0} (StandsFor : M → Membership → ReplicaState Command → Type 0) (f : ℕ) (answer : List Command → Answer) (members : List M) : Type 0 where
+  pub count : length members ≡ group_size f
+  pub each : (i : ℕ) (m : M) → slice_get members i ≡ Some m → StandsFor m (record { f = f; number = i; answer = answer }) first_replica
+
+module _ (f : ℕ) (answer : List Command → Answer) (schedule : List WorldEvent) where
+  -- there is a run of the schedule, each event done or lost as it may be, of which the trace is the report; and the report explains the run
+  pub record IsTraced (trace : code.Trace) : Type 0 where
+    pub events : List (Event Command × Completion)
+    pub own : map (λ e. e.0) events ≡ events_of schedule
+    pub have_steps : first_refusal f answer 0 events start ≡ None
+    pub complete : AllComplete f answer events start
+    pub is_report : IsReport trace (report f answer events)
+    pub explains : Explains f answer events
+
+  -- there is a run of the schedule in which this is the first event without a step, and the lowest reason
+  pub record IsRefused (index reason : ℕ) : Type 0 where
+    pub events : List (Event Command × Completion)
+    pub own : map (λ e. e.0) events ≡ events_of schedule
+    pub complete : AllComplete f answer events start
+    pub refused : first_refusal f answer 0 events start ≡ Some (index, reason)
+
+  abbrev pub Fails : WorldError → Type 0
+  Fails (BadSchedule index reason) = IsRefused index (number_of reason)
+  Fails Memory = Unit {0}

@@ -1,0 +1,10 @@
+pub mod Bits
+pub mod Ends
+pub mod Fields
+pub mod Formats
+pub mod Fronts
+pub mod Items
+pub mod Messages
+pub mod Pieces
+pub mod Values
+pub mod Words

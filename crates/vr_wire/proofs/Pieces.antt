@@ -1,0 +1,186 @@
+-- A piece of a stream, as a feed takes it.
+use Rattle.std.proofs.Common.{◌≡◌, ℕ, ◌+◌, ◌-◌, ◌<◌, ◌≤◌, ◌⊎◌, Option, Some, None, take, drop, List, [], ◌∷◌, ◌++◌, length, refl, sym, ap, subst, ◌∙◌, append_assoc, arith, length-append, length-take, length-drop, inl, inr}
+use Rattle.std.specs.Prelude.{Result, Ok, Err, OnErr}
+use Rattle.std.specs.List.{flat_map, AllByRecursion}
+use Rattle.std.proofs.lemmas.Bool.{cases_lt}
+use Rattle.std.proofs.lemmas.List.{append-nil, map-append, nil_from_length, take_at, take-append-drop}
+use Rattle.std.proofs.lemmas.List.Concat.{flat_map-cons}
+use Rattle.std.proofs.lemmas.Grind.{flat_map-append}
+use Rattle.il_model.specs.declared.command.Command.{Command}
+use Rattle.il_model.specs.declared.command.Answer.{Answer}
+use Rattle.il_model.specs.Stream.{Ending, Rest, Fault, Splits, Took, ending_of}
+use Rattle.il_model.proofs.Streams.{IsReadable}
+use Rattle.vr_model.specs.declared.message.Message as code
+use Rattle.vr_model.specs.Messages.{Message}
+use Rattle.vr_model.specs.StandsFor.{message_of, messages_of}
+use Rattle.vr_wire.specs.declared.fault.WireFault.{WireFault}
+use Rattle.vr_wire.specs.Frames.{frame_of, message_bytes, told_length, IsFramed, IsPartial, IsBroken, IsShort}
+use Rattle.vr_wire.specs.Shown.{IsWhole}
+use Rattle.vr_wire.specs.Feeding.{frames, Begins, Fills}
+use Rattle.vr_wire.proofs.Fronts.{told_in, told_more, same_frame, partial_frame, broken_frame, one_fault, partial_broken, broken_more}
+
+-- ---- frame after frame
+
+-- the stream so far: the frames of what was added, and bytes behind them
+pub record IsSoFar (stream bytes : List ℕ) (before out : List code.Message) : Type 0 where
+  pub added : List code.Message
+  pub is : out ≡ before ++ added
+  pub whole : stream ≡ flat_map frame_of (messages_of added) ++ bytes
+  pub each : AllByRecursion IsFramed (messages_of added)
+
+pub at_first : (stream : List ℕ) (before : List code.Message) → IsSoFar stream stream before before
+at_first stream before = record { added = []; is = sym (append-nil before); whole = refl; each = tt }
+
+all_more : (items : List (Message Command Answer)) (m : Message Command Answer) → AllByRecursion IsFramed items → IsFramed m → AllByRecursion IsFramed (items ++ m ∷ [])
+all_more [] m all framed = (framed, tt)
+all_more (x ∷ items) m all framed = (all.0, all_more items m all.1 framed)
+
+frames_more : (items : List (Message Command Answer)) (m : Message Command Answer) (rest : List ℕ) → flat_map frame_of items ++ (frame_of m ++ rest) ≡ flat_map frame_of (items ++ m ∷ []) ++ rest
+frames_more items m rest =
+    let one : flat_map frame_of (m ∷ []) ≡ frame_of m = flat_map-cons frame_of m [] ∙ append-nil (frame_of m) in
+    let grown : flat_map frame_of (items ++ m ∷ []) ≡ flat_map frame_of items ++ frame_of m = flat_map-append frame_of items (m ∷ []) ∙ ap (λ (x : List ℕ). flat_map frame_of items ++ x) one in
+    sym (append_assoc (flat_map frame_of items) (frame_of m) rest) ∙ ap (λ (x : List ℕ). x ++ rest) (sym grown)
+
+pub one_more : (stream bytes : List ℕ) (before out : List code.Message) (m : code.Message) (rest : List ℕ) → IsSoFar stream bytes before out → IsWhole bytes (message_of m) rest → IsSoFar stream rest before (out ++ m ∷ [])
+one_more stream bytes before out m rest s w =
+    let items = messages_of s.added in
+    let same : messages_of (s.added ++ m ∷ []) ≡ items ++ message_of m ∷ [] = map-append message_of s.added (m ∷ []) in
+    let whole : stream ≡ flat_map frame_of (items ++ message_of m ∷ []) ++ rest = s.whole ∙ (ap (λ (x : List ℕ). flat_map frame_of items ++ x) w.parts ∙ frames_more items (message_of m) rest) in
+    record {
+      added = s.added ++ m ∷ [];
+      is = ap (λ (ms : List code.Message). ms ++ m ∷ []) s.is ∙ append_assoc before s.added (m ∷ []);
+      whole = rw same whole;
+      each = rw same (all_more items (message_of m) s.each w.framed);
+    }
+
+pub shorter : (bytes : List ℕ) (m : Message Command Answer) (rest : List ℕ) → IsWhole bytes m rest → length rest < length bytes
+shorter bytes m rest w = omega (arith, ap length w.parts, length-append (frame_of m) rest)
+
+module _ (stream bytes : List ℕ) (before out : List code.Message) (s : IsSoFar stream bytes before out) where
+  pub begins : Begins before out
+  begins = (s.added, s.is)
+
+  found : messages_of out ≡ messages_of before ++ messages_of s.added
+  found = ap messages_of s.is ∙ map-append message_of before s.added
+
+  pub rests : IsPartial bytes → Took frames (Rest []) stream (ending_of bytes None) (messages_of before) (messages_of out)
+  rests partial = record { items = messages_of s.added; added = found; fed = record { rest = bytes; whole = s.whole; each = s.each; ends = (refl, partial) } }
+
+  pub breaks : (fault : WireFault) → IsBroken fault bytes → Took frames (Rest []) stream (ending_of bytes (Some fault)) (messages_of before) (messages_of out)
+  breaks fault broken = record { items = messages_of s.added; added = found; fed = record { rest = bytes; whole = s.whole; each = s.each; ends = broken } }
+
+-- ---- what is held grows to a frame
+
+left_none : (n : ℕ) (piece : List ℕ) → length (take n piece) < n → drop n piece ≡ []
+left_none n piece lt = nil_from_length (drop n piece) (omega (arith, length-take n piece, length-drop n piece))
+
+pub fills_less : (held piece after rest : List ℕ) → after ≡ held ++ take (4 - length held) piece → rest ≡ drop (4 - length held) piece → length after < 4 → Fills held piece after rest
+fills_less held piece after rest is left lt =
+    let n = 4 - length held in
+    let front = take n piece in
+    let size : length after ≡ length held + length front = ap length is ∙ length-append held front in
+    record {
+      parts = rw (is, left) (append_assoc held front (drop n piece) ∙ ap (λ (x : List ℕ). held ++ x) (take-append-drop n piece));
+      most = λ le. omega arith;
+      full = inl (left ∙ left_none n piece (omega (arith, size, length-take n piece)));
+    }
+
+-- at least four bytes of what was less than a frame are no more than it
+at_most : (held piece after : List ℕ) → IsShort held → after ≡ held ++ take (4 - length held) piece → length after ≤ 4 + told_length after
+at_most held piece after short is =
+    let front = take (4 - length held) piece in
+    let size : length after ≡ length held + length front = ap length is ∙ length-append held front in
+    elim (cases_lt (length held) 4) [
+      | inl few ↦ omega (arith, size, length-take (4 - length held) piece)
+      | inr four ↦
+          let told : told_length after ≡ told_length held = ap told_length is ∙ told_more held front four in
+          omega (arith, size, length-take (4 - length held) piece, short four, told)
+    ]
+
+pub fills_frame : (held piece first left after rest : List ℕ) (size : ℕ) → IsShort held → first ≡ held ++ take (4 - length held) piece → left ≡ drop (4 - length held) piece → 4 ≤ length first → size ≡ 4 + told_length first
+    → after ≡ first ++ take (size - length first) left → rest ≡ drop (size - length first) left → Fills held piece after rest
+fills_frame held piece first left after rest size short is left_is four size_is after_is rest_is =
+    let front = take (4 - length held) piece in
+    let more = take (size - length first) left in
+    let most = at_most held piece first short is in
+    let told : told_length after ≡ told_length first = ap told_length after_is ∙ told_more first more four in
+    let length_is : length after ≡ length first + length more = ap length after_is ∙ length-append first more in
+    let taken : length more ≤ size - length first = omega (arith, length-take (size - length first) left) in
+    let one : first ++ left ≡ held ++ piece = rw (is, left_is) (append_assoc held front (drop (4 - length held) piece) ∙ ap (λ (x : List ℕ). held ++ x) (take-append-drop (4 - length held) piece)) in
+    let two : after ++ rest ≡ first ++ left = rw (after_is, rest_is) (append_assoc first more (drop (size - length first) left) ∙ ap (λ (x : List ℕ). first ++ x) (take-append-drop (size - length first) left)) in
+    record {
+      parts = two ∙ one;
+      most = λ le. omega (arith, told, length_is, taken, most, size_is);
+      full = elim (cases_lt (length more) (size - length first)) [
+        | inl less ↦ inl (rest_is ∙ left_none (size - length first) left less)
+        | inr enough ↦ inr (omega (arith, length_is, four), omega (arith, told, length_is, enough, most, size_is))
+      ];
+    }
+
+-- ---- what is held, and a piece
+
+pub short_of : (bytes : List ℕ) → IsPartial bytes → IsShort bytes
+short_of bytes (inl few) le = omega (arith, few, le)
+short_of bytes (inr less) le = less.2
+
+pub short_after : (before piece after : List ℕ) (out out' : List (Message Command Answer)) → Took frames (Rest before) piece (Rest after) out out' → IsShort after
+short_after before piece after out out' t = subst IsShort t.fed.ends.0 (short_of t.fed.rest t.fed.ends.1)
+
+not_full : (bytes : List ℕ) → IsPartial bytes → (4 ≤ length bytes) × (4 + told_length bytes ≤ length bytes) → ⊥
+not_full bytes partial full = omega (arith, short_of bytes partial full.0, full.1)
+
+module _ (before piece after rest : List ℕ) (f : Fills before piece after rest) where
+  pub goes_on_waiting : (out : List (Message Command Answer)) → IsPartial after → Took frames (Rest before) piece (ending_of after None) out out
+  goes_on_waiting out partial =
+      let none : rest ≡ [] = elim f.full [ inl none ↦ none | inr full ↦ absurd (not_full after partial full) ] in
+      let whole : before ++ piece ≡ after = sym f.parts ∙ (ap (λ (x : List ℕ). after ++ x) none ∙ append-nil after) in
+      record { items = []; added = sym (append-nil out); fed = record { rest = after; whole = whole; each = tt; ends = (refl, partial) } }
+
+  pub goes_on_broken : (out : List (Message Command Answer)) (fault : WireFault) → IsBroken fault after → Took frames (Rest before) piece (ending_of after (Some fault)) out out
+  goes_on_broken out fault broken =
+      record { items = []; added = sym (append-nil out); fed = record { rest = after ++ rest; whole = sym f.parts; each = tt; ends = broken_more fault after rest broken } }
+
+  pub goes_on_whole : (m : Message Command Answer) (behind : List ℕ) (ending : Ending WireFault) (out out' : List (Message Command Answer)) → IsWhole after m behind
+      → Took frames (Rest []) rest ending (out ++ m ∷ []) out' → Took frames (Rest before) piece ending out out'
+  goes_on_whole m behind ending out out' w t =
+      let size : length after ≡ 4 + length (message_bytes m) + length behind = ap length w.parts ∙ omega (arith, length-append (message_bytes m) behind) in
+      let told : told_length after ≡ length (message_bytes m) = ap told_length w.parts ∙ told_in m behind w.framed in
+      let none : behind ≡ [] = nil_from_length behind (omega (arith, size, told, f.most)) in
+      let frame : after ≡ frame_of m = w.parts ∙ (ap (λ (x : List ℕ). frame_of m ++ x) none ∙ append-nil (frame_of m)) in
+      let stream : before ++ piece ≡ frame_of m ++ rest = sym f.parts ∙ ap (λ (x : List ℕ). x ++ rest) frame in
+      let whole : frame_of m ++ rest ≡ flat_map frame_of (m ∷ t.items) ++ t.fed.rest =
+      ap (λ (x : List ℕ). frame_of m ++ x) t.fed.whole ∙ (sym (append_assoc (frame_of m) (flat_map frame_of t.items) t.fed.rest) ∙ ap (λ (x : List ℕ). x ++ t.fed.rest) (sym (flat_map-cons frame_of m t.items))) in
+      record {
+        items = m ∷ t.items;
+        added = t.added ∙ append_assoc out (m ∷ []) t.items;
+        fed = record { rest = t.fed.rest; whole = stream ∙ whole; each = (w.framed, t.fed.each); ends = t.fed.ends };
+      }
+
+pub from_nothing : (held piece rest : List ℕ) (fault : Option WireFault) (out out' : List (Message Command Answer)) → length held ≡ 0 → Took frames (Rest []) piece (ending_of rest fault) out out' → Took frames (Rest held) piece (ending_of (held ++ rest) fault) out out'
+from_nothing held piece rest fault out out' none t = subst (λ (x : List ℕ). Took frames (Rest x) piece (ending_of (x ++ rest) fault) out out') (sym (nil_from_length held none)) t
+
+-- ---- what was added is taken away
+
+pub on_err : {A E p q : Type 0} (r : Result A E) → p → q → OnErr r (p × q)
+on_err (Ok x) h k = tt
+on_err (Err e) h k = (h, k)
+
+pub taken_away : {X : Type 0} (before after : List X) → Begins before after → take (length before) after ≡ before
+taken_away before after b = rw b.1 (take_at before b.0 (length before) refl)
+
+pub begins_same : {X : Type 0} (before after : List X) → after ≡ before → Begins before after
+begins_same before after is = ([], is ∙ sym (append-nil before))
+
+pub begins_more : {X : Type 0} (before between after : List X) → Begins before between → Begins between after → Begins before after
+begins_more {X} before between after a b = (a.0 ++ b.0, b.1 ∙ (ap (λ (x : List X). x ++ b.0) a.1 ∙ append_assoc before a.0 b.0))
+
+pub readable : IsReadable frames
+readable = record {
+  first = λ m n rest other framed framed_n e. same_frame m n rest other framed framed_n e;
+  partial = λ m rest framed h. partial_frame m rest framed h;
+  broken = λ fault m rest framed h. broken_frame fault m rest framed h;
+  one_fault = one_fault;
+  apart = λ fault bytes p h. partial_broken fault bytes p h;
+  more = broken_more;
+  nothing = inl (omega arith);
+}

@@ -1,0 +1,7 @@
+use Rattle.vr_wire.specs.Feeding.{frames}
+use Rattle.il_model.proofs.Streams.{one_stream}
+use Rattle.vr_wire.proofs.Pieces.{readable}
+use Rattle.vr_wire.proofs.feed.any_pieces.Goals as goal
+
+pub returns : goal.returns
+returns c = one_stream frames readable

@@ -1,0 +1,268 @@
+-- Reading the fields of a body from left to right: the inverse of their spelling.
+use Rattle.std.specs.Prelude.{◌≡◌, ℕ, zero, suc, ◌-◌, ◌/◌, ◌%◌, ◌==◌, Bool, ◌&&◌, ℤ, List, [], ◌∷◌, length, take, drop, slice_get, Option, Some, None, Result, Ok, Err, nat_lt, nat_le, if◌then◌else◌}
+use Rattle.std.specs.List.{flat_map}
+use Rattle.std.specs.Int.{Width, w8, w16, w32, w64, byte_len, from_be_bytes, cast_signed}
+use Rattle.il_model.specs.declared.value.Value.{Value}
+use Rattle.il_model.specs.declared.value.Stop.{Stop}
+use Rattle.il_model.specs.declared.value.Stop.TheVariants as stops
+use Rattle.il_model.specs.declared.cells.Cells.{Cells}
+use Rattle.il_model.specs.declared.slot.Slot.{Slot}
+use Rattle.il_model.specs.declared.command.Command.{Command}
+use Rattle.il_model.specs.declared.command.Command.TheVariants as commands
+use Rattle.il_model.specs.declared.command.Answer.{Answer}
+use Rattle.il_model.specs.declared.command.Answer.TheVariants as answers
+use Rattle.il_model.specs.declared.command.Refusal.{Refusal}
+use Rattle.il_model.specs.declared.command.Refusal.TheVariants as refusals
+use Rattle.il_model.specs.Values.{made}
+use Rattle.il_model.specs.Codes.{type_of}
+use Rattle.il_model.specs.Cells.{safe_image}
+use Rattle.vr_model.specs.Groups.{client_count}
+use Rattle.vr_model.specs.Logs.{Request}
+use Rattle.vr_model.specs.Messages.{PrimaryState, Party, Replica, Client, Body, RequestMessage, Prepare, PrepareOk, Commit, Reply, StartViewChange, DoViewChangeMessage, StartView, Recovery, RecoveryResponseMessage, GetState, NewState, Message}
+use Rattle.vr_wire.specs.declared.fault.WireFault.{WireFault}
+use Rattle.vr_wire.specs.declared.fault.WireFault.TheVariants.{BadFrame, TooLarge}
+use Rattle.vr_wire.specs.Frames.{body_limit}
+use Rattle.vr_wire.specs.declared.fault.ReadError.{ReadError}
+use Rattle.vr_wire.specs.declared.fault.ReadError.TheVariants as errors
+
+infixl 10 ◌>>=◌
+abbrev pub ◌>>=◌ : {A B : Type 0} → Option A → (A → Option B) → Option B
+(Some x) >>= f = f x
+None >>= f = None
+
+-- What a function returned, seen by view, is what reading gives, unless memory ran out.
+abbrev pub Fails : {Y : Type 0} → ReadError → Option Y → Type 0
+Fails errors.Memory read = Unit {0}
+Fails errors.Malformed read = read ≡ None
+
+abbrev pub Gives : {X Y : Type 0} → (X → Y) → Result X ReadError → Option Y → Type 0
+Gives view (Ok x) read = read ≡ Some (view x)
+Gives view (Err e) read = Fails e read
+
+-- a value in the first bytes, and the bytes behind it
+abbrev pub Reader : Type 0 → Type 0
+Reader X = List ℕ → Option (X × List ℕ)
+
+abbrev pub number_at : Width → Reader ℕ
+number_at w bytes = if nat_lt (length bytes) (byte_len w) then None else Some (from_be_bytes w (take (byte_len w) bytes), drop (byte_len w) bytes)
+
+-- no field, one or more, one behind the other, and what is made of them
+abbrev pub fields_0 : {X : Type 0} → X → Reader X
+fields_0 made bytes = Some (made, bytes)
+
+abbrev pub fields_1 : {A X : Type 0} → (A → X) → Reader A → Reader X
+fields_1 make a bytes = a bytes >>= λ x. Some (make x.0, x.1)
+
+abbrev pub fields_2 : {A B X : Type 0} → (A → B → X) → Reader A → Reader B → Reader X
+fields_2 make a b bytes = a bytes >>= λ x. fields_1 (make x.0) b x.1
+
+abbrev pub fields_3 : {A B C X : Type 0} → (A → B → C → X) → Reader A → Reader B → Reader C → Reader X
+fields_3 make a b c bytes = a bytes >>= λ x. fields_2 (make x.0) b c x.1
+
+abbrev pub fields_4 : {A B C D X : Type 0} → (A → B → C → D → X) → Reader A → Reader B → Reader C → Reader D → Reader X
+fields_4 make a b c d bytes = a bytes >>= λ x. fields_3 (make x.0) b c d x.1
+
+-- so many of them
+unfoldable pub items_at : {X : Type 0} → Reader X → ℕ → Reader (List X)
+items_at item zero bytes = Some ([], bytes)
+items_at item (suc n) bytes = item bytes >>= λ x. items_at item n x.1 >>= λ xs. Some (x.0 ∷ xs.0, xs.1)
+
+-- what a field stands for, if it stands for something
+abbrev pub lawful : {A X : Type 0} → (A → Option X) → Reader A → Reader X
+lawful meaning a bytes = a bytes >>= λ x. meaning x.0 >>= λ y. Some (y, x.1)
+
+-- behind a tag, what the reader with that number reads
+abbrev pub read_by : {X : Type 0} → Option (Reader X) → Reader X
+read_by None bytes = None
+read_by (Some reader) bytes = reader bytes
+
+abbrev pub tagged : {X : Type 0} → List (Reader X) → Reader X
+tagged readers bytes = number_at w8 bytes >>= λ tag. read_by (slice_get readers tag.0) tag.1
+
+-- where a value ends
+abbrev pub end_of : {X : Type 0} → Reader X → List ℕ → Option (List ℕ)
+end_of read bytes = read bytes >>= λ x. Some x.1
+
+-- a value that is all of the bytes
+abbrev pub ended : {X : Type 0} → X → List ℕ → Option X
+ended x rest = if length rest == 0 then Some x else None
+
+abbrev pub closed : {X : Type 0} → Reader X → List ℕ → Option X
+closed read bytes = read bytes >>= λ x. ended x.0 x.1
+
+-- ---- cells and values
+
+-- the lowest bits of a number, the lowest first
+unfoldable pub bits_of : ℕ → ℕ → List Bool
+bits_of zero n = []
+bits_of (suc k) n = (n % 2 == 1) ∷ bits_of k (n / 2)
+
+abbrev pub bits_at : Reader (List Bool)
+bits_at bytes = if nat_lt (length bytes) 64 then None else Some (flat_map (bits_of 8) (take 64 bytes), drop 64 bytes)
+
+abbrev pub word_at : Reader ℤ
+word_at bytes = fields_1 (cast_signed w16) (number_at w16) bytes
+
+abbrev pub cells_at : Reader Cells
+cells_at bytes = fields_2 (λ bits words. record { bits = bits; words = words }) bits_at (items_at word_at 64) bytes
+
+abbrev pub value_at : Reader Value
+value_at bytes = lawful type_of (number_at w8) bytes >>= λ t. lawful (λ n. made t.0 (cast_signed w32 n)) (number_at w32) t.1
+
+abbrev pub slot_at : Reader Slot
+slot_at bytes = fields_1 (λ n. record { 0 = n }) (number_at w16) bytes
+
+-- ---- commands, in the order of their tags
+
+abbrev pub scan_at : Reader Command
+scan_at bytes = fields_2 (λ cells moment. commands.Scan (record { cells = cells }) moment) cells_at (number_at w64) bytes
+
+abbrev pub force_at : Reader Command
+force_at bytes = fields_2 commands.Force slot_at value_at bytes
+
+abbrev pub command_readers : List (Reader Command)
+command_readers =
+    scan_at ∷
+    fields_1 commands.SetBreak (number_at w16) ∷
+    fields_1 commands.ClearBreak (number_at w16) ∷
+    fields_0 commands.Step ∷
+    fields_0 commands.Continue ∷
+    force_at ∷
+    fields_1 commands.Unforce slot_at ∷
+    fields_1 commands.ReadVar slot_at ∷
+    fields_0 commands.ReadCr ∷
+    fields_0 commands.Reset ∷ []
+
+abbrev pub command_at : Reader Command
+command_at bytes = tagged command_readers bytes
+
+-- ---- answers, in the order of their tags
+
+abbrev pub stop_of : ℕ → Option Stop
+stop_of n = slice_get (None ∷ Some stops.Overflow ∷ Some stops.ZeroDivisor ∷ Some stops.Budget ∷ []) n >>= λ stop. stop
+
+abbrev pub refusal_of : ℕ → Option Refusal
+refusal_of n = slice_get (None ∷ Some refusals.NotHeld ∷ Some refusals.BadPosition ∷ Some refusals.BadSlot ∷ Some refusals.BadType ∷ Some refusals.NoResult ∷ []) n >>= λ refusal. refusal
+
+abbrev pub outputs_at : Reader Answer
+outputs_at bytes = fields_2 (λ count cells. answers.Outputs count (record { cells = cells })) (number_at w64) cells_at bytes
+
+abbrev pub stopped_at : Reader Answer
+stopped_at bytes = fields_2 (λ stop position. answers.Stopped stop position safe_image) (lawful stop_of (number_at w8)) (number_at w16) bytes
+
+abbrev pub answer_readers : List (Reader Answer)
+answer_readers =
+    outputs_at ∷
+    fields_1 answers.Held (number_at w16) ∷
+    stopped_at ∷
+    fields_1 answers.Value value_at ∷
+    fields_0 answers.Done ∷
+    fields_1 answers.Refused (lawful refusal_of (number_at w8)) ∷ []
+
+abbrev pub answer_at : Reader Answer
+answer_at bytes = tagged answer_readers bytes
+
+-- ---- requests and logs
+
+abbrev pub client_of : ℕ → Option ℕ
+client_of n = if nat_lt n client_count then Some n else None
+
+abbrev pub request_at : Reader (Request Command)
+request_at bytes = fields_3 (λ client number command. record { client = client; number = number; command = command }) (lawful client_of (number_at w8)) (number_at w64) command_at bytes
+
+abbrev pub log_at : Reader (List (Request Command))
+log_at bytes = number_at w32 bytes >>= λ n. items_at request_at n.0 n.1
+
+-- ---- messages
+
+abbrev pub state_readers : List (Reader (Option (PrimaryState Command)))
+state_readers = fields_0 None ∷ fields_2 (λ k log. Some (record { commit_number = k; log = log })) (number_at w64) log_at ∷ []
+
+abbrev pub state_at : Reader (Option (PrimaryState Command))
+state_at bytes = tagged state_readers bytes
+
+abbrev pub prepare_at : Reader (Body Command Answer)
+prepare_at bytes = fields_4 Prepare (number_at w64) request_at (number_at w64) (number_at w64) bytes
+
+abbrev pub reply_at : Reader (Body Command Answer)
+reply_at bytes = fields_3 Reply (number_at w64) (number_at w64) answer_at bytes
+
+abbrev pub do_view_change_at : Reader (Body Command Answer)
+do_view_change_at bytes = fields_4 (λ v last k log. DoViewChangeMessage v (record { last_normal_view = last; commit_number = k; log = log })) (number_at w64) (number_at w64) (number_at w64) log_at bytes
+
+abbrev pub start_view_at : Reader (Body Command Answer)
+start_view_at bytes = fields_3 StartView (number_at w64) (number_at w64) log_at bytes
+
+abbrev pub recovery_response_at : Reader (Body Command Answer)
+recovery_response_at bytes = fields_3 (λ v x state. RecoveryResponseMessage x (record { view = v; state = state })) (number_at w64) (number_at w64) state_at bytes
+
+abbrev pub new_state_at : Reader (Body Command Answer)
+new_state_at bytes = fields_4 NewState (number_at w64) (number_at w64) (number_at w64) log_at bytes
+
+abbrev pub numbers_at : Reader (ℕ × ℕ)
+numbers_at bytes = fields_2 (λ first second. (first, second)) (number_at w64) (number_at w64) bytes
+
+abbrev pub no_body : Reader (Body Command Answer)
+no_body bytes = None
+
+-- in the order of their tags, from 1
+abbrev pub body_readers : List (Reader (Body Command Answer))
+body_readers =
+    no_body ∷
+    fields_1 RequestMessage request_at ∷
+    prepare_at ∷
+    fields_2 PrepareOk (number_at w64) (number_at w64) ∷
+    fields_2 Commit (number_at w64) (number_at w64) ∷
+    reply_at ∷
+    fields_1 StartViewChange (number_at w64) ∷
+    do_view_change_at ∷
+    start_view_at ∷
+    fields_2 Recovery (number_at w64) (number_at w64) ∷
+    recovery_response_at ∷
+    fields_2 GetState (number_at w64) (number_at w64) ∷
+    new_state_at ∷ []
+
+abbrev pub body_at : ℕ → Reader (Body Command Answer)
+body_at tag bytes = read_by (slice_get body_readers tag) bytes
+
+abbrev pub party_of_code : Bool → ℕ → Option Party
+party_of_code may_be_client n =
+    if nat_lt n 7 then Some (Replica n)
+    else (if may_be_client && (nat_le 128 n && nat_lt (n - 128) client_count) then Some (Client (n - 128)) else None)
+
+abbrev pub party_at : Bool → Reader Party
+party_at may_be_client bytes = lawful (party_of_code may_be_client) (number_at w8) bytes
+
+-- a sender and a receiver, and the fields behind them
+abbrev pub parts_at : ℕ → Reader (Message Command Answer)
+parts_at tag bytes = fields_3 (λ from to body. record { from = from; to = to; body = body }) (party_at (tag == 1)) (party_at (tag == 5)) (body_at tag) bytes
+
+-- the message whose body is all of the bytes
+unfoldable pub message_at : List ℕ → Option (Message Command Answer)
+message_at bytes = number_at w8 bytes >>= λ tag. closed (parts_at tag.0) tag.1
+
+-- ---- what stands in front of a stream
+
+-- less than a frame; a message's frame, and what is behind it; or a fault
+pub data Front : Type 0 where
+  Waits : Front
+  Whole : (message : Message Command Answer) (rest : List ℕ) → Front
+  Broken : (fault : WireFault) → Front
+
+abbrev pub found : Option (Message Command Answer) → List ℕ → Front
+found None rest = Broken BadFrame
+found (Some m) rest = Whole m rest
+
+-- behind four bytes that tell a length
+abbrev pub front_by : ℕ → List ℕ → Front
+front_by n bytes =
+    if n == 0 then Broken BadFrame
+    else (if nat_lt body_limit n then Broken TooLarge
+    else (if nat_lt (length bytes) n then Waits else found (message_at (take n bytes)) (drop n bytes)))
+
+abbrev pub front_behind : Option (ℕ × List ℕ) → Front
+front_behind None = Waits
+front_behind (Some n) = front_by n.0 n.1
+
+unfoldable pub front_of : List ℕ → Front
+front_of bytes = front_behind (number_at w32 bytes)

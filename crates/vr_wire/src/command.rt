@@ -1,0 +1,140 @@
+//! Commands, both ways.
+
+ghost use Rattle.std.specs.Prelude.{◌≡◌, ◌++◌, OnOk, slice_get};
+ghost use Rattle.vr_wire.specs.Frames.{command_tag, command_fields, command_bytes, FitsCommand};
+ghost use Rattle.vr_wire.specs.Reading.{Gives, scan_at, force_at, command_at, command_readers, read_by, end_of};
+
+use crate::cells::{cells_at, cells_end, put_cells};
+use crate::fault::ReadError;
+use crate::numbers::{put_u8, put_u16, put_u64, u8_at, u16_at, u64_at};
+use crate::value::{put_slot, put_value, slot_at, value_at};
+use il_model::{Command, InImage};
+use std::alloc::AllocError;
+
+fn command_tag(command: &Command) -> u8
+    ensures { result ≡ command_tag command.now }
+{
+    match command {
+        Command::Scan { .. } => 0,
+        Command::SetBreak(_) => 1,
+        Command::ClearBreak(_) => 2,
+        Command::Step => 3,
+        Command::Continue => 4,
+        Command::Force(_, _) => 5,
+        Command::Unforce(_) => 6,
+        Command::ReadVar(_) => 7,
+        Command::ReadCr => 8,
+        Command::Reset => 9,
+    }
+}
+
+fn put_fields(out: &mut Vec<u8>, command: &Command) -> Result<(), AllocError>
+    ensures text { OnOk result (out.new.items ≡ out.old.items ++ command_fields command.now) }
+    ensures fits { OnOk result (FitsCommand command.now) }
+{
+    match command {
+        Command::Scan { inputs, moment } => {
+            put_cells(out, &inputs.cells)?;
+            put_u64(out, *moment)
+        }
+        Command::SetBreak(position) | Command::ClearBreak(position) => put_u16(out, *position),
+        Command::Force(slot, value) => {
+            put_slot(out, *slot)?;
+            put_value(out, *value)
+        }
+        Command::Unforce(slot) | Command::ReadVar(slot) => put_slot(out, *slot),
+        Command::Step | Command::Continue | Command::ReadCr | Command::Reset => Ok(()),
+    }
+}
+
+pub(crate) fn put_command(out: &mut Vec<u8>, command: &Command) -> Result<(), AllocError>
+    ensures text { OnOk result (out.new.items ≡ out.old.items ++ command_bytes command.now) }
+    ensures fits { OnOk result (FitsCommand command.now) }
+{
+    put_u8(out, command_tag(command))?;
+    put_fields(out, command)
+}
+
+fn scan_at(bytes: &[u8]) -> Result<(Command, &[u8]), ReadError>
+    ensures { Gives (λ x. (x.0, x.1.now)) result (scan_at bytes.now) }
+{
+    let (cells, rest) = cells_at(bytes)?;
+    let (moment, rest) = u64_at(rest)?;
+    let inputs = InImage { cells };
+    Ok((Command::Scan { inputs, moment }, rest))
+}
+
+fn force_at(bytes: &[u8]) -> Result<(Command, &[u8]), ReadError>
+    ensures { Gives (λ x. (x.0, x.1.now)) result (force_at bytes.now) }
+{
+    let (slot, rest) = slot_at(bytes)?;
+    let (value, rest) = value_at(rest)?;
+    Ok((Command::Force(slot, value), rest))
+}
+
+fn fields_at(tag: u8, bytes: &[u8]) -> Result<(Command, &[u8]), ReadError>
+    ensures { Gives (λ x. (x.0, x.1.now)) result (read_by (slice_get command_readers tag) bytes.now) }
+{
+    match tag {
+        0 => scan_at(bytes),
+        1 => {
+            let (position, rest) = u16_at(bytes)?;
+            Ok((Command::SetBreak(position), rest))
+        }
+        2 => {
+            let (position, rest) = u16_at(bytes)?;
+            Ok((Command::ClearBreak(position), rest))
+        }
+        3 => Ok((Command::Step, bytes)),
+        4 => Ok((Command::Continue, bytes)),
+        5 => force_at(bytes),
+        6 => {
+            let (slot, rest) = slot_at(bytes)?;
+            Ok((Command::Unforce(slot), rest))
+        }
+        7 => {
+            let (slot, rest) = slot_at(bytes)?;
+            Ok((Command::ReadVar(slot), rest))
+        }
+        8 => Ok((Command::ReadCr, bytes)),
+        9 => Ok((Command::Reset, bytes)),
+        _ => Err(ReadError::Malformed),
+    }
+}
+
+pub(crate) fn command_at(bytes: &[u8]) -> Result<(Command, &[u8]), ReadError>
+    ensures { Gives (λ x. (x.0, x.1.now)) result (command_at bytes.now) }
+{
+    let (tag, rest) = u8_at(bytes)?;
+    fields_at(tag, rest)
+}
+
+fn fields_end(tag: u8, bytes: &[u8]) -> Result<&[u8], ReadError>
+    ensures { Gives (λ rest. rest.now) result (end_of (read_by (slice_get command_readers tag)) bytes.now) }
+{
+    match tag {
+        0 => {
+            let rest = cells_end(bytes)?;
+            let (_moment, rest) = u64_at(rest)?;
+            Ok(rest)
+        }
+        1 | 2 | 6 | 7 => {
+            let (_code, rest) = u16_at(bytes)?;
+            Ok(rest)
+        }
+        3 | 4 | 8 | 9 => Ok(bytes),
+        5 => {
+            let (_forced, rest) = force_at(bytes)?;
+            Ok(rest)
+        }
+        _ => Err(ReadError::Malformed),
+    }
+}
+
+/// Where a command ends that is lawful. Nothing is made of it.
+pub(crate) fn command_end(bytes: &[u8]) -> Result<&[u8], ReadError>
+    ensures { Gives (λ rest. rest.now) result (end_of command_at bytes.now) }
+{
+    let (tag, rest) = u8_at(bytes)?;
+    fields_end(tag, rest)
+}

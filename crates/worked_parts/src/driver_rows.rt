@@ -1,0 +1,194 @@
+//! The scan driver, step by step, over a book and over a lock.
+
+use il_model::{Answer, Command, InImage, OutImage, Stop};
+use process_image::{Release, ScanDriver, Stage, StageBook, Staging};
+use std::alloc::{AllocError, Global};
+use std::process::Abort;
+use std::test::Fail;
+use vr_model::{Body, ClientNumber, Config, Message, Party, Request, Sends};
+
+/// What a driver is told to do, or gets: a REPLY of this view and number.
+#[derive(Clone, Copy)]
+enum Event {
+    Submit,
+    Retry,
+    Outputs(u64, u64),
+    Stopped(u64, u64),
+    Held(u64, u64),
+}
+
+/// Then the request of this number goes to these replicas, or the release of this number comes.
+type Row = (Event, &'static [u8], u64, Option<u64>);
+
+/// The numbers of a driver that started once before begin here.
+const FIRST: u64 = 4_294_967_297;
+
+const SECOND: u64 = 4_294_967_298;
+
+const THIRD: u64 = 4_294_967_299;
+
+const FOURTH: u64 = 4_294_967_300;
+
+const MOMENT: u64 = 250;
+
+/// The inputs with the one word that is staged.
+fn inputs() -> InImage {
+    let mut inputs = InImage::clear();
+    inputs.cells.words[5] = 7;
+    inputs
+}
+
+/// The request of a scan of the staged inputs, from the driver to a replica.
+fn request(client: ClientNumber, to: u8, number: u64) -> Message {
+    let command = Command::Scan {
+        inputs: inputs(),
+        moment: MOMENT,
+    };
+    Message {
+        from: Party::Client(client),
+        to: Party::Replica(to),
+        body: Body::Request(Request {
+            client,
+            number,
+            command,
+        }),
+    }
+}
+
+fn requests(
+    alloc: Global,
+    client: ClientNumber,
+    to: &[u8],
+    number: u64,
+) -> Result<Sends, AllocError> {
+    let mut messages = Vec::new(alloc);
+    for replica in to {
+        messages.push(request(client, *replica, number))?;
+    }
+    Ok(messages)
+}
+
+/// The image of each reply that has one.
+fn image() -> OutImage {
+    let mut image = OutImage::safe();
+    image.cells.words[3] = 9;
+    image
+}
+
+fn reply(client: ClientNumber, view: u64, number: u64, answer: Answer) -> Message {
+    Message {
+        from: Party::Replica(1),
+        to: Party::Client(client),
+        body: Body::Reply {
+            view,
+            number,
+            answer,
+        },
+    }
+}
+
+/// What a driver sends and releases.
+#[derive(Drop)]
+struct Outcome {
+    sends: Sends,
+    release: Option<Release>,
+}
+
+fn outcome_of<S: Staging>(
+    alloc: Global,
+    driver: &mut ScanDriver,
+    staging: &mut S,
+    client: ClientNumber,
+    event: Event,
+) -> Result<Outcome, AllocError> {
+    let nothing = Vec::new(alloc);
+    let (view, number, answer) = match event {
+        Event::Submit => {
+            let sends = driver
+                .sample_and_submit(alloc, staging, MOMENT)?
+                .unwrap_or(nothing);
+            return Ok(Outcome {
+                sends,
+                release: None,
+            });
+        }
+        Event::Retry => {
+            let sends = driver.retry(alloc)?;
+            return Ok(Outcome {
+                sends,
+                release: None,
+            });
+        }
+        Event::Outputs(view, number) => (
+            view,
+            number,
+            Answer::Outputs {
+                count: 1,
+                image: image(),
+            },
+        ),
+        Event::Stopped(view, number) => (
+            view,
+            number,
+            Answer::Stopped {
+                stop: Stop::Budget,
+                position: 3,
+                image: image(),
+            },
+        ),
+        Event::Held(view, number) => (view, number, Answer::Held(0)),
+    };
+    let release = driver.on_reply(&reply(client, view, number, answer));
+    Ok(Outcome {
+        sends: nothing,
+        release,
+    })
+}
+
+/// Each row in turn, over a staging of which one word is written.
+fn drives<S: Staging, R: Abort>(
+    rt: &R,
+    alloc: Global,
+    staging: &mut S,
+    rows: &[Row],
+) -> Result<(), Fail> {
+    let client = ClientNumber::new(0).ok_or("a client")?;
+    let config = Config::new(1).ok_or("a group")?;
+    let mut driver = ScanDriver::new(&config, 1);
+    staging.write_words(5, &[7])?;
+    for (event, to, number, release) in rows {
+        let outcome = outcome_of(alloc, &mut driver, staging, client, *event)?;
+        let wanted = requests(alloc, client, to, *number)?;
+        assert!(rt; outcome.sends == wanted, "request {number}");
+        let release = release.map(|number| Release {
+            number,
+            image: image(),
+        });
+        assert!(rt; outcome.release == release, "reply {number}");
+    }
+    Ok(())
+}
+
+#[test]
+fn a_driver_submits_and_releases_in_turn(rt: HostRuntime) -> Result<(), Fail> {
+    let rows: [Row; 14] = [
+        (Event::Retry, b"", FIRST, None),
+        (Event::Submit, b"\x00", FIRST, None),
+        (Event::Submit, b"", FIRST, None),
+        (Event::Retry, b"\x00\x01\x02", FIRST, None),
+        (Event::Outputs(0, SECOND), b"", SECOND, None),
+        (Event::Outputs(4, FIRST), b"", FIRST, Some(FIRST)),
+        (Event::Outputs(4, FIRST), b"", FIRST, None),
+        (Event::Retry, b"", FIRST, None),
+        // The greatest view heard of is 4, of which replica 1 is the primary.
+        (Event::Submit, b"\x01", SECOND, None),
+        (Event::Stopped(3, FIRST), b"", FIRST, None),
+        (Event::Held(2, SECOND), b"", SECOND, None),
+        (Event::Submit, b"\x01", THIRD, None),
+        (Event::Stopped(5, THIRD), b"", THIRD, Some(THIRD)),
+        (Event::Submit, b"\x02", FOURTH, None),
+    ];
+    drives(&rt, rt.alloc(), &mut StageBook::new(rt.alloc()), &rows)?;
+    let stage = Stage::new(StageBook::new(rt.alloc()));
+    drives(&rt, rt.alloc(), &mut stage.handle(&rt), &rows)
+}

@@ -1,0 +1,174 @@
+//! Controllers that are saved after some commands, and what they answer to others once they are restored.
+
+use crate::saved::{
+    NOT_HELD, Row, Saved, answers, counted, counting, divided, held, idle, one_divided, outputs,
+    parentheses, restored, run_before, scan, snapshot, stopped, timing,
+};
+use il_model::{Answer, Command, Slot, Snapshot, Stop, Value};
+use std::alloc::Global;
+use std::process::Abort;
+use std::test::Fail;
+
+/// Wants these answers of the saved controller and of the restored one.
+fn comes_back(rt: &impl Abort, alloc: Global, given: Saved, rows: &[Row]) -> Result<(), Fail> {
+    let mut one = run_before(rt, alloc, given)?;
+    let snapshot = one.save(alloc)?;
+    let mut other = restored(alloc, given.bytes, given.instructions, &snapshot)?;
+    answers(rt, &mut one, rows);
+    answers(rt, &mut other, rows);
+    Ok(())
+}
+
+/// Wants these answers of the controller that is restored with this budget.
+fn comes_back_within(
+    rt: &impl Abort,
+    alloc: Global,
+    given: Saved,
+    instructions: u32,
+    rows: &[Row],
+) -> Result<(), Fail> {
+    let snapshot = snapshot(rt, alloc, given)?;
+    let mut other = restored(alloc, given.bytes, instructions, &snapshot)?;
+    answers(rt, &mut other, rows);
+    Ok(())
+}
+
+#[test]
+fn an_idle_controller_is_restored(rt: HostRuntime) -> Result<(), Fail> {
+    let elapsed = Command::ReadVar(Slot(0x5003));
+    let rows: [Row; 10] = [
+        (elapsed, Answer::Value(Value::Time(1500))),
+        (Command::Step, NOT_HELD),
+        (Command::ReadCr, NOT_HELD),
+        // The breakpoint, the count, the force, and the moment, which doesn't go back.
+        (scan(true, 0), Answer::Held(0)),
+        (Command::Continue, outputs(3, false, true, 0)),
+        (elapsed, Answer::Value(Value::Time(1500))),
+        (Command::ClearBreak(0), Answer::Done),
+        (scan(true, 3000), outputs(4, true, true, 0)),
+        (Command::Reset, Answer::Done),
+        (scan(true, 0), outputs(5, false, true, 0)),
+    ];
+    comes_back(&rt, rt.alloc(), timing(&idle()), &rows)
+}
+
+#[test]
+fn a_held_scan_is_restored(rt: HostRuntime) -> Result<(), Fail> {
+    let rows: [Row; 10] = [
+        (Command::ReadVar(Slot(0)), Answer::Value(Value::Bool(true))),
+        (Command::ReadCr, Answer::Value(Value::Bool(false))),
+        (scan(false, 0), Answer::Held(2)),
+        (Command::Step, Answer::Held(3)),
+        // The deferred OR has the TRUE of before the parenthesis.
+        (Command::Continue, outputs(1, true, true, 0)),
+        (scan(false, 0), Answer::Held(2)),
+        (Command::Reset, Answer::Done),
+        (Command::Step, NOT_HELD),
+        (Command::ClearBreak(2), Answer::Done),
+        (scan(false, 0), outputs(3, false, true, 0)),
+    ];
+    comes_back(&rt, rt.alloc(), parentheses(&held()), &rows)
+}
+
+#[test]
+fn a_stop_is_restored(rt: HostRuntime) -> Result<(), Fail> {
+    let rows: [Row; 8] = [
+        (scan(false, 0), stopped(Stop::ZeroDivisor, 1)),
+        (Command::ReadCr, Answer::Value(Value::Int(1))),
+        (Command::ReadVar(Slot(0x0400)), Answer::Value(Value::Int(0))),
+        (Command::Step, NOT_HELD),
+        (Command::Reset, Answer::Done),
+        (Command::Force(Slot(0x0400), Value::Int(1)), Answer::Done),
+        (scan(false, 0), Answer::Held(1)),
+        (Command::Continue, outputs(2, false, false, 7)),
+    ];
+    comes_back(&rt, rt.alloc(), one_divided(&divided()), &rows)
+}
+
+#[test]
+fn a_held_scan_keeps_its_moment(rt: HostRuntime) -> Result<(), Fail> {
+    let [forced, first, second, third] = idle();
+    let before = [
+        forced,
+        first,
+        second,
+        third,
+        (scan(true, 2800), Answer::Held(0)),
+    ];
+    let rows: [Row; 2] = [
+        (Command::Continue, outputs(3, false, true, 0)),
+        (
+            Command::ReadVar(Slot(0x5003)),
+            Answer::Value(Value::Time(1800)),
+        ),
+    ];
+    comes_back(&rt, rt.alloc(), timing(&before), &rows)
+}
+
+#[test]
+fn a_restored_scan_has_the_rest_of_its_budget(rt: HostRuntime) -> Result<(), Fail> {
+    let before = held();
+    let given = Saved {
+        instructions: 4,
+        ..parentheses(&before)
+    };
+    let rows: [Row; 1] = [(Command::Continue, stopped(Stop::Budget, 4))];
+    comes_back(&rt, rt.alloc(), given, &rows)?;
+    let rows: [Row; 1] = [(Command::Continue, outputs(1, true, true, 0))];
+    comes_back_within(&rt, rt.alloc(), given, 5, &rows)
+}
+
+#[test]
+fn a_restored_counter_counts_on(rt: HostRuntime) -> Result<(), Fail> {
+    let rows: [Row; 3] = [
+        (scan(true, 0), outputs(2, false, false, 1)),
+        (scan(false, 0), outputs(3, false, false, 1)),
+        (scan(true, 0), outputs(4, true, false, 2)),
+    ];
+    comes_back(&rt, rt.alloc(), counting(&counted()), &rows)
+}
+
+/// Called, CU was TRUE; PV is 2, CV is 1.
+#[test]
+fn a_counter_is_saved_by_its_words(rt: HostRuntime) -> Result<(), Fail> {
+    let snapshot = snapshot(&rt, rt.alloc(), counting(&counted()))?;
+    assert_eq!(rt; snapshot.instances.len(), 1);
+    for instance in snapshot.instances.iter() {
+        assert_eq!(rt; instance.words, [5, 0x2_0000_0001, 0, 0]);
+    }
+    Ok(())
+}
+
+/// Wants two snapshots to be the same.
+fn same(rt: &impl Abort, a: &Snapshot, b: &Snapshot) {
+    assert_eq!(rt; a.variables.as_slice(), b.variables.as_slice());
+    assert_eq!(rt; a.instances.len(), b.instances.len());
+    for (x, y) in a.instances.iter().zip(b.instances.iter()) {
+        assert_eq!(rt; (x.kind, x.words), (y.kind, y.words));
+        assert_eq!(rt; x.inputs.as_slice(), y.inputs.as_slice());
+    }
+    assert_eq!(rt;
+        (a.input, a.output, a.memory),
+        (b.input, b.output, b.memory)
+    );
+    assert_eq!(rt; (a.cr, a.position, a.phase), (b.cr, b.position, b.phase));
+    assert_eq!(rt; a.deferred.as_slice(), b.deferred.as_slice());
+    assert_eq!(rt; (a.count, a.moment), (b.count, b.moment));
+    assert_eq!(rt; a.forces.as_slice(), b.forces.as_slice());
+    assert_eq!(rt; a.breaks.as_slice(), b.breaks.as_slice());
+}
+
+/// Wants the copy of a snapshot, and what the restored controller saves, to be the same.
+fn is_saved_again(rt: &impl Abort, alloc: Global, given: Saved) -> Result<(), Fail> {
+    let snapshot = snapshot(rt, alloc, given)?;
+    same(rt, &snapshot.copy(alloc)?, &snapshot);
+    let other = restored(alloc, given.bytes, given.instructions, &snapshot)?;
+    same(rt, &other.save(alloc)?, &snapshot);
+    Ok(())
+}
+
+#[test]
+fn a_copy_of_a_snapshot_is_equal(rt: HostRuntime) -> Result<(), Fail> {
+    is_saved_again(&rt, rt.alloc(), counting(&counted()))?;
+    is_saved_again(&rt, rt.alloc(), parentheses(&held()))
+}

@@ -1,0 +1,182 @@
+//! The words of a call: what they ask for, and what is printed where they ask for nothing.
+
+use il_model::Budget;
+use plc_words::{Words, WordsError, read_words};
+use std::alloc::{AllocError, Global};
+use std::io;
+use std::process::Abort;
+use std::test::Fail;
+
+fn ask_for(rt: &impl Abort, alloc: Global, rows: &[(&[&str], Words)]) {
+    for (given, wanted) in rows.iter() {
+        let words = read_words(alloc, given);
+        assert!(rt; matches!(words, Ok(words) if words == *wanted), "{given:?}");
+    }
+}
+
+/// A run of `a.il` over `b.json`.
+fn run(instructions: u32) -> Result<Words<'static>, Fail> {
+    Ok(Words::Run {
+        source: "a.il",
+        commands: "b.json",
+        budget: Budget::new(instructions).ok_or("no budget")?,
+    })
+}
+
+#[test]
+fn words_ask_for_a_form(rt: HostRuntime) -> Result<(), Fail> {
+    let asm = Words::Asm {
+        source: "a.il",
+        image: "a.image",
+    };
+    let list = Words::List { image: "a.image" };
+    let rows: [(&[&str], Words); 6] = [
+        (&["plc", "run", "a.il", "b.json"], run(10_000)?),
+        (&["plc", "run", "a.il", "b.json", "--budget", "5"], run(5)?),
+        (&["plc", "run", "a.il", "--budget=1", "b.json"], run(1)?),
+        (
+            &["plc", "run", "--budget", "1000000", "a.il", "b.json"],
+            run(1_000_000)?,
+        ),
+        (&["plc", "asm", "a.il", "a.image"], asm),
+        (&["plc", "list", "a.image"], list),
+    ];
+    ask_for(&rt, rt.alloc(), &rows);
+    Ok(())
+}
+
+/// Words that ask for no work, and a part of what is printed.
+type Row<'a> = (&'a [&'a str], &'a str);
+
+/// The status of words that ask for no work, and what stands on both streams.
+fn told(alloc: Global, given: &[&str]) -> Result<(u8, String, String), Fail> {
+    let mut out = Vec::new(alloc);
+    let mut err = Vec::new(alloc);
+    let status = match read_words(alloc, given) {
+        Ok(_) => return Err(Fail::from("they ask for work")),
+        Err(error) => plc_tool::tell_words(&error, &mut out, &mut err),
+    };
+    Ok((status, String::from_utf8(out)?, String::from_utf8(err)?))
+}
+
+/// Wants words to be answered on the output, with the status 0.
+fn are_shown(rt: &impl Abort, alloc: Global, rows: &[Row]) -> Result<(), Fail> {
+    for (given, part) in rows.iter() {
+        let (status, out, err) = told(alloc, given)?;
+        assert_eq!(rt; status, 0, "{given:?}");
+        assert!(rt; out.as_str().contains(part) && err.is_empty(), "{given:?}");
+    }
+    Ok(())
+}
+
+/// Wants words to be refused on the other stream, with the status 3; those of each row stand behind these.
+fn are_bad<'a>(
+    rt: &impl Abort,
+    alloc: Global,
+    first: &[&'a str],
+    rows: &[Row<'a>],
+) -> Result<(), Fail> {
+    for (given, part) in rows.iter() {
+        let mut words = Vec::from_slice(alloc, first)?;
+        words.extend_from_slice(given)?;
+        let (status, out, err) = told(alloc, words.as_slice())?;
+        assert_eq!(rt; status, 3, "{given:?}");
+        assert!(rt; err.as_str().contains(part) && out.is_empty(), "{given:?}");
+    }
+    Ok(())
+}
+
+#[test]
+fn help_and_version_are_shown(rt: HostRuntime) -> Result<(), Fail> {
+    let rows: [Row; 6] = [
+        (&["plc", "--help"], "Usage: plc <COMMAND>\n"),
+        (&["plc", "help"], "Usage: plc <COMMAND>\n"),
+        (
+            &["plc", "run", "-h"],
+            "Usage: plc run [OPTIONS] <SOURCE> <COMMANDS>\n",
+        ),
+        (
+            &["plc", "asm", "--help"],
+            "Usage: plc asm <SOURCE> <IMAGE>\n",
+        ),
+        (&["plc", "list", "-h"], "Usage: plc list <IMAGE>\n"),
+        (&["plc", "--version"], "plc 0.1.0\n"),
+    ];
+    are_shown(&rt, rt.alloc(), &rows)
+}
+
+#[test]
+fn other_words_are_bad(rt: HostRuntime) -> Result<(), Fail> {
+    let rows: [Row; 7] = [
+        (&[], "Usage: plc <COMMAND>\n"),
+        (&["walk"], "error: unrecognized subcommand 'walk'\n"),
+        (
+            &["run", "a"],
+            "error: the following required arguments were not provided:\n  <COMMANDS>\n",
+        ),
+        (
+            &["run", "a", "b", "c"],
+            "error: unexpected argument 'c' found\n",
+        ),
+        (
+            &["asm", "a"],
+            "error: the following required arguments were not provided:\n  <IMAGE>\n",
+        ),
+        (
+            &["list", "a", "b"],
+            "error: unexpected argument 'b' found\n",
+        ),
+        (
+            &["run", "a", "b", "--loud"],
+            "error: unexpected argument '--loud' found\n",
+        ),
+    ];
+    are_bad(&rt, rt.alloc(), &["plc"], &rows)
+}
+
+#[test]
+fn budgets_out_of_range_are_bad(rt: HostRuntime) -> Result<(), Fail> {
+    let rows: [Row; 7] = [
+        (
+            &["--budget", "0"],
+            "error: invalid value '0' for '--budget <B>'",
+        ),
+        (
+            &["--budget=1000001"],
+            "error: invalid value '1000001' for '--budget <B>'",
+        ),
+        (
+            &["--budget=-1"],
+            "error: invalid value '-1' for '--budget <B>'",
+        ),
+        (
+            &["--budget=4294967297"],
+            "error: invalid value '4294967297' for '--budget <B>'",
+        ),
+        (
+            &["--budget", "five"],
+            "error: invalid value 'five' for '--budget <B>'",
+        ),
+        (
+            &["--budget", "5", "--budget=5"],
+            "error: the argument '--budget <B>' cannot be used multiple times",
+        ),
+        (
+            &["--budget"],
+            "error: a value is required for '--budget <B>' but none was supplied",
+        ),
+    ];
+    are_bad(&rt, rt.alloc(), &["plc", "run", "a", "b"], &rows)
+}
+
+#[test]
+fn words_without_text_are_bad(rt: HostRuntime) {
+    let mut out = Vec::new(rt.alloc());
+    let mut err = Vec::new(rt.alloc());
+    let unread = WordsError::from(io::Error::from(io::ErrorKind::InvalidData));
+    assert_eq!(rt; plc_tool::tell_words(&unread, &mut out, &mut err), 3);
+    let line = b"error: a word is no text in UTF-8\n".as_slice();
+    assert_eq!(rt; err.as_slice(), line);
+    let memory = WordsError::from(AllocError);
+    assert_eq!(rt; plc_tool::tell_words(&memory, &mut out, &mut err), 2);
+}
