@@ -1,13 +1,18 @@
 # make demo [EXAMPLE=crossing|bottles|motor|tank|pumps|interlock]   runs plc on a real program, and prints a line for each scan
+# make demo IL=FILE.il COMMANDS=FILE.json     the same for a program of your own
 # make demo EXAMPLE=bottles SESSION=_session  a session of the debugger with that program
+# make standby [SCHEDULE=crash|failover|lost]  three replicas of the motor: one crashes between two scans and comes back
 # make plc                                    proves the program and builds it: build/plc
-# make test                                   the whole gate: that the rows of the examples are those of examples/, and then rt ci
+# make test                                   the whole gate: that the rows of the examples are those of examples/ and the table of crates is that of crates.txt, and then rt ci
 
 EXAMPLE ?= crossing
 IL = examples/$(EXAMPLE).il
 COMMANDS = examples/$(EXAMPLE)$(SESSION).json
 
-.PHONY: demo plc test
+SCHEDULE ?= crash
+EVENTS = examples/motor_$(SCHEDULE).json
+
+.PHONY: demo standby plc test
 
 # Where build/plc is older than a source, or was never built, the same sources run at once, unproved.
 demo:
@@ -17,7 +22,16 @@ demo:
 		build/plc run $(IL) $(COMMANDS); \
 	else \
 		echo; echo "-- plc run $(IL) $(COMMANDS), a quick run that proves nothing (rt try; for the proved program: make plc):"; \
-		cd crates/plc && rt try --data program.il=../../$(IL) --data commands.json=../../$(COMMANDS) -- run program.il commands.json; \
+		cd crates/plc && rt try --data program.il=$(abspath $(IL)) --data commands.json=$(abspath $(COMMANDS)) -- run program.il commands.json; \
+	fi
+
+standby:
+	@if [ -x build/plc ] && [ -z "$$(find crates -name out -prune -o -name '*.rt' -newer build/plc -print)" ]; then \
+		echo "-- plc sim examples/motor.il $(EVENTS), the proved program (build/plc):"; \
+		build/plc sim examples/motor.il $(EVENTS); \
+	else \
+		echo "-- plc sim examples/motor.il $(EVENTS), a quick run that proves nothing (rt try; for the proved program: make plc):"; \
+		cd crates/plc && rt try --data motor.il=$(abspath examples/motor.il) --data events.json=$(abspath $(EVENTS)) -- sim motor.il events.json; \
 	fi
 
 plc:
@@ -26,4 +40,5 @@ plc:
 
 test:
 	tools/example-rows --check
+	tools/crates-table
 	rt ci

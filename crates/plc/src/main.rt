@@ -10,6 +10,7 @@ use plc_words::{Words, WordsError, read_words};
 use std::io::{BufWriter, Write};
 use std::process::ExitCode;
 use std::{env, fs, io};
+use vr_model::Config;
 
 fn main(rt: HostRuntime) -> ExitCode {
     let mut err = rt.stderr();
@@ -41,6 +42,12 @@ fn perform<W: Write, E: Write>(rt: &HostRuntime, words: Words, out: &mut W, err:
             commands,
             budget,
         } => run(rt, source, commands, budget, out, err),
+        Words::Sim {
+            source,
+            schedule,
+            config,
+            budget,
+        } => sim(rt, source, schedule, &config, budget, out, err),
     }
 }
 
@@ -99,6 +106,36 @@ fn run<W: Write, E: Write>(
         rt.alloc(),
         source.as_slice(),
         commands.as_slice(),
+        budget,
+        &mut counted,
+        err,
+    );
+    flushed(status, out, err)
+}
+
+fn sim<W: Write, E: Write>(
+    rt: &HostRuntime,
+    source: &str,
+    schedule: &str,
+    config: &Config,
+    budget: Budget,
+    out: &mut W,
+    err: &mut E,
+) -> u8 {
+    let source = match file(rt, source) {
+        Ok(source) => source,
+        Err(fault) => return plc_tool::tell(fault, err),
+    };
+    let schedule = match file(rt, schedule) {
+        Ok(schedule) => schedule,
+        Err(fault) => return plc_tool::run_unread(rt.alloc(), source.as_slice(), fault, err),
+    };
+    let mut counted = Counted::new(&mut *out);
+    let status = plc_tool::sim(
+        rt.alloc(),
+        source.as_slice(),
+        schedule.as_slice(),
+        config,
         budget,
         &mut counted,
         err,

@@ -1,8 +1,8 @@
 -- The commands that a JSON value gives, part by part.
-use Rattle.std.specs.Prelude.{ℕ, ℤ, pos, negsuc, suc, ◌^◌, Option, Some, None, option_and_then, option_map, bytes_eq, nat_lt, nat_le, if◌then◌else◌}
+use Rattle.std.specs.Prelude.{ℕ, ℤ, pos, negsuc, ◌^◌, Option, Some, None, option_and_then, option_map, bytes_eq, nat_lt, if◌then◌else◌}
 use Rattle.std.specs.Prelude.{List, codes, Bool}
 use Rattle.il_model.specs.declared.command.Command.{Command}
-use Rattle.il_model.specs.declared.command.Command.TheVariants.{Step, Continue, ReadCr, Reset, SetBreak, ClearBreak}
+use Rattle.il_model.specs.declared.command.Command.TheVariants.{Step, Continue, ReadCr, Reset}
 use Rattle.il_model.specs.declared.value.Value.{Value}
 use Rattle.il_model.specs.declared.value.Value.TheVariants as values
 use Rattle.serde_json.specs.Data.{Data, Items, no_items, item}

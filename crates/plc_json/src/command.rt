@@ -91,7 +91,7 @@ pub fn commands(alloc: Global, text: &[u8]) -> Result<Vec<NamedCommand>, JsonFau
 }
 
 /// One command: a word, or an object with one member, whose key is the command's name.
-fn command(alloc: Global, json: &Json) -> Result<NamedCommand, JsonFault> {
+pub(crate) fn command(alloc: Global, json: &Json) -> Result<NamedCommand, JsonFault> {
     match json {
         Json::String(word) => plain(word_alone(word.as_str())),
         Json::Object(members) => {
@@ -118,7 +118,8 @@ fn word_alone(word: &str) -> Option<Command>
     }
 }
 
-fn only_member(members: &Map<String, Json>) -> Option<(&str, &Json)> {
+/// The one member of an object that has one.
+pub(crate) fn only_member(members: &Map<String, Json>) -> Option<(&str, &Json)> {
     if members.len() != 1 {
         return None;
     }

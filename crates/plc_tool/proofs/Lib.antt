@@ -3,3 +3,6 @@ mod Numbered
 mod Parts
 mod Told
 mod Answered
+mod Items
+mod Known
+mod Reported

@@ -4,3 +4,5 @@ pub mod Named
 pub mod Putting
 pub mod Status
 pub mod Told
+pub mod Reports
+pub mod Simulated

@@ -14,6 +14,8 @@ status_of (faults.Assembly number instruction) = 1
 status_of (faults.Load number) = 1
 status_of (faults.LoadAt number position) = 1
 status_of faults.Commands = 1
+status_of faults.Schedule = 1
+status_of (faults.ScheduleAt index reason) = 1
 status_of faults.Device = 2
 status_of faults.Memory = 2
 

@@ -3,7 +3,9 @@
 ghost use Rattle.std.specs.Prelude.{◌≡◌, ◌≤◌, ◌⊎◌, List, IfErr, IsErr, IsOk, OnOk};
 ghost use Rattle.plc_tool.specs.Meaning.{IsAssembled, IsListed, IsRefused, IsFirstFault, image_of_text, program_of_text, program_of_bytes};
 ghost use Rattle.plc_json.specs.declared.command.NamedCommand.{NamedCommand};
+ghost use Rattle.plc_json.specs.declared.event.NamedEvent.{NamedEvent};
 ghost use Rattle.plc_tool.specs.Putting.{IsRun, IsRunCutShort};
+ghost use Rattle.plc_tool.specs.Simulated.{IsSimulated, IsRefusedInput};
 ghost use Rattle.plc_tool.specs.Status.{status_of as status_told};
 
 use crate::answering::image;
@@ -11,11 +13,13 @@ use crate::assembly::put_image;
 use crate::fault::Fault;
 use crate::listing::put_listing;
 use crate::running::put_run;
+use crate::simulating::put_report;
 use crate::telling::tell;
 use il_model::{Budget, CountedWrite};
-use plc_json::NamedCommand;
+use plc_json::{JsonFault, NamedCommand, NamedEvent};
 use std::alloc::Global;
 use std::io::Write;
+use vr_model::Config;
 
 /// Assembles a source and answers the status: the bytes of its image on `image_out`, flushed, and then on `out` one line
 /// that tells how many words the image has, those of arguments too; or one line on `err` for the first fault. Of a source that is
@@ -85,11 +89,51 @@ pub fn run_commands<W: CountedWrite, E: Write>(
     ended(put_run(alloc, source, budget, commands, out), err)
 }
 
-/// As `run` where the commands couldn't be read, by this fault: a source that is refused is still answered before it.
+/// As `run` or `sim` where the other file couldn't be read, by this fault: a source that is refused is still answered before it.
 pub fn run_unread<E: Write>(alloc: Global, source: &[u8], fault: Fault, err: &mut E) -> u8
     ensures { (result ≡ 1) ⊎ (result ≡ 2) }
 {
     tell(first_fault(alloc, source, fault), err)
+}
+
+/// Runs a schedule over a group of replicas of a source, each scan within the budget, and answers the status: its report, one line
+/// on `out`, or one line on `err` for the first fault. The source is judged first, then the whole schedule with its names, and nothing runs before
+/// both are good. A run in which an event was lost for want of memory has no report, but ends as want of memory does.
+pub fn sim<W: CountedWrite, E: Write>(
+    alloc: Global,
+    source: &[u8],
+    schedule: &[u8],
+    config: &Config,
+    budget: Budget,
+    out: &mut W,
+    err: &mut E,
+) -> u8
+    ensures status { result ≤ 2 }
+    ensures simulated { result ≡ 0 → (named : List NamedEvent) × IsSimulated source.now config.now.f budget.instructions named (W.held out.old) (W.held out.new) }
+    ensures refused { result ≡ 1 → out.new ≡ out.old }
+{
+    match plc_json::schedule(alloc, schedule) {
+        Ok(named) => sim_events(alloc, source, named.as_slice(), config, budget, out, err),
+        Err(JsonFault::Shape) => run_unread(alloc, source, Fault::Schedule, err),
+        Err(JsonFault::Memory) => run_unread(alloc, source, Fault::Memory, err),
+    }
+}
+
+/// As `sim`, of events that were read: a source or a schedule that is refused is told by its first fault, and nothing is written on `out`.
+pub fn sim_events<W: CountedWrite, E: Write>(
+    alloc: Global,
+    source: &[u8],
+    named: &[NamedEvent],
+    config: &Config,
+    budget: Budget,
+    out: &mut W,
+    err: &mut E,
+) -> u8
+    ensures status { result ≤ 2 }
+    ensures simulated { result ≡ 0 → IsSimulated source.now config.now.f budget.instructions named.now (W.held out.old) (W.held out.new) }
+    ensures refused { result ≡ 1 → IsRefusedInput source.now config.now.f budget.instructions named.now × (out.new ≡ out.old) }
+{
+    ended(put_report(alloc, source, named, config, budget, out), err)
 }
 
 /// A fault of the source comes before that of the commands.

@@ -48,6 +48,15 @@ pub enum Fault {
     /// The text is no list of commands.
     #[error("plc: commands")]
     Commands,
+    /// The text is no schedule, or has a name that is none of the program.
+    #[error("plc: schedule")]
+    Schedule,
+    /// An event of the schedule can't take place, by its number from 0 and the lowest reason.
+    #[error("plc: schedule {index} {reason}")]
+    ScheduleAt {
+        index: usize,
+        reason: u8,
+    },
     /// A file or a stream failed.
     #[error("plc: device")]
     Device,

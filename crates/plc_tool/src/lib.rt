@@ -5,16 +5,20 @@
 mod answering;
 mod assembly;
 mod calls;
+mod events;
 mod fault;
 mod layers;
 mod line;
 mod listing;
 mod naming;
+mod report;
 mod running;
+mod simulating;
 mod telling;
 
 pub use answering::{answers, image_bytes};
-pub use calls::{asm, list, run, run_commands, run_unread};
+pub use calls::{asm, list, run, run_commands, run_unread, sim, sim_events};
 pub use fault::Fault;
 pub use line::AnswerLine;
+pub use report::ReportLine;
 pub use telling::{tell, tell_words};

@@ -5,21 +5,52 @@ use clap::{Arg, ArgAction, ArgMatches, Command, value_parser};
 use il_model::Budget;
 use std::alloc::{AllocError, Global};
 use std::convert::AsStr;
+use vr_model::Config;
 
 const VERSION: &str = "0.1.0";
 
 /// The word of the option `--budget`.
 const BUDGET: &str = "budget";
 
+/// The word of the option `--f`.
+const FAILURES: &str = "f";
+
 const NO_FORM: &str = "error: the words name no form of call\n";
 
 const STATUSES: &str = "Exit status:
   0  good
-  1  the source, the image or the commands were refused
+  1  the source, the image, the commands or the schedule were refused
   2  a device failed, or memory ran out
   3  these words are no call of the program";
 
-const COMMANDS: &str = "COMMANDS is a JSON array. Each command in it is answered by one line:
+/// A text of help, and then the faults that the text of a program may have.
+macro_rules! with_source_faults {
+    ($text:literal) => {
+        concat!(
+            $text,
+            "
+A fault is one line on standard error. Of the program's text, at line L and column C, counted from
+1, or at instruction I, counted from 0:
+  plc: read N at L:C         1 a byte that may not stand there, 2 no word, 3 a literal out of range
+                             or ill formed, 4 a comment without an end, 5 a word that can't stand
+                             there, or a line that ends too early, 6 a name or the text is too long
+  plc: decl N at L:C         1 a name that was declared before, 2 no such type, 3 a name that isn't
+                             declared, 4 no location, or one of another type, 5 two names at one
+                             location, 6 a first value that doesn't fit, 7 a word of the language as
+                             a name, 8 too many variables, instances or instructions
+  plc: asm N at I            1 types that differ, 2 no current result, 3 a jump to no label, 4 a
+                             label that stands twice, 5 a parenthesis that isn't open, or is still
+                             open, 6 more than 16 open, 7 a write to what can't be written, 8 a field
+                             that the block hasn't, that is given twice or the wrong way round
+Of files and the machine:
+  plc: device                a file or a stream failed
+  plc: memory                memory ran out"
+        )
+    };
+}
+
+const COMMANDS: &str = with_source_faults!(
+    "COMMANDS is a JSON array. Each command in it is answered by one line:
   {\"scan\":{\"ix\":[0],\"iw\":[[3,-2]],\"moment\":0}}
                              runs the program once on these inputs: ix has the numbers of the TRUE
                              bits (%IXb.n is bit 8b+n), iw pairs of a word's number and value, moment
@@ -45,17 +76,55 @@ Answers:
   refused N                  1 no scan is held, 2 no such instruction, 3 no such name or it can't be
                              forced, 4 a value of another type, 5 there is no current result
 
-A fault is one line on standard error.";
+Where COMMANDS is no such array, 'plc: commands' is told, and nothing has run.
+"
+);
 
-const ASSEMBLY: &str =
+const ASSEMBLY: &str = with_source_faults!(
     "Prints one line, 'words N': how many words the image has, those of arguments too.
 The file IMAGE is made, or written over, only where the source is good.
-A fault is one line on standard error.";
+"
+);
 
 const LISTING: &str =
     "The listing is the image's program as text, in one spelling: VAR, a line for each variable and each
 instance, END_VAR, a line for each instruction. It assembles to the same image.
-A fault is one line on standard error.";
+
+A fault is one line on standard error; POS is a byte of the image, counted from 0:
+  plc: load N                1 the image is cut short, 2 it doesn't begin as one, 3 it's of another
+                             version, 4 it counts more than its limits, 8 bytes stand behind its end
+  plc: load N at POS         5 a value that may not stand there, 6 a type that doesn't fit, 7 a jump
+                             to no label
+  plc: device                a file or a stream failed
+  plc: memory                memory ran out";
+
+const SCHEDULE: &str =
+    "SCHEDULE is a JSON array of events. Replicas are numbered 0 to 2f, replica 0 is the first primary; clients are
+0 to 15; messages are numbered from 0 as they are sent:
+  {\"submit\":[0,COMMAND]}  client 0 sends its next request, one of the commands of 'plc run', to the
+                          primary that it knows; then it waits for the answer
+  {\"retry\":0}             client 0 sends the request that it waits for to all replicas
+  {\"clientrestart\":0}     client 0 starts again: it waits for nothing, and its numbers go on above all
+                          earlier ones
+  {\"deliver\":4}           message 4 reaches its receiver; it may come again, or never
+  {\"resend\":1}            replica 1 sends again what may have been lost
+  {\"timeout\":1}           replica 1 has heard nothing of its primary for too long: it begins a view change
+  {\"crash\":1}             replica 1 goes down and keeps its stored view alone
+  {\"restart\":[1,7]}       replica 1 comes up with a nonce that it never had, and recovers from the others
+  {\"storefail\":[1,\"old\"]} the next save of replica 1 fails and takes it down; its store keeps the old
+                          view, or with \"new\" the new one
+
+The report is one line of JSON:
+  lengths                 after each event, how many requests are committed
+  order                   those requests, as [client, number]
+  releases                the answers that reached their clients, as [event, client, number, answer]
+  sent                    how many messages were sent
+
+A fault is one line on standard error: 'plc: schedule' where the text is no schedule or a name in it
+is unknown, 'plc: schedule I R' where event I, counted from 0, can't take place: 1 its client or
+replica is out of range, 2 the message is not yet sent, 3 the replica had the nonce before, 4 the
+client submits while it waits, or retries while it doesn't, 5 the replica is up, 6 the client's
+numbers are used up.";
 
 /// What the words ask for.
 #[derive(Clone, Copy, PartialEq, Eq)]
@@ -73,6 +142,13 @@ pub enum Words<'a> {
     Run {
         source: &'a str,
         commands: &'a str,
+        budget: Budget,
+    },
+    /// Runs the schedule of a file over a group of replicas of the program of another, each scan within the budget.
+    Sim {
+        source: &'a str,
+        schedule: &'a str,
+        config: Config,
         budget: Budget,
     },
 }
@@ -98,7 +174,8 @@ fn program<'a>(alloc: Global) -> Result<Command<'a>, AllocError> {
         .subcommand_required(true)
         .subcommand(asm_command(alloc)?)?
         .subcommand(list_command(alloc)?)?
-        .subcommand(run_command(alloc)?)
+        .subcommand(run_command(alloc)?)?
+        .subcommand(sim_command(alloc)?)
 }
 
 fn asm_command<'a>(alloc: Global) -> Result<Command<'a>, AllocError> {
@@ -125,6 +202,16 @@ fn run_command<'a>(alloc: Global) -> Result<Command<'a>, AllocError> {
         .arg(budget(alloc))
 }
 
+fn sim_command<'a>(alloc: Global) -> Result<Command<'a>, AllocError> {
+    Command::new(alloc, "sim")
+        .about("Runs a schedule over replicas of a program, and prints a report")
+        .after_help(SCHEDULE)
+        .arg(file(alloc, "SOURCE").help("The program's text, in Instruction List"))?
+        .arg(file(alloc, "SCHEDULE").help("The schedule, in JSON"))?
+        .arg(failures(alloc))?
+        .arg(budget(alloc))
+}
+
 fn file<'a>(alloc: Global, name: &'a str) -> Arg<'a> {
     Arg::new(alloc, name).required(true).action(ArgAction::Set)
 }
@@ -137,6 +224,16 @@ fn budget<'a>(alloc: Global) -> Arg<'a> {
         .value_parser(value_parser!(u32).range(1..=1_000_000))
         .default_value("10000")
         .help("How many instructions a scan may perform, 1 to 1000000")
+}
+
+/// The option is refused where it is given twice, or is none of its three numbers.
+fn failures<'a>(alloc: Global) -> Arg<'a> {
+    Arg::new(alloc, FAILURES)
+        .long(FAILURES)
+        .value_name("F")
+        .value_parser(value_parser!(u8).range(1..=3))
+        .default_value("1")
+        .help("How many of the 2F+1 replicas may fail, 1 to 3")
 }
 
 fn form_of<'a>(matches: &ArgMatches<'a>) -> Option<Words<'a>> {
@@ -152,6 +249,12 @@ fn form_of<'a>(matches: &ArgMatches<'a>) -> Option<Words<'a>> {
         "run" => Some(Words::Run {
             source: inner.get_str("SOURCE")?,
             commands: inner.get_str("COMMANDS")?,
+            budget: Budget::new(inner.get_one::<u32>(BUDGET)?)?,
+        }),
+        "sim" => Some(Words::Sim {
+            source: inner.get_str("SOURCE")?,
+            schedule: inner.get_str("SCHEDULE")?,
+            config: Config::new(inner.get_one::<u8>(FAILURES)?)?,
             budget: Budget::new(inner.get_one::<u32>(BUDGET)?)?,
         }),
         _ => None,

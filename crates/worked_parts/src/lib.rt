@@ -1,7 +1,7 @@
-//! Worked rows of what is called directly: function blocks, the machine and what drives it, snapshots, the choice of a log, frames,
-//! process images, Modbus, and what no line of the program shows. A test is a table that is handed to a function with one loop, and what
-//! it makes is made and dropped in that function. The crate has tests alone, uses the crates of those parts, and no crate uses it; what
-//! the program prints are rows of `worked_rows`.
+//! Worked rows of what is called directly: function blocks, the machine and what drives it, snapshots, the choice of a log, replicas,
+//! runs of schedules, frames, process images, Modbus, and what no line of the program shows. A test is a table that is handed to a
+//! function with one loop, and what it makes is made and dropped in that function. The crate has tests alone, uses the crates of those
+//! parts, and no crate uses it; what the program prints are rows of `worked_rows`.
 #![tactic(auto)]
 
 #[cfg(test)]
@@ -12,6 +12,8 @@ mod controller_rows;
 mod cycle_rows;
 #[cfg(test)]
 mod driver_rows;
+#[cfg(test)]
+mod group_rows;
 #[cfg(test)]
 mod images;
 #[cfg(test)]
@@ -26,6 +28,8 @@ mod machine_rows;
 mod modbus_rows;
 #[cfg(test)]
 mod process_image_rows;
+#[cfg(test)]
+mod replica_rows;
 #[cfg(test)]
 mod replication_rows;
 #[cfg(test)]
@@ -42,3 +46,5 @@ mod text_rows;
 mod wire_rows;
 #[cfg(test)]
 mod word_rows;
+#[cfg(test)]
+mod world_rows;

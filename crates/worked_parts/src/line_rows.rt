@@ -114,9 +114,15 @@ fn faults_of_a_source_print_their_lines(rt: HostRuntime) {
 fn other_faults_print_their_lines(rt: HostRuntime) {
     let no_file = io::Error::from(io::ErrorKind::NotFound);
     let no_memory = io::Error::from(AllocError);
-    let rows: [(Fault, u8, &[u8]); 7] = [
+    let refused_event = Fault::ScheduleAt {
+        index: 3,
+        reason: 2,
+    };
+    let rows: [(Fault, u8, &[u8]); 9] = [
         (Fault::Commands, 1, b"plc: commands\n"),
         (Fault::from(JsonFault::Shape), 1, b"plc: commands\n"),
+        (Fault::Schedule, 1, b"plc: schedule\n"),
+        (refused_event, 1, b"plc: schedule 3 2\n"),
         (Fault::Device, 2, b"plc: device\n"),
         (Fault::from(no_file), 2, b"plc: device\n"),
         (Fault::Memory, 2, b"plc: memory\n"),

@@ -48,6 +48,21 @@ pub fn ran(alloc: Global, given: &Given) -> Written {
     written
 }
 
+pub fn simulated(alloc: Global, given: &Given) -> Written {
+    let mut written = Written::nothing(alloc);
+    let mut out = Counted::new(&mut written.out);
+    written.status = plc_tool::sim(
+        alloc,
+        given.text.as_slice(),
+        given.schedule.as_slice(),
+        &given.config,
+        given.budget,
+        &mut out,
+        &mut written.err,
+    );
+    written
+}
+
 pub fn assembled(alloc: Global, text: &[u8]) -> Written {
     let mut written = Written::nothing(alloc);
     written.status = plc_tool::asm(

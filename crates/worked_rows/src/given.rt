@@ -4,16 +4,20 @@ use crate::notation::bytes_of;
 use il_model::Budget;
 use std::alloc::Global;
 use std::io;
+use vr_model::Config;
 
 /// One scan on inputs that are all FALSE and 0.
 const ONE_SCAN: &[u8] = br#"[{"scan": {"ix": [], "iw": [], "moment": 0}}]"#;
 
-/// A text, the bytes of an image, a file of commands, and how many instructions a scan may perform.
+/// A text, the bytes of an image, files of commands and of a schedule, how many replicas may fail, and how many instructions
+/// a scan may perform.
 #[derive(Drop)]
 pub struct Given {
     pub text: Vec<u8>,
     pub image: Vec<u8>,
     pub commands: Vec<u8>,
+    pub schedule: Vec<u8>,
+    pub config: Config,
     pub budget: Budget,
 }
 
@@ -24,6 +28,13 @@ fn budget(number: &str) -> io::Result<Budget> {
         .ok_or(io::Error::from(io::ErrorKind::InvalidData))
 }
 
+fn config(number: &str) -> io::Result<Config> {
+    let failures = number.trim_end().parse::<u8>().ok();
+    failures
+        .and_then(Config::new)
+        .ok_or(io::Error::from(io::ErrorKind::InvalidData))
+}
+
 impl Given {
     /// This text and no image, for one scan with the budget of a call that names none.
     pub fn new(alloc: Global, text: &str) -> io::Result<Given> {
@@ -31,6 +42,8 @@ impl Given {
             text: Vec::from_slice(alloc, text.as_bytes())?,
             image: Vec::new(alloc),
             commands: Vec::from_slice(alloc, ONE_SCAN)?,
+            schedule: Vec::new(alloc),
+            config: config("1")?,
             budget: budget("10000")?,
         })
     }
@@ -50,6 +63,8 @@ impl Given {
         match title {
             "commands" => self.commands = Vec::from_slice(alloc, body.as_bytes())?,
             "commands in bytes" => self.commands = bytes_of(alloc, body)?,
+            "schedule" => self.schedule = Vec::from_slice(alloc, body.as_bytes())?,
+            "f" => self.config = config(body)?,
             "budget" => self.budget = budget(body)?,
             "text in bytes" => self.text = bytes_of(alloc, body)?,
             "image in bytes" => self.image = bytes_of(alloc, body)?,

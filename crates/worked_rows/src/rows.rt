@@ -1,6 +1,6 @@
 //! The rows of a file. A section of a row hands something in, or says what comes out; a table is a row a line.
 
-use crate::calls::{assembled, listed, ran};
+use crate::calls::{assembled, listed, ran, simulated};
 use crate::given::Given;
 use crate::notation::{bytes_of, lines_of};
 use std::alloc::{AllocError, Global};
@@ -80,6 +80,7 @@ fn comes_out(alloc: Global, given: &Given, title: &str, said: &str) -> io::Resul
     let (lines, text) = (lines.as_bytes(), given.text.as_slice());
     Ok(match title {
         "one scan" | "lines" | "commands" => runs(alloc, given, lines),
+        "report" | "schedule" => simulated(alloc, given).is(lines),
         "asm" => assembles(alloc, given, lines),
         "image" => assembled(alloc, text).image == bytes_of(alloc, said)?,
         "listing" if given.image.is_empty() => {

@@ -1,4 +1,4 @@
-use Rattle.std.proofs.Common.{◌≡◌, length, ap, sym, arith}
+use Rattle.std.proofs.Common.{length, ap, arith}
 use Rattle.plc_json.proofs.Pairs.{no_numbered_word}
 use Rattle.plc_json.proofs.image.numbered_word.Goals as goal
 

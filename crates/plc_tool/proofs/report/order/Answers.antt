@@ -1,0 +1,14 @@
+use Rattle.std.proofs.Common.{arith, refl}
+use Rattle.plc_tool.specs.Reports.{entry_text}
+use Rattle.plc_tool.proofs.Items.{item_written}
+use Rattle.plc_tool.proofs.Numbered.{none_written, all_written}
+use Rattle.plc_tool.proofs.report.order.Goals as goal
+
+pub loop-index-init : goal.loop-index-init
+loop-index-init g c = λ plain. none_written _ entry_text c.args.order.now _ plain
+
+pub loop-index-preserved : goal.loop-index-preserved
+loop-index-preserved g c = λ plain. let h = c.loop-index.invariant plain in item_written _ entry_text c.args.order.now _ _ _ _ c.index-order-index.result (omega arith) c.index-order-index.is h (c.in_ok-entry.ensures h.plain refl)
+
+pub returns : goal.returns
+returns g c = λ plain ok. all_written _ entry_text c.args.order.now _ _ _ c.loop-index-test.false (c.loop-index.invariant plain)

@@ -1,0 +1,8 @@
+use Rattle.std.specs.Fmt.{HasWritten, IsPlainFormatter}
+use Rattle.plc_tool.specs.Reports.{release_text}
+use Rattle.plc_tool.proofs.Numbered.{texts_before}
+use Rattle.plc_tool.proofs.report.releases.Given as goal
+
+abbrev pub invariant-loop-index : goal.invariant-loop-index
+invariant-loop-index g l =
+    IsPlainFormatter l.initial.f → HasWritten g.W.Write.write_str_gives l.initial.f (texts_before release_text l.releases l.index) l.f

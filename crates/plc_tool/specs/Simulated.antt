@@ -1,0 +1,106 @@
+-- What a schedule means to the program of a text, and the report that is written of it.
+use Rattle.std.specs.Prelude.{◌≡◌, ◌⊎◌, ℕ, List, [], ◌++◌, map, codes, Option, Some, None, option_map, if◌then◌else◌, Contains}
+use Rattle.std.specs.String.{string_bytes}
+use Rattle.std.specs.Io.KnownBytes.{Appends}
+use Rattle.il_model.specs.Text.{Text}
+use Rattle.il_model.specs.declared.command.Command.{Command}
+use Rattle.il_model.specs.declared.command.Command.TheVariants.{Force, Unforce, ReadVar}
+use Rattle.controller_model.specs.Slots.{slot_of}
+use Rattle.il_model.specs.declared.command.Answer.{Answer}
+use Rattle.vr_core.specs.Answers.{answer_to}
+use Rattle.schedules.specs.declared.event.WorldEvent.{WorldEvent}
+use Rattle.schedules.specs.declared.event.WorldEvent.TheVariants as events
+use Rattle.schedules.specs.declared.store.Kept.TheVariants.{Old, New}
+use Rattle.schedules.specs.declared.trace.Trace.{Trace}
+use Rattle.schedules.specs.Traces.{IsTraced, IsRefused}
+use Rattle.plc_json.specs.declared.command.NamedCommand.{NamedCommand}
+use Rattle.plc_json.specs.declared.command.NamedCommand.TheVariants as named
+use Rattle.plc_json.specs.declared.event.NamedEvent.{NamedEvent}
+use Rattle.plc_json.specs.declared.event.NamedEvent.TheVariants as asked
+use Rattle.plc_tool.specs.Meaning.{IsTypedProgramOfText, Tells, program_of_text}
+use Rattle.plc_tool.specs.Reports.{report_text}
+use Rattle.plc_tool.specs.Status.{status_of}
+use Rattle.plc_tool.specs.declared.fault.Fault.{Fault}
+use Rattle.plc_tool.specs.declared.fault.Fault.TheVariants as faults
+
+-- the command that a named one is, where its name is one of a slot of the program
+abbrev pub command_known : Text → NamedCommand → Option Command
+command_known Q (named.Plain command) = Some command
+command_known Q (named.Force name value) = option_map (λ slot. Force slot value) (slot_of Q (string_bytes name))
+command_known Q (named.Unforce name) = option_map Unforce (slot_of Q (string_bytes name))
+command_known Q (named.Read name) = option_map ReadVar (slot_of Q (string_bytes name))
+
+-- the event of the world that a named one is, where its name is one of a slot
+abbrev pub event_known : Text → NamedEvent → Option WorldEvent
+event_known Q (asked.Submit client command) = option_map (events.Submit client) (command_known Q command)
+event_known Q (asked.Retry client) = Some (events.Retry client)
+event_known Q (asked.ClientRestart client) = Some (events.ClientRestart client)
+event_known Q (asked.Deliver message) = Some (events.Deliver message)
+event_known Q (asked.Timeout replica) = Some (events.Timeout replica)
+event_known Q (asked.Resend replica) = Some (events.Resend replica)
+event_known Q (asked.Crash replica) = Some (events.Crash replica)
+event_known Q (asked.Restart replica nonce) = Some (events.Restart replica nonce)
+event_known Q (asked.StoreFail replica keeps_new) = Some (events.StoreFail replica (if keeps_new then New else Old))
+
+-- these are the events of the world that named ones are
+abbrev pub AreKnown : Text → List NamedEvent → List WorldEvent → Type 0
+AreKnown Q named events = map (event_known Q) named ≡ map Some events
+
+-- a name in one of the events is no slot's of the program
+pub record HasUnknownName (Q : Text) (named : List NamedEvent) : Type 0 where
+  pub event : NamedEvent
+  pub stands : Contains named event
+  pub unknown : event_known Q event ≡ None
+
+-- why events aren't known: memory ran out, or one of them has an unknown name
+abbrev pub IsWhyUnknown : Text → List NamedEvent → Fault → Type 0
+IsWhyUnknown Q named told = (told ≡ faults.Memory) ⊎ ((told ≡ faults.Schedule) × HasUnknownName Q named)
+
+-- what is told is the first event of a run that can't take place, and the lowest reason
+pub record IsRefusedAs (f : ℕ) (answer : List Command → Answer) (events : List WorldEvent) (told : Fault) : Type 0 where
+  pub index : ℕ
+  pub reason : ℕ
+  pub is : told ≡ faults.ScheduleAt index reason
+  pub refused : IsRefused f answer events index reason
+
+-- why a run has no report: memory ran out, or an event can't take place
+abbrev pub IsWhyNoReport : ℕ → (List Command → Answer) → List WorldEvent → Fault → Type 0
+IsWhyNoReport f answer events told = (told ≡ faults.Memory) ⊎ IsRefusedAs f answer events told
+
+-- the line of a report
+abbrev pub report_line : Trace → List ℕ
+report_line trace = report_text trace ++ codes "\n"
+
+-- The report of these events was written: that of a run of them by the text's typed program, each scan within the budget, in which nothing
+-- was lost.
+pub record IsSimulated (text : List ℕ) (f budget : ℕ) (named : List NamedEvent) (old new : Option (List ℕ)) : Type 0 where
+  pub program : Text
+  pub is : IsTypedProgramOfText text program
+  pub events : List WorldEvent
+  pub known : AreKnown program named events
+  pub trace : Trace
+  pub traced : IsTraced f (answer_to program budget) events trace
+  pub none_lost : trace.lost.items ≡ []
+  pub written : Appends old new (report_line trace)
+
+-- an event of the run of these events by the program can't take place
+pub record CantTakePlace (Q : Text) (f budget : ℕ) (named : List NamedEvent) (told : Fault) : Type 0 where
+  pub events : List WorldEvent
+  pub known : AreKnown Q named events
+  pub refused : IsRefusedAs f (answer_to Q budget) events told
+
+-- A schedule of these events is refused for the program of a text, and this is told: a name in them is unknown, or one can't take place.
+pub record IsScheduleRefused (text : List ℕ) (f budget : ℕ) (named : List NamedEvent) (told : Fault) : Type 0 where
+  pub program : Text
+  pub is : IsTypedProgramOfText text program
+  pub why : ((told ≡ faults.Schedule) × HasUnknownName program named) ⊎ CantTakePlace program f budget named told
+
+-- what is told of input that is refused: the first fault of the text, or that of the schedule
+abbrev pub IsToldOf : List ℕ → ℕ → ℕ → List NamedEvent → Fault → Type 0
+IsToldOf text f budget named told = Tells told (program_of_text text) ⊎ IsScheduleRefused text f budget named told
+
+-- the text or the schedule is refused
+pub record IsRefusedInput (text : List ℕ) (f budget : ℕ) (named : List NamedEvent) : Type 0 where
+  pub fault : Fault
+  pub input : status_of fault ≡ 1
+  pub is : IsToldOf text f budget named fault

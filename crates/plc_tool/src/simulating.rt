@@ -1,0 +1,90 @@
+//! The run of a schedule, and its report.
+
+ghost use Rattle.std.specs.Prelude.{◌≡◌, [], IfOk, IfErr, OnOk, string_bytes};
+ghost use Rattle.vr_core.specs.Answers.{answer_to};
+ghost use Rattle.schedules.specs.Traces.{IsTraced};
+ghost use Rattle.plc_tool.specs.Putting.{Puts};
+ghost use Rattle.plc_tool.specs.Simulated.{IsSimulated, IsWhyNoReport, IsToldOf, report_line};
+ghost use Rattle.plc_tool.specs.Status.{status_of};
+
+use crate::answering::image;
+use crate::events::all_known;
+use crate::fault::Fault;
+use crate::report::ReportLine;
+use il_model::{Budget, CountedWrite, write_all};
+use loader::Image;
+use plc_json::NamedEvent;
+use schedules::{Trace, WorldError, WorldEvent};
+use std::alloc::{AllocError, Global};
+use vr_model::Config;
+use vr_world::run_world;
+
+/// The trace of a run of these events in which nothing was lost.
+fn whole_trace(
+    alloc: Global,
+    config: &Config,
+    image: &Image,
+    budget: Budget,
+    events: &[WorldEvent],
+) -> Result<Trace, Fault>
+    ensures traced { IfOk result (IsTraced config.now.f (answer_to image.now budget.instructions) events.now) }
+    ensures none_lost { IfOk result (λ trace. trace.lost.items ≡ []) }
+    ensures refused { IfErr result (IsWhyNoReport config.now.f (answer_to image.now budget.instructions) events.now) }
+{
+    match run_world(alloc, config, image, budget, events) {
+        Ok(trace) => {
+            if trace.lost.is_empty() {
+                Ok(trace)
+            } else {
+                Err(Fault::Memory)
+            }
+        }
+        Err(WorldError::BadSchedule { index, reason }) => Err(Fault::ScheduleAt {
+            index,
+            reason: reason.number(),
+        }),
+        Err(WorldError::Memory) => Err(Fault::Memory),
+    }
+}
+
+/// The line of a report, with its end.
+fn line_of(alloc: Global, trace: &Trace) -> Result<String, AllocError>
+    ensures { IfOk result (λ line. string_bytes line ≡ report_line trace.now) }
+{
+    let shown = ReportLine(trace);
+    format!(in alloc; "{shown}\n")
+}
+
+/// Writes a text that was made in memory.
+fn put_text<W: CountedWrite>(text: &str, out: &mut W) -> Result<(), Fault>
+    ensures { Puts W.CountedWrite text.now out.old out.new result }
+{
+    Ok(write_all(out, text.as_bytes())?)
+}
+
+/// Writes the line of a report.
+fn put_trace<W: CountedWrite>(alloc: Global, trace: &Trace, out: &mut W) -> Result<(), Fault>
+    ensures { Puts W.CountedWrite (report_line trace.now) out.old out.new result }
+{
+    let line = line_of(alloc, trace)?;
+    put_text(line.as_str(), out)
+}
+
+/// Writes the report of named events that replicas of a text's program run, each scan within the budget. The text is judged first,
+/// then the names of all events, and nothing runs before both are good. Of input that is refused it tells the first fault and writes nothing.
+pub fn put_report<W: CountedWrite>(
+    alloc: Global,
+    text: &[u8],
+    named: &[NamedEvent],
+    config: &Config,
+    budget: Budget,
+    out: &mut W,
+) -> Result<(), Fault>
+    ensures simulated { OnOk result (IsSimulated text.now config.now.f budget.instructions named.now (W.held out.old) (W.held out.new)) }
+    ensures refused { IfErr result (λ e. status_of e ≡ 1 → IsToldOf text.now config.now.f budget.instructions named.now e × (out.new ≡ out.old)) }
+{
+    let image = image(alloc, text)?;
+    let events = all_known(alloc, &image, named)?;
+    let trace = whole_trace(alloc, config, &image, budget, events.as_slice())?;
+    put_trace(alloc, &trace, out)
+}

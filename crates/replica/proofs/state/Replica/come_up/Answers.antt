@@ -1,0 +1,16 @@
+use Rattle.std.proofs.Common.{refl}
+use Rattle.vr_model.specs.Rules.{restarted}
+use Rattle.replica.specs.declared.state.Replica.{Replica}
+use Rattle.replica.proofs.Acting.{stands_up}
+use Rattle.replica.proofs.state.Replica.come_up.Goals as goal
+
+pub returns-clause-row : goal.returns-clause-row
+returns-clause-row g c = λ m r st.
+    let new : Replica = record { core = c.restart.new.core } in
+    let stored = c.in_ok-stored.stored in
+    record {
+      stored = stored;
+      loaded = c.in_ok-stored.ensures.gives;
+      replica = stands_up new m (restarted m.f m.number m.answer stored.view c.args.nonce) (c.in_ok-sends.ensures.ok.begins m st.member) refl;
+      sends = c.in_ok-sends.ensures.ok.asks m st.member;
+    }

@@ -1,0 +1,4 @@
+pub mod Faults
+pub mod Ruled
+pub mod Standing
+pub mod Stepped

@@ -1,0 +1,121 @@
+//! Which rule an event has.
+
+ghost use Rattle.std.specs.Prelude.{◌≡◌, ◌<◌, ◌==◌, ◌&&◌, true, not, nat_lt};
+ghost use Rattle.vr_model.specs.Groups.{group_size};
+ghost use Rattle.vr_model.specs.Rules as rules;
+ghost use Rattle.vr_model.specs.StandsFor.{body_of, party_of};
+ghost use Rattle.vr_core.specs.Follows.{Tells, DoesIfKept};
+ghost use Rattle.replica.specs.Ruled.{Ruled};
+
+use std::alloc::{AllocError, Global};
+use vr_core::{Core, Response};
+use vr_model::{Body, DoViewChange, Event, Message, Party, Sends};
+use vr_normal::{on_commit, on_prepare, on_prepare_ok, on_request, resend};
+use vr_recovery::{on_get_state, on_new_state, on_recovery, on_recovery_response};
+use vr_viewchange::{on_do_view_change, on_start_view, on_start_view_change, on_timeout};
+
+/// What the rules make of an event of a replica that is up: it drops a restart.
+pub(crate) fn by_rule(core: &mut Core, alloc: Global, event: Event) -> Result<Sends, AllocError>
+    ensures { Ruled core.old event core.new result }
+{
+    match event {
+        Event::Message(message) => receive(core, alloc, message),
+        Event::Timeout => on_timeout(core, alloc),
+        Event::Resend => resend(core, alloc),
+        Event::Restart(_) => Ok(Vec::new(alloc)),
+    }
+}
+
+/// A message: it is dropped where it comes from no client and from no other replica of the group.
+fn receive(core: &mut Core, alloc: Global, message: Message) -> Result<Sends, AllocError>
+    ensures { DoesIfKept core.old (λ w r. rules.receives w.f w.number w.answer r (party_of message.from) (body_of message.body)) core.new result }
+{
+    match message.from {
+        Party::Client(_) => from_client(core, alloc, &message.body),
+        Party::Replica(sender) => {
+            if is_other(core, sender) {
+                from_replica(core, alloc, sender, message.body)
+            } else {
+                Ok(Vec::new(alloc))
+            }
+        }
+    }
+}
+
+/// Whether this is another replica of the group.
+fn is_other(core: &Core, replica: u8) -> bool
+    ensures told { Tells core.now (λ w r. nat_lt replica (group_size w.f) && not (replica == w.number)) result }
+    ensures member { result ≡ true → replica < group_size core.now.config.f }
+    ensures other { result ≡ true → replica ≡ core.now.number → ⊥ }
+{
+    replica < core.config.group_size() && replica != core.number
+}
+
+/// From a client: a request.
+fn from_client(core: &mut Core, alloc: Global, body: &Body) -> Result<Sends, AllocError>
+    ensures { DoesIfKept core.old (λ w r. rules.from_client w.f w.number w.answer r (body_of body.now)) core.new result }
+{
+    match body {
+        Body::Request(request) => on_request(core, alloc, *request),
+        _ => Ok(Vec::new(alloc)),
+    }
+}
+
+/// From another replica of the group: all but requests and replies.
+fn from_replica(core: &mut Core, alloc: Global, sender: u8, body: Body) -> Result<Sends, AllocError>
+    requires member { sender < group_size core.old.config.f }
+    requires other { sender ≡ core.old.number → ⊥ }
+    ensures { DoesIfKept core.old (λ w r. rules.from_replica w.f w.number w.answer r sender (body_of body)) core.new result }
+{
+    match body {
+        Body::Request(_) | Body::Reply { .. } => Ok(Vec::new(alloc)),
+        Body::Prepare {
+            view,
+            request,
+            op_number,
+            commit_number,
+        } => on_prepare(core, alloc, view, request, op_number, commit_number),
+        Body::PrepareOk { view, op_number } => on_prepare_ok(core, alloc, sender, view, op_number),
+        Body::Commit {
+            view,
+            commit_number,
+        } => on_commit(core, alloc, view, commit_number),
+        Body::StartViewChange { view } => on_start_view_change(core, alloc, sender, view),
+        Body::DoViewChange {
+            view,
+            last_normal_view,
+            commit_number,
+            log,
+        } => {
+            let own = DoViewChange {
+                replica: sender,
+                last_normal_view,
+                commit_number,
+                log,
+            };
+            on_do_view_change(core, alloc, view, own)
+        }
+        Body::StartView {
+            view,
+            commit_number,
+            log,
+        } => on_start_view(core, alloc, view, commit_number, log),
+        Body::Recovery { nonce, stored_view } => on_recovery(
+            core,
+            alloc,
+            sender,
+            nonce,
+            stored_view,
+        ),
+        Body::RecoveryResponse { view, nonce, state } => {
+            on_recovery_response(core, alloc, sender, nonce, Response { view, state })
+        }
+        Body::GetState { view, op_number } => on_get_state(core, alloc, sender, view, op_number),
+        Body::NewState {
+            view,
+            op_number,
+            commit_number,
+            log,
+        } => on_new_state(core, alloc, view, op_number, commit_number, log),
+    }
+}

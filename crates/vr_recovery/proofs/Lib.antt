@@ -1,0 +1,5 @@
+mod CatchingUp
+mod Telling
+mod Table
+mod Ending
+mod NewState

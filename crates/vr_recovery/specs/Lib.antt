@@ -1,0 +1,4 @@
+pub mod ComingUp
+pub mod Responses
+pub mod Recovering
+pub mod CatchingUp

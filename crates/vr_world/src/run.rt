@@ -1,0 +1,53 @@
+//! The run of a schedule.
+
+ghost use Rattle.std.specs.Prelude.{IfOk, MatchResult};
+ghost use Rattle.vr_core.specs.Answers.{answer_to};
+ghost use Rattle.replica.specs.Standing.{StandsFor};
+ghost use Rattle.schedules.specs.Traces.{AreNew, IsTraced, Fails};
+
+use crate::seat::Seat;
+use il_model::Budget;
+use loader::Image;
+use replica::Replica;
+use schedules::{Trace, WorldError, WorldEvent, run_schedule};
+use std::alloc::{AllocError, Global};
+use vr_model::Config;
+
+/// The new replicas of a group, one for each number.
+fn group(
+    alloc: Global,
+    config: Config,
+    image: &Image,
+    budget: Budget,
+) -> Result<Vec<Seat>, AllocError>
+    ensures { IfOk result (λ seats. AreNew (λ seat. StandsFor seat.replica) config.f (answer_to image.now budget.instructions) seats.items) }
+{
+    let mut seats = Vec::new(alloc);
+    for number in 0..config.group_size() {
+        let replica = Replica::new(alloc, config, number, image.copy(alloc)?, budget)?;
+        seats.push(Seat { replica })?;
+    }
+    Ok(seats)
+}
+
+/// Runs a schedule over a group of new replicas of a program, each scan within the budget.
+///
+/// Whatever is submitted, delivered, lost, repeated, timed out, crashed and restarted, there is one list of the clients' commands, which
+/// grows and is never revised and has each command at most once, such that every answer that is released is the one
+/// that the table of commands gives for the program at that command's place in the list. The trace has that list, how long it was after each
+/// event, the releases, all messages that were sent and the events that were lost for want of memory.
+///
+/// `BadSchedule` is answered exactly where an event can't take place: the first one, and the lowest reason. Where memory runs
+/// out for what the run itself keeps there is no trace.
+pub fn run_world(
+    alloc: Global,
+    config: &Config,
+    image: &Image,
+    budget: Budget,
+    events: &[WorldEvent],
+) -> Result<Trace, WorldError>
+    ensures { MatchResult result (IsTraced config.now.f (answer_to image.now budget.instructions) events.now) (Fails config.now.f (answer_to image.now budget.instructions) events.now) }
+{
+    let seats = group(alloc, *config, image, budget)?;
+    run_schedule(alloc, *config, seats, events)
+}

@@ -1,0 +1,211 @@
+//! Three replicas, by the messages that they send to one another.
+
+use crate::images::{WIRE, image};
+use crate::replica_rows::{Store, store_with};
+use il_model::{Answer, Budget, Command, InImage, OutImage};
+use replica::Replica;
+use std::alloc::Global;
+use std::process::Abort;
+use std::test::Fail;
+use vr_model::{Body, ClientNumber, Config, Event, Message, Party, Request};
+
+/// What happens, to the replica of this number. Messages go by their places among all that were sent, from 0.
+#[derive(Clone, Copy)]
+enum Happens {
+    /// Client 0 submits a scan.
+    Submit(u8),
+    Deliver(usize),
+    Timeout(u8),
+    Resend(u8),
+    Crash(u8),
+    Restart(u8),
+}
+
+use Happens::{Crash, Deliver, Resend, Restart, Submit, Timeout};
+
+/// What happens, and how many messages are sent then.
+type Row = (Happens, usize);
+
+/// The replicas with their stores, and all messages that were sent.
+#[derive(Drop)]
+struct Group {
+    replicas: Vec<Replica>,
+    stores: Vec<Store>,
+    sent: Vec<Message>,
+}
+
+fn scan() -> Result<Request, Fail> {
+    let mut inputs = InImage::clear();
+    inputs.cells.bits[0] = true;
+    Ok(Request {
+        client: ClientNumber::new(0).ok_or("no client")?,
+        number: 1,
+        command: Command::Scan { inputs, moment: 0 },
+    })
+}
+
+/// The reply to the scan, from a replica in its view.
+fn reply(from: u8, view: u64) -> Result<Message, Fail> {
+    let mut image = OutImage::safe();
+    image.cells.bits[0] = true;
+    Ok(Message {
+        from: Party::Replica(from),
+        to: Party::Client(ClientNumber::new(0).ok_or("no client")?),
+        body: Body::Reply {
+            view,
+            number: 1,
+            answer: Answer::Outputs { count: 1, image },
+        },
+    })
+}
+
+impl Group {
+    fn new(alloc: Global) -> Result<Group, Fail> {
+        let config = Config::new(1).ok_or("no group")?;
+        let budget = Budget::new(10_000).ok_or("no budget")?;
+        let mut replicas = Vec::new(alloc);
+        let mut stores = Vec::new(alloc);
+        for number in 0..3 {
+            replicas.push(Replica::new(alloc, config, number, image(alloc, WIRE)?, budget)?)?;
+            stores.push(store_with(0, 0, false))?;
+        }
+        Ok(Group {
+            replicas,
+            stores,
+            sent: Vec::new(alloc),
+        })
+    }
+
+    /// An event of the replica of this number, and how many messages it sends.
+    fn step(&mut self, alloc: Global, number: u8, event: Event) -> Result<usize, Fail> {
+        let place = usize::from(number);
+        let replica = self.replicas.get_mut(place).ok_or("no replica")?;
+        let store = self.stores.get_mut(place).ok_or("no store")?;
+        let mut sends = replica.step(alloc, event, store)?;
+        let count = sends.len();
+        self.sent.append(&mut sends)?;
+        Ok(count)
+    }
+
+    /// A message comes; to a client nothing happens.
+    fn deliver(&mut self, alloc: Global, place: usize) -> Result<usize, Fail> {
+        let message = self.sent.get(place).ok_or("not yet sent")?.copy(alloc)?;
+        match message.to {
+            Party::Client(_) => Ok(0),
+            Party::Replica(number) => self.step(alloc, number, Event::Message(message)),
+        }
+    }
+
+    fn happen(&mut self, alloc: Global, happens: Happens) -> Result<usize, Fail> {
+        match happens {
+            Submit(number) => {
+                let request = Message {
+                    from: Party::Client(ClientNumber::new(0).ok_or("no client")?),
+                    to: Party::Replica(number),
+                    body: Body::Request(scan()?),
+                };
+                self.step(alloc, number, Event::Message(request))
+            }
+            Deliver(place) => self.deliver(alloc, place),
+            Timeout(number) => self.step(alloc, number, Event::Timeout),
+            Resend(number) => self.step(alloc, number, Event::Resend),
+            Crash(number) => {
+                let replica = self
+                    .replicas
+                    .get_mut(usize::from(number))
+                    .ok_or("no replica")?;
+                replica.crash(alloc);
+                Ok(0)
+            }
+            Restart(number) => self.step(alloc, number, Event::Restart(7)),
+        }
+    }
+}
+
+/// Wants these of a new group, one after another; then each replica is normal and has executed the scan, and these messages are its replies.
+fn wants(
+    rt: &impl Abort,
+    alloc: Global,
+    rows: &[Row],
+    replies: &[(usize, u8, u64)],
+) -> Result<(), Fail> {
+    let mut group = Group::new(alloc)?;
+    for (n, (happens, sent)) in rows.iter().enumerate() {
+        assert_eq!(rt; group.happen(alloc, *happens)?, *sent, "in row {n}");
+    }
+    for replica in &group.replicas {
+        assert!(rt; replica.is_normal());
+        assert_eq!(rt; replica.commit(), 1);
+        assert_eq!(rt; replica.entry(0).copied(), Some(scan()?));
+        assert_eq!(rt; replica.entry(1).copied(), None);
+    }
+    for (place, from, view) in replies {
+        let message = group.sent.get(*place).ok_or("not yet sent")?;
+        assert_eq!(rt; *message, reply(*from, *view)?);
+    }
+    Ok(())
+}
+
+#[test]
+fn what_is_lost_is_sent_again(rt: HostRuntime) -> Result<(), Fail> {
+    let rows: [Row; 10] = [
+        // both PREPAREs are lost
+        (Submit(0), 2),
+        (Resend(0), 2),
+        // PREPAREOK of replica 1 is lost
+        (Deliver(2), 1),
+        (Resend(1), 1),
+        (Deliver(5), 1),
+        // COMMIT; replica 2 asks for the entry that it never got
+        (Resend(0), 2),
+        (Deliver(7), 0),
+        (Deliver(8), 1),
+        (Deliver(9), 1),
+        (Deliver(10), 1),
+    ];
+    wants(&rt, rt.alloc(), &rows, &[(6, 0, 0)])
+}
+
+#[test]
+fn a_view_change_keeps_the_committed_scan(rt: HostRuntime) -> Result<(), Fail> {
+    let rows: [Row; 12] = [
+        // committed by replicas 0 and 1
+        (Submit(0), 2),
+        (Deliver(0), 1),
+        (Deliver(2), 1),
+        // replicas 1 and 2 change to view 1; replica 2 has no log
+        (Timeout(2), 2),
+        (Deliver(5), 2),
+        (Deliver(7), 1),
+        (Deliver(8), 2),
+        // both backups take the log of replica 1
+        (Deliver(10), 1),
+        (Deliver(11), 1),
+        (Deliver(9), 0),
+        (Resend(1), 2),
+        (Deliver(14), 0),
+    ];
+    wants(&rt, rt.alloc(), &rows, &[(3, 0, 0), (12, 1, 1)])
+}
+
+#[test]
+fn a_crashed_replica_gets_the_log_back(rt: HostRuntime) -> Result<(), Fail> {
+    let rows: [Row; 12] = [
+        // committed by replicas 0 and 1
+        (Submit(0), 2),
+        (Deliver(0), 1),
+        (Deliver(2), 1),
+        (Crash(1), 0),
+        (Restart(1), 2),
+        (Deliver(5), 1),
+        (Deliver(4), 1),
+        // RECOVERYRESPONSE of replica 2, and then that of the primary
+        (Deliver(6), 0),
+        (Deliver(7), 0),
+        // replica 2 learns of the scan
+        (Deliver(1), 1),
+        (Resend(0), 2),
+        (Deliver(10), 0),
+    ];
+    wants(&rt, rt.alloc(), &rows, &[(3, 0, 0)])
+}

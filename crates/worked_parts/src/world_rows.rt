@@ -1,0 +1,145 @@
+//! A long run over three replicas: scans, two view changes, and a replica that crashes and recovers.
+
+use crate::images::{WIRE, image};
+use il_model::{Answer, Budget, Command, InImage, OutImage};
+use schedules::{Trace, WorldEvent};
+use std::alloc::{AllocError, Global};
+use std::process::Abort;
+use std::test::Fail;
+use vr_model::Config;
+use vr_world::run_world;
+
+const SCANS: u64 = 200;
+
+/// A schedule so far, and how many messages it sends.
+#[derive(Drop)]
+struct Schedule {
+    events: Vec<WorldEvent>,
+    sent: u64,
+}
+
+impl Schedule {
+    /// These events happen, and then these messages come, counted from the first that is sent here; so many are sent in all.
+    fn part(&mut self, events: &[WorldEvent], come: &[u64], sends: u64) -> Result<(), AllocError> {
+        self.events.extend_from_slice(events)?;
+        for place in come {
+            let message = self.sent.saturating_add(*place);
+            self.events.push(WorldEvent::Deliver { message })?;
+        }
+        self.sent = self.sent.saturating_add(sends);
+        Ok(())
+    }
+
+    /// What happens before the scan of this number.
+    fn before(&mut self, number: u64) -> Result<(), AllocError> {
+        match number {
+            // STARTVIEWCHANGE, and that of replica 2; DOVIEWCHANGE; both STARTVIEWs, PREPAREOK, and the last reply once more
+            50 => self.part(
+                &[WorldEvent::Timeout { replica: 1 }],
+                &[1, 3, 4, 5, 6, 7, 8],
+                9,
+            ),
+            // both RECOVERYs and both RECOVERYRESPONSEs
+            100 => self.part(
+                &[
+                    WorldEvent::Crash { replica: 2 },
+                    WorldEvent::Restart {
+                        replica: 2,
+                        nonce: 1,
+                    },
+                ],
+                &[0, 1, 2, 3],
+                4,
+            ),
+            // as before, with replica 0 as the other backup
+            150 => self.part(
+                &[WorldEvent::Timeout { replica: 2 }],
+                &[0, 3, 4, 5, 6, 7, 8],
+                9,
+            ),
+            _ => Ok(()),
+        }
+    }
+
+    /// A scan: REQUEST, both PREPAREs, one PREPAREOK and the REPLY come.
+    fn scan(&mut self, number: u64) -> Result<(), AllocError> {
+        let submit = WorldEvent::Submit {
+            client: 0,
+            command: command(number),
+        };
+        self.part(&[submit], &[0, 1, 2, 3, 5], 6)
+    }
+}
+
+/// Whether `%IX0.0` is TRUE at the scan of this number.
+fn bit(number: u64) -> bool {
+    number % 3 == 0
+}
+
+fn command(number: u64) -> Command {
+    let mut inputs = InImage::clear();
+    inputs.cells.bits[0] = bit(number);
+    Command::Scan {
+        inputs,
+        moment: number,
+    }
+}
+
+/// The answer to the scan of this number, from 0.
+fn answer(number: u64) -> Answer {
+    let mut image = OutImage::safe();
+    image.cells.bits[0] = bit(number);
+    Answer::Outputs {
+        count: number.saturating_add(1),
+        image,
+    }
+}
+
+fn long_run(alloc: Global) -> Result<Schedule, AllocError> {
+    let mut schedule = Schedule {
+        events: Vec::new(alloc),
+        sent: 0,
+    };
+    for number in 0..SCANS {
+        schedule.before(number)?;
+        schedule.scan(number)?;
+    }
+    Ok(schedule)
+}
+
+/// Wants every scan released and committed once, in its order.
+fn wants_all(rt: &impl Abort, trace: &Trace) -> Result<(), Fail> {
+    for number in 0..SCANS {
+        let n = number as usize;
+        let release = trace.releases.get(n).ok_or("no release")?;
+        assert_eq!(rt; release.number, number + 1);
+        assert_eq!(rt; release.answer, answer(number), "at scan {number}");
+        let request = trace.order.get(n).ok_or("not committed")?;
+        assert_eq!(rt; request.number, number + 1);
+        assert_eq!(rt; request.command, command(number));
+    }
+    Ok(())
+}
+
+#[test]
+fn no_scan_is_lost(rt: HostRuntime) -> Result<(), Fail> {
+    let alloc = rt.alloc();
+    let config = Config::new(1).ok_or("no group")?;
+    let budget = Budget::new(10_000).ok_or("no budget")?;
+    let schedule = long_run(alloc)?;
+    let trace = run_world(
+        alloc,
+        &config,
+        &image(alloc, WIRE)?,
+        budget,
+        &schedule.events,
+    )?;
+    wants_all(&rt, &trace)?;
+    assert_eq!(rt; trace.releases.len(), 200);
+    assert_eq!(rt; trace.order.len(), 200);
+    assert_eq!(rt; trace.lengths.len(), schedule.events.len());
+    assert_eq!(rt; trace.lengths.last().copied(), Some(200));
+    assert_eq!(rt; trace.sent.len(), 1222);
+    assert!(rt; trace.lost.is_empty());
+    Ok(())
+}
