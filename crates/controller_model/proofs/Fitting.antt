@@ -33,7 +33,8 @@ use Rattle.il_model.proofs.TypedLines.{bind_ok, numbered_ok}
 use Rattle.il_model.proofs.Room.{line_room}
 use Rattle.controller_model.specs.State.{BlockInstance}
 use Rattle.controller_model.specs.Suits.{held_of, input_types, IsInstanceOf, AreInstances}
-use Rattle.controller_model.specs.Snapshots.{saved_instance, are_types, fits_instance, fit_instances, same_optional, same_truth, same_held, all_held, fits_types}
+use Rattle.il_model.specs.Operators.{same_truth}
+use Rattle.controller_model.specs.Snapshots.{saved_instance, are_types, fits_instance, fit_instances, same_optional, same_held, all_held, fits_types}
 
 pub and_both : (a b : Bool) → a ≡ true → b ≡ true → (a && b) ≡ true
 and_both true b e f = f

@@ -1,12 +1,14 @@
 -- Worked rows of scans and of the debugger, by computing the command table.
 use Rattle.std.proofs.Common.{◌≡◌, ℕ, Bool, true, false, List, [], ◌∷◌, replicate, Option, Some, None, refl}
-use Rattle.std.specs.Prelude.{ℤ, pos, slice_set}
+use Rattle.std.specs.Prelude.{ℤ, pos, slice_set, codes}
 use Rattle.il_model.specs.declared.value.Value.{Value}
 use Rattle.il_model.specs.declared.value.Value.TheVariants as values
 use Rattle.il_model.specs.declared.value.Stop.TheVariants as stops
 use Rattle.il_model.specs.declared.op.Op.{Op}
 use Rattle.il_model.specs.declared.op.Op.TheVariants as ops
 use Rattle.il_model.specs.declared.program.Instr.{Instr}
+use Rattle.il_model.specs.declared.program.Side.TheVariants as sides
+use Rattle.il_model.specs.declared.kind.BlockKind.TheVariants as kinds
 use Rattle.il_model.specs.declared.program.Area.TheVariants as areas
 use Rattle.il_model.specs.declared.program.Loc.TheVariants.{Bit, Word}
 use Rattle.il_model.specs.declared.program.Operand.{Operand}
@@ -22,6 +24,7 @@ use Rattle.il_model.specs.declared.command.Refusal.TheVariants as refusals
 use Rattle.il_model.specs.Cells.{clear_cells, clear_inputs, safe_image}
 use Rattle.il_model.specs.Text.{Text}
 use Rattle.controller_model.specs.Commands.{answers_of}
+use Rattle.controller_model.specs.Scan.{next_count}
 
 abbrev line : Op → Operand → Instr
 line op operand = record { label = None; op = op; modifier = record { negated = false; conditional = false; opens = false }; operand = operand; arguments = [] }
@@ -84,3 +87,44 @@ forced_input = refl
 forced_output : answers_of copying 10 (commands.Force first_output (values.Bool true) ∷ scan false ∷ commands.ReadVar first_output ∷ commands.Force first_output (values.Int (pos 1)) ∷ commands.Force (record { 0 = 8192 }) (values.Bool true) ∷ [])
     ≡ answers.Done ∷ outputs 1 true 5 ∷ answers.Value (values.Bool false) ∷ answers.Refused refusals.BadType ∷ answers.Refused refusals.BadSlot ∷ []
 forced_output = refl
+
+-- Forces are laid over inputs as they are latched, and over outputs as they are released: what is freed while the scan is held was
+-- latched with the force, but is released without it.
+freed_while_held : answers_of copying 10 (commands.Force first_input (values.Bool true) ∷ commands.SetBreak 0 ∷ scan false ∷ commands.Unforce first_input ∷ commands.Continue ∷ commands.ClearBreak 0 ∷ scan false ∷ [])
+    ≡ answers.Done ∷ answers.Done ∷ answers.Held 0 ∷ answers.Done ∷ outputs 1 true 5 ∷ answers.Done ∷ outputs 2 false 5 ∷ []
+freed_while_held = refl
+
+freed_before_release : answers_of copying 10 (commands.Force first_output (values.Bool true) ∷ commands.SetBreak 3 ∷ scan false ∷ commands.Unforce first_output ∷ commands.Continue ∷ [])
+    ≡ answers.Done ∷ answers.Done ∷ answers.Held 3 ∷ answers.Done ∷ outputs 1 false 5 ∷ []
+freed_before_release = refl
+
+-- CAL T1(IN := TRUE, PT := T#100ms) of a TON
+abbrev delaying : Text
+delaying = record {
+  variables = [];
+  instances = record { name = codes "T1"; kind = kinds.Ton } ∷ [];
+  code = record {
+    label = None;
+    op = ops.Cal;
+    modifier = record { negated = false; conditional = false; opens = false };
+    operand = operands.Instance (codes "T1");
+    arguments = record { field = codes "IN"; side = sides.Input; operand = operands.Literal (values.Bool true) }
+        ∷ record { field = codes "PT"; side = sides.Input; operand = operands.Literal (values.Time (pos 100)) } ∷ [];
+  } ∷ [];
+}
+
+abbrev scan_at : ℕ → Command
+scan_at moment = commands.Scan clear_inputs moment
+
+abbrev elapsed : Command
+elapsed = commands.ReadVar (record { 0 = 20483 })
+
+-- time doesn't go back: at 40 ms behind 50 it is still 50
+moment_goes_back : answers_of delaying 10 (scan_at 0 ∷ elapsed ∷ scan_at 50 ∷ elapsed ∷ scan_at 40 ∷ elapsed ∷ scan_at 100 ∷ elapsed ∷ [])
+    ≡ outputs 1 false 0 ∷ answers.Value (values.Time (pos 0)) ∷ outputs 2 false 0 ∷ answers.Value (values.Time (pos 50))
+    ∷ outputs 3 false 0 ∷ answers.Value (values.Time (pos 50)) ∷ outputs 4 false 0 ∷ answers.Value (values.Time (pos 100)) ∷ []
+moment_goes_back = refl
+
+-- the greatest count of scans stays
+last_count : next_count 18446744073709551615 ≡ 18446744073709551615
+last_count = refl

@@ -1,5 +1,5 @@
 -- What a snapshot has of a controller's state, and which snapshots are of a program's shape.
-use Rattle.std.specs.Prelude.{◌≡◌, ℕ, suc, ◌+◌, Bool, true, false, ◌&&◌, List, [], ◌∷◌, ◌++◌, length, map, filter, reverse, Option, Some, None, is_none, is_some, Result, Ok, Err, nat_lt, nat_le, nat_eq, ℤ, not}
+use Rattle.std.specs.Prelude.{◌≡◌, ℕ, suc, ◌+◌, Bool, true, false, ◌&&◌, List, [], ◌∷◌, ◌++◌, length, map, filter, reverse, Option, Some, None, is_none, is_some, Result, Ok, Err, nat_lt, nat_le, nat_eq, ℤ}
 use Rattle.std.specs.Option.{option_map}
 use Rattle.il_model.specs.declared.typing.TypeFault.{TypeFault}
 use Rattle.il_model.specs.declared.value.Ty.{Ty}
@@ -18,6 +18,7 @@ use Rattle.il_model.specs.declared.snapshot.SavedPhase.{SavedPhase}
 use Rattle.il_model.specs.declared.snapshot.SavedPhase.TheVariants as saved_phases
 use Rattle.il_model.specs.Snapshots.{SavedBlock, SavedController}
 use Rattle.il_model.specs.Values.{ty_of}
+use Rattle.il_model.specs.Operators.{same_truth}
 use Rattle.il_model.specs.Row.{same_type}
 use Rattle.il_model.specs.Kinds.{kind_code}
 use Rattle.il_model.specs.Image.{op_code}
@@ -114,10 +115,6 @@ abbrev pub same_optional : Option Ty → Option Ty → Bool
 same_optional None None = true
 same_optional (Some a) (Some b) = same_type a b
 same_optional a b = false
-
-abbrev pub same_truth : Bool → Bool → Bool
-same_truth true b = b
-same_truth false b = not b
 
 abbrev pub same_held : Held → Held → Bool
 same_held a b = nat_eq (op_code a.op) (op_code b.op) && (same_truth a.negated b.negated && same_type a.ty b.ty)

@@ -1,7 +1,7 @@
 //! A standard function block of any kind, called with the list of its inputs' values.
 
 ghost use Rattle.std.specs.Prelude.{◌≡◌, true, ℕ, List, Option, Some, IfSome, slice_get, option_map};
-ghost use Rattle.il_model.specs.Kinds.{field_type};
+ghost use Rattle.il_model.specs.Kinds.{field_type, input_count};
 ghost use Rattle.il_model.specs.Values.{ty_of};
 ghost use Rattle.function_blocks.specs.declared.any.Block.{Block};
 ghost use Rattle.function_blocks.specs.Blocks.{truth_of, int_of, time_of, sr_inputs, rs_inputs, edge_inputs, ctu_inputs, ctd_inputs, ctud_inputs, timer_inputs, bistable_values, edge_values, counter_values, ctud_values, timer_values, kind_of, cold_block, block_after, outputs_of, output_field, output_value, is_block, block_words, IsKnown};
@@ -132,37 +132,50 @@ fn timer_inputs(values: &[Value]) -> TimerIn
 fn bistable_output(o: &BistableOut, n: u8) -> Option<Value>
     ensures { result ≡ slice_get (bistable_values o.now) n }
 {
-    value_at(&[Value::Bool(o.q1)], n as usize)
+    match n {
+        0 => Some(Value::Bool(o.q1)),
+        _ => None,
+    }
 }
 
 fn edge_output(o: &EdgeOut, n: u8) -> Option<Value>
     ensures { result ≡ slice_get (edge_values o.now) n }
 {
-    value_at(&[Value::Bool(o.q)], n as usize)
+    match n {
+        0 => Some(Value::Bool(o.q)),
+        _ => None,
+    }
 }
 
 fn counter_output(o: &CounterOut, n: u8) -> Option<Value>
     ensures { result ≡ slice_get (counter_values o.now) n }
 {
-    value_at(&[Value::Bool(o.q), Value::Int(o.cv)], n as usize)
-}
-
-fn ctud_list(o: &CtudOut) -> [Value; 3]
-    ensures { result ≡ ctud_values o.now }
-{
-    [Value::Bool(o.qu), Value::Bool(o.qd), Value::Int(o.cv)]
+    match n {
+        0 => Some(Value::Bool(o.q)),
+        1 => Some(Value::Int(o.cv)),
+        _ => None,
+    }
 }
 
 fn ctud_output(o: &CtudOut, n: u8) -> Option<Value>
     ensures { result ≡ slice_get (ctud_values o.now) n }
 {
-    value_at(&ctud_list(o), n as usize)
+    match n {
+        0 => Some(Value::Bool(o.qu)),
+        1 => Some(Value::Bool(o.qd)),
+        2 => Some(Value::Int(o.cv)),
+        _ => None,
+    }
 }
 
 fn timer_output(o: &TimerOut, n: u8) -> Option<Value>
     ensures { result ≡ slice_get (timer_values o.now) n }
 {
-    value_at(&[Value::Bool(o.q), Value::Time(o.et)], n as usize)
+    match n {
+        0 => Some(Value::Bool(o.q)),
+        1 => Some(Value::Time(o.et)),
+        _ => None,
+    }
 }
 
 impl Block {
@@ -243,6 +256,7 @@ impl Block {
         }
     }
 
+    #[inline(always)]
     fn output_at(&self, n: u8) -> Option<Value>
         ensures { result ≡ slice_get (outputs_of self.now) n }
     {
@@ -260,13 +274,27 @@ impl Block {
         }
     }
 
+    /// How many inputs its kind has.
+    #[inline(always)]
+    fn input_count(&self) -> u8
+        ensures { result ≡ input_count (kind_of self.now) }
+    {
+        match self {
+            Block::RTrig(_) | Block::FTrig(_) => 1,
+            Block::Sr(_) | Block::Rs(_) => 2,
+            Block::Tp(_) | Block::Ton(_) | Block::Tof(_) => 2,
+            Block::Ctu(_) | Block::Ctd(_) => 3,
+            Block::Ctud(_) => 5,
+        }
+    }
+
     /// The value of the field with that number in the kind's table, where that is an output; None at an input, and
     /// where the kind has fewer fields.
     pub fn output(&self, number: u8) -> Option<Value>
         ensures value { result ≡ output_value self.now number }
         ensures typed { option_map ty_of result ≡ option_map field_type (output_field (kind_of self.now) number) }
     {
-        let inputs = self.kind().input_count();
+        let inputs = self.input_count();
         if number < inputs {
             None
         } else {

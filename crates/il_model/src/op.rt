@@ -241,7 +241,7 @@ fn divide(a: i32, b: i32) -> i64
     requires { b ≢ pos 0 }
     ensures { result ≡ int_div a b }
 {
-    a as i64 / b as i64
+    if b == -1 { -(a as i64) } else { (a / b) as i64 }
 }
 
 #[inline(always)]
@@ -249,7 +249,7 @@ fn rest(a: i32, b: i32) -> i64
     requires { b ≢ pos 0 }
     ensures { result ≡ int_rem a b }
 {
-    a as i64 % b as i64
+    if b == -1 { 0 } else { (a % b) as i64 }
 }
 
 #[inline(always)]

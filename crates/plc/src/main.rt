@@ -3,7 +3,7 @@
 
 mod new_file;
 
-use il_model::{Budget, Counted};
+use il_model::{Budget, Counted, CountedWrite};
 use new_file::NewFile;
 use plc_tool::Fault;
 use plc_words::{Words, WordsError, read_words};
@@ -13,7 +13,7 @@ use std::{env, fs, io};
 use vr_model::Config;
 
 fn main(rt: HostRuntime) -> ExitCode {
-    let mut err = rt.stderr();
+    let mut err = Counted::new(rt.stderr());
     let status = match BufWriter::new(rt.alloc(), rt.stdout()) {
         Ok(mut out) => called(&rt, &mut out, &mut err),
         Err(error) => plc_tool::tell(Fault::from(error), &mut err),
@@ -22,7 +22,7 @@ fn main(rt: HostRuntime) -> ExitCode {
 }
 
 /// Does what the words of the call ask for, and answers the status.
-fn called<W: Write, E: Write>(rt: &HostRuntime, out: &mut W, err: &mut E) -> u8 {
+fn called<W: Write, E: CountedWrite>(rt: &HostRuntime, out: &mut W, err: &mut E) -> u8 {
     let given = match given_words(rt) {
         Ok(given) => given,
         Err(error) => return plc_tool::tell_words(&error, out, err),
@@ -33,7 +33,12 @@ fn called<W: Write, E: Write>(rt: &HostRuntime, out: &mut W, err: &mut E) -> u8 
     }
 }
 
-fn perform<W: Write, E: Write>(rt: &HostRuntime, words: Words, out: &mut W, err: &mut E) -> u8 {
+fn perform<W: Write, E: CountedWrite>(
+    rt: &HostRuntime,
+    words: Words,
+    out: &mut W,
+    err: &mut E,
+) -> u8 {
     match words {
         Words::Asm { source, image } => asm(rt, source, image, out, err),
         Words::List { image } => list(rt, image, out, err),
@@ -59,7 +64,7 @@ fn file(rt: &HostRuntime, path: &str) -> Result<Vec<u8>, Fault> {
     Ok(fs::read(rt, path)?)
 }
 
-fn asm<W: Write, E: Write>(
+fn asm<W: Write, E: CountedWrite>(
     rt: &HostRuntime,
     source: &str,
     image: &str,
@@ -75,7 +80,7 @@ fn asm<W: Write, E: Write>(
     }
 }
 
-fn list<W: Write, E: Write>(rt: &HostRuntime, image: &str, out: &mut W, err: &mut E) -> u8 {
+fn list<W: Write, E: CountedWrite>(rt: &HostRuntime, image: &str, out: &mut W, err: &mut E) -> u8 {
     let image = match file(rt, image) {
         Ok(image) => image,
         Err(fault) => return plc_tool::tell(fault, err),
@@ -85,7 +90,7 @@ fn list<W: Write, E: Write>(rt: &HostRuntime, image: &str, out: &mut W, err: &mu
     flushed(status, out, err)
 }
 
-fn run<W: Write, E: Write>(
+fn run<W: Write, E: CountedWrite>(
     rt: &HostRuntime,
     source: &str,
     commands: &str,
@@ -113,7 +118,7 @@ fn run<W: Write, E: Write>(
     flushed(status, out, err)
 }
 
-fn sim<W: Write, E: Write>(
+fn sim<W: Write, E: CountedWrite>(
     rt: &HostRuntime,
     source: &str,
     schedule: &str,
@@ -144,7 +149,7 @@ fn sim<W: Write, E: Write>(
 }
 
 /// The status of what was written, once it is flushed.
-fn flushed<W: Write, E: Write>(status: u8, out: &mut W, err: &mut E) -> u8 {
+fn flushed<W: Write, E: CountedWrite>(status: u8, out: &mut W, err: &mut E) -> u8 {
     match out.flush() {
         Err(error) if status == 0 => plc_tool::tell(Fault::from(error), err),
         _ => status,

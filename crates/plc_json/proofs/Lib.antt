@@ -1,1 +1,4 @@
 mod Pairs
+mod Each
+mod Once
+mod Whole

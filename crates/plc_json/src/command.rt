@@ -1,9 +1,9 @@
 //! The commands of a file.
 
-ghost use Rattle.std.specs.Prelude.{◌≡◌, Some, None, IfOk, IfErr, string_bytes};
+ghost use Rattle.std.specs.Prelude.{◌≡◌, Some, None, IfOk, IfErr, map, option_map, string_bytes};
 ghost use Rattle.serde_json.specs.Find.{as_str};
-ghost use Rattle.serde_json.specs.View.{view};
-ghost use Rattle.plc_json.specs.Commands.{position_of, word_alone, forced_value};
+ghost use Rattle.serde_json.specs.View.{view, members_view};
+ghost use Rattle.plc_json.specs.Commands.{position_of, word_alone, forced_value, scan_of, force_of, forced_at, keyed_of, scan_with, only_member, command_of, all_of, named, HasCommands, HasNoCommands, Plain};
 ghost use Rattle.plc_json.specs.Faults.{IsFaultOf};
 ghost use Rattle.plc_json.specs.declared.command.JsonFault.TheVariants.{Memory, Shape};
 
@@ -80,30 +80,48 @@ impl From<serde_json::Error> for JsonFault {
 /// a bit or a word lies outside its area or is given twice, and where a number has a fraction or an exponent, is `-0`, or
 /// lies outside its field's type. Any text is a name, and what is forced is judged whatever the name. Of equal keys in one
 /// object the last counts. `Memory` comes where memory ran out.
-pub fn commands(alloc: Global, text: &[u8]) -> Result<Vec<NamedCommand>, JsonFault> {
+pub fn commands(alloc: Global, text: &[u8]) -> Result<Vec<NamedCommand>, JsonFault>
+    ensures found { IfOk result (λ v. HasCommands text.now v.items) }
+    ensures refused { IfErr result (λ e. e ≡ Shape → HasNoCommands text.now) }
+{
     let json = Json::from_slice(alloc, text)?;
     let items = json.as_array().ok_or(JsonFault::Shape)?;
+    each_command(alloc, items.as_slice())
+}
+
+fn each_command(alloc: Global, items: &[Json]) -> Result<Vec<NamedCommand>, JsonFault>
+    ensures found { IfOk result (λ v. all_of command_of (map view items.now) ≡ Some (map named v.items)) }
+    ensures refused { IfErr result (λ e. e ≡ Shape → all_of command_of (map view items.now) ≡ None) }
+{
     let mut commands = Vec::new(alloc);
-    for item in items {
-        commands.push(command(alloc, item)?)?;
+    for json in items {
+        let next = command(alloc, json)?;
+        commands.push(next)?;
     }
     Ok(commands)
 }
 
 /// One command: a word, or an object with one member, whose key is the command's name.
-pub(crate) fn command(alloc: Global, json: &Json) -> Result<NamedCommand, JsonFault> {
-    match json {
-        Json::String(word) => plain(word_alone(word.as_str())),
-        Json::Object(members) => {
-            let (key, argument) = only_member(members).ok_or(JsonFault::Shape)?;
-            keyed(alloc, key, argument)
-        }
-        _ => Err(JsonFault::Shape),
+pub(crate) fn command(alloc: Global, json: &Json) -> Result<NamedCommand, JsonFault>
+    ensures found { IfOk result (λ c. command_of (view json.now) ≡ Some (named c)) }
+    ensures refused { IfErr result (λ e. e ≡ Shape → command_of (view json.now) ≡ None) }
+{
+    if let Some(word) = json.as_str() {
+        return plain(word_alone(word));
     }
+    let members = json.as_object().ok_or(JsonFault::Shape)?;
+    let (key, argument) = only_member(members).ok_or(JsonFault::Shape)?;
+    keyed(alloc, key, argument)
 }
 
-fn plain(command: Option<Command>) -> Result<NamedCommand, JsonFault> {
-    Ok(NamedCommand::Plain(command.ok_or(JsonFault::Shape)?))
+fn plain(command: Option<Command>) -> Result<NamedCommand, JsonFault>
+    ensures found { IfOk result (λ c. option_map Plain command ≡ Some (named c)) }
+    ensures refused { IfErr result (λ e. e ≡ Shape → option_map Plain command ≡ None) }
+{
+    match command {
+        Some(command) => Ok(NamedCommand::Plain(command)),
+        None => Err(JsonFault::Shape),
+    }
 }
 
 fn word_alone(word: &str) -> Option<Command>
@@ -119,15 +137,20 @@ fn word_alone(word: &str) -> Option<Command>
 }
 
 /// The one member of an object that has one.
-pub(crate) fn only_member(members: &Map<String, Json>) -> Option<(&str, &Json)> {
+pub(crate) fn only_member(members: &Map<String, Json>) -> Option<(&str, &Json)>
+    ensures { option_map (λ m. (m.0.now, view m.1.now)) result ≡ only_member (members_view members.now.entries) }
+{
     if members.len() != 1 {
         return None;
     }
-    let (key, argument) = members.iter().next()?;
+    let (key, argument) = members.first_key_value()?;
     Some((key.as_str(), argument))
 }
 
-fn keyed(alloc: Global, key: &str, argument: &Json) -> Result<NamedCommand, JsonFault> {
+fn keyed(alloc: Global, key: &str, argument: &Json) -> Result<NamedCommand, JsonFault>
+    ensures found { IfOk result (λ c. keyed_of (key.now, view argument.now) ≡ Some (named c)) }
+    ensures refused { IfErr result (λ e. e ≡ Shape → keyed_of (key.now, view argument.now) ≡ None) }
+{
     match key {
         "scan" => plain(scan(argument)),
         "break" => plain(position(argument).map(Command::SetBreak)),
@@ -143,13 +166,20 @@ fn keyed(alloc: Global, key: &str, argument: &Json) -> Result<NamedCommand, Json
     }
 }
 
-fn scan(argument: &Json) -> Option<Command> {
-    let members = argument.as_object()?;
-    if members.len() != 3 {
+fn scan(argument: &Json) -> Option<Command>
+    ensures { result ≡ scan_of (view argument.now) }
+{
+    if argument.as_object()?.len() != 3 {
         return None;
     }
-    let inputs = in_image(members.get("ix")?, members.get("iw")?)?;
-    let moment = members.get("moment")?.as_u64()?;
+    scan_with(argument)
+}
+
+fn scan_with(argument: &Json) -> Option<Command>
+    ensures { result ≡ scan_with (view argument.now) }
+{
+    let inputs = in_image(argument.get("ix")?, argument.get("iw")?)?;
+    let moment = argument.get("moment")?.as_u64()?;
     Some(Command::Scan { inputs, moment })
 }
 
@@ -159,17 +189,25 @@ fn position(argument: &Json) -> Option<u16>
     u16::try_from(argument.as_u64()?).ok()
 }
 
+fn force(alloc: Global, argument: &Json) -> Result<NamedCommand, JsonFault>
+    ensures found { IfOk result (λ c. force_of (view argument.now) ≡ Some (named c)) }
+    ensures refused { IfErr result (λ e. e ≡ Shape → force_of (view argument.now) ≡ None) }
+{
+    let (name, value) = forced_at(argument).ok_or(JsonFault::Shape)?;
+    let name = String::from_str(alloc, name)?;
+    Ok(NamedCommand::Force { name, value })
+}
+
 /// A pair of a name and the value that is forced there.
-fn force(alloc: Global, argument: &Json) -> Result<NamedCommand, JsonFault> {
-    let pair = argument.as_array().ok_or(JsonFault::Shape)?;
-    let [called, value] = pair.as_slice() else {
-        return Err(JsonFault::Shape);
+fn forced_at(pair: &Json) -> Option<(&str, Value)>
+    ensures { option_map (λ f. (f.0.now, f.1)) result ≡ forced_at (view pair.now) }
+{
+    let [called, value] = pair.as_array()?.as_slice() else {
+        return None;
     };
-    let value = forced_value(value).ok_or(JsonFault::Shape)?;
-    Ok(NamedCommand::Force {
-        name: name(alloc, called)?,
-        value,
-    })
+    let value = forced_value(value)?;
+    let name = called.as_str()?;
+    Some((name, value))
 }
 
 /// A truth value for a bit, a number for a word.

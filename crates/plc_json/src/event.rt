@@ -1,8 +1,10 @@
 //! The events of a schedule.
 
-ghost use Rattle.std.specs.Prelude.{◌≡◌};
+ghost use Rattle.std.specs.Prelude.{◌≡◌, Some, None, IfOk, IfErr, map};
 ghost use Rattle.serde_json.specs.View.{view};
-ghost use Rattle.plc_json.specs.Events.{number_at, numbered_event, keyed_event, restart_event, keeps_new, store_fail_event};
+ghost use Rattle.plc_json.specs.Commands.{number_at, all_of};
+ghost use Rattle.plc_json.specs.Events.{HasSchedule, HasNoSchedule, event_of, event_by, submit_event, scheduled, numbered_event, keyed_event, restart_event, keeps_new, store_fail_event};
+ghost use Rattle.plc_json.specs.declared.command.JsonFault.TheVariants.{Shape};
 
 use crate::command::{JsonFault, NamedCommand, command, only_member};
 use serde_json::Value as Json;
@@ -28,20 +30,41 @@ pub enum NamedEvent {
 /// Every event is judged before any is given, as `commands` judges commands; numbers of clients, replicas, messages and nonces
 /// are those of 64 bits. `Shape` is the answer where the text is no JSON (RFC 8259), or no array of events of the shapes that this crate gives.
 /// `Memory` comes where memory ran out.
-pub fn schedule(alloc: Global, text: &[u8]) -> Result<Vec<NamedEvent>, JsonFault> {
+pub fn schedule(alloc: Global, text: &[u8]) -> Result<Vec<NamedEvent>, JsonFault>
+    ensures found { IfOk result (λ v. HasSchedule text.now v.items) }
+    ensures refused { IfErr result (λ e. e ≡ Shape → HasNoSchedule text.now) }
+{
     let json = Json::from_slice(alloc, text)?;
     let items = json.as_array().ok_or(JsonFault::Shape)?;
+    each_event(alloc, items.as_slice())
+}
+
+fn each_event(alloc: Global, items: &[Json]) -> Result<Vec<NamedEvent>, JsonFault>
+    ensures found { IfOk result (λ v. all_of event_of (map view items.now) ≡ Some (map scheduled v.items)) }
+    ensures refused { IfErr result (λ e. e ≡ Shape → all_of event_of (map view items.now) ≡ None) }
+{
     let mut events = Vec::new(alloc);
-    for item in items {
-        events.push(event(alloc, item)?)?;
+    for json in items {
+        let next = event(alloc, json)?;
+        events.push(next)?;
     }
     Ok(events)
 }
 
 /// One event: an object with one member, whose key is the event's name.
-fn event(alloc: Global, json: &Json) -> Result<NamedEvent, JsonFault> {
+fn event(alloc: Global, json: &Json) -> Result<NamedEvent, JsonFault>
+    ensures found { IfOk result (λ e. event_of (view json.now) ≡ Some (scheduled e)) }
+    ensures refused { IfErr result (λ e. e ≡ Shape → event_of (view json.now) ≡ None) }
+{
     let members = json.as_object().ok_or(JsonFault::Shape)?;
     let (key, argument) = only_member(members).ok_or(JsonFault::Shape)?;
+    event_by(alloc, key, argument)
+}
+
+fn event_by(alloc: Global, key: &str, argument: &Json) -> Result<NamedEvent, JsonFault>
+    ensures found { IfOk result (λ e. event_by (key.now, view argument.now) ≡ Some (scheduled e)) }
+    ensures refused { IfErr result (λ e. e ≡ Shape → event_by (key.now, view argument.now) ≡ None) }
+{
     match key {
         "submit" => submit(alloc, argument),
         _ => Ok(keyed(key, argument).ok_or(JsonFault::Shape)?),
@@ -74,14 +97,16 @@ fn numbered(key: &str, number: u64) -> Option<NamedEvent>
     }
 }
 
-fn submit(alloc: Global, argument: &Json) -> Result<NamedEvent, JsonFault> {
+fn submit(alloc: Global, argument: &Json) -> Result<NamedEvent, JsonFault>
+    ensures found { IfOk result (λ e. submit_event (view argument.now) ≡ Some (scheduled e)) }
+    ensures refused { IfErr result (λ e. e ≡ Shape → submit_event (view argument.now) ≡ None) }
+{
     let [client, asked] = argument.as_array().ok_or(JsonFault::Shape)?.as_slice() else {
         return Err(JsonFault::Shape);
     };
-    Ok(NamedEvent::Submit {
-        client: number(client).ok_or(JsonFault::Shape)?,
-        command: command(alloc, asked)?,
-    })
+    let client = number(client).ok_or(JsonFault::Shape)?;
+    let command = command(alloc, asked)?;
+    Ok(NamedEvent::Submit { client, command })
 }
 
 fn restart(argument: &Json) -> Option<NamedEvent>

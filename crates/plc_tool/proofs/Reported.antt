@@ -1,5 +1,5 @@
 -- What a report owes, once its line was put, and where there is none.
-use Rattle.std.proofs.Common.{◌≡◌, inl, inr, ℕ, List, [], Result, Ok, Err, ap, sym, ◌∙◌, arith}
+use Rattle.std.proofs.Common.{◌≡◌, ◌⊎◌, inl, inr, ℕ, List, [], Result, Ok, Err, ap, sym, ◌∙◌, arith}
 use Rattle.std.specs.Prelude.{OnOk, IfErr}
 use Rattle.il_model.specs.Text.{Text}
 use Rattle.il_model.specs.declared.counted.CountedWrite.{Ghosts as CountedWriter}
@@ -12,7 +12,7 @@ use Rattle.plc_tool.specs.declared.fault.Fault.{Fault}
 use Rattle.plc_tool.specs.declared.fault.Fault.TheVariants as faults
 use Rattle.plc_tool.specs.Meaning.{IsTypedProgramOfText}
 use Rattle.plc_tool.specs.Putting.{Puts}
-use Rattle.plc_tool.specs.Simulated.{AreKnown, IsSimulated, IsToldOf, IsWhyUnknown, IsWhyNoReport, IsRefusedInput, report_line}
+use Rattle.plc_tool.specs.Simulated.{AreKnown, IsSimulated, IsReportCutShort, IsToldOf, IsWhyUnknown, IsWhyNoReport, IsRefusedInput, report_line}
 use Rattle.plc_tool.specs.Status.{status_of}
 
 -- want of memory is no refusal
@@ -36,6 +36,13 @@ module _ {W : Type 0} (w : CountedWriter W) (trace : Trace) (old new : W) where
       record { program = Q; is = is; events = events; known = known; trace = trace; traced = traced; none_lost = none; written = h.sent }
   is_simulated text f budget Q named events is known traced none (Err e) h = tt
 
+  pub is_cut_short : (text : List ℕ) (f budget : ℕ) (Q : Text) (named : List NamedEvent) (events : List WorldEvent) → IsTypedProgramOfText text Q → AreKnown Q named events
+      → IsTraced f (answer_to Q budget) events trace → trace.lost.items ≡ [] → (r : Result (Unit {0}) Fault) → Puts w (report_line trace) old new r
+      → IfErr r (λ e. IsReportCutShort text f budget named (w.held old) (w.held new) ⊎ new ≡ old)
+  is_cut_short text f budget Q named events is known traced none (Ok x) h = tt
+  is_cut_short text f budget Q named events is known traced none (Err e) h =
+      inl (record { program = Q; is = is; events = events; known = known; trace = trace; traced = traced; none_lost = none; written = h.sent })
+
   -- a line that wasn't put whole is no refusal
   pub not_refused : (text : List ℕ) (f budget : ℕ) (named : List NamedEvent) (r : Result (Unit {0}) Fault) → Puts w (report_line trace) old new r
       → IfErr r (λ e. status_of e ≡ 1 → IsToldOf text f budget named e × new ≡ old)
@@ -53,3 +60,9 @@ refused_input text f budget named old new (Err e) status one none told h =
     let input : status_of e ≡ 1 = sym told ∙ one in
     let both = h input in
     (record { fault = e; input = input; is = both.0 }, both.1)
+
+-- a status of 2 is that of a fault
+pub cut_report : {W : Type 0} (w : CountedWriter W) (text : List ℕ) (f budget : ℕ) (named : List NamedEvent) (old new : W) (r : Result (Unit {0}) Fault) (status : ℕ) → status ≡ 2 → OnOk r (status ≡ 0)
+    → IfErr r (λ e. IsReportCutShort text f budget named (w.held old) (w.held new) ⊎ new ≡ old) → IsReportCutShort text f budget named (w.held old) (w.held new) ⊎ new ≡ old
+cut_report w text f budget named old new (Ok x) status two none h = absurd (omega arith)
+cut_report w text f budget named old new (Err e) status two none h = h

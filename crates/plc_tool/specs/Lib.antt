@@ -4,5 +4,6 @@ pub mod Named
 pub mod Putting
 pub mod Status
 pub mod Told
+pub mod Telling
 pub mod Reports
 pub mod Simulated

@@ -6,7 +6,8 @@ use Rattle.il_model.specs.Counted.{Failed}
 use Rattle.il_model.specs.declared.command.Answer.{Answer}
 use Rattle.plc_json.specs.declared.command.NamedCommand.{NamedCommand}
 use Rattle.plc_tool.specs.Lines.{lines_of}
-use Rattle.plc_tool.specs.Meaning.{IsAnswered}
+use Rattle.plc_json.specs.Commands.{HasNoCommands}
+use Rattle.plc_tool.specs.Meaning.{IsAnswered, Tells, program_of_text}
 use Rattle.plc_tool.specs.declared.fault.Fault.{Fault}
 use Rattle.plc_tool.specs.declared.fault.Fault.TheVariants as faults
 
@@ -31,3 +32,7 @@ pub record IsRunCutShort {W : Type 0} (w : CountedWriter W) (text : List ℕ) (b
 -- why a call stopped: the writer failed in it, or memory ran out
 abbrev pub IsWhyStopped : Fault → ℕ → ℕ → Type 0
 IsWhyStopped fault before after = ((fault ≡ faults.Device) × Failed before after) ⊎ (fault ≡ faults.Memory)
+
+-- why a run is refused: by the first fault of its text; else the bytes of a file are no list of commands
+abbrev pub IsFaultOfRun : List ℕ → List ℕ → Fault → Type 0
+IsFaultOfRun text file fault = Tells fault (program_of_text text) ⊎ ((fault ≡ faults.Commands) × HasNoCommands file)

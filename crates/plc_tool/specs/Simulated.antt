@@ -1,5 +1,5 @@
 -- What a schedule means to the program of a text, and the report that is written of it.
-use Rattle.std.specs.Prelude.{◌≡◌, ◌⊎◌, ℕ, List, [], ◌++◌, map, codes, Option, Some, None, option_map, if◌then◌else◌, Contains}
+use Rattle.std.specs.Prelude.{◌≡◌, ◌⊎◌, ℕ, List, [], ◌++◌, map, take, codes, Option, Some, None, option_map, if◌then◌else◌, Contains}
 use Rattle.std.specs.String.{string_bytes}
 use Rattle.std.specs.Io.KnownBytes.{Appends}
 use Rattle.il_model.specs.Text.{Text}
@@ -17,6 +17,7 @@ use Rattle.plc_json.specs.declared.command.NamedCommand.{NamedCommand}
 use Rattle.plc_json.specs.declared.command.NamedCommand.TheVariants as named
 use Rattle.plc_json.specs.declared.event.NamedEvent.{NamedEvent}
 use Rattle.plc_json.specs.declared.event.NamedEvent.TheVariants as asked
+use Rattle.plc_json.specs.Events.{HasSchedule, HasNoSchedule}
 use Rattle.plc_tool.specs.Meaning.{IsTypedProgramOfText, Tells, program_of_text}
 use Rattle.plc_tool.specs.Reports.{report_text}
 use Rattle.plc_tool.specs.Status.{status_of}
@@ -83,6 +84,17 @@ pub record IsSimulated (text : List ℕ) (f budget : ℕ) (named : List NamedEve
   pub none_lost : trace.lost.items ≡ []
   pub written : Appends old new (report_line trace)
 
+-- a beginning of that report was written, before the writer failed in the call or memory ran out
+pub record IsReportCutShort (text : List ℕ) (f budget : ℕ) (named : List NamedEvent) (old new : Option (List ℕ)) : Type 0 where
+  pub program : Text
+  pub is : IsTypedProgramOfText text program
+  pub events : List WorldEvent
+  pub known : AreKnown program named events
+  pub trace : Trace
+  pub traced : IsTraced f (answer_to program budget) events trace
+  pub none_lost : trace.lost.items ≡ []
+  pub written : (n : ℕ) × Appends old new (take n (report_line trace))
+
 -- an event of the run of these events by the program can't take place
 pub record CantTakePlace (Q : Text) (f budget : ℕ) (named : List NamedEvent) (told : Fault) : Type 0 where
   pub events : List WorldEvent
@@ -104,3 +116,20 @@ pub record IsRefusedInput (text : List ℕ) (f budget : ℕ) (named : List Named
   pub fault : Fault
   pub input : status_of fault ≡ 1
   pub is : IsToldOf text f budget named fault
+
+-- the bytes of a file have these events, and they are refused for the program of a text
+pub record HasRefusedSchedule (text : List ℕ) (f budget : ℕ) (file : List ℕ) : Type 0 where
+  pub named : List NamedEvent
+  pub has : HasSchedule file named
+  pub fault : Fault
+  pub refused : IsScheduleRefused text f budget named fault
+
+-- the bytes of a file have no events, or events that are refused
+abbrev pub IsBadSchedule : List ℕ → ℕ → ℕ → List ℕ → Type 0
+IsBadSchedule text f budget file = HasNoSchedule file ⊎ HasRefusedSchedule text f budget file
+
+-- why a schedule is refused that the bytes of a file are to be: by the first fault of the text; else they are none, or its names or its events are refused
+abbrev pub IsFaultOfSchedule : List ℕ → ℕ → ℕ → List ℕ → Fault → Type 0
+IsFaultOfSchedule text f budget file fault =
+    Tells fault (program_of_text text)
+    ⊎ (((fault ≡ faults.Schedule) × HasNoSchedule file) ⊎ ((named : List NamedEvent) × HasSchedule file named × IsScheduleRefused text f budget named fault))

@@ -16,6 +16,7 @@ status_of (faults.LoadAt number position) = 1
 status_of faults.Commands = 1
 status_of faults.Schedule = 1
 status_of (faults.ScheduleAt index reason) = 1
+status_of faults.Store = 1
 status_of faults.Device = 2
 status_of faults.Memory = 2
 

@@ -1,12 +1,16 @@
 //! The calls of the program, over byte slices and writers, each answering the status.
 
 ghost use Rattle.std.specs.Prelude.{◌≡◌, ◌≤◌, ◌⊎◌, List, IfErr, IsErr, IsOk, OnOk};
-ghost use Rattle.plc_tool.specs.Meaning.{IsAssembled, IsListed, IsRefused, IsFirstFault, image_of_text, program_of_text, program_of_bytes};
+ghost use Rattle.plc_tool.specs.Meaning.{IsAssembled, IsListed, IsCutShort, IsRefused, IsFirstFault, Tells, image_of_text, program_of_text, program_of_bytes};
 ghost use Rattle.plc_json.specs.declared.command.NamedCommand.{NamedCommand};
 ghost use Rattle.plc_json.specs.declared.event.NamedEvent.{NamedEvent};
-ghost use Rattle.plc_tool.specs.Putting.{IsRun, IsRunCutShort};
-ghost use Rattle.plc_tool.specs.Simulated.{IsSimulated, IsRefusedInput};
+ghost use Rattle.plc_json.specs.Commands.{HasCommands, HasNoCommands};
+ghost use Rattle.plc_json.specs.Events.{HasSchedule};
+ghost use Rattle.plc_tool.specs.Putting.{IsRun, IsRunCutShort, IsFaultOfRun};
+ghost use Rattle.plc_tool.specs.Simulated.{IsSimulated, IsReportCutShort, IsRefusedInput, IsBadSchedule, IsToldOf, IsFaultOfSchedule};
 ghost use Rattle.plc_tool.specs.Status.{status_of as status_told};
+ghost use Rattle.plc_tool.specs.Telling.{Ends, EndsTold, WentOut, fault_line};
+ghost use Rattle.plc_tool.specs.declared.fault.Fault as told;
 
 use crate::answering::image;
 use crate::assembly::put_image;
@@ -24,7 +28,7 @@ use vr_model::Config;
 /// Assembles a source and answers the status: the bytes of its image on `image_out`, flushed, and then on `out` one line
 /// that tells how many words the image has, those of arguments too; or one line on `err` for the first fault. Of a source that is
 /// refused nothing is written on `image_out`. `out` is flushed.
-pub fn asm<I: Write, W: Write, E: Write>(
+pub fn asm<I: Write, W: Write, E: CountedWrite>(
     alloc: Global,
     source: &[u8],
     image_out: &mut I,
@@ -35,16 +39,25 @@ pub fn asm<I: Write, W: Write, E: Write>(
     ensures assembled { result ≡ 0 → IsAssembled source.now
         (I.contents image_out.old) (I.contents image_out.new) (W.contents out.old) (W.contents out.new) }
     ensures refused { result ≡ 1 → IsRefused (image_of_text source.now) × (image_out.new ≡ image_out.old) × (out.new ≡ out.old) }
+    ensures told { EndsTold E.CountedWrite (λ fault. Tells fault (image_of_text source.now)) result err.old err.new }
 {
     ended(put_image(alloc, source, image_out, out), err)
 }
 
 /// Lists an image and answers the status: its listing on `out`, or one line on `err` for the first fault. It answers 2 for a device
 /// only where `out` failed in this call; then a beginning of the listing went out. Of bytes that are no image nothing does.
-pub fn list<W: CountedWrite, E: Write>(alloc: Global, image: &[u8], out: &mut W, err: &mut E) -> u8
+pub fn list<W: CountedWrite, E: CountedWrite>(
+    alloc: Global,
+    image: &[u8],
+    out: &mut W,
+    err: &mut E,
+) -> u8
     ensures status { result ≤ 2 }
     ensures listed { result ≡ 0 → IsListed image.now (W.held out.old) (W.held out.new) }
     ensures refused { result ≡ 1 → IsRefused (program_of_bytes image.now) × (out.new ≡ out.old) }
+    // Where nothing was written, memory ran out before the first line.
+    ensures cut { result ≡ 2 → IsCutShort W.CountedWrite image.now out.old out.new ⊎ (out.new ≡ out.old) }
+    ensures told { EndsTold E.CountedWrite (λ fault. Tells fault (program_of_bytes image.now)) result err.old err.new }
 {
     ended(put_listing(alloc, image, out), err)
 }
@@ -52,7 +65,7 @@ pub fn list<W: CountedWrite, E: Write>(alloc: Global, image: &[u8], out: &mut W,
 /// Runs a source over the commands of a text, and answers the status: the line of each answer on `out` before the next command is
 /// applied, or one line on `err` for the first fault. The source is judged first, then the commands, and nothing runs before both
 /// are good. Of input that is refused nothing is written on `out`.
-pub fn run<W: CountedWrite, E: Write>(
+pub fn run<W: CountedWrite, E: CountedWrite>(
     alloc: Global,
     source: &[u8],
     commands: &[u8],
@@ -61,18 +74,24 @@ pub fn run<W: CountedWrite, E: Write>(
     err: &mut E,
 ) -> u8
     ensures status { result ≤ 2 }
-    ensures answered { result ≡ 0 → (named : List NamedCommand) × IsRun source.now budget.instructions named (W.held out.old) (W.held out.new) }
-    ensures refused { result ≡ 1 → out.new ≡ out.old }
+    ensures answered { result ≡ 0 → (named : List NamedCommand) × HasCommands commands.now named
+        × IsRun source.now budget.instructions named (W.held out.old) (W.held out.new) }
+    ensures refused { result ≡ 1 → IsRefused (program_of_text source.now) ⊎ HasNoCommands commands.now }
+    ensures unwritten { result ≡ 1 → out.new ≡ out.old }
+    // Where nothing was written, memory ran out before the first command.
+    ensures cut { result ≡ 2 → ((named : List NamedCommand) × HasCommands commands.now named
+        × IsRunCutShort W.CountedWrite source.now budget.instructions named out.old out.new) ⊎ (out.new ≡ out.old) }
+    ensures told { EndsTold E.CountedWrite (IsFaultOfRun source.now commands.now) result err.old err.new }
 {
     match plc_json::commands(alloc, commands) {
-        Ok(commands) => run_commands(alloc, source, commands.as_slice(), budget, out, err),
+        Ok(named) => run_commands(alloc, source, named.as_slice(), budget, out, err),
         Err(fault) => run_unread(alloc, source, Fault::from(fault), err),
     }
 }
 
 /// Runs a source over commands, each scan within the budget, and answers the status: the line of each answer on `out` before the
 /// next command is applied, or one line on `err` for the first fault. Of a source that is refused nothing is written on `out`.
-pub fn run_commands<W: CountedWrite, E: Write>(
+pub fn run_commands<W: CountedWrite, E: CountedWrite>(
     alloc: Global,
     source: &[u8],
     commands: &[NamedCommand],
@@ -85,13 +104,16 @@ pub fn run_commands<W: CountedWrite, E: Write>(
     ensures refused { result ≡ 1 → IsRefused (program_of_text source.now) × (out.new ≡ out.old) }
     // Where nothing was written, memory ran out before the first command.
     ensures cut { result ≡ 2 → IsRunCutShort W.CountedWrite source.now budget.instructions commands.now out.old out.new ⊎ (out.new ≡ out.old) }
+    ensures told { EndsTold E.CountedWrite (λ fault. Tells fault (program_of_text source.now)) result err.old err.new }
 {
     ended(put_run(alloc, source, budget, commands, out), err)
 }
 
 /// As `run` or `sim` where the other file couldn't be read, by this fault: a source that is refused is still answered before it.
-pub fn run_unread<E: Write>(alloc: Global, source: &[u8], fault: Fault, err: &mut E) -> u8
-    ensures { (result ≡ 1) ⊎ (result ≡ 2) }
+pub fn run_unread<E: CountedWrite>(alloc: Global, source: &[u8], fault: Fault, err: &mut E) -> u8
+    ensures status { (result ≡ 1) ⊎ (result ≡ 2) }
+    ensures refused { result ≡ 1 → IsRefused (program_of_text source.now) ⊎ (status_told fault ≡ 1) }
+    ensures told { (first : told.Fault) × IsFirstFault (program_of_text source.now) fault first × (result ≡ status_told first) × WentOut E.CountedWrite (fault_line first) err.old err.new }
 {
     tell(first_fault(alloc, source, fault), err)
 }
@@ -99,7 +121,7 @@ pub fn run_unread<E: Write>(alloc: Global, source: &[u8], fault: Fault, err: &mu
 /// Runs a schedule over a group of replicas of a source, each scan within the budget, and answers the status: its report, one line
 /// on `out`, or one line on `err` for the first fault. The source is judged first, then the whole schedule with its names, and nothing runs before
 /// both are good. A run in which an event was lost for want of memory has no report, but ends as want of memory does.
-pub fn sim<W: CountedWrite, E: Write>(
+pub fn sim<W: CountedWrite, E: CountedWrite>(
     alloc: Global,
     source: &[u8],
     schedule: &[u8],
@@ -109,8 +131,14 @@ pub fn sim<W: CountedWrite, E: Write>(
     err: &mut E,
 ) -> u8
     ensures status { result ≤ 2 }
-    ensures simulated { result ≡ 0 → (named : List NamedEvent) × IsSimulated source.now config.now.f budget.instructions named (W.held out.old) (W.held out.new) }
-    ensures refused { result ≡ 1 → out.new ≡ out.old }
+    ensures simulated { result ≡ 0 → (named : List NamedEvent) × HasSchedule schedule.now named
+        × IsSimulated source.now config.now.f budget.instructions named (W.held out.old) (W.held out.new) }
+    ensures refused { result ≡ 1 → IsRefused (program_of_text source.now) ⊎ IsBadSchedule source.now config.now.f budget.instructions schedule.now }
+    ensures unwritten { result ≡ 1 → out.new ≡ out.old }
+    // Where nothing was written, memory ran out before there was a report.
+    ensures cut { result ≡ 2 → ((named : List NamedEvent) × HasSchedule schedule.now named
+        × IsReportCutShort source.now config.now.f budget.instructions named (W.held out.old) (W.held out.new)) ⊎ (out.new ≡ out.old) }
+    ensures told { EndsTold E.CountedWrite (IsFaultOfSchedule source.now config.now.f budget.instructions schedule.now) result err.old err.new }
 {
     match plc_json::schedule(alloc, schedule) {
         Ok(named) => sim_events(alloc, source, named.as_slice(), config, budget, out, err),
@@ -120,7 +148,7 @@ pub fn sim<W: CountedWrite, E: Write>(
 }
 
 /// As `sim`, of events that were read: a source or a schedule that is refused is told by its first fault, and nothing is written on `out`.
-pub fn sim_events<W: CountedWrite, E: Write>(
+pub fn sim_events<W: CountedWrite, E: CountedWrite>(
     alloc: Global,
     source: &[u8],
     named: &[NamedEvent],
@@ -132,6 +160,8 @@ pub fn sim_events<W: CountedWrite, E: Write>(
     ensures status { result ≤ 2 }
     ensures simulated { result ≡ 0 → IsSimulated source.now config.now.f budget.instructions named.now (W.held out.old) (W.held out.new) }
     ensures refused { result ≡ 1 → IsRefusedInput source.now config.now.f budget.instructions named.now × (out.new ≡ out.old) }
+    ensures cut { result ≡ 2 → IsReportCutShort source.now config.now.f budget.instructions named.now (W.held out.old) (W.held out.new) ⊎ (out.new ≡ out.old) }
+    ensures told { EndsTold E.CountedWrite (IsToldOf source.now config.now.f budget.instructions named.now) result err.old err.new }
 {
     ended(put_report(alloc, source, named, config, budget, out), err)
 }
@@ -147,12 +177,13 @@ fn first_fault(alloc: Global, source: &[u8], fault: Fault) -> Fault
 }
 
 /// The status of what was done, its fault told.
-fn ended<E: Write>(done: Result<(), Fault>, err: &mut E) -> u8
+pub fn ended<E: CountedWrite>(done: Result<(), Fault>, err: &mut E) -> u8
     ensures status { result ≤ 2 }
     ensures good { result ≡ 0 → IsOk done }
     ensures told { IfErr done (λ e. result ≡ status_told e) }
     ensures faulty { result ≡ 1 → IsErr done }
     ensures done { OnOk done (result ≡ 0) }
+    ensures ends { Ends E.CountedWrite done result err.old err.new }
 {
     match done {
         Ok(()) => 0,

@@ -8,60 +8,51 @@ use il_model::DeviceFault;
 use plc_json::JsonFault;
 use std::alloc::{AllocError, AllocFailed};
 use std::io;
-use thiserror::Error;
 
-/// A fault of a call; its `Display` is the line for standard error. Lines, columns and a fault's number are from 1, an
+/// A fault of a call. Lines, columns and a fault's number are from 1, an
 /// instruction and a position from 0.
-#[derive(Clone, Copy, Debug, PartialEq, Eq, Error)]
+#[derive(Clone, Copy, Debug, PartialEq, Eq)]
 pub enum Fault {
     /// The text is no source.
-    #[error("plc: read {number} at {line}:{column}")]
     Read {
         number: u8,
         line: usize,
         column: usize,
     },
     /// The source declares no program.
-    #[error("plc: decl {number} at {line}:{column}")]
     Declaration {
         number: u8,
         line: usize,
         column: usize,
     },
     /// The program has no image.
-    #[error("plc: asm {number} at {instruction}")]
     Assembly {
         number: u8,
         instruction: usize,
     },
     /// The bytes are no image.
-    #[error("plc: load {number}")]
     Load {
         number: u8,
     },
     /// The bytes are no image, by what stands at a position.
-    #[error("plc: load {number} at {position}")]
     LoadAt {
         number: u8,
         position: usize,
     },
     /// The text is no list of commands.
-    #[error("plc: commands")]
     Commands,
     /// The text is no schedule, or has a name that is none of the program.
-    #[error("plc: schedule")]
     Schedule,
     /// An event of the schedule can't take place, by its number from 0 and the lowest reason.
-    #[error("plc: schedule {index} {reason}")]
     ScheduleAt {
         index: usize,
         reason: u8,
     },
+    /// The directory of stores holds the file of a replica.
+    Store,
     /// A file or a stream failed.
-    #[error("plc: device")]
     Device,
     /// Memory ran out.
-    #[error("plc: memory")]
     Memory,
 }
 

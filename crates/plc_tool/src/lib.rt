@@ -16,8 +16,8 @@ mod running;
 mod simulating;
 mod telling;
 
-pub use answering::{answers, image_bytes};
-pub use calls::{asm, list, run, run_commands, run_unread, sim, sim_events};
+pub use answering::{answers, image, image_bytes};
+pub use calls::{asm, ended, list, run, run_commands, run_unread, sim, sim_events};
 pub use fault::Fault;
 pub use line::AnswerLine;
 pub use report::ReportLine;

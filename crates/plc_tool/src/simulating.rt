@@ -1,10 +1,10 @@
 //! The run of a schedule, and its report.
 
-ghost use Rattle.std.specs.Prelude.{◌≡◌, [], IfOk, IfErr, OnOk, string_bytes};
+ghost use Rattle.std.specs.Prelude.{◌≡◌, ◌⊎◌, [], IfOk, IfErr, OnOk, string_bytes};
 ghost use Rattle.vr_core.specs.Answers.{answer_to};
 ghost use Rattle.schedules.specs.Traces.{IsTraced};
 ghost use Rattle.plc_tool.specs.Putting.{Puts};
-ghost use Rattle.plc_tool.specs.Simulated.{IsSimulated, IsWhyNoReport, IsToldOf, report_line};
+ghost use Rattle.plc_tool.specs.Simulated.{IsSimulated, IsReportCutShort, IsWhyNoReport, IsToldOf, report_line};
 ghost use Rattle.plc_tool.specs.Status.{status_of};
 
 use crate::answering::image;
@@ -72,6 +72,7 @@ fn put_trace<W: CountedWrite>(alloc: Global, trace: &Trace, out: &mut W) -> Resu
 
 /// Writes the report of named events that replicas of a text's program run, each scan within the budget. The text is judged first,
 /// then the names of all events, and nothing runs before both are good. Of input that is refused it tells the first fault and writes nothing.
+/// Where the writer fails or memory runs out, a beginning of the report's line went out.
 pub fn put_report<W: CountedWrite>(
     alloc: Global,
     text: &[u8],
@@ -81,6 +82,7 @@ pub fn put_report<W: CountedWrite>(
     out: &mut W,
 ) -> Result<(), Fault>
     ensures simulated { OnOk result (IsSimulated text.now config.now.f budget.instructions named.now (W.held out.old) (W.held out.new)) }
+    ensures cut { IfErr result (λ _. IsReportCutShort text.now config.now.f budget.instructions named.now (W.held out.old) (W.held out.new) ⊎ (out.new ≡ out.old)) }
     ensures refused { IfErr result (λ e. status_of e ≡ 1 → IsToldOf text.now config.now.f budget.instructions named.now e × (out.new ≡ out.old)) }
 {
     let image = image(alloc, text)?;

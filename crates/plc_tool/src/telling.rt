@@ -1,9 +1,13 @@
 //! What is told where there is no answer.
 
-ghost use Rattle.std.specs.Prelude.{◌≡◌};
-ghost use Rattle.plc_tool.specs.Status.{status_of, IsStatusOfWords};
+ghost use Rattle.std.specs.Prelude.{◌≡◌, OnOk};
+ghost use Rattle.std.specs.Io.KnownBytes.{Appends};
+ghost use Rattle.plc_tool.specs.Status.{status_of};
+ghost use Rattle.plc_tool.specs.Telling.{Sends, WentOut, IsToldOfWords, numbered, pair_text, placed_text, fault_line};
 
 use crate::fault::Fault;
+use il_model::{CountedWrite, DeviceFault, write_all};
+use itoa::Buffer;
 use plc_words::WordsError;
 use std::io;
 use std::io::Write;
@@ -11,19 +15,103 @@ use std::io::Write;
 /// The status of words that are no call of the program.
 const BAD_WORDS: u8 = 3;
 
-/// Tells a fault by its line, and answers its status.
-pub fn tell<E: Write>(fault: Fault, err: &mut E) -> u8
-    ensures { result ≡ status_of fault }
+fn put<E: CountedWrite>(err: &mut E, text: &[u8]) -> Result<(), DeviceFault>
+    ensures { Sends E.CountedWrite text.now err.old err.new result }
+{
+    write_all(err, text)
+}
+
+/// A number behind a text.
+fn put_numbered<E: CountedWrite>(err: &mut E, text: &[u8], number: usize) -> Result<(), DeviceFault>
+    ensures { Sends E.CountedWrite (numbered text.now number) err.old err.new result }
+{
+    let mut buffer = Buffer::new();
+    put(err, text)?;
+    put(err, buffer.format(number).as_bytes())
+}
+
+/// Two numbers behind their texts, as those of a fault and of its place.
+fn put_pair<E: CountedWrite>(
+    err: &mut E,
+    text: &[u8],
+    number: usize,
+    between: &[u8],
+    other: usize,
+) -> Result<(), DeviceFault>
+    ensures { Sends E.CountedWrite (pair_text text.now number between.now other) err.old err.new result }
+{
+    put_numbered(err, text, number)?;
+    put_numbered(err, between, other)?;
+    put(err, b"\n")
+}
+
+/// The number of a fault, and its line and column.
+fn put_placed<E: CountedWrite>(
+    err: &mut E,
+    text: &[u8],
+    number: u8,
+    line: usize,
+    column: usize,
+) -> Result<(), DeviceFault>
+    ensures { Sends E.CountedWrite (placed_text text.now number line column) err.old err.new result }
+{
+    put_numbered(err, text, usize::from(number))?;
+    put_numbered(err, b" at ", line)?;
+    put_numbered(err, b":", column)?;
+    put(err, b"\n")
+}
+
+/// The line of a fault.
+fn put_fault<E: CountedWrite>(fault: Fault, err: &mut E) -> Result<(), DeviceFault>
+    ensures { Sends E.CountedWrite (fault_line fault) err.old err.new result }
+{
+    match fault {
+        Fault::Read {
+            number,
+            line,
+            column,
+        } => put_placed(err, b"plc: read ", number, line, column),
+        Fault::Declaration {
+            number,
+            line,
+            column,
+        } => put_placed(err, b"plc: decl ", number, line, column),
+        Fault::Assembly {
+            number,
+            instruction,
+        } => put_pair(err, b"plc: asm ", usize::from(number), b" at ", instruction),
+        Fault::Load { number } => {
+            put_numbered(err, b"plc: load ", usize::from(number))?;
+            put(err, b"\n")
+        }
+        Fault::LoadAt { number, position } => {
+            put_pair(err, b"plc: load ", usize::from(number), b" at ", position)
+        }
+        Fault::Commands => put(err, b"plc: commands\n"),
+        Fault::Schedule => put(err, b"plc: schedule\n"),
+        Fault::ScheduleAt { index, reason } => {
+            put_pair(err, b"plc: schedule ", index, b" ", usize::from(reason))
+        }
+        Fault::Store => put(err, b"plc: store\n"),
+        Fault::Device => put(err, b"plc: device\n"),
+        Fault::Memory => put(err, b"plc: memory\n"),
+    }
+}
+
+/// Tells a fault by its line, and answers its status. It takes no memory.
+pub fn tell<E: CountedWrite>(fault: Fault, err: &mut E) -> u8
+    ensures status { result ≡ status_of fault }
+    ensures line { WentOut E.CountedWrite (fault_line fault) err.old err.new }
 {
     // Where standard error fails too, the status is all that is left.
-    let _ = writeln!(err, "{fault}");
+    let _ = put_fault(fault, err);
     fault.status()
 }
 
 /// Tells why words ask for no work, and answers the status: 0 where help or the version was shown, 3 where the words are
 /// bad, and that of the fault where the stream failed or memory ran out.
-pub fn tell_words<W: Write, E: Write>(error: &WordsError, out: &mut W, err: &mut E) -> u8
-    ensures { IsStatusOfWords error.now result }
+pub fn tell_words<W: Write, E: CountedWrite>(error: &WordsError, out: &mut W, err: &mut E) -> u8
+    ensures { IsToldOfWords E.CountedWrite error.now result (W.contents out.old) (W.contents out.new) err.old err.new }
 {
     match error {
         WordsError::Shown(text) => match shown(text.as_str(), out) {
@@ -31,18 +119,20 @@ pub fn tell_words<W: Write, E: Write>(error: &WordsError, out: &mut W, err: &mut
             Err(error) => tell(Fault::from(error), err),
         },
         WordsError::Bad(text) => {
-            let _ = err.write_all(text.as_str().as_bytes());
+            let _ = put(err, text.as_str().as_bytes());
             BAD_WORDS
         }
         WordsError::NotText => {
-            let _ = writeln!(err, "error: {error}");
+            let _ = put(err, b"error: a word is no text in UTF-8\n");
             BAD_WORDS
         }
         WordsError::Memory => tell(Fault::Memory, err),
     }
 }
 
-fn shown<W: Write>(text: &str, out: &mut W) -> io::Result<()> {
+fn shown<W: Write>(text: &str, out: &mut W) -> io::Result<()>
+    ensures { OnOk result (Appends (W.contents out.old) (W.contents out.new) text.now) }
+{
     out.write_all(text.as_bytes())?;
     out.flush()
 }

@@ -2,6 +2,7 @@
 
 ghost use Rattle.std.specs.Prelude.{◌≡◌, ◌<◌, ◌==◌, ◌&&◌, true, not, nat_lt};
 ghost use Rattle.vr_model.specs.Groups.{group_size};
+ghost use Rattle.vr_model.specs.Protocols.{NormalCase, ViewChange, Recovery, protocol_of};
 ghost use Rattle.vr_model.specs.Rules as rules;
 ghost use Rattle.vr_model.specs.StandsFor.{body_of, party_of};
 ghost use Rattle.vr_core.specs.Follows.{Tells, DoesIfKept};
@@ -68,6 +69,34 @@ fn from_replica(core: &mut Core, alloc: Global, sender: u8, body: Body) -> Resul
     ensures { DoesIfKept core.old (λ w r. rules.from_replica w.f w.number w.answer r sender (body_of body)) core.new result }
 {
     match body {
+        Body::Request(_)
+        | Body::Prepare { .. }
+        | Body::PrepareOk { .. }
+        | Body::Commit { .. }
+        | Body::Reply { .. } => in_normal_case(core, alloc, sender, body),
+        Body::StartViewChange { .. } | Body::DoViewChange { .. } | Body::StartView { .. } => {
+            in_view_change(core, alloc, sender, body)
+        }
+        Body::Recovery { .. }
+        | Body::RecoveryResponse { .. }
+        | Body::GetState { .. }
+        | Body::NewState { .. } => in_recovery(core, alloc, sender, body),
+    }
+}
+
+/// A message of the normal case.
+fn in_normal_case(
+    core: &mut Core,
+    alloc: Global,
+    sender: u8,
+    body: Body,
+) -> Result<Sends, AllocError>
+    requires member { sender < group_size core.old.config.f }
+    requires other { sender ≡ core.old.number → ⊥ }
+    requires part { protocol_of body ≡ NormalCase }
+    ensures { DoesIfKept core.old (λ w r. rules.from_replica w.f w.number w.answer r sender (body_of body)) core.new result }
+{
+    match body {
         Body::Request(_) | Body::Reply { .. } => Ok(Vec::new(alloc)),
         Body::Prepare {
             view,
@@ -80,6 +109,23 @@ fn from_replica(core: &mut Core, alloc: Global, sender: u8, body: Body) -> Resul
             view,
             commit_number,
         } => on_commit(core, alloc, view, commit_number),
+        _ => unreachable!(),
+    }
+}
+
+/// A message of a view change.
+fn in_view_change(
+    core: &mut Core,
+    alloc: Global,
+    sender: u8,
+    body: Body,
+) -> Result<Sends, AllocError>
+    requires member { sender < group_size core.old.config.f }
+    requires other { sender ≡ core.old.number → ⊥ }
+    requires part { protocol_of body ≡ ViewChange }
+    ensures { DoesIfKept core.old (λ w r. rules.from_replica w.f w.number w.answer r sender (body_of body)) core.new result }
+{
+    match body {
         Body::StartViewChange { view } => on_start_view_change(core, alloc, sender, view),
         Body::DoViewChange {
             view,
@@ -100,6 +146,18 @@ fn from_replica(core: &mut Core, alloc: Global, sender: u8, body: Body) -> Resul
             commit_number,
             log,
         } => on_start_view(core, alloc, view, commit_number, log),
+        _ => unreachable!(),
+    }
+}
+
+/// A message of recovery or of state transfer.
+fn in_recovery(core: &mut Core, alloc: Global, sender: u8, body: Body) -> Result<Sends, AllocError>
+    requires member { sender < group_size core.old.config.f }
+    requires other { sender ≡ core.old.number → ⊥ }
+    requires part { protocol_of body ≡ Recovery }
+    ensures { DoesIfKept core.old (λ w r. rules.from_replica w.f w.number w.answer r sender (body_of body)) core.new result }
+{
+    match body {
         Body::Recovery { nonce, stored_view } => on_recovery(
             core,
             alloc,
@@ -117,5 +175,6 @@ fn from_replica(core: &mut Core, alloc: Global, sender: u8, body: Body) -> Resul
             commit_number,
             log,
         } => on_new_state(core, alloc, view, op_number, commit_number, log),
+        _ => unreachable!(),
     }
 }

@@ -13,5 +13,6 @@ pub mod Steps
 pub mod Stores
 pub mod Interleaving
 pub mod StandsFor
+pub mod Protocols
 pub mod BestLog
 pub mod Membership

@@ -128,6 +128,7 @@ impl PrimaryState {
 
 impl Body {
     ghost use Rattle.std.specs.Prelude.{◌≡◌, IfOk};
+    ghost use Rattle.vr_model.specs.Protocols.{NormalCase, ViewChange, Recovery, protocol_of};
     ghost use Rattle.vr_model.specs.StandsFor.{body_of};
 
     /// An equal one. It fails only where memory runs out.
@@ -135,38 +136,69 @@ impl Body {
         ensures { IfOk result (λ body. body_of body ≡ body_of self.now) }
     {
         match self {
-            Body::Request(request) => Ok(Body::Request(*request)),
+            Body::Request(_)
+            | Body::Prepare { .. }
+            | Body::PrepareOk { .. }
+            | Body::Commit { .. }
+            | Body::Reply { .. } => Ok(self.copy_in_normal_case()),
+            Body::StartViewChange { .. } | Body::DoViewChange { .. } | Body::StartView { .. } => {
+                self.copy_in_view_change(alloc)
+            }
+            Body::Recovery { .. }
+            | Body::RecoveryResponse { .. }
+            | Body::GetState { .. }
+            | Body::NewState { .. } => self.copy_in_recovery(alloc),
+        }
+    }
+
+    /// An equal message of the normal case.
+    fn copy_in_normal_case(&self) -> Body
+        requires { protocol_of self.now ≡ NormalCase }
+        ensures { body_of result ≡ body_of self.now }
+    {
+        match self {
+            Body::Request(request) => Body::Request(*request),
             Body::Prepare {
                 view,
                 request,
                 op_number,
                 commit_number,
-            } => Ok(Body::Prepare {
+            } => Body::Prepare {
                 view: *view,
                 request: *request,
                 op_number: *op_number,
                 commit_number: *commit_number,
-            }),
-            Body::PrepareOk { view, op_number } => Ok(Body::PrepareOk {
+            },
+            Body::PrepareOk { view, op_number } => Body::PrepareOk {
                 view: *view,
                 op_number: *op_number,
-            }),
+            },
             Body::Commit {
                 view,
                 commit_number,
-            } => Ok(Body::Commit {
+            } => Body::Commit {
                 view: *view,
                 commit_number: *commit_number,
-            }),
+            },
             Body::Reply {
                 view,
                 number,
                 answer,
-            } => Ok(Body::Reply {
+            } => Body::Reply {
                 view: *view,
                 number: *number,
                 answer: *answer,
-            }),
+            },
+            _ => unreachable!(),
+        }
+    }
+
+    /// An equal message of a view change.
+    fn copy_in_view_change(&self, alloc: Global) -> Result<Body, AllocError>
+        requires { protocol_of self.now ≡ ViewChange }
+        ensures { IfOk result (λ body. body_of body ≡ body_of self.now) }
+    {
+        match self {
             Body::StartViewChange { view } => Ok(Body::StartViewChange { view: *view }),
             Body::DoViewChange {
                 view,
@@ -188,6 +220,16 @@ impl Body {
                 commit_number: *commit_number,
                 log: Vec::from_slice(alloc, log.as_slice())?,
             }),
+            _ => unreachable!(),
+        }
+    }
+
+    /// An equal message of recovery or of state transfer.
+    fn copy_in_recovery(&self, alloc: Global) -> Result<Body, AllocError>
+        requires { protocol_of self.now ≡ Recovery }
+        ensures { IfOk result (λ body. body_of body ≡ body_of self.now) }
+    {
+        match self {
             Body::Recovery { nonce, stored_view } => Ok(Body::Recovery {
                 nonce: *nonce,
                 stored_view: *stored_view,
@@ -215,6 +257,7 @@ impl Body {
                 commit_number: *commit_number,
                 log: Vec::from_slice(alloc, log.as_slice())?,
             }),
+            _ => unreachable!(),
         }
     }
 }

@@ -32,6 +32,18 @@ where
     }
 }
 
+/// Wants a run to end with these words.
+fn comes_to<B: FunctionBlock + Drop>(
+    rt: &impl Abort,
+    calls: &[(B::In, u64, B::Out)],
+    words: [u64; 4],
+)
+where
+    B::Out: PartialEq + Debug + Drop,
+{
+    assert_eq!(rt; run::<B>(rt, calls), words);
+}
+
 /// The words of the block that is restored from these.
 fn restored<B: FunctionBlock + Drop>(words: [u64; 4]) -> Option<[u64; 4]> {
     let block = B::restore(words)?;
@@ -89,420 +101,372 @@ fn timed(q: bool, et: i32) -> TimerOut {
 /// CTU, PV 2: CV 0 1 1 1 2, Q with the last alone.
 #[test]
 fn ctu_counts_rising_edges(rt: HostRuntime) {
-    assert_eq!(rt;
-        run::<Ctu>(
-            &rt,
-            &[
-                (up(false, false, 2), 0, count(false, 0)),
-                (up(true, false, 2), 0, count(false, 1)),
-                (up(true, false, 2), 0, count(false, 1)),
-                (up(false, false, 2), 0, count(false, 1)),
-                (up(true, false, 2), 0, count(true, 2)),
-            ]
-        ),
-        [7, 0x200000002, 0, 0]
+    comes_to::<Ctu>(
+        &rt,
+        &[
+            (up(false, false, 2), 0, count(false, 0)),
+            (up(true, false, 2), 0, count(false, 1)),
+            (up(true, false, 2), 0, count(false, 1)),
+            (up(false, false, 2), 0, count(false, 1)),
+            (up(true, false, 2), 0, count(true, 2)),
+        ],
+        [7, 0x200000002, 0, 0],
     );
 }
 
 /// CTD, PV 2: CV 2 1 1 0, Q with the last alone.
 #[test]
 fn ctd_counts_down(rt: HostRuntime) {
-    assert_eq!(rt;
-        run::<Ctd>(
-            &rt,
-            &[
-                (down(false, true, 2), 0, count(false, 2)),
-                (down(true, false, 2), 0, count(false, 1)),
-                (down(false, false, 2), 0, count(false, 1)),
-                (down(true, false, 2), 0, count(true, 0)),
-            ]
-        ),
-        [7, 0x200000000, 0, 0]
+    comes_to::<Ctd>(
+        &rt,
+        &[
+            (down(false, true, 2), 0, count(false, 2)),
+            (down(true, false, 2), 0, count(false, 1)),
+            (down(false, false, 2), 0, count(false, 1)),
+            (down(true, false, 2), 0, count(true, 0)),
+        ],
+        [7, 0x200000000, 0, 0],
     );
 }
 
 /// F_TRIG finds one at a first call with CLK FALSE.
 #[test]
 fn edges_are_found(rt: HostRuntime) {
-    assert_eq!(rt;
-        run::<FTrig>(
-            &rt,
-            &[
-                (clock(false), 0, edge(true)),
-                (clock(false), 0, edge(false)),
-            ]
-        ),
-        [5, 0, 0, 0]
+    comes_to::<FTrig>(
+        &rt,
+        &[
+            (clock(false), 0, edge(true)),
+            (clock(false), 0, edge(false)),
+        ],
+        [5, 0, 0, 0],
     );
-    assert_eq!(rt;
-        run::<FTrig>(
-            &rt,
-            &[
-                (clock(true), 0, edge(false)),
-                (clock(false), 0, edge(true)),
-                (clock(false), 0, edge(false)),
-                (clock(true), 0, edge(false)),
-            ]
-        ),
-        [1, 0, 0, 0]
+    comes_to::<FTrig>(
+        &rt,
+        &[
+            (clock(true), 0, edge(false)),
+            (clock(false), 0, edge(true)),
+            (clock(false), 0, edge(false)),
+            (clock(true), 0, edge(false)),
+        ],
+        [1, 0, 0, 0],
     );
-    assert_eq!(rt;
-        run::<RTrig>(
-            &rt,
-            &[
-                (clock(false), 0, edge(false)),
-                (clock(true), 0, edge(true)),
-                (clock(true), 0, edge(false)),
-                (clock(false), 0, edge(false)),
-            ]
-        ),
-        [1, 0, 0, 0]
+    comes_to::<RTrig>(
+        &rt,
+        &[
+            (clock(false), 0, edge(false)),
+            (clock(true), 0, edge(true)),
+            (clock(true), 0, edge(false)),
+            (clock(false), 0, edge(false)),
+        ],
+        [1, 0, 0, 0],
     );
-    assert_eq!(rt;
-        run::<RTrig>(
-            &rt,
-            &[(clock(true), 0, edge(true)), (clock(true), 0, edge(false)),]
-        ),
-        [5, 0, 0, 0]
+    comes_to::<RTrig>(
+        &rt,
+        &[(clock(true), 0, edge(true)), (clock(true), 0, edge(false))],
+        [5, 0, 0, 0],
     );
 }
 
 /// S1 wins in SR, R1 wins in RS, and Q1 stays where neither is TRUE.
 #[test]
 fn bistables_keep(rt: HostRuntime) {
-    assert_eq!(rt;
-        run::<Sr>(
-            &rt,
-            &[
-                (sr(true, true), 0, q1(true)),
-                (sr(false, false), 0, q1(true)),
-                (sr(false, true), 0, q1(false)),
-                (sr(false, false), 0, q1(false)),
-                (sr(true, false), 0, q1(true)),
-            ]
-        ),
-        [3, 0, 0, 0]
+    comes_to::<Sr>(
+        &rt,
+        &[
+            (sr(true, true), 0, q1(true)),
+            (sr(false, false), 0, q1(true)),
+            (sr(false, true), 0, q1(false)),
+            (sr(false, false), 0, q1(false)),
+            (sr(true, false), 0, q1(true)),
+        ],
+        [3, 0, 0, 0],
     );
-    assert_eq!(rt;
-        run::<Rs>(
-            &rt,
-            &[
-                (rs(true, true), 0, q1(false)),
-                (rs(true, false), 0, q1(true)),
-                (rs(false, false), 0, q1(true)),
-                (rs(false, true), 0, q1(false)),
-                (rs(true, false), 0, q1(true)),
-                (rs(true, true), 0, q1(false)),
-            ]
-        ),
-        [1, 0, 0, 0]
+    comes_to::<Rs>(
+        &rt,
+        &[
+            (rs(true, true), 0, q1(false)),
+            (rs(true, false), 0, q1(true)),
+            (rs(false, false), 0, q1(true)),
+            (rs(false, true), 0, q1(false)),
+            (rs(true, false), 0, q1(true)),
+            (rs(true, true), 0, q1(false)),
+        ],
+        [1, 0, 0, 0],
     );
 }
 
 /// TOF, PT 100: Q T T T F, ET 0 0 50 100.
 #[test]
 fn tof_delays_the_fall(rt: HostRuntime) {
-    assert_eq!(rt;
-        run::<Tof>(
-            &rt,
-            &[
-                (input(true, 100), 0, timed(true, 0)),
-                (input(false, 100), 10, timed(true, 0)),
-                (input(false, 100), 60, timed(true, 50)),
-                (input(false, 100), 110, timed(false, 100)),
-            ]
-        ),
-        [9, 0x6400000064, 0xa, 0]
+    comes_to::<Tof>(
+        &rt,
+        &[
+            (input(true, 100), 0, timed(true, 0)),
+            (input(false, 100), 10, timed(true, 0)),
+            (input(false, 100), 60, timed(true, 50)),
+            (input(false, 100), 110, timed(false, 100)),
+        ],
+        [9, 0x6400000064, 0xa, 0],
     );
 }
 
 /// TP, PT 100: Q T T T F, ET 0 50 60 0; then an edge within a pulse, and one as its time is over.
 #[test]
 fn tp_gives_a_pulse(rt: HostRuntime) {
-    assert_eq!(rt;
-        run::<Tp>(
-            &rt,
-            &[
-                (input(true, 100), 0, timed(true, 0)),
-                (input(false, 100), 50, timed(true, 50)),
-                (input(true, 100), 60, timed(true, 60)),
-                (input(false, 100), 120, timed(false, 0)),
-            ]
-        ),
-        [1, 0x6400000000, 0, 0]
+    comes_to::<Tp>(
+        &rt,
+        &[
+            (input(true, 100), 0, timed(true, 0)),
+            (input(false, 100), 50, timed(true, 50)),
+            (input(true, 100), 60, timed(true, 60)),
+            (input(false, 100), 120, timed(false, 0)),
+        ],
+        [1, 0x6400000000, 0, 0],
     );
-    assert_eq!(rt;
-        run::<Tp>(
-            &rt,
-            &[
-                (input(true, 10), 0, timed(true, 0)),
-                (input(false, 10), 5, timed(true, 5)),
-                (input(true, 10), 10, timed(false, 10)),
-                (input(true, 10), 12, timed(false, 10)),
-                (input(false, 10), 13, timed(false, 0)),
-                (input(true, 10), 13, timed(true, 0)),
-            ]
-        ),
-        [0xf, 0xa00000000, 0xd, 0]
+    comes_to::<Tp>(
+        &rt,
+        &[
+            (input(true, 10), 0, timed(true, 0)),
+            (input(false, 10), 5, timed(true, 5)),
+            (input(true, 10), 10, timed(false, 10)),
+            (input(true, 10), 12, timed(false, 10)),
+            (input(false, 10), 13, timed(false, 0)),
+            (input(true, 10), 13, timed(true, 0)),
+        ],
+        [0xf, 0xa00000000, 0xd, 0],
     );
 }
 
 /// Both edges together count nothing; R wins over LD, and LD over edges; what was the last input is kept whatever wins.
 #[test]
 fn ctud_counts_both_ways(rt: HostRuntime) {
-    assert_eq!(rt;
-        run::<Ctud>(
-            &rt,
-            &[
-                (
-                    both(true, false, false, false, 2),
-                    0,
-                    counts(false, false, 1)
-                ),
-                (both(true, true, false, false, 2), 0, counts(false, true, 0)),
-                (
-                    both(false, false, false, false, 2),
-                    0,
-                    counts(false, true, 0)
-                ),
-                (both(true, true, false, false, 2), 0, counts(false, true, 0)),
-                (both(false, true, false, true, 2), 0, counts(true, false, 2)),
-                (both(true, false, true, true, 2), 0, counts(false, true, 0)),
-                (
-                    both(true, false, false, false, 2),
-                    0,
-                    counts(false, true, 0)
-                ),
-                (
-                    both(false, true, false, false, -2),
-                    0,
-                    counts(true, true, -1)
-                ),
-                (
-                    both(false, true, false, false, 2),
-                    0,
-                    counts(false, true, -1)
-                ),
-            ]
-        ),
-        [0x15, 0x2ffffffff, 0, 0]
+    comes_to::<Ctud>(
+        &rt,
+        &[
+            (
+                both(true, false, false, false, 2),
+                0,
+                counts(false, false, 1),
+            ),
+            (both(true, true, false, false, 2), 0, counts(false, true, 0)),
+            (
+                both(false, false, false, false, 2),
+                0,
+                counts(false, true, 0),
+            ),
+            (both(true, true, false, false, 2), 0, counts(false, true, 0)),
+            (both(false, true, false, true, 2), 0, counts(true, false, 2)),
+            (both(true, false, true, true, 2), 0, counts(false, true, 0)),
+            (
+                both(true, false, false, false, 2),
+                0,
+                counts(false, true, 0),
+            ),
+            (
+                both(false, true, false, false, -2),
+                0,
+                counts(true, true, -1),
+            ),
+            (
+                both(false, true, false, false, 2),
+                0,
+                counts(false, true, -1),
+            ),
+        ],
+        [0x15, 0x2ffffffff, 0, 0],
     );
 }
 
 /// At the ends of INT a counter stays where it is.
 #[test]
 fn ctud_stays_within_int(rt: HostRuntime) {
-    assert_eq!(rt;
-        run::<Ctud>(
-            &rt,
-            &[
-                (
-                    both(false, false, false, true, 32766),
-                    0,
-                    counts(true, false, 32766)
-                ),
-                (
-                    both(true, false, false, false, 32767),
-                    0,
-                    counts(true, false, 32767)
-                ),
-                (
-                    both(false, false, false, false, 32767),
-                    0,
-                    counts(true, false, 32767)
-                ),
-                (
-                    both(true, false, false, false, 32767),
-                    0,
-                    counts(true, false, 32767)
-                ),
-                (
-                    both(false, false, false, true, -32767),
-                    0,
-                    counts(true, true, -32767)
-                ),
-                (
-                    both(false, true, false, false, -32768),
-                    0,
-                    counts(true, true, -32768)
-                ),
-                (
-                    both(false, false, false, false, -32768),
-                    0,
-                    counts(true, true, -32768)
-                ),
-                (
-                    both(false, true, false, false, -32768),
-                    0,
-                    counts(true, true, -32768)
-                ),
-                (
-                    both(true, true, false, false, 0),
-                    0,
-                    counts(false, true, -32767)
-                ),
-            ]
-        ),
-        [0x1d, 0xffff8001, 0, 0]
+    comes_to::<Ctud>(
+        &rt,
+        &[
+            (
+                both(false, false, false, true, 32766),
+                0,
+                counts(true, false, 32766),
+            ),
+            (
+                both(true, false, false, false, 32767),
+                0,
+                counts(true, false, 32767),
+            ),
+            (
+                both(false, false, false, false, 32767),
+                0,
+                counts(true, false, 32767),
+            ),
+            (
+                both(true, false, false, false, 32767),
+                0,
+                counts(true, false, 32767),
+            ),
+            (
+                both(false, false, false, true, -32767),
+                0,
+                counts(true, true, -32767),
+            ),
+            (
+                both(false, true, false, false, -32768),
+                0,
+                counts(true, true, -32768),
+            ),
+            (
+                both(false, false, false, false, -32768),
+                0,
+                counts(true, true, -32768),
+            ),
+            (
+                both(false, true, false, false, -32768),
+                0,
+                counts(true, true, -32768),
+            ),
+            (
+                both(true, true, false, false, 0),
+                0,
+                counts(false, true, -32767),
+            ),
+        ],
+        [0x1d, 0xffff8001, 0, 0],
     );
 }
 
 /// At the lower end of INT a counter that only counts down stays where it is, too.
 #[test]
 fn ctd_stays_within_int(rt: HostRuntime) {
-    assert_eq!(rt;
-        run::<Ctd>(
-            &rt,
-            &[
-                (down(false, true, -32767), 0, count(true, -32767)),
-                (down(true, false, -32768), 0, count(true, -32768)),
-                (down(false, false, 0), 0, count(true, -32768)),
-                (down(true, false, 0), 0, count(true, -32768)),
-            ]
-        ),
-        [7, 0xffff8000, 0, 0]
+    comes_to::<Ctd>(
+        &rt,
+        &[
+            (down(false, true, -32767), 0, count(true, -32767)),
+            (down(true, false, -32768), 0, count(true, -32768)),
+            (down(false, false, 0), 0, count(true, -32768)),
+            (down(true, false, 0), 0, count(true, -32768)),
+        ],
+        [7, 0xffff8000, 0, 0],
     );
 }
 
 /// A timer's start may be the greatest moment, and a preset may end behind it.
 #[test]
 fn timers_at_the_greatest_moment(rt: HostRuntime) {
-    assert_eq!(rt;
-        run::<Ton>(
-            &rt,
-            &[
-                (input(true, 100), LAST - 50, timed(false, 0)),
-                (input(true, 100), LAST, timed(false, 50)),
-                (input(true, i32::MAX), LAST, timed(false, 50)),
-                (input(true, 100), 0, timed(false, 0)),
-                (input(false, 100), LAST, timed(false, 0)),
-                (input(true, 100), LAST, timed(false, 0)),
-                (input(true, 0), LAST, timed(true, 0)),
-            ]
-        ),
-        [0xf, 0, LAST, 0]
+    comes_to::<Ton>(
+        &rt,
+        &[
+            (input(true, 100), LAST - 50, timed(false, 0)),
+            (input(true, 100), LAST, timed(false, 50)),
+            (input(true, i32::MAX), LAST, timed(false, 50)),
+            (input(true, 100), 0, timed(false, 0)),
+            (input(false, 100), LAST, timed(false, 0)),
+            (input(true, 100), LAST, timed(false, 0)),
+            (input(true, 0), LAST, timed(true, 0)),
+        ],
+        [0xf, 0, LAST, 0],
     );
-    assert_eq!(rt;
-        run::<Ton>(
-            &rt,
-            &[
-                (input(true, i32::MAX), 0, timed(false, 0)),
-                (input(true, i32::MAX), 2147483646, timed(false, 2147483646)),
-                (input(true, i32::MAX), LAST, timed(true, i32::MAX)),
-            ]
-        ),
-        [0xf, 0x7fffffff7fffffff, 0, 0]
+    comes_to::<Ton>(
+        &rt,
+        &[
+            (input(true, i32::MAX), 0, timed(false, 0)),
+            (input(true, i32::MAX), 2147483646, timed(false, 2147483646)),
+            (input(true, i32::MAX), LAST, timed(true, i32::MAX)),
+        ],
+        [0xf, 0x7fffffff7fffffff, 0, 0],
     );
-    assert_eq!(rt;
-        run::<Tof>(
-            &rt,
-            &[
-                (input(true, 100), LAST - 100, timed(true, 0)),
-                (input(false, 100), LAST - 50, timed(true, 0)),
-                (input(false, 50), LAST, timed(false, 50)),
-                (input(false, 51), LAST, timed(true, 50)),
-            ]
-        ),
-        [0xb, 0x3300000032, LAST - 50, 0]
+    comes_to::<Tof>(
+        &rt,
+        &[
+            (input(true, 100), LAST - 100, timed(true, 0)),
+            (input(false, 100), LAST - 50, timed(true, 0)),
+            (input(false, 50), LAST, timed(false, 50)),
+            (input(false, 51), LAST, timed(true, 50)),
+        ],
+        [0xb, 0x3300000032, LAST - 50, 0],
     );
-    assert_eq!(rt;
-        run::<Tp>(
-            &rt,
-            &[
-                (input(true, 100), LAST - 50, timed(true, 0)),
-                (input(true, 100), LAST, timed(true, 50)),
-                (input(false, 50), LAST, timed(false, 0)),
-                (input(true, 100), LAST, timed(true, 0)),
-            ]
-        ),
-        [0xf, 0x6400000000, LAST, 0]
+    comes_to::<Tp>(
+        &rt,
+        &[
+            (input(true, 100), LAST - 50, timed(true, 0)),
+            (input(true, 100), LAST, timed(true, 50)),
+            (input(false, 50), LAST, timed(false, 0)),
+            (input(true, 100), LAST, timed(true, 0)),
+        ],
+        [0xf, 0x6400000000, LAST, 0],
     );
 }
 
 /// They are kept as they are.
 #[test]
 fn presets_below_zero_count_as_zero(rt: HostRuntime) {
-    assert_eq!(rt;
-        run::<Ton>(
-            &rt,
-            &[
-                (input(true, -5), 3, timed(true, 0)),
-                (input(true, -5), 9, timed(true, 0)),
-                (input(true, 10), 9, timed(false, 6)),
-                (input(false, i32::MIN), 9, timed(false, 0)),
-            ]
-        ),
-        [1, 0x8000000000000000, 0, 0]
+    comes_to::<Ton>(
+        &rt,
+        &[
+            (input(true, -5), 3, timed(true, 0)),
+            (input(true, -5), 9, timed(true, 0)),
+            (input(true, 10), 9, timed(false, 6)),
+            (input(false, i32::MIN), 9, timed(false, 0)),
+        ],
+        [1, 0x8000000000000000, 0, 0],
     );
-    assert_eq!(rt;
-        run::<Tof>(
-            &rt,
-            &[
-                (input(true, -5), 3, timed(true, 0)),
-                (input(false, -5), 4, timed(false, 0)),
-                (input(false, 20), 9, timed(true, 5)),
-                (input(false, i32::MIN), 9, timed(false, 0)),
-            ]
-        ),
-        [9, 0x8000000000000000, 4, 0]
+    comes_to::<Tof>(
+        &rt,
+        &[
+            (input(true, -5), 3, timed(true, 0)),
+            (input(false, -5), 4, timed(false, 0)),
+            (input(false, 20), 9, timed(true, 5)),
+            (input(false, i32::MIN), 9, timed(false, 0)),
+        ],
+        [9, 0x8000000000000000, 4, 0],
     );
-    assert_eq!(rt;
-        run::<Tp>(
-            &rt,
-            &[
-                (input(true, -5), 3, timed(false, 0)),
-                (input(true, -5), 9, timed(false, 0)),
-                (input(true, 20), 9, timed(true, 6)),
-                (input(false, -5), 9, timed(false, 0)),
-                (input(true, i32::MIN), 9, timed(false, 0)),
-            ]
-        ),
-        [0xd, 0x8000000000000000, 9, 0]
+    comes_to::<Tp>(
+        &rt,
+        &[
+            (input(true, -5), 3, timed(false, 0)),
+            (input(true, -5), 9, timed(false, 0)),
+            (input(true, 20), 9, timed(true, 6)),
+            (input(false, -5), 9, timed(false, 0)),
+            (input(true, i32::MIN), 9, timed(false, 0)),
+        ],
+        [0xd, 0x8000000000000000, 9, 0],
     );
 }
 
 /// A preset counts from the call on that has it; ET is 0 before the start.
 #[test]
 fn presets_change_and_moments_go_back(rt: HostRuntime) {
-    assert_eq!(rt;
-        run::<Ton>(
-            &rt,
-            &[
-                (input(true, 10), 5, timed(false, 0)),
-                (input(true, 10), 2, timed(false, 0)),
-                (input(true, 4), 9, timed(true, 4)),
-                (input(true, 20), 9, timed(false, 4)),
-            ]
-        ),
-        [0xd, 0x1400000004, 5, 0]
+    comes_to::<Ton>(
+        &rt,
+        &[
+            (input(true, 10), 5, timed(false, 0)),
+            (input(true, 10), 2, timed(false, 0)),
+            (input(true, 4), 9, timed(true, 4)),
+            (input(true, 20), 9, timed(false, 4)),
+        ],
+        [0xd, 0x1400000004, 5, 0],
     );
-    assert_eq!(rt;
-        run::<Tof>(
-            &rt,
-            &[
-                (input(true, 10), 5, timed(true, 0)),
-                (input(false, 10), 6, timed(true, 0)),
-                (input(false, 10), 16, timed(false, 10)),
-                (input(false, 20), 17, timed(true, 11)),
-                (input(false, 20), 2, timed(true, 0)),
-            ]
-        ),
-        [0xb, 0x1400000000, 6, 0]
+    comes_to::<Tof>(
+        &rt,
+        &[
+            (input(true, 10), 5, timed(true, 0)),
+            (input(false, 10), 6, timed(true, 0)),
+            (input(false, 10), 16, timed(false, 10)),
+            (input(false, 20), 17, timed(true, 11)),
+            (input(false, 20), 2, timed(true, 0)),
+        ],
+        [0xb, 0x1400000000, 6, 0],
     );
-    assert_eq!(rt;
-        run::<Tp>(
-            &rt,
-            &[
-                (input(true, 10), 5, timed(true, 0)),
-                (input(true, 10), 2, timed(true, 0)),
-                (input(false, 10), 9, timed(true, 4)),
-                (input(true, 10), 15, timed(false, 10)),
-                (input(false, 20), 16, timed(true, 11)),
-                (input(false, 11), 16, timed(false, 0)),
-                (input(true, 11), 16, timed(true, 0)),
-            ]
-        ),
-        [0xf, 0xb00000000, 0x10, 0]
+    comes_to::<Tp>(
+        &rt,
+        &[
+            (input(true, 10), 5, timed(true, 0)),
+            (input(true, 10), 2, timed(true, 0)),
+            (input(false, 10), 9, timed(true, 4)),
+            (input(true, 10), 15, timed(false, 10)),
+            (input(false, 20), 16, timed(true, 11)),
+            (input(false, 11), 16, timed(false, 0)),
+            (input(true, 11), 16, timed(true, 0)),
+        ],
+        [0xf, 0xb00000000, 0x10, 0],
     );
 }
 

@@ -37,7 +37,8 @@ fn asm(alloc: Global, source: &[u8]) -> Vec<u8> {
     let mut image = Vec::new(alloc);
     let mut out = Vec::new(alloc);
     let mut err = Vec::new(alloc);
-    match plc_tool::asm(alloc, source, &mut image, &mut out, &mut err) {
+    let mut told = Counted::new(&mut err);
+    match plc_tool::asm(alloc, source, &mut image, &mut out, &mut told) {
         0 => out,
         _ => err,
     }
@@ -48,7 +49,7 @@ fn list(alloc: Global, image: &[u8]) -> Vec<u8> {
     let mut out = Vec::new(alloc);
     let mut err = Vec::new(alloc);
     let mut counted = Counted::new(&mut out);
-    match plc_tool::list(alloc, image, &mut counted, &mut err) {
+    match plc_tool::list(alloc, image, &mut counted, &mut Counted::new(&mut err)) {
         0 => out,
         _ => err,
     }

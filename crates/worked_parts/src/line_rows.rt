@@ -1,6 +1,6 @@
 //! The lines of answers and of faults.
 
-use il_model::{Answer, Cells, OutImage, Refusal, Stop, Value};
+use il_model::{Answer, Cells, Counted, OutImage, Refusal, Stop, Value};
 use plc_json::JsonFault;
 use plc_tool::{AnswerLine, Fault};
 use std::alloc::{AllocError, Global};
@@ -74,7 +74,10 @@ fn answers_print_their_lines(rt: HostRuntime) -> Result<(), Fail> {
 fn tell(rt: &impl Abort, alloc: Global, rows: &[(Fault, u8, &[u8])]) {
     for (fault, status, line) in rows.iter() {
         let mut err = Vec::new(alloc);
-        assert_eq!(rt; plc_tool::tell(*fault, &mut err), *status);
+        assert_eq!(rt;
+            plc_tool::tell(*fault, &mut Counted::new(&mut err)),
+            *status
+        );
         assert_eq!(rt; err.as_slice(), *line);
     }
 }

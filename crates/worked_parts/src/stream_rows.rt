@@ -58,7 +58,14 @@ fn ran(alloc: Global, out: &mut Narrow) -> Result<(u8, Vec<u8>), Fail> {
     let budget = Budget::new(10_000).ok_or("no budget")?;
     let mut err = Vec::new(alloc);
     let mut counted = Counted::new(out);
-    let status = plc_tool::run(alloc, WIRE, SCAN, budget, &mut counted, &mut err);
+    let status = plc_tool::run(
+        alloc,
+        WIRE,
+        SCAN,
+        budget,
+        &mut counted,
+        &mut Counted::new(&mut err),
+    );
     Ok((status, err))
 }
 
@@ -88,7 +95,13 @@ const COUNTING_LISTING: &[u8] =
 fn assembled<I: Write>(alloc: Global, image: &mut I) -> (u8, Vec<u8>, Vec<u8>) {
     let mut out = Vec::new(alloc);
     let mut err = Vec::new(alloc);
-    let status = plc_tool::asm(alloc, COUNTING, image, &mut out, &mut err);
+    let status = plc_tool::asm(
+        alloc,
+        COUNTING,
+        image,
+        &mut out,
+        &mut Counted::new(&mut err),
+    );
     (status, out, err)
 }
 
@@ -96,7 +109,7 @@ fn assembled<I: Write>(alloc: Global, image: &mut I) -> (u8, Vec<u8>, Vec<u8>) {
 fn listed(alloc: Global, image: &[u8], out: &mut Narrow) -> (u8, Vec<u8>) {
     let mut err = Vec::new(alloc);
     let mut counted = Counted::new(out);
-    let status = plc_tool::list(alloc, image, &mut counted, &mut err);
+    let status = plc_tool::list(alloc, image, &mut counted, &mut Counted::new(&mut err));
     (status, err)
 }
 
@@ -123,7 +136,7 @@ fn an_image_that_cannot_be_written_is_a_device_fault(rt: HostRuntime) {
 /// What a run with this source answers whose commands couldn't be read: its status, and the line of its fault.
 fn unread(alloc: Global, source: &[u8]) -> (u8, Vec<u8>) {
     let mut err = Vec::new(alloc);
-    let status = plc_tool::run_unread(alloc, source, Fault::Device, &mut err);
+    let status = plc_tool::run_unread(alloc, source, Fault::Device, &mut Counted::new(&mut err));
     (status, err)
 }
 

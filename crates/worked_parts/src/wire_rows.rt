@@ -239,8 +239,18 @@ fn frames_of_messages(rt: HostRuntime) -> Result<(), Fail> {
     Ok(())
 }
 
+/// Whether each of the messages comes back.
+fn each_comes_back(alloc: Global, messages: &[Message]) -> Result<bool, WireError> {
+    for message in messages {
+        if !comes_back(alloc, message)? {
+            return Ok(false);
+        }
+    }
+    Ok(true)
+}
+
 #[test]
-fn every_message_comes_back(rt: HostRuntime) -> Result<(), Fail> {
+fn every_message_of_the_normal_case_comes_back(rt: HostRuntime) -> Result<(), Fail> {
     let alloc = rt.alloc();
     let view = 3;
     let op_number = 4;
@@ -255,6 +265,17 @@ fn every_message_comes_back(rt: HostRuntime) -> Result<(), Fail> {
             commit_number
         }),
         between_replicas(Body::PrepareOk { view, op_number }),
+    ]?;
+    assert!(rt; each_comes_back(alloc, messages.as_slice())?);
+    Ok(())
+}
+
+#[test]
+fn every_message_of_a_view_change_comes_back(rt: HostRuntime) -> Result<(), Fail> {
+    let alloc = rt.alloc();
+    let view = 3;
+    let commit_number = 1 << 33;
+    let messages = vec![in alloc;
         between_replicas(Body::StartViewChange { view }),
         between_replicas(Body::DoViewChange {
             view,
@@ -267,6 +288,22 @@ fn every_message_comes_back(rt: HostRuntime) -> Result<(), Fail> {
             commit_number,
             log: a_log(alloc)?
         }),
+    ]?;
+    assert!(rt; each_comes_back(alloc, messages.as_slice())?);
+    Ok(())
+}
+
+#[test]
+fn every_message_of_recovery_comes_back(rt: HostRuntime) -> Result<(), Fail> {
+    let alloc = rt.alloc();
+    let view = 3;
+    let op_number = 4;
+    let commit_number = 1 << 33;
+    let state = PrimaryState {
+        commit_number,
+        log: a_log(alloc)?,
+    };
+    let messages = vec![in alloc;
         between_replicas(Body::Recovery {
             nonce: 7,
             stored_view: u64::MAX
@@ -279,10 +316,7 @@ fn every_message_comes_back(rt: HostRuntime) -> Result<(), Fail> {
         between_replicas(Body::RecoveryResponse {
             view,
             nonce: 7,
-            state: Some(PrimaryState {
-                commit_number,
-                log: a_log(alloc)?
-            })
+            state: Some(state)
         }),
         between_replicas(Body::GetState { view, op_number }),
         between_replicas(Body::NewState {
@@ -291,12 +325,19 @@ fn every_message_comes_back(rt: HostRuntime) -> Result<(), Fail> {
             commit_number,
             log: Vec::new(alloc)
         }),
-        a_reply(Answer::Outputs {
-            count: 1,
-            image: OutImage {
-                cells: some_cells()
-            }
-        })?,
+    ]?;
+    assert!(rt; each_comes_back(alloc, messages.as_slice())?);
+    Ok(())
+}
+
+#[test]
+fn every_reply_comes_back(rt: HostRuntime) -> Result<(), Fail> {
+    let alloc = rt.alloc();
+    let image = OutImage {
+        cells: some_cells(),
+    };
+    let messages = vec![in alloc;
+        a_reply(Answer::Outputs { count: 1, image })?,
         a_reply(Answer::Held(4095))?,
         a_reply(Answer::Stopped {
             stop: Stop::ZeroDivisor,
@@ -308,9 +349,7 @@ fn every_message_comes_back(rt: HostRuntime) -> Result<(), Fail> {
         a_reply(Answer::Done)?,
         a_reply(Answer::Refused(Refusal::NoResult))?,
     ]?;
-    for message in &messages {
-        assert!(rt; comes_back(alloc, message)?);
-    }
+    assert!(rt; each_comes_back(alloc, messages.as_slice())?);
     Ok(())
 }
 

@@ -1,6 +1,6 @@
 //! The words of a call: what they ask for, and what is printed where they ask for nothing.
 
-use il_model::Budget;
+use il_model::{Budget, Counted};
 use plc_words::{Words, WordsError, read_words};
 use std::alloc::{AllocError, Global};
 use std::io;
@@ -54,7 +54,7 @@ fn told(alloc: Global, given: &[&str]) -> Result<(u8, String, String), Fail> {
     let mut err = Vec::new(alloc);
     let status = match read_words(alloc, given) {
         Ok(_) => return Err(Fail::from("they ask for work")),
-        Err(error) => plc_tool::tell_words(&error, &mut out, &mut err),
+        Err(error) => plc_tool::tell_words(&error, &mut out, &mut Counted::new(&mut err)),
     };
     Ok((status, String::from_utf8(out)?, String::from_utf8(err)?))
 }
@@ -174,9 +174,15 @@ fn words_without_text_are_bad(rt: HostRuntime) {
     let mut out = Vec::new(rt.alloc());
     let mut err = Vec::new(rt.alloc());
     let unread = WordsError::from(io::Error::from(io::ErrorKind::InvalidData));
-    assert_eq!(rt; plc_tool::tell_words(&unread, &mut out, &mut err), 3);
+    assert_eq!(rt;
+        plc_tool::tell_words(&unread, &mut out, &mut Counted::new(&mut err)),
+        3
+    );
     let line = b"error: a word is no text in UTF-8\n".as_slice();
     assert_eq!(rt; err.as_slice(), line);
     let memory = WordsError::from(AllocError);
-    assert_eq!(rt; plc_tool::tell_words(&memory, &mut out, &mut err), 2);
+    assert_eq!(rt;
+        plc_tool::tell_words(&memory, &mut out, &mut Counted::new(&mut err)),
+        2
+    );
 }

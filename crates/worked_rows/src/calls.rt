@@ -43,7 +43,7 @@ pub fn ran(alloc: Global, given: &Given) -> Written {
         given.commands.as_slice(),
         given.budget,
         &mut out,
-        &mut written.err,
+        &mut Counted::new(&mut written.err),
     );
     written
 }
@@ -58,7 +58,7 @@ pub fn simulated(alloc: Global, given: &Given) -> Written {
         &given.config,
         given.budget,
         &mut out,
-        &mut written.err,
+        &mut Counted::new(&mut written.err),
     );
     written
 }
@@ -70,7 +70,7 @@ pub fn assembled(alloc: Global, text: &[u8]) -> Written {
         text,
         &mut written.image,
         &mut written.out,
-        &mut written.err,
+        &mut Counted::new(&mut written.err),
     );
     written
 }
@@ -78,6 +78,7 @@ pub fn assembled(alloc: Global, text: &[u8]) -> Written {
 pub fn listed(alloc: Global, image: &[u8]) -> Written {
     let mut written = Written::nothing(alloc);
     let mut out = Counted::new(&mut written.out);
-    written.status = plc_tool::list(alloc, image, &mut out, &mut written.err);
+    let mut err = Counted::new(&mut written.err);
+    written.status = plc_tool::list(alloc, image, &mut out, &mut err);
     written
 }

@@ -1,0 +1,120 @@
+//! The group of replicas, with their stores and links.
+
+ghost use Rattle.std.specs.Prelude.{◌≡◌, IfOk, IfErr, vec_len};
+ghost use Rattle.vr_model.specs.Groups.{group_size};
+ghost use Rattle.plc_tool.specs.Status.{status_of};
+
+use plc_tool::Fault;
+use replicas::{ChannelLink, ClusterError, FileStore, Gate, MachineClock, Seat, Switchboard};
+use std::alloc::{AllocError, Global};
+use std::fs;
+use std::rt::Files;
+use std::sync::{Arc, Wait};
+use std::time::{Clock, Duration};
+use vr_model::{Config, Party};
+
+/// For so many milliseconds a link waits for a message: a clock may be late by that.
+const WAIT: u64 = 50;
+
+/// For so many milliseconds a replica hears nothing of its view before it begins another.
+const TIMEOUT: u64 = 2000;
+
+/// After so many milliseconds a replica sends again what may have been lost.
+const RESEND: u64 = 300;
+
+/// A gate that nobody watches.
+#[derive(Drop)]
+pub(crate) struct OpenGate;
+
+impl Gate for OpenGate {
+    fn before(&mut self, _call: u64) {}
+
+    fn after(&mut self, _call: u64, _normal: bool) {}
+}
+
+/// What a replica of the group is given.
+pub(crate) type GroupSeat<R, S> = Seat<ChannelLink<R>, S, MachineClock<R>, OpenGate>;
+
+/// The stores of a group, in files of a directory: none is opened yet.
+pub fn stores<R: Files + Copy + Drop>(
+    rt: R,
+    alloc: Global,
+    config: Config,
+    directory: &str,
+) -> Result<Vec<FileStore<R>>, AllocError>
+    ensures { IfOk result (λ v. vec_len v ≡ group_size config.f) }
+{
+    let mut stores = Vec::new(alloc);
+    for replica in 0..config.group_size() {
+        stores.push(FileStore::new(rt, alloc, directory, replica)?)?;
+    }
+    Ok(stores)
+}
+
+/// How many replicas of the group have a file in this directory.
+pub(crate) fn file_count<R: Files + Copy + Drop>(
+    rt: R,
+    alloc: Global,
+    config: Config,
+    directory: &str,
+) -> Result<u8, Fault>
+    ensures { IfErr result (λ e. status_of e ≡ 2) }
+{
+    let mut count = 0u8;
+    for replica in 0..config.group_size() {
+        let store = FileStore::new(rt, alloc, directory, replica)?;
+        if fs::exists(&rt, store.path())? {
+            count = count.saturating_add(1);
+        }
+    }
+    Ok(count)
+}
+
+/// The link of a party, by which a receive waits for so many milliseconds at most.
+pub(crate) fn link_of<R: Wait + Clock + Copy + Drop>(
+    rt: R,
+    alloc: Global,
+    board: &Arc<Switchboard>,
+    party: Party,
+    most: u64,
+) -> Result<ChannelLink<R>, AllocError> {
+    let wait = Duration::from_millis(WAIT.min(most));
+    ChannelLink::new(rt, alloc, Arc::try_clone(board)?, party, wait)
+}
+
+/// A seat for each of these stores, of the replica with its number.
+pub(crate) fn seats<R: Wait + Clock + Copy + Drop, S: Drop>(
+    rt: R,
+    alloc: Global,
+    board: &Arc<Switchboard>,
+    stores: Vec<S>,
+) -> Result<Vec<GroupSeat<R, S>>, AllocError>
+    ensures { IfOk result (λ v. vec_len v ≡ vec_len stores) }
+{
+    let mut seats = Vec::new(alloc);
+    for store in stores {
+        let number = u8::try_from(seats.len()).unwrap_or(u8::MAX);
+        let replica = Party::Replica(number);
+        seats.push(Seat {
+            link: link_of(rt, alloc, board, replica, WAIT)?,
+            store,
+            clock: MachineClock::new(
+                rt,
+                Duration::from_millis(TIMEOUT),
+                Duration::from_millis(RESEND),
+            ),
+            gate: OpenGate,
+        })?;
+    }
+    Ok(seats)
+}
+
+/// Why no replica runs, as it is told.
+pub(crate) fn fault_of(error: ClusterError) -> Fault
+    ensures { status_of result ≡ 2 }
+{
+    match error {
+        ClusterError::Memory => Fault::Memory,
+        ClusterError::Thread => Fault::Device,
+    }
+}

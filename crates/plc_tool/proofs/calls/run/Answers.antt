@@ -1,0 +1,23 @@
+use Rattle.std.proofs.Common.{◌≡◌, ◌⊎◌, inl, inr}
+use Rattle.plc_json.specs.Commands.{HasNoCommands}
+use Rattle.plc_tool.specs.declared.fault.Fault.{Fault}
+use Rattle.plc_tool.specs.declared.fault.Fault.TheVariants as faults
+use Rattle.plc_tool.specs.Meaning.{Tells, program_of_text}
+use Rattle.plc_tool.specs.Putting.{IsFaultOfRun}
+use Rattle.plc_tool.proofs.Endings.{wider, first_told, no_commands}
+use Rattle.plc_tool.proofs.calls.run.Goals as goal
+
+pub returns-in-Ok-clause-told : goal.returns-in-Ok-clause-told
+returns-in-Ok-clause-told g c =
+    wider g.E.CountedWrite (λ (fault : Fault). Tells fault (program_of_text c.args.source.now)) _ _ _ (IsFaultOfRun c.args.source.now c.args.commands.now) (λ e told. inl told) c.run_commands.ensures.told
+
+pub returns-in-Err-clause-told : goal.returns-in-Err-clause-told
+returns-in-Err-clause-told g c =
+    let t = c.run_unread.ensures.told in
+    inr (record {
+      fault = t.0;
+      answered = t.2;
+      is = first_told (program_of_text c.args.source.now) (λ (f : Fault). (f ≡ faults.Commands) × HasNoCommands c.args.commands.now) c.from.result t.0 t.1
+          (no_commands c.args.commands.now c.in-Err.fault c.from.result c.from.ensures c.in-Err.ensures.refused);
+      line = t.3;
+    })

@@ -1,0 +1,4 @@
+pub mod Keeping
+pub mod Observed
+pub mod Serving
+pub mod Starting

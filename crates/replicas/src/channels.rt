@@ -1,0 +1,111 @@
+//! Links over channels.
+
+ghost use Rattle.std.specs.Prelude.{None};
+
+use crate::ends::{Input, Link};
+use crossbeam_channel::{Receiver, RecvTimeoutError, Sender, unbounded};
+use std::alloc::{AllocError, Global};
+use std::sync::{Arc, Mutex, Wait};
+use std::time;
+use std::time::Duration;
+use vr_model::{Message, Party};
+
+/// The way in to each party: to the replicas by their numbers, then to the clients by theirs.
+#[derive(Drop)]
+pub struct Switchboard {
+    replicas: usize,
+    ways: Vec<Mutex<Option<Sender<Message>>>>,
+}
+
+impl Switchboard {
+    /// A board for so many replicas and clients, none of which is connected. It fails only where memory runs out.
+    pub fn new(alloc: Global, replicas: u8, clients: u8) -> Result<Switchboard, AllocError> {
+        let mut ways = Vec::new(alloc);
+        for _ in 0..usize::from(replicas) + usize::from(clients) {
+            ways.push(Mutex::new(None))?;
+        }
+        Ok(Switchboard {
+            replicas: usize::from(replicas),
+            ways,
+        })
+    }
+
+    fn way(&self, party: Party) -> Option<&Mutex<Option<Sender<Message>>>> {
+        match party {
+            Party::Replica(number) => self.ways.get(usize::from(number)),
+            Party::Client(client) => self
+                .ways
+                .get(self.replicas.saturating_add(usize::from(client.number))),
+        }
+    }
+
+    /// From now on a party is reached by this sender, or not at all.
+    fn connect<R: Wait>(&self, rt: &R, party: Party, sender: Option<Sender<Message>>) {
+        if let Some(way) = self.way(party) {
+            *way.lock(rt) = sender;
+        }
+    }
+
+    /// Disconnects every party: each link is closed once it gave what was sent before.
+    pub fn close<R: Wait>(&self, rt: &R) {
+        for way in &self.ways {
+            *way.lock(rt) = None;
+        }
+    }
+
+    /// A message to a party that is not connected is lost.
+    fn send<R: Wait>(&self, rt: &R, message: Message) {
+        if let Some(way) = self.way(message.to) {
+            if let Some(sender) = &*way.lock(rt) {
+                let _ = sender.send(rt, message);
+            }
+        }
+    }
+}
+
+/// The link of one party over a board. It tells nothing: no channel says what it delivers.
+#[derive(Drop)]
+pub struct ChannelLink<R: Wait + time::Clock + Drop> {
+    rt: R,
+    board: Arc<Switchboard>,
+    inbox: Receiver<Message>,
+    wait: Duration,
+}
+
+impl<R: Wait + time::Clock + Drop> ChannelLink<R> {
+    /// The link of a party, which is connected from now on. A receive waits for so long. It fails only where memory runs out.
+    pub fn new(
+        rt: R,
+        alloc: Global,
+        board: Arc<Switchboard>,
+        party: Party,
+        wait: Duration,
+    ) -> Result<ChannelLink<R>, AllocError> {
+        let (sender, inbox) = unbounded(alloc)?;
+        board.connect(&rt, party, Some(sender));
+        Ok(ChannelLink {
+            rt,
+            board,
+            inbox,
+            wait,
+        })
+    }
+}
+
+impl<R: Wait + time::Clock + Drop> Link for ChannelLink<R> {
+    ghost inputs = { λ _. None };
+
+    ghost sent = { λ _. None };
+
+    fn recv(&mut self) -> Input {
+        match self.inbox.recv_timeout(&self.rt, self.wait) {
+            Ok(message) => Input::Message(message),
+            Err(RecvTimeoutError::Timeout) => Input::Nothing,
+            Err(RecvTimeoutError::Disconnected) => Input::Closed,
+        }
+    }
+
+    fn send(&mut self, message: Message) {
+        self.board.send(&self.rt, message);
+    }
+}

@@ -1,0 +1,12 @@
+//! Worked rows of replicas that are served, in threads of their own, over channels, and of stores in files: what no contract says of them. The crate has tests
+//! alone, and no crate uses it.
+#![tactic(auto)]
+
+#[cfg(test)]
+mod cluster_rows;
+#[cfg(test)]
+mod serving_rows;
+#[cfg(test)]
+mod shelf;
+#[cfg(test)]
+mod store_rows;
