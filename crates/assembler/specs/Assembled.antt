@@ -4,6 +4,7 @@ use Rattle.il_model.specs.Text.{Text}
 use Rattle.il_model.specs.Typing.{fault_number}
 use Rattle.il_model.specs.Settled.{settled}
 use Rattle.il_model.specs.Image.{spelling}
+use Rattle.il_model.specs.Fits.{IsImage}
 use Rattle.assembler.specs.declared.fault.AsmError.{AsmError}
 use Rattle.assembler.specs.declared.fault.AsmError.TheVariants as errors
 
@@ -15,6 +16,10 @@ Refuses P (errors.Fault f n) = settled P ≡ Err (f, n)
 abbrev pub Assembles : {X : Type 0} → Text → (X → List ℕ) → Result X AsmError → Type 0
 Assembles P view (Ok x) = (Q : Text) × (settled P ≡ Ok Q) × (view x ≡ spelling Q)
 Assembles P view (Err e) = Refuses P e
+
+-- the bytes spell a program that has an image, and so are loaded again
+abbrev pub IsImageBytes : List ℕ → Type 0
+IsImageBytes bytes = (Q : Text) × IsImage Q × (bytes ≡ spelling Q)
 
 abbrev pub error_number : AsmError → ℕ
 error_number (errors.Fault fault instruction) = fault_number fault

@@ -1,6 +1,8 @@
 //! The image of a program.
 
-ghost use Rattle.assembler.specs.Assembled.{Assembles};
+ghost use Rattle.std.specs.Prelude.{IfOk};
+ghost use Rattle.il_model.specs.Declarable.{IsDeclared};
+ghost use Rattle.assembler.specs.Assembled.{Assembles, IsImageBytes};
 ghost use Rattle.assembler.specs.Encoded.{GivesLiterals};
 
 use crate::encode::encode;
@@ -45,7 +47,9 @@ fn literals(alloc: Global, program: &IndexedProgram) -> Result<Vec<Option<Value>
 /// parenthesis, one too many, an unknown label, a bad field, an operand that can't be written, no current result, a type that
 /// doesn't fit), or that memory ran out.
 pub fn assemble(alloc: Global, program: &Program) -> Result<Vec<u8>, AsmError>
-    ensures { Assembles program.now (λ v. v.items) result }
+    ensures exact { Assembles program.now (λ v. v.items) result }
+    // Of a program that a text declares the bytes are an image.
+    ensures image { IsDeclared program.now → IfOk result (λ v. IsImageBytes v.items) }
 {
     let program = IndexedProgram::new(alloc, program)?;
     let literals = literals(alloc, &program)?;

@@ -6,7 +6,7 @@ use Rattle.std.proofs.Math.ListN.{length-map}
 use Rattle.il_model.specs.Names.{is_first_byte, is_name_byte, begins_name, begins_with, is_well_spelled, is_reserved, is_lawful_name}
 use Rattle.il_model.specs.Words.{upper}
 use Rattle.il_reader.specs.Tokens.{is_letter_byte, is_word_byte, is_within}
-use Rattle.il_reader.proofs.WordTexts.{IsWordText, begins_letter}
+use Rattle.il_reader.specs.Words.{IsWordText, begins_letter}
 use Rattle.declarations.specs.Resolution.{capitals}
 
 and_true : (a b : Bool) → (a && b) ≡ true → (a ≡ true) × (b ≡ true)

@@ -51,7 +51,7 @@ use Rattle.il_reader.specs.Tokens.{Token}
 use Rattle.il_reader.specs.Reading.{is_kind}
 use Rattle.il_reader.specs.Grammar.{OperandText, Constant, Direct, Named, Field, ArgumentText, arguments_of, BehindText, Nothing, Given, Target, Opened, Called, OperationText, LineText, Labelled, Plain, NamesText, Located, More, DeclarationText, ProgramText, form_of, closing, operator_of, operator_from}
 use Rattle.il_reader.specs.Spelling.{accepts, accepting, operator_before}
-use Rattle.il_reader.proofs.WordTexts.{IsWordText, IsWordName, AreWordNames, IsWordDeclaration, IsOperation, IsOptionalOperation, IsOperator, AreWords}
+use Rattle.il_reader.specs.Words.{IsWordText, IsWordName, AreWordNames, IsWordDeclaration, IsOperation, IsOptionalOperation, IsOperator, AreWords}
 use Rattle.declarations.specs.declared.fault.DeclKind.TheVariants as kinds
 use Rattle.declarations.specs.declared.fault.Refusal.{Refusal}
 use Rattle.declarations.specs.declared.variables.Plan.{Plan}

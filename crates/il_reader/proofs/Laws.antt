@@ -1,11 +1,11 @@
 -- What is read is spelled so, and what is spelled so is read: once for each way of putting readings together.
 use Rattle.std.proofs.Common.{◌≡◌, ℕ, zero, suc, length, Bool, true, false, not, cond, List, [], ◌∷◌, ◌++◌, Option, Some, None, Result, Ok, Err, refl, sym, ap, subst, ◌∙◌, arith, append_assoc, ◌<◌, ◌+◌, ◌≤◌, ◌⊎◌, inl, inr}
-use Rattle.std.specs.List.{flat_map, AllByRecursion}
+use Rattle.std.specs.List.{flat_map}
 use Rattle.std.proofs.lemmas.List.Concat.{flat_map-cons}
 use Rattle.il_reader.specs.declared.fault.Refusal.{Refusal}
 use Rattle.il_reader.specs.Tokens.{Token}
 use Rattle.il_reader.specs.declared.contents.Operator.{Operator}
-use Rattle.il_reader.specs.Reading.{◌>>=◌, is_kind, first, others, fault_at, skip_breaks, many, no_token, Reading, both, pair, mapped, choice, past, mark, stand, meant, meaning}
+use Rattle.il_reader.specs.Reading.{◌>>=◌, is_kind, first, others, fault_at, skip_breaks, many_within, many, no_token, Reading, both, pair, led, closed, mapped, choice, past, mark, stand, meant, meaning}
 use Rattle.il_reader.specs.declared.lexeme.Kind.TheVariants as kinds
 use Rattle.il_reader.specs.Spelling.{Part, breaks, one, this, operator, ahead, Spell, going}
 
@@ -75,6 +75,35 @@ pair_law {X} {Y} D E s q a b la lb = record {
   again = λ x ts rest d h.
       let parts = Spell-split (s x.0) (q x.1) ts rest h in
       rw (la.again x.0 ts parts.0 d.0 parts.1, lb.again x.1 parts.0 rest d.1 parts.2) refl;
+}
+
+-- a mark says nothing, and so has one spelling
+pub led_law : {X : Type 0} (D : X → Type 0) (q : List Part) (s : X → List Part) (m : Reading (Unit {0})) (a : Reading X)
+    → Law Any (λ u. q) m → Law D s a → Law D (λ x. q ++ s x) (led m a)
+led_law D q s m a lm la = record {
+  takes = λ ts x e.
+      let p = bind_ok (m ts) (λ u. a u.1) x e in
+      let g = la.takes p.0.1 x p.2 in
+      (g.0, Spell-append q (s x.0) ts p.0.1 x.1 (lm.takes ts p.0 p.1).1 g.1);
+  again = λ x ts rest d h.
+      let parts = Spell-split q (s x) ts rest h in
+      rw (lm.again tt ts parts.0 tt parts.1) (la.again x parts.0 rest d parts.2);
+}
+
+pub closed_law : {X : Type 0} (D : X → Type 0) (s : X → List Part) (q : List Part) (a : Reading X) (m : Reading (Unit {0}))
+    → Law D s a → Law Any (λ u. q) m → Law D (λ x. s x ++ q) (closed a m)
+closed_law {X} D s q a m la lm = record {
+  takes = λ ts x e.
+      let p = bind_ok (a ts) (λ y. m y.1 >>= λ u. Ok (y.0, u.1)) x e in
+      let n = bind_ok (m p.0.1) (λ u. Ok (p.0.0, u.1)) x p.2 in
+      let f = la.takes ts p.0 p.1 in
+      let g = lm.takes p.0.1 n.0 n.1 in
+      let made : X × List Token = (p.0.0, n.0.1) in
+      let P : X × List Token → Type 0 = λ y. D y.0 × Spell (s y.0 ++ q) ts y.1 in
+      subst P (ok_is made x n.2) (f.0, Spell-append (s p.0.0) q ts p.0.1 n.0.1 f.1 g.1);
+  again = λ x ts rest d h.
+      let parts = Spell-split (s x) q ts rest h in
+      rw (la.again x ts parts.0 d parts.1, lm.again tt parts.0 rest tt parts.2) refl;
 }
 
 pub mapped_law : {X Y : Type 0} (D : X → Type 0) (E : Y → Type 0) (s : X → List Part) (q : Y → List Part) (f : X → Y) (a : Reading X)
@@ -227,79 +256,6 @@ meaning_law f none = record { takes = takes; again = again }
     again x [] rest d h = absurd h
     again x (t ∷ ts) rest d h = rw (h.0, h.1) refl
 
--- as many as there are
-pub many_law : {X : Type 0} (D : X → Type 0) (s : X → List Part) (stops : List Token → Bool) (item : Reading X) (n : ℕ)
-    → Law D s item → ((x : X) (ts rest : List Token) → D x → Spell (s x) ts rest → stops ts ≡ false)
-    → Law (λ (xs : List X). AllByRecursion D xs × (length xs < n)) (λ xs. flat_map s xs ++ ahead stops ∷ []) (many stops item n)
-unfolding many
-many_law {X} D s stops item n law goes = record { takes = takes n; again = again n }
-  where
-    takes : (n : ℕ) (ts : List Token) (x : List X × List Token) → many stops item n ts ≡ Ok x → (AllByRecursion D x.0 × (length x.0 < n)) × Spell (flat_map s x.0 ++ ahead stops ∷ []) ts x.1
-    takes zero ts x e = absurd cc
-    takes (suc n) ts x e = chosen (stops ts) refl e (takes n)
-      where
-        chosen : (b : Bool) → stops ts ≡ b → cond b (Ok ([], ts)) (item ts >>= λ y. many stops item n y.1 >>= λ ys. Ok (y.0 ∷ ys.0, ys.1)) ≡ Ok x
-            → ((us : List Token) (y : List X × List Token) → many stops item n us ≡ Ok y → (AllByRecursion D y.0 × (length y.0 < n)) × Spell (flat_map s y.0 ++ ahead stops ∷ []) us y.1)
-            → (AllByRecursion D x.0 × (length x.0 < suc n)) × Spell (flat_map s x.0 ++ ahead stops ∷ []) ts x.1
-        chosen true is h more =
-            let P : List X × List Token → Type 0 = λ y. (AllByRecursion D y.0 × (length y.0 < suc n)) × Spell (flat_map s y.0 ++ ahead stops ∷ []) ts y.1 in
-            subst P (ok_is ([], ts) x h) ((tt, omega arith), (is, refl))
-        chosen false is h more =
-            let a = bind_ok (item ts) (λ y. many stops item n y.1 >>= λ ys. Ok (y.0 ∷ ys.0, ys.1)) x h in
-            let b = bind_ok (many stops item n a.0.1) (λ ys. Ok (a.0.0 ∷ ys.0, ys.1)) x a.2 in
-            let tail = more a.0.1 b.0 b.1 in
-            let head = law.takes ts a.0 a.1 in
-            let made : List X × List Token = (a.0.0 ∷ b.0.0, b.0.1) in
-            let P : List X × List Token → Type 0 = λ y. (AllByRecursion D y.0 × (length y.0 < suc n)) × Spell (flat_map s y.0 ++ ahead stops ∷ []) ts y.1 in
-            let whole : Spell (flat_map s (a.0.0 ∷ b.0.0) ++ ahead stops ∷ []) ts b.0.1 = rw (flat_map-cons, append_assoc) (Spell-append (s a.0.0) (flat_map s b.0.0 ++ ahead stops ∷ []) ts a.0.1 b.0.1 head.1 tail.1) in
-            subst P (ok_is made x b.2) (((head.0, tail.0.0), omega (arith, tail.0.1)), whole)
-
-    again : (n : ℕ) (xs : List X) (ts rest : List Token) → AllByRecursion D xs × (length xs < n) → Spell (flat_map s xs ++ ahead stops ∷ []) ts rest → many stops item n ts ≡ Ok (xs, rest)
-    again zero xs ts rest d h = absurd (omega (arith, d.1))
-    again (suc n) [] ts rest d h = rw (h.0, h.1) refl
-    again (suc n) (x ∷ xs) ts rest d h =
-        let parts = Spell-split (s x) (flat_map s xs ++ ahead stops ∷ []) ts rest (rw (flat_map-cons, append_assoc) at h) in
-        let lt : length xs < n = omega (arith, d.1) in
-        rw (goes x ts parts.0 d.0.0 parts.1, law.again x ts parts.0 d.0.0 parts.1, again n xs parts.0 rest (d.0.1, lt) parts.2) refl
-
-flat-step : {X : Type 0} (f : X → List Part) (x : X) (xs : List X) (qs : List Part) → flat_map f (x ∷ xs) ++ qs ≡ f x ++ (flat_map f xs ++ qs)
-flat-step f x xs qs = rw (flat_map-cons, append_assoc) refl
-
--- as many as there are, none of which begins where they stop
-pub until_law : {X : Type 0} (D : X → Type 0) (s : X → List Part) (stops : List Token → Bool) (item : Reading X) (n : ℕ)
-    → Law D s item
-    → Law (λ (xs : List X). AllByRecursion D xs × (length xs < n)) (λ xs. flat_map (going stops s) xs ++ ahead stops ∷ []) (many stops item n)
-unfolding many
-until_law {X} D s stops item n law = record { takes = takes n; again = again n }
-  where
-    takes : (n : ℕ) (ts : List Token) (x : List X × List Token) → many stops item n ts ≡ Ok x → (AllByRecursion D x.0 × (length x.0 < n)) × Spell (flat_map (going stops s) x.0 ++ ahead stops ∷ []) ts x.1
-    takes zero ts x e = absurd cc
-    takes (suc n) ts x e = chosen (stops ts) refl e (takes n)
-      where
-        chosen : (b : Bool) → stops ts ≡ b → cond b (Ok ([], ts)) (item ts >>= λ y. many stops item n y.1 >>= λ ys. Ok (y.0 ∷ ys.0, ys.1)) ≡ Ok x
-            → ((us : List Token) (y : List X × List Token) → many stops item n us ≡ Ok y → (AllByRecursion D y.0 × (length y.0 < n)) × Spell (flat_map (going stops s) y.0 ++ ahead stops ∷ []) us y.1)
-            → (AllByRecursion D x.0 × (length x.0 < suc n)) × Spell (flat_map (going stops s) x.0 ++ ahead stops ∷ []) ts x.1
-        chosen true is h more =
-            let P : List X × List Token → Type 0 = λ y. (AllByRecursion D y.0 × (length y.0 < suc n)) × Spell (flat_map (going stops s) y.0 ++ ahead stops ∷ []) ts y.1 in
-            subst P (ok_is ([], ts) x h) ((tt, omega arith), (is, refl))
-        chosen false is h more =
-            let a = bind_ok (item ts) (λ y. many stops item n y.1 >>= λ ys. Ok (y.0 ∷ ys.0, ys.1)) x h in
-            let b = bind_ok (many stops item n a.0.1) (λ ys. Ok (a.0.0 ∷ ys.0, ys.1)) x a.2 in
-            let tail = more a.0.1 b.0 b.1 in
-            let head = law.takes ts a.0 a.1 in
-            let made : List X × List Token = (a.0.0 ∷ b.0.0, b.0.1) in
-            let P : List X × List Token → Type 0 = λ y. (AllByRecursion D y.0 × (length y.0 < suc n)) × Spell (flat_map (going stops s) y.0 ++ ahead stops ∷ []) ts y.1 in
-            let whole : Spell (flat_map (going stops s) (a.0.0 ∷ b.0.0) ++ ahead stops ∷ []) ts b.0.1 = subst (λ (ps : List Part). Spell ps ts b.0.1) (sym (flat-step (going stops s) a.0.0 b.0.0 (ahead stops ∷ []))) (Spell-append (going stops s a.0.0) (flat_map (going stops s) b.0.0 ++ ahead stops ∷ []) ts a.0.1 b.0.1 (rw is refl, head.1) tail.1) in
-            subst P (ok_is made x b.2) (((head.0, tail.0.0), omega (arith, tail.0.1)), whole)
-
-    again : (n : ℕ) (xs : List X) (ts rest : List Token) → AllByRecursion D xs × (length xs < n) → Spell (flat_map (going stops s) xs ++ ahead stops ∷ []) ts rest → many stops item n ts ≡ Ok (xs, rest)
-    again zero xs ts rest d h = absurd (omega (arith, d.1))
-    again (suc n) [] ts rest d h = rw (h.0, h.1) refl
-    again (suc n) (x ∷ xs) ts rest d h =
-        let parts = Spell-split (going stops s x) (flat_map (going stops s) xs ++ ahead stops ∷ []) ts rest (subst (λ (ps : List Part). Spell ps ts rest) (flat-step (going stops s) x xs (ahead stops ∷ [])) h) in
-        let lt : length xs < n = omega (arith, d.1) in
-        rw (no_front (stops ts) parts.1.0, law.again x ts parts.0 d.0.0 parts.1.1, again n xs parts.0 rest (d.0.1, lt) parts.2) refl
-
 -- how many tokens the parts are
 abbrev pub count : List Part → ℕ
 count [] = 0
@@ -344,8 +300,78 @@ count-length s qs some (x ∷ xs) =
     let e : count (flat_map s (x ∷ xs) ++ qs) ≡ count (s x) + count (flat_map s xs ++ qs) = rw (flat_map-cons, append_assoc) (count-append (s x) (flat_map s xs ++ qs)) in
     omega (arith, e, some x, count-length s qs some xs)
 
-pub all-fit : {X : Type 0} (F : X → Type 0) (s : X → List Part) (qs : List Part) (n : ℕ) → ((x : X) → count (s x) < n → F x) → (xs : List X) → count (flat_map s xs ++ qs) < n → AllByRecursion F xs
-all-fit F s qs n fits [] lt = tt
-all-fit F s qs n fits (x ∷ xs) lt =
-    let e : count (flat_map s (x ∷ xs) ++ qs) ≡ count (s x) + count (flat_map s xs ++ qs) = rw (flat_map-cons, append_assoc) (count-append (s x) (flat_map s xs ++ qs)) in
-    (fits x (omega (arith, e, lt)), all-fit F s qs n fits xs (omega (arith, e, lt)))
+flat-step : {X : Type 0} (f : X → List Part) (x : X) (xs : List X) (qs : List Part) → flat_map f (x ∷ xs) ++ qs ≡ f x ++ (flat_map f xs ++ qs)
+flat-step f x xs qs = rw (flat_map-cons, append_assoc) refl
+
+-- a thing of a list is read where the list doesn't stop, takes a token, and is read again
+record Turn {X : Type 0} (s : X → List Part) (stops : List Token → Bool) (item : Reading X) : Type 0 where
+  takes : (ts : List Token) (x : X × List Token) → stops ts ≡ false → item ts ≡ Ok x → Spell (s x.0) ts x.1
+  again : (x : X) (ts rest : List Token) → Spell (s x) ts rest → (stops ts ≡ false) × (item ts ≡ Ok (x, rest))
+  some : (x : X) → 0 < count (s x)
+
+turns_take : {X : Type 0} (s : X → List Part) (stops : List Token → Bool) (item : Reading X) → Turn s stops item
+    → (n : ℕ) (ts : List Token) (x : List X × List Token) → many_within stops item n ts ≡ Ok x → Spell (flat_map s x.0 ++ ahead stops ∷ []) ts x.1
+unfolding many_within
+turns_take s stops item turn zero ts x e = absurd cc
+turns_take {X} s stops item turn (suc n) ts x e = chosen (stops ts) refl e (turns_take s stops item turn n)
+  where
+    chosen : (b : Bool) → stops ts ≡ b → cond b (Ok ([], ts)) (item ts >>= λ y. many_within stops item n y.1 >>= λ ys. Ok (y.0 ∷ ys.0, ys.1)) ≡ Ok x
+        → ((us : List Token) (y : List X × List Token) → many_within stops item n us ≡ Ok y → Spell (flat_map s y.0 ++ ahead stops ∷ []) us y.1)
+        → Spell (flat_map s x.0 ++ ahead stops ∷ []) ts x.1
+    chosen true is h more =
+        let P : List X × List Token → Type 0 = λ y. Spell (flat_map s y.0 ++ ahead stops ∷ []) ts y.1 in
+        subst P (ok_is ([], ts) x h) (is, refl)
+    chosen false is h more =
+        let a = bind_ok (item ts) (λ y. many_within stops item n y.1 >>= λ ys. Ok (y.0 ∷ ys.0, ys.1)) x h in
+        let b = bind_ok (many_within stops item n a.0.1) (λ ys. Ok (a.0.0 ∷ ys.0, ys.1)) x a.2 in
+        let made : List X × List Token = (a.0.0 ∷ b.0.0, b.0.1) in
+        let P : List X × List Token → Type 0 = λ y. Spell (flat_map s y.0 ++ ahead stops ∷ []) ts y.1 in
+        let head = turn.takes ts a.0 is a.1 in
+        let tail = more a.0.1 b.0 b.1 in
+        let whole : Spell (flat_map s (a.0.0 ∷ b.0.0) ++ ahead stops ∷ []) ts b.0.1 = subst (λ (ps : List Part). Spell ps ts b.0.1) (sym (flat-step s a.0.0 b.0.0 (ahead stops ∷ []))) (Spell-append (s a.0.0) (flat_map s b.0.0 ++ ahead stops ∷ []) ts a.0.1 b.0.1 head tail) in
+        subst P (ok_is made x b.2) whole
+
+turns_again : {X : Type 0} (s : X → List Part) (stops : List Token → Bool) (item : Reading X) → Turn s stops item
+    → (n : ℕ) (xs : List X) (ts rest : List Token) → length xs < n → Spell (flat_map s xs ++ ahead stops ∷ []) ts rest → many_within stops item n ts ≡ Ok (xs, rest)
+unfolding many_within
+turns_again s stops item turn zero xs ts rest lt h = absurd (omega (arith, lt))
+turns_again s stops item turn (suc n) [] ts rest lt h = rw (h.0, h.1) refl
+turns_again s stops item turn (suc n) (x ∷ xs) ts rest lt h =
+    let parts = Spell-split (s x) (flat_map s xs ++ ahead stops ∷ []) ts rest (subst (λ (ps : List Part). Spell ps ts rest) (flat-step s x xs (ahead stops ∷ [])) h) in
+    let one = turn.again x ts parts.0 parts.1 in
+    let less : length xs < n = omega (arith, lt) in
+    rw (one.0, one.1, turns_again s stops item turn n xs parts.0 rest less parts.2) refl
+
+-- as many as there are
+list_law : {X : Type 0} (s : X → List Part) (stops : List Token → Bool) (item : Reading X) → Turn s stops item → Law Any (λ xs. flat_map s xs ++ ahead stops ∷ []) (many stops item)
+unfolding many
+list_law s stops item turn = record {
+  takes = λ ts x e. (tt, turns_take s stops item turn (suc (length ts)) ts x e);
+  again = λ xs ts rest d h.
+      let few : length xs < suc (length ts) = omega (arith, count-length s (ahead stops ∷ []) turn.some xs, Spell-count (flat_map s xs ++ ahead stops ∷ []) ts rest h) in
+      turns_again s stops item turn (suc (length ts)) xs ts rest few h;
+}
+
+-- where none of them can begin where the list stops
+pub many_law : {X : Type 0} (s : X → List Part) (stops : List Token → Bool) (item : Reading X)
+    → Law Any s item → ((x : X) → 0 < count (s x)) → ((x : X) (ts rest : List Token) → Spell (s x) ts rest → stops ts ≡ false)
+    → Law Any (λ xs. flat_map s xs ++ ahead stops ∷ []) (many stops item)
+many_law s stops item law some goes = list_law s stops item (record {
+  takes = λ ts x is e. (law.takes ts x e).1;
+  again = λ x ts rest h. (goes x ts rest h, law.again x ts rest tt h);
+  some = some;
+})
+
+-- where it is said of each that the list doesn't stop
+pub until_law : {X : Type 0} (s : X → List Part) (stops : List Token → Bool) (item : Reading X)
+    → Law Any s item → ((x : X) → 0 < count (s x))
+    → Law Any (λ xs. flat_map (going stops s) xs ++ ahead stops ∷ []) (many stops item)
+until_law s stops item law some = list_law (going stops s) stops item (record {
+  takes = λ ts x is e. (rw is refl, (law.takes ts x e).1);
+  again = λ x ts rest h. (no_front (stops ts) h.0, law.again x ts rest tt h.1);
+  some = some;
+})
+
+-- what takes a token leaves less
+pub law_shrinks : {X : Type 0} (s : X → List Part) (item : Reading X) → Law Any s item → ((x : X) → 0 < count (s x)) → (ts : List Token) (x : X × List Token) → item ts ≡ Ok x → length x.1 < length ts
+law_shrinks s item law some ts x e = omega (arith, Spell-count (s x.0) ts x.1 (law.takes ts x e).1, some x.0)

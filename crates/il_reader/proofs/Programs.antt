@@ -1,6 +1,6 @@
 -- The laws of each part of the grammar.
 use Rattle.std.proofs.Common.{◌≡◌, ℕ, length, ◌<◌, Bool, true, false, cond, eqb, List, [], ◌∷◌, ◌++◌, Option, Some, None, Result, Ok, refl, sym, ap, subst, ◌∙◌, arith, codes, inl, inr, ◌⊎◌, ◌&&◌, ◌||◌}
-use Rattle.std.specs.List.{flat_map, AllByRecursion}
+use Rattle.std.specs.List.{flat_map}
 use Rattle.std.proofs.lemmas.Bool.{eqb-true}
 use Rattle.il_reader.specs.declared.fault.Refusal.{Refusal}
 use Rattle.il_reader.specs.declared.lexeme.Kind.{Kind}
@@ -10,23 +10,25 @@ use Rattle.il_model.specs.declared.program.Side.{Side}
 use Rattle.il_model.specs.declared.program.Side.TheVariants as sides
 use Rattle.il_reader.specs.declared.operations.Form.{Form}
 use Rattle.il_reader.specs.declared.operations.Form.TheVariants as forms
-use Rattle.il_reader.specs.Tokens.{Token}
-use Rattle.il_reader.specs.Reading.{◌>>=◌, Reading, kind_code, is_kind, first, skip_breaks, expect, both, pair, choice, mapped, mark, next_is, is_word_token, next_is_word, keyword}
-use Rattle.il_reader.specs.Grammar.{OperandText, Constant, Direct, Named, Field, ArgumentText, CallText, BehindText, Nothing, Given, Target, Opened, Called, no_dot, a_field, field_at, before_dot, before_no_dot, inner_field_at, named_by, named, next_is_variable, lone_at, inner_operand_at, an_output, an_input, side_at, an_argument, argument_at, ends_arguments, next_argument_at, before_close, together, inside_at, some_middle, no_open, arguments_at, a_call, call_at, OperationText, LineText, Labelled, Plain, NamesText, Located, More, DeclarationText, ProgramText, is_truth, is_variable, is_constant, form_of, operator_of, operator_at, variable_at, constant_at, operand_at, is_line_stop, optional_operand_at, nested_at, either_at, behind_at, operation_at, optional_operation_at, is_label, is_no_label, labelled, labelled_at, plain_at, either_line_at, line_at, ends_lines, ends_named, second, ends_names, name_at, names_at, no_value, initial_at, declared, declaration_at, ends_block, ends_blocks, middle, block_at, named_program, bare_program, at_end, end_at, first_of, finish_at, named_at, bare_at, begins_program, program_at}
+use Rattle.il_reader.specs.Tokens.{Token, goes_on}
+use Rattle.il_reader.specs.Reading.{◌>>=◌, Reading, kind_code, is_kind, no_token, first, skip_breaks, expect, both, pair, choice, mapped, mark, stand, many, closed, next_is, is_word_token, next_is_word, keyword}
+use Rattle.il_reader.specs.Grammar.{OperandText, Constant, Direct, Named, Field, ArgumentText, CallText, BehindText, Nothing, Given, Target, Opened, Called, no_dot, field_at, before_dot, before_no_dot, inner_field_at, named_by, named, next_is_variable, lone_at, inner_operand_at, an_output, an_input, side_at, an_argument, argument_at, ends_arguments, next_argument_at, before_close, together, inside_at, no_open, arguments_at, a_call, call_at, OperationText, LineText, Labelled, Plain, NamesText, Located, More, DeclarationText, ProgramText, is_truth, is_variable, is_constant, form_of, operator_of, operator_at, variable_at, constant_at, operand_at, is_line_stop, optional_operand_at, nested_at, either_at, behind_at, operation_at, optional_operation_at, is_label, is_no_label, labelled, labelled_at, plain_at, either_line_at, line_at, ends_lines, ends_named, ends_names, name_at, names_at, no_value, initial_at, declared, declaration_at, ends_block, ends_blocks, block_at, named_program, bare_program, at_end, end_at, finish_at, named_at, bare_at, begins_program, program_at}
 use Rattle.il_reader.specs.Spelling.{Part, breaks, one, this, operator, ahead, Spell, name, sign, word, spelled_operand, spelled_inner_operand, spelled_side, spelled_argument, spelled_next, spelled_inside, spelled_arguments, spelled_call, spelled_optional, accepts, accepting, spelled_behind, spelled_operation, spelled_optional_operation, spelled_content, spelled_line, spelled_name, is_not_at, spelled_names, spelled_initial, spelled_declaration, spelled_block, is_bare, spelled_bare, spelled_by, spelled_program, listed}
-use Rattle.il_reader.proofs.Laws.{Law, Any, ok_is, bind_ok, many_law, until_law, pair_law, mapped_law, choice_law, told_law, past_law, else_law, no_front, stand_law, token_law, one_law, mark_law, meaning_law}
+use Rattle.il_reader.proofs.Laws.{Law, Any, ok_is, bind_ok, count, law_shrinks, led_law, closed_law, many_law, until_law, pair_law, mapped_law, choice_law, told_law, past_law, else_law, no_front, stand_law, token_law, one_law, mark_law, meaning_law}
 
 -- tokens
 
-expect_law : (k : Kind) → kind_code k < 14 → Law Any (λ t. this (is_kind k) t ∷ []) (expect k)
-unfolding expect
-expect_law k inner = token_law (is_kind k) (other (eqb 14 (kind_code k)) refl)
-  where
-    other : (b : Bool) → eqb 14 (kind_code k) ≡ b → eqb 14 (kind_code k) ≡ false
-    other true e = absurd (omega (arith, eqb-true 14 (kind_code k) e))
-    other false e = e
+-- the end is none of those behind which more follows
+no_end : (k : Kind) → goes_on k ≡ true → is_kind k no_token ≡ false
+no_end kinds.End e = absurd cc
+no_end (kinds.Broken f) e = absurd cc
+no_end k e = refl
 
-mark_expect_law : (k : Kind) → kind_code k < 14 → Law Any (λ (u : Unit {0}). one (is_kind k) ∷ []) (mark (expect k))
+expect_law : (k : Kind) → goes_on k ≡ true → Law Any (λ t. this (is_kind k) t ∷ []) (expect k)
+unfolding expect
+expect_law k inner = token_law (is_kind k) (no_end k inner)
+
+mark_expect_law : (k : Kind) → goes_on k ≡ true → Law Any (λ (u : Unit {0}). one (is_kind k) ∷ []) (mark (expect k))
 unfolding expect
 mark_expect_law k inner = mark_law (is_kind k) (expect_law k inner)
 
@@ -128,15 +130,15 @@ abbrev spelled_inner_field : Option Token → List Part
 spelled_inner_field None = ahead before_no_dot ∷ []
 spelled_inner_field (Some f) = breaks ∷ sign kinds.Dot ∷ breaks ∷ name f ∷ []
 
-from_field : (o : Option Token) → IsSome o → (x : Unit {0} × Token) × (a_field x ≡ o) × (Unit {0} × Unit {0})
-from_field None d = absurd d
-from_field (Some t) d = (both tt t, refl, both tt tt)
+from_some : {X : Type 0} (o : Option X) → IsSome o → (x : X) × (Some x ≡ o) × Unit {0}
+from_some None d = absurd d
+from_some (Some x) d = (x, refl, tt)
 
 field_law : Law Any spelled_field field_at
 unfolding field_at
 field_law = told_law (λ o. IsSome o ⊎ (None ≡ o)) Any spelled_field _
     (choice_law IsSome (λ o. None ≡ o) spelled_field (next_is kinds.Dot) _ _
-    (mapped_law _ IsSome _ spelled_field a_field _ (pair_law Any Any _ _ _ _ (mark_expect_law kinds.Dot (omega arith)) (expect_law kinds.Name (omega arith))) (λ x. refl) (λ x d. tt) from_field)
+    (mapped_law Any IsSome _ spelled_field Some _ (led_law Any _ _ _ _ (mark_expect_law kinds.Dot refl) (expect_law kinds.Name refl)) (λ x. refl) (λ x d. tt) from_some)
     (stand_law spelled_field no_dot None refl)
     begins begins_not)
     (λ x d. tt) (λ o d. some_or_none o)
@@ -153,7 +155,7 @@ inner_field_law : Law Any spelled_inner_field inner_field_at
 unfolding inner_field_at
 inner_field_law = told_law (λ o. IsSome o ⊎ (None ≡ o)) Any spelled_inner_field _
     (choice_law IsSome (λ o. None ≡ o) spelled_inner_field before_dot _ _
-    (mapped_law _ IsSome _ spelled_inner_field a_field _ (pair_law Any Any _ _ _ _ (past_law Any _ _ (mark_expect_law kinds.Dot (omega arith))) (past_law Any _ _ (expect_law kinds.Name (omega arith)))) (λ x. refl) (λ x d. tt) from_field)
+    (mapped_law Any IsSome _ spelled_inner_field Some _ (led_law Any _ _ _ _ (past_law Any _ _ (mark_expect_law kinds.Dot refl)) (past_law Any _ _ (expect_law kinds.Name refl))) (λ x. refl) (λ x d. tt) from_some)
     (stand_law spelled_inner_field before_no_dot None refl)
     begins begins_not)
     (λ x d. tt) (λ o d. some_or_none o)
@@ -190,7 +192,7 @@ spelled_lone x = []
 lone_law : Law IsLone spelled_lone lone_at
 unfolding lone_at
 lone_law = choice_law IsDirect IsConstant spelled_lone (next_is kinds.Address) _ _
-    (mapped_law Any IsDirect _ spelled_lone Direct _ (expect_law kinds.Address (omega arith)) (λ x. refl) (λ x d. tt) a_direct)
+    (mapped_law Any IsDirect _ spelled_lone Direct _ (expect_law kinds.Address refl) (λ x. refl) (λ x d. tt) a_direct)
     (mapped_law Any IsConstant _ spelled_lone Constant _ constant_law (λ x. refl) (λ x d. tt) a_constant)
     begins begins_not
   where
@@ -311,14 +313,10 @@ unfolding optional_operand_at
 optional_operand_law = told_law (λ o. (None ≡ o) ⊎ IsSome o) Any spelled_optional _
     (choice_law (λ o. None ≡ o) IsSome spelled_optional is_line_stop _ _
     (stand_law spelled_optional is_line_stop None refl)
-    (mapped_law Any IsSome spelled_operand spelled_optional Some _ operand_law (λ x. refl) (λ x d. tt) made)
+    (mapped_law Any IsSome spelled_operand spelled_optional Some _ operand_law (λ x. refl) (λ x d. tt) from_some)
     begins begins_not)
     (λ x d. tt) all
   where
-    made : (o : Option OperandText) → IsSome o → (x : OperandText) × (Some x ≡ o) × Unit {0}
-    made None d = absurd d
-    made (Some x) d = (x, refl, tt)
-
     begins : (o : Option OperandText) (ts rest : List Token) → None ≡ o → Spell (spelled_optional o) ts rest → is_line_stop ts ≡ true
     begins None ts rest d h = h.0
     begins (Some x) ts rest d h = absurd cc
@@ -333,7 +331,7 @@ optional_operand_law = told_law (λ o. (None ≡ o) ⊎ IsSome o) Any spelled_op
 
 nested_law : Law Any (λ o. sign kinds.Open ∷ spelled_optional o) nested_at
 unfolding nested_at
-nested_law = mapped_law _ Any _ (λ o. sign kinds.Open ∷ spelled_optional o) second _ (pair_law Any Any _ _ _ _ (mark_expect_law kinds.Open (omega arith)) optional_operand_law) (λ x. refl) (λ x d. tt) (λ o d. (both tt o, refl, (tt, tt)))
+nested_law = led_law Any (sign kinds.Open ∷ []) spelled_optional _ _ (mark_expect_law kinds.Open refl) optional_operand_law
 
 -- calls
 
@@ -349,8 +347,8 @@ side_law : Law Any spelled_side side_at
 unfolding side_at
 side_law = told_law (λ x. IsOutput x ⊎ IsInput x) Any spelled_side _
     (choice_law IsOutput IsInput spelled_side (next_is kinds.Arrow) _ _
-    (mapped_law Any IsOutput _ spelled_side an_output _ (mark_expect_law kinds.Arrow (omega arith)) (λ x. refl) (λ x d. tt) output)
-    (mapped_law Any IsInput _ spelled_side an_input _ (mark_expect_law kinds.Assign (omega arith)) (λ x. refl) (λ x d. tt) input)
+    (mapped_law Any IsOutput _ spelled_side an_output _ (mark_expect_law kinds.Arrow refl) (λ x. refl) (λ x d. tt) output)
+    (mapped_law Any IsInput _ spelled_side an_input _ (mark_expect_law kinds.Assign refl) (λ x. refl) (λ x d. tt) input)
     begins begins_not)
     (λ x d. tt) all
   where
@@ -377,73 +375,68 @@ side_law = told_law (λ x. IsOutput x ⊎ IsInput x) Any spelled_side _
 argument_law : Law Any spelled_argument argument_at
 unfolding argument_at
 argument_law = mapped_law _ Any _ spelled_argument an_argument _
-    (pair_law Any _ _ _ _ _ (past_law Any _ _ (expect_law kinds.Name (omega arith))) (pair_law Any Any _ _ _ _ (past_law Any _ _ side_law) (past_law Any _ _ inner_operand_law)))
+    (pair_law Any _ _ _ _ _ (past_law Any _ _ (expect_law kinds.Name refl)) (pair_law Any Any _ _ _ _ (past_law Any _ _ side_law) (past_law Any _ _ inner_operand_law)))
     (λ x. refl) (λ x d. tt) (λ a d. (both a.field (both a.side a.operand), refl, both tt (both tt tt)))
 
 next_argument_law : Law Any spelled_next next_argument_at
 unfolding next_argument_at
-next_argument_law = mapped_law _ Any _ spelled_next second _
-    (pair_law Any Any _ _ _ _ (past_law Any _ _ (mark_expect_law kinds.Comma (omega arith))) argument_law)
-    (λ x. refl) (λ x d. tt) (λ a d. (both tt a, refl, both tt tt))
+next_argument_law = led_law Any (breaks ∷ sign kinds.Comma ∷ []) spelled_argument _ _ (past_law Any _ _ (mark_expect_law kinds.Comma refl)) argument_law
 
-next_goes : (a : ArgumentText) (ts rest : List Token) → Unit {0} → Spell (spelled_next a) ts rest → ends_arguments ts ≡ false
+next_goes : (a : ArgumentText) (ts rest : List Token) → Spell (spelled_next a) ts rest → ends_arguments ts ≡ false
 unfolding ends_arguments
-next_goes a ts rest d h = rw (front (is_kind kinds.Comma) (spelled_argument a) (skip_breaks ts) rest h) refl
+next_goes a ts rest h = rw (front (is_kind kinds.Comma) (spelled_argument a) (skip_breaks ts) rest h) refl
 
-abbrev FitsMore : ℕ → List ArgumentText → Type 0
-FitsMore n more = AllByRecursion Any more × (length more < n)
+next_counts : (a : ArgumentText) → 0 < count (spelled_next a)
+next_counts a = omega arith
 
-abbrev FitsSome : ℕ → List ArgumentText → Type 0
-FitsSome n [] = ⊥
-FitsSome n (a ∷ more) = FitsMore n more
+abbrev IsEmpty : List ArgumentText → Type 0
+IsEmpty xs = [] ≡ xs
 
-abbrev pub FitsInside : ℕ → List ArgumentText → Type 0
-FitsInside n xs = ([] ≡ xs) ⊎ FitsSome n xs
+abbrev IsSeveral : List ArgumentText → Type 0
+IsSeveral [] = ⊥
+IsSeveral (a ∷ more) = Unit {0}
 
-inside_law : (n : ℕ) → Law (FitsInside n) spelled_inside (inside_at n)
+inside_law : Law Any spelled_inside inside_at
 unfolding inside_at
-inside_law n = choice_law (λ xs. [] ≡ xs) (FitsSome n) spelled_inside before_close _ _
+inside_law = told_law (λ xs. IsEmpty xs ⊎ IsSeveral xs) Any spelled_inside _
+    (choice_law IsEmpty IsSeveral spelled_inside before_close _ _
     (stand_law spelled_inside before_close [] refl)
-    (mapped_law _ (FitsSome n) _ spelled_inside together _
-    (pair_law Any (FitsMore n) _ _ _ _ argument_law (many_law Any spelled_next ends_arguments next_argument_at n next_argument_law next_goes))
-    (λ x. refl) (λ x d. d.1) from)
-    begins begins_not
+    (mapped_law _ IsSeveral _ spelled_inside together _
+    (pair_law Any Any _ _ _ _ argument_law (many_law spelled_next ends_arguments next_argument_at next_argument_law next_counts next_goes))
+    (λ x. refl) (λ x d. tt) from)
+    begins begins_not)
+    (λ x d. tt) all
   where
-    from : (xs : List ArgumentText) → FitsSome n xs → (y : ArgumentText × List ArgumentText) × (together y ≡ xs) × (Unit {0} × FitsMore n y.1)
+    from : (xs : List ArgumentText) → IsSeveral xs → (y : ArgumentText × List ArgumentText) × (together y ≡ xs) × (Unit {0} × Unit {0})
     from [] d = absurd d
-    from (a ∷ more) d = (both a more, refl, both tt d)
+    from (a ∷ more) d = (both a more, refl, both tt tt)
 
-    begins : (xs : List ArgumentText) (ts rest : List Token) → [] ≡ xs → Spell (spelled_inside xs) ts rest → before_close ts ≡ true
+    begins : (xs : List ArgumentText) (ts rest : List Token) → IsEmpty xs → Spell (spelled_inside xs) ts rest → before_close ts ≡ true
     begins [] ts rest d h = h.0
     begins (a ∷ more) ts rest d h = absurd cc
 
-    begins_not : (xs : List ArgumentText) (ts rest : List Token) → FitsSome n xs → Spell (spelled_inside xs) ts rest → before_close ts ≡ false
+    begins_not : (xs : List ArgumentText) (ts rest : List Token) → IsSeveral xs → Spell (spelled_inside xs) ts rest → before_close ts ≡ false
     begins_not [] ts rest d h = absurd d
     begins_not (a ∷ more) ts rest d h =
         let qs = breaks ∷ (spelled_side a.side ++ breaks ∷ spelled_inner_operand a.operand) ++ (flat_map spelled_next more ++ ahead ends_arguments ∷ []) in
         kind_other kinds.Name kinds.Close (first (skip_breaks ts)) (front_this (is_kind kinds.Name) a.field qs (skip_breaks ts) rest h) refl
 
-abbrev FitsGiven : ℕ → Option (List ArgumentText) → Type 0
-FitsGiven n None = ⊥
-FitsGiven n (Some xs) = FitsInside n xs
+    all : (xs : List ArgumentText) → Unit {0} → IsEmpty xs ⊎ IsSeveral xs
+    all [] d = inl refl
+    all (a ∷ more) d = inr tt
 
-abbrev pub FitsArguments : ℕ → Option (List ArgumentText) → Type 0
-FitsArguments n o = FitsGiven n o ⊎ (None ≡ o)
-
-arguments_law : (n : ℕ) → Law (FitsArguments n) spelled_arguments (arguments_at n)
+arguments_law : Law Any spelled_arguments arguments_at
 unfolding arguments_at
-arguments_law n = choice_law (FitsGiven n) (λ o. None ≡ o) spelled_arguments (next_is kinds.Open) _ _
-    (mapped_law _ (FitsGiven n) _ spelled_arguments some_middle _
-    (pair_law Any _ _ _ _ _ (mark_expect_law kinds.Open (omega arith)) (pair_law (FitsInside n) Any _ _ _ _ (inside_law n) (past_law Any _ _ (mark_expect_law kinds.Close (omega arith)))))
-    (λ x. refl) (λ x d. d.1.0) from)
+arguments_law = told_law (λ o. IsSome o ⊎ (None ≡ o)) Any spelled_arguments _
+    (choice_law IsSome (λ o. None ≡ o) spelled_arguments (next_is kinds.Open) _ _
+    (mapped_law Any IsSome _ spelled_arguments Some _
+    (led_law Any _ _ _ _ (mark_expect_law kinds.Open refl) (closed_law Any _ _ _ _ inside_law (past_law Any _ _ (mark_expect_law kinds.Close refl))))
+    (λ x. refl) (λ x d. tt) from_some)
     (stand_law spelled_arguments no_open None refl)
-    begins begins_not
+    begins begins_not)
+    (λ x d. tt) (λ o d. some_or_none o)
   where
-    from : (o : Option (List ArgumentText)) → FitsGiven n o → (x : Unit {0} × (List ArgumentText × Unit {0})) × (some_middle x ≡ o) × (Unit {0} × (FitsInside n x.1.0 × Unit {0}))
-    from None d = absurd d
-    from (Some xs) d = (both tt (both xs tt), refl, both tt (both d tt))
-
-    begins : (o : Option (List ArgumentText)) (ts rest : List Token) → FitsGiven n o → Spell (spelled_arguments o) ts rest → next_is kinds.Open ts ≡ true
+    begins : (o : Option (List ArgumentText)) (ts rest : List Token) → IsSome o → Spell (spelled_arguments o) ts rest → next_is kinds.Open ts ≡ true
     begins None ts rest d h = absurd d
     begins (Some xs) ts rest d h = front (is_kind kinds.Open) (spelled_inside xs ++ breaks ∷ sign kinds.Close ∷ []) ts rest h
 
@@ -451,14 +444,11 @@ arguments_law n = choice_law (FitsGiven n) (λ o. None ≡ o) spelled_arguments 
     begins_not None ts rest d h = no_front (next_is kinds.Open ts) h.0
     begins_not (Some xs) ts rest d h = absurd cc
 
-abbrev pub FitsCall : ℕ → CallText → Type 0
-FitsCall n c = FitsArguments n c.written
-
-call_law : (n : ℕ) → Law (FitsCall n) spelled_call (call_at n)
+call_law : Law Any spelled_call call_at
 unfolding call_at
-call_law n = mapped_law _ (FitsCall n) _ spelled_call a_call _
-    (pair_law Any (FitsArguments n) _ _ _ _ (expect_law kinds.Name (omega arith)) (arguments_law n))
-    (λ x. refl) (λ x d. d.1) (λ c d. (both c.instance c.written, refl, both tt d))
+call_law = mapped_law _ Any _ spelled_call a_call _
+    (pair_law Any Any _ _ _ _ (expect_law kinds.Name refl) arguments_law)
+    (λ x. refl) (λ x d. tt) (λ c d. (both c.instance c.written, refl, both tt tt))
 
 -- behind an operator
 
@@ -535,7 +525,7 @@ either_behind = told_law (λ b. (Accepted forms.Either b × IsOpened b) ⊎ (Acc
     all (Called c) d = absurd cc
 
 label_behind : Law (Accepted forms.Label) spelled_behind (mapped Target (expect kinds.Name))
-label_behind = mapped_law Any (Accepted forms.Label) _ spelled_behind Target _ (expect_law kinds.Name (omega arith)) (λ x. refl) (λ x d. refl) from
+label_behind = mapped_law Any (Accepted forms.Label) _ spelled_behind Target _ (expect_law kinds.Name refl) (λ x. refl) (λ x d. refl) from
   where
     from : (b : BehindText) → Accepted forms.Label b → (x : Token) × (Target x ≡ b) × Unit {0}
     from (Target t) d = (t, refl, tt)
@@ -547,24 +537,15 @@ label_behind = mapped_law Any (Accepted forms.Label) _ spelled_behind Target _ (
 abbrev done : BehindText × List Token → Result (BehindText × List Token) Refusal
 done x = Ok x
 
--- a call has no more arguments than this
-abbrev pub FitsBehind : ℕ → BehindText → Type 0
-FitsBehind n (Called c) = FitsCall n c
-FitsBehind n b = Unit {0}
-
--- an operator of this form takes it, and it fits
-abbrev Behind : ℕ → Form → BehindText → Type 0
-Behind n form b = Accepted form b × FitsBehind n b
-
-call_behind : (n : ℕ) → Law (Behind n forms.Call) spelled_behind (mapped Called (call_at n))
-call_behind n = mapped_law (FitsCall n) (Behind n forms.Call) spelled_call spelled_behind Called _ (call_law n) (λ x. refl) (λ x d. (refl, d)) from
+call_behind : Law (Accepted forms.Call) spelled_behind (mapped Called call_at)
+call_behind = mapped_law Any (Accepted forms.Call) spelled_call spelled_behind Called _ call_law (λ x. refl) (λ x d. refl) from
   where
-    from : (b : BehindText) → Behind n forms.Call b → (c : CallText) × (Called c ≡ b) × FitsCall n c
-    from (Called c) d = (c, refl, d.1)
-    from Nothing d = absurd (false_true d.0)
-    from (Given x) d = absurd (false_true d.0)
-    from (Target t) d = absurd (false_true d.0)
-    from (Opened o) d = absurd (false_true d.0)
+    from : (b : BehindText) → Accepted forms.Call b → (c : CallText) × (Called c ≡ b) × Unit {0}
+    from (Called c) d = (c, refl, tt)
+    from Nothing d = absurd (false_true d)
+    from (Given x) d = absurd (false_true d)
+    from (Target t) d = absurd (false_true d)
+    from (Opened o) d = absurd (false_true d)
 
 nothing_behind : Law (Accepted forms.Nothing) spelled_behind (λ ts. done (Nothing, ts))
 nothing_behind = record { takes = takes; again = again }
@@ -579,33 +560,13 @@ nothing_behind = record { takes = takes; again = again }
     again (Opened o) ts rest d h = absurd cc
     again (Called c) ts rest d h = absurd cc
 
--- what such an operator takes is no call
-without_call : (n : ℕ) (form : Form) (a : Reading BehindText) → ((b : BehindText) → Accepted form b → FitsBehind n b) → Law (Accepted form) spelled_behind a → Law (Behind n form) spelled_behind a
-without_call n form a fits law = told_law (Accepted form) (Behind n form) spelled_behind a law (λ b d. (d, fits b d)) (λ b d. d.0)
-
-behind_law : (n : ℕ) (form : Form) → Law (Behind n form) spelled_behind (behind_at n form)
+behind_law : (form : Form) → Law (Accepted form) spelled_behind (behind_at form)
 unfolding behind_at
-behind_law n forms.Operand = without_call n forms.Operand _ fits operand_behind
-  where
-    fits : (b : BehindText) → Accepted forms.Operand b → FitsBehind n b
-    fits (Called c) d = absurd (false_true d)
-    fits b d = tt
-behind_law n forms.Label = without_call n forms.Label _ fits label_behind
-  where
-    fits : (b : BehindText) → Accepted forms.Label b → FitsBehind n b
-    fits (Called c) d = absurd (false_true d)
-    fits b d = tt
-behind_law n forms.Either = without_call n forms.Either _ fits either_behind
-  where
-    fits : (b : BehindText) → Accepted forms.Either b → FitsBehind n b
-    fits (Called c) d = absurd (false_true d)
-    fits b d = tt
-behind_law n forms.Nothing = without_call n forms.Nothing _ fits nothing_behind
-  where
-    fits : (b : BehindText) → Accepted forms.Nothing b → FitsBehind n b
-    fits (Called c) d = absurd (false_true d)
-    fits b d = tt
-behind_law n forms.Call = call_behind n
+behind_law forms.Operand = operand_behind
+behind_law forms.Label = label_behind
+behind_law forms.Either = either_behind
+behind_law forms.Nothing = nothing_behind
+behind_law forms.Call = call_behind
 
 -- operations
 
@@ -635,12 +596,9 @@ first_operator : (o : OperationText) (ts rest : List Token) → Spell (spelled_o
 first_operator o [] rest h = absurd h
 first_operator o (t ∷ ts) rest h = (accepted_is o.behind (operator_of t) o.operator h.0).0
 
-abbrev pub FitsOperation : ℕ → OperationText → Type 0
-FitsOperation n o = FitsBehind n o.behind
-
-operation_law : (n : ℕ) → Law (FitsOperation n) spelled_operation (operation_at n)
+operation_law : Law Any spelled_operation operation_at
 unfolding operation_at
-operation_law n = record { takes = takes; again = again }
+operation_law = record { takes = takes; again = again }
   where
     joined : (ts us rest : List Token) (x : Operator) (b : BehindText) → Spell (operator operator_of x ∷ []) ts us → accepts (form_of x.mnemonic.op) b ≡ true → Spell (spelled_behind b) us rest → Spell (spelled_operation (made x b)) ts rest
     joined [] us rest x b h is g = absurd h
@@ -648,21 +606,21 @@ operation_law n = record { takes = takes; again = again }
         let here : accepting b (operator_of t) ≡ Some x = rw (h.0, is) refl in
         (here, subst (λ (vs : List Token). Spell (spelled_behind b) vs rest) (sym h.1) g)
 
-    takes : (ts : List Token) (x : OperationText × List Token) → operation_at n ts ≡ Ok x → FitsOperation n x.0 × Spell (spelled_operation x.0) ts x.1
+    takes : (ts : List Token) (x : OperationText × List Token) → operation_at ts ≡ Ok x → Unit {0} × Spell (spelled_operation x.0) ts x.1
     takes ts x e =
-        let a = bind_ok (operator_at ts) (λ o. behind_at n (form_of o.0.mnemonic.op) o.1 >>= λ b. Ok (made o.0 b.0, b.1)) x e in
-        let b = bind_ok (behind_at n (form_of a.0.0.mnemonic.op) a.0.1) (λ b. Ok (made a.0.0 b.0, b.1)) x a.2 in
+        let a = bind_ok (operator_at ts) (λ o. behind_at (form_of o.0.mnemonic.op) o.1 >>= λ b. Ok (made o.0 b.0, b.1)) x e in
+        let b = bind_ok (behind_at (form_of a.0.0.mnemonic.op) a.0.1) (λ b. Ok (made a.0.0 b.0, b.1)) x a.2 in
         let f = operator_law.takes ts a.0 a.1 in
-        let g = (behind_law n (form_of a.0.0.mnemonic.op)).takes a.0.1 b.0 b.1 in
-        let P : OperationText × List Token → Type 0 = λ y. FitsOperation n y.0 × Spell (spelled_operation y.0) ts y.1 in
-        subst P (ok_is (made a.0.0 b.0.0, b.0.1) x b.2) (g.0.1, joined ts a.0.1 b.0.1 a.0.0 b.0.0 f.1 g.0.0 g.1)
+        let g = (behind_law (form_of a.0.0.mnemonic.op)).takes a.0.1 b.0 b.1 in
+        let P : OperationText × List Token → Type 0 = λ y. Unit {0} × Spell (spelled_operation y.0) ts y.1 in
+        subst P (ok_is (made a.0.0 b.0.0, b.0.1) x b.2) (tt, joined ts a.0.1 b.0.1 a.0.0 b.0.0 f.1 g.0 g.1)
 
-    again : (o : OperationText) (ts rest : List Token) → FitsOperation n o → Spell (spelled_operation o) ts rest → operation_at n ts ≡ Ok (o, rest)
+    again : (o : OperationText) (ts rest : List Token) → Unit {0} → Spell (spelled_operation o) ts rest → operation_at ts ≡ Ok (o, rest)
     again o [] rest d h = absurd h
     again o (t ∷ ts) rest d h =
         let p = accepted_is o.behind (operator_of t) o.operator h.0 in
         let f : operator_at (t ∷ ts) ≡ Ok (o.operator, ts) = operator_law.again o.operator (t ∷ ts) ts tt (p.0, refl) in
-        let g = (behind_law n (form_of o.operator.mnemonic.op)).again o.behind ts rest (p.1, d) h.1 in
+        let g = (behind_law (form_of o.operator.mnemonic.op)).again o.behind ts rest p.1 h.1 in
         rw (f, g) refl
 
 -- an operator is no end of a line
@@ -688,58 +646,53 @@ operation_no_stop o ts rest h = operator_no_stop (first ts) o.operator (first_op
 
 -- lines
 
-abbrev FitsSomeOperation : ℕ → Option OperationText → Type 0
-FitsSomeOperation n None = ⊥
-FitsSomeOperation n (Some o) = FitsOperation n o
-
-abbrev pub FitsOptional : ℕ → Option OperationText → Type 0
-FitsOptional n o = (None ≡ o) ⊎ FitsSomeOperation n o
-
-optional_operation_law : (n : ℕ) → Law (FitsOptional n) spelled_optional_operation (optional_operation_at n)
+optional_operation_law : Law Any spelled_optional_operation optional_operation_at
 unfolding optional_operation_at
-optional_operation_law n = choice_law (λ o. None ≡ o) (FitsSomeOperation n) spelled_optional_operation is_line_stop _ _
+optional_operation_law = told_law (λ o. (None ≡ o) ⊎ IsSome o) Any spelled_optional_operation _
+    (choice_law (λ o. None ≡ o) IsSome spelled_optional_operation is_line_stop _ _
     (stand_law spelled_optional_operation is_line_stop None refl)
-    (mapped_law (FitsOperation n) (FitsSomeOperation n) spelled_operation spelled_optional_operation Some _ (operation_law n) (λ x. refl) (λ x d. d) made_some)
-    begins begins_not
+    (mapped_law Any IsSome spelled_operation spelled_optional_operation Some _ operation_law (λ x. refl) (λ x d. tt) from_some)
+    begins begins_not)
+    (λ x d. tt) all
   where
-    made_some : (o : Option OperationText) → FitsSomeOperation n o → (x : OperationText) × (Some x ≡ o) × FitsOperation n x
-    made_some None d = absurd d
-    made_some (Some x) d = (x, refl, d)
-
     begins : (o : Option OperationText) (ts rest : List Token) → None ≡ o → Spell (spelled_optional_operation o) ts rest → is_line_stop ts ≡ true
     begins None ts rest d h = h.0
     begins (Some x) ts rest d h = absurd cc
 
-    begins_not : (o : Option OperationText) (ts rest : List Token) → FitsSomeOperation n o → Spell (spelled_optional_operation o) ts rest → is_line_stop ts ≡ false
+    begins_not : (o : Option OperationText) (ts rest : List Token) → IsSome o → Spell (spelled_optional_operation o) ts rest → is_line_stop ts ≡ false
     begins_not None ts rest d h = absurd d
     begins_not (Some x) ts rest d h = operation_no_stop x ts rest h
 
-abbrev pub IsLabelled : ℕ → LineText → Type 0
-IsLabelled n (Labelled t o) = FitsOptional n o
-IsLabelled n (Plain o) = ⊥
+    all : (o : Option OperationText) → Unit {0} → (None ≡ o) ⊎ IsSome o
+    all None d = inl refl
+    all (Some x) d = inr tt
 
-abbrev pub IsPlain : ℕ → LineText → Type 0
-IsPlain n (Plain o) = FitsOperation n o
-IsPlain n (Labelled t o) = ⊥
+abbrev IsLabelled : LineText → Type 0
+IsLabelled (Labelled t o) = Unit {0}
+IsLabelled (Plain o) = ⊥
 
-labelled_law : (n : ℕ) → Law (IsLabelled n) spelled_content (labelled_at n)
+abbrev IsPlain : LineText → Type 0
+IsPlain (Plain o) = Unit {0}
+IsPlain (Labelled t o) = ⊥
+
+labelled_law : Law IsLabelled spelled_content labelled_at
 unfolding labelled_at
-labelled_law n = mapped_law _ (IsLabelled n) _ spelled_content labelled _ (pair_law Any _ _ _ _ _ (expect_law kinds.Name (omega arith)) (pair_law Any (FitsOptional n) _ _ _ _ (mark_expect_law kinds.Colon (omega arith)) (optional_operation_law n))) (λ x. refl) (λ x d. d.1.1) from
+labelled_law = mapped_law _ IsLabelled _ spelled_content labelled _ (pair_law Any _ _ _ _ _ (expect_law kinds.Name refl) (led_law Any _ _ _ _ (mark_expect_law kinds.Colon refl) optional_operation_law)) (λ x. refl) (λ x d. tt) from
   where
-    from : (l : LineText) → IsLabelled n l → (x : Token × (Unit {0} × Option OperationText)) × (labelled x ≡ l) × (Unit {0} × (Unit {0} × FitsOptional n x.1.1))
-    from (Labelled t o) d = (both t (both tt o), refl, both tt (both tt d))
+    from : (l : LineText) → IsLabelled l → (x : Token × Option OperationText) × (labelled x ≡ l) × (Unit {0} × Unit {0})
+    from (Labelled t o) d = (both t o, refl, both tt tt)
     from (Plain o) d = absurd d
 
 abbrev spelled_plain : LineText → List Part
 spelled_plain (Plain o) = spelled_operation o
 spelled_plain l = []
 
-plain_law : (n : ℕ) → Law (IsPlain n) spelled_plain (plain_at n)
+plain_law : Law IsPlain spelled_plain plain_at
 unfolding plain_at
-plain_law n = mapped_law (FitsOperation n) (IsPlain n) spelled_operation spelled_plain Plain _ (operation_law n) (λ x. refl) (λ x d. d) from
+plain_law = mapped_law Any IsPlain spelled_operation spelled_plain Plain _ operation_law (λ x. refl) (λ x d. tt) from
   where
-    from : (l : LineText) → IsPlain n l → (x : OperationText) × (Plain x ≡ l) × FitsOperation n x
-    from (Plain o) d = (o, refl, d)
+    from : (l : LineText) → IsPlain l → (x : OperationText) × (Plain x ≡ l) × Unit {0}
+    from (Plain o) d = (o, refl, tt)
     from (Labelled t o) d = absurd d
 
 label_begins : (t : Token) (ps : List Part) (ts rest : List Token) → Spell (name t ∷ sign kinds.Colon ∷ ps) ts rest → is_label ts ≡ true
@@ -747,26 +700,35 @@ unfolding is_label
 label_begins t ps [] rest h = absurd h
 label_begins t ps (u ∷ us) rest h = both_true _ _ h.0.0 (either_true _ _ (front (is_kind kinds.Colon) ps us rest h.1))
 
-abbrev pub FitsLine : ℕ → LineText → Type 0
-FitsLine n l = IsLabelled n l ⊎ IsPlain n l
+-- nothing is taken, where this stands next
+here_law : (p : List Token → Bool) → Law Any (λ (u : Unit {0}). ahead p ∷ []) (stand p tt)
+here_law p = told_law (λ u. tt ≡ u) Any _ _ (stand_law (λ u. ahead p ∷ []) p tt refl) (λ x d. tt) (λ x d. refl)
 
-content_law : (n : ℕ) → Law (FitsLine n) spelled_content (either_line_at n)
+content_law : Law Any spelled_content either_line_at
 unfolding either_line_at
-content_law n = else_law (IsLabelled n) (IsPlain n) spelled_content spelled_plain is_label _ _ (labelled_law n) (plain_law n) same begins
+content_law = told_law (λ l. IsLabelled l ⊎ IsPlain l) Any spelled_content _
+    (else_law IsLabelled IsPlain spelled_content spelled_plain is_label _ _ labelled_law plain_law same begins)
+    (λ x d. tt) all
   where
-    same : (l : LineText) → IsPlain n l → spelled_content l ≡ ahead is_no_label ∷ spelled_plain l
+    same : (l : LineText) → IsPlain l → spelled_content l ≡ ahead is_no_label ∷ spelled_plain l
     same (Plain o) d = refl
     same (Labelled t o) d = absurd d
 
-    begins : (l : LineText) (ts rest : List Token) → IsLabelled n l → Spell (spelled_content l) ts rest → is_label ts ≡ true
+    begins : (l : LineText) (ts rest : List Token) → IsLabelled l → Spell (spelled_content l) ts rest → is_label ts ≡ true
     begins (Labelled t o) ts rest d h = label_begins t (spelled_optional_operation o) ts rest h
     begins (Plain o) ts rest d h = absurd d
 
-line_law : (n : ℕ) → Law (FitsLine n) spelled_line (line_at n)
+    all : (l : LineText) → Unit {0} → IsLabelled l ⊎ IsPlain l
+    all (Labelled t o) d = inl tt
+    all (Plain o) d = inr tt
+
+line_law : Law Any spelled_line line_at
 unfolding line_at
-line_law n = mapped_law _ (FitsLine n) _ spelled_line first_of _
-    (pair_law (FitsLine n) (λ u. tt ≡ u) _ (λ u. ahead is_line_stop ∷ []) _ _ (past_law (FitsLine n) spelled_content _ (content_law n)) (stand_law (λ u. ahead is_line_stop ∷ []) is_line_stop tt refl))
-    (λ x. refl) (λ x d. d.0) (λ l d. (both l tt, refl, both d refl))
+line_law = closed_law Any (λ l. breaks ∷ spelled_content l) (ahead is_line_stop ∷ []) _ _ (past_law Any spelled_content _ content_law) (here_law is_line_stop)
+
+line_counts : (l : LineText) → 0 < count (spelled_line l)
+line_counts (Labelled t o) = omega arith
+line_counts (Plain o) = omega arith
 
 -- declarations
 
@@ -774,60 +736,47 @@ keyword_law : (w : List ℕ) → Law Any (λ (u : Unit {0}). word w ∷ []) (key
 unfolding keyword
 keyword_law w = one_law (is_word_token w) refl
 
-mark_keyword_law : (w : List ℕ) → Law Any (λ (u : Unit {0}). word w ∷ []) (mark (keyword w))
-mark_keyword_law w = record { takes = takes; again = again }
-  where
-    takes : (ts : List Token) (x : Unit {0} × List Token) → mark (keyword w) ts ≡ Ok x → Unit {0} × Spell (word w ∷ []) ts x.1
-    takes ts x e =
-        let m = bind_ok (keyword w ts) (λ y. Ok (tt, y.1)) x e in
-        let g = (keyword_law w).takes ts m.0 m.1 in
-        let P : List Token → Type 0 = λ us. Spell (word w ∷ []) ts us in
-        (tt, subst P (ap (λ (z : Unit {0} × List Token). z.1) (ok_is (tt, m.0.1) x m.2)) g.1)
-
-    again : (x : Unit {0}) (ts rest : List Token) → Unit {0} → Spell (word w ∷ []) ts rest → mark (keyword w) ts ≡ Ok (x, rest)
-    again x ts rest d h = rw ((keyword_law w).again tt ts rest tt h) refl
-
 name_law : Law Any spelled_name name_at
 unfolding name_at
-name_law = mapped_law _ Any _ spelled_name second _
-    (pair_law Any Any _ _ _ _ (past_law Any _ _ (mark_expect_law kinds.Comma (omega arith))) (past_law Any _ _ (expect_law kinds.Name (omega arith))))
-    (λ x. refl) (λ x d. tt) (λ t d. (both tt t, refl, both tt tt))
+name_law = led_law Any (breaks ∷ sign kinds.Comma ∷ []) (λ t. breaks ∷ name t ∷ []) _ _ (past_law Any _ _ (mark_expect_law kinds.Comma refl)) (past_law Any _ _ (expect_law kinds.Name refl))
 
-name_goes : (t : Token) (ts rest : List Token) → Unit {0} → Spell (spelled_name t) ts rest → ends_names ts ≡ false
+name_goes : (t : Token) (ts rest : List Token) → Spell (spelled_name t) ts rest → ends_names ts ≡ false
 unfolding ends_names
-name_goes t ts rest d h = rw (front (is_kind kinds.Comma) (breaks ∷ name t ∷ []) (skip_breaks ts) rest h) refl
+name_goes t ts rest h = rw (front (is_kind kinds.Comma) (breaks ∷ name t ∷ []) (skip_breaks ts) rest h) refl
 
-abbrev pub IsLocated : NamesText → Type 0
+name_counts : (t : Token) → 0 < count (spelled_name t)
+name_counts t = omega arith
+
+abbrev IsLocated : NamesText → Type 0
 IsLocated (Located t) = Unit {0}
 IsLocated (More ts) = ⊥
 
-abbrev pub IsMore : ℕ → NamesText → Type 0
-IsMore n (More ts) = AllByRecursion Any ts × (length ts < n)
-IsMore n (Located t) = ⊥
+abbrev IsMore : NamesText → Type 0
+IsMore (More ts) = Unit {0}
+IsMore (Located t) = ⊥
 
 abbrev spelled_more : NamesText → List Part
 spelled_more (More ts) = flat_map spelled_name ts ++ ahead ends_names ∷ []
 spelled_more (Located t) = []
 
-abbrev located : Unit {0} × Token → NamesText
-located x = Located (second x)
-
-names_law : (n : ℕ) → Law (λ (x : NamesText). IsLocated x ⊎ IsMore n x) spelled_names (names_at n)
+names_law : Law Any spelled_names names_at
 unfolding names_at
-names_law n = else_law IsLocated (IsMore n) spelled_names spelled_more (next_is_word (codes "AT")) _ _
-    (mapped_law _ IsLocated _ spelled_names located _ (pair_law Any Any _ _ _ _ (mark_keyword_law (codes "AT")) (past_law Any _ _ (expect_law kinds.Address (omega arith)))) (λ x. refl) (λ x d. tt) from_at)
-    (mapped_law (λ (ts : List Token). AllByRecursion Any ts × (length ts < n)) (IsMore n) (λ ts. flat_map spelled_name ts ++ ahead ends_names ∷ []) spelled_more More _ (many_law Any spelled_name ends_names name_at n name_law name_goes) (λ x. refl) (λ x d. d) from_more)
-    same begins
+names_law = told_law (λ (x : NamesText). IsLocated x ⊎ IsMore x) Any spelled_names _
+    (else_law IsLocated IsMore spelled_names spelled_more (next_is_word (codes "AT")) _ _
+    (mapped_law Any IsLocated _ spelled_names Located _ (led_law Any _ _ _ _ (keyword_law (codes "AT")) (past_law Any _ _ (expect_law kinds.Address refl))) (λ x. refl) (λ x d. tt) from_at)
+    (mapped_law Any IsMore (λ ts. flat_map spelled_name ts ++ ahead ends_names ∷ []) spelled_more More _ (many_law spelled_name ends_names name_at name_law name_counts name_goes) (λ x. refl) (λ x d. tt) from_more)
+    same begins)
+    (λ x d. tt) all
   where
-    from_at : (x : NamesText) → IsLocated x → (y : Unit {0} × Token) × (located y ≡ x) × (Unit {0} × Unit {0})
-    from_at (Located t) d = (both tt t, refl, both tt tt)
+    from_at : (x : NamesText) → IsLocated x → (t : Token) × (Located t ≡ x) × Unit {0}
+    from_at (Located t) d = (t, refl, tt)
     from_at (More ts) d = absurd d
 
-    from_more : (x : NamesText) → IsMore n x → (ts : List Token) × (More ts ≡ x) × (AllByRecursion Any ts × (length ts < n))
-    from_more (More ts) d = (ts, refl, d)
+    from_more : (x : NamesText) → IsMore x → (ts : List Token) × (More ts ≡ x) × Unit {0}
+    from_more (More ts) d = (ts, refl, tt)
     from_more (Located t) d = absurd d
 
-    same : (x : NamesText) → IsMore n x → spelled_names x ≡ ahead is_not_at ∷ spelled_more x
+    same : (x : NamesText) → IsMore x → spelled_names x ≡ ahead is_not_at ∷ spelled_more x
     same (More ts) d = refl
     same (Located t) d = absurd d
 
@@ -835,19 +784,19 @@ names_law n = else_law IsLocated (IsMore n) spelled_names spelled_more (next_is_
     begins (Located t) ts rest d h = front (is_word_token (codes "AT")) (breaks ∷ this (is_kind kinds.Address) t ∷ []) ts rest h
     begins (More us) ts rest d h = absurd d
 
+    all : (x : NamesText) → Unit {0} → IsLocated x ⊎ IsMore x
+    all (Located t) d = inl tt
+    all (More ts) d = inr tt
+
 initial_law : Law Any spelled_initial initial_at
 unfolding initial_at
 initial_law = told_law (λ o. IsSome o ⊎ (None ≡ o)) Any spelled_initial _
     (choice_law IsSome (λ o. None ≡ o) spelled_initial (next_is kinds.Assign) _ _
-    (mapped_law _ IsSome _ spelled_initial (λ x. Some (second x)) _ (pair_law Any Any _ _ _ _ (mark_expect_law kinds.Assign (omega arith)) (past_law Any _ _ constant_law)) (λ x. refl) (λ x d. tt) a_value)
+    (mapped_law Any IsSome _ spelled_initial Some _ (led_law Any _ _ _ _ (mark_expect_law kinds.Assign refl) (past_law Any _ _ constant_law)) (λ x. refl) (λ x d. tt) from_some)
     (stand_law spelled_initial no_value None refl)
     begins begins_not)
     (λ x d. tt) (λ o d. some_or_none o)
   where
-    a_value : (o : Option Token) → IsSome o → (x : Unit {0} × Token) × (Some (second x) ≡ o) × (Unit {0} × Unit {0})
-    a_value None d = absurd d
-    a_value (Some t) d = (both tt t, refl, both tt tt)
-
     begins : (o : Option Token) (ts rest : List Token) → IsSome o → Spell (spelled_initial o) ts rest → next_is kinds.Assign ts ≡ true
     begins None ts rest d h = absurd d
     begins (Some f) ts rest d h = front (is_kind kinds.Assign) (breaks ∷ this is_constant f ∷ []) ts rest h
@@ -856,101 +805,123 @@ initial_law = told_law (λ o. IsSome o ⊎ (None ≡ o)) Any spelled_initial _
     begins_not None ts rest d h = no_front (next_is kinds.Assign ts) h.0
     begins_not (Some f) ts rest d h = absurd cc
 
-abbrev pub FitsNames : ℕ → NamesText → Type 0
-FitsNames n x = IsLocated x ⊎ IsMore n x
-
-abbrev pub FitsDeclaration : ℕ → DeclarationText → Type 0
-FitsDeclaration n d = FitsNames n d.names
-
-declaration_law : (n : ℕ) → Law (FitsDeclaration n) spelled_declaration (declaration_at n)
+declaration_law : Law Any spelled_declaration declaration_at
 unfolding declaration_at
-declaration_law n = mapped_law _ (FitsDeclaration n) _ spelled_declaration declared _
-    (pair_law Any _ _ _ _ _ (past_law Any _ _ (expect_law kinds.Name (omega arith)))
-    (pair_law (FitsNames n) _ _ _ _ _ (past_law (FitsNames n) _ _ (names_law n))
-    (pair_law Any _ _ _ _ _ (past_law Any _ _ (mark_expect_law kinds.Colon (omega arith)))
-    (pair_law Any _ _ _ _ _ (past_law Any _ _ (expect_law kinds.Name (omega arith))) (pair_law Any Any _ _ _ _ (past_law Any _ _ initial_law) (past_law Any _ _ (mark_expect_law kinds.Semicolon (omega arith))))))))
-    (λ x. refl) (λ x d. d.1.0)
-    (λ d fits. (both d.name (both d.names (both tt (both d.ty (both d.initial tt)))), refl, both tt (both fits (both tt (both tt (both tt tt))))))
+declaration_law = mapped_law _ Any _ spelled_declaration declared _
+    (pair_law Any _ _ _ _ _ (past_law Any _ _ (expect_law kinds.Name refl))
+    (pair_law Any _ _ _ _ _ (past_law Any _ _ names_law)
+    (led_law _ _ _ _ _ (past_law Any _ _ (mark_expect_law kinds.Colon refl))
+    (pair_law Any Any _ _ _ _ (past_law Any _ _ (expect_law kinds.Name refl)) (closed_law Any _ _ _ _ (past_law Any _ _ initial_law) (past_law Any _ _ (mark_expect_law kinds.Semicolon refl)))))))
+    (λ x. refl) (λ x d. tt)
+    (λ d fits. (both d.name (both d.names (both d.ty d.initial)), refl, both tt (both tt (both tt tt))))
 
-abbrev pub FitsBlock : ℕ → List DeclarationText → Type 0
-FitsBlock n ds = AllByRecursion (FitsDeclaration n) ds × (length ds < n)
+declaration_counts : (d : DeclarationText) → 0 < count (spelled_declaration d)
+declaration_counts d = omega arith
 
-block_law : (n : ℕ) → Law (FitsBlock n) spelled_block (block_at n)
+block_law : Law Any spelled_block block_at
 unfolding block_at
-block_law n = mapped_law _ (FitsBlock n) _ spelled_block middle _
-    (pair_law Any _ _ _ _ _ (past_law Any _ _ (keyword_law (codes "VAR")))
-    (pair_law (FitsBlock n) Any _ _ _ _ (until_law (FitsDeclaration n) spelled_declaration ends_block (declaration_at n) n (declaration_law n)) (past_law Any _ _ (keyword_law (codes "END_VAR")))))
-    (λ x. refl) (λ x d. d.1.0) (λ ds fits. (both tt (both ds tt), refl, both tt (both fits tt)))
+block_law = led_law Any (breaks ∷ word (codes "VAR") ∷ []) (λ ds. listed ends_block spelled_declaration ds ++ breaks ∷ word (codes "END_VAR") ∷ []) _ _
+    (past_law Any _ _ (keyword_law (codes "VAR")))
+    (closed_law Any _ _ _ _ (until_law spelled_declaration ends_block declaration_at declaration_law declaration_counts) (past_law Any _ _ (keyword_law (codes "END_VAR"))))
+
+block_counts : (ds : List DeclarationText) → 0 < count (spelled_block ds)
+block_counts ds = omega arith
+
+-- what each thing of a list takes
+
+pub next_shrinks : (ts : List Token) (x : ArgumentText × List Token) → next_argument_at ts ≡ Ok x → length x.1 < length ts
+next_shrinks = law_shrinks spelled_next next_argument_at next_argument_law next_counts
+
+pub line_shrinks : (ts : List Token) (x : LineText × List Token) → line_at ts ≡ Ok x → length x.1 < length ts
+line_shrinks = law_shrinks spelled_line line_at line_law line_counts
+
+pub name_shrinks : (ts : List Token) (x : Token × List Token) → name_at ts ≡ Ok x → length x.1 < length ts
+name_shrinks = law_shrinks spelled_name name_at name_law name_counts
+
+pub declaration_shrinks : (ts : List Token) (x : DeclarationText × List Token) → declaration_at ts ≡ Ok x → length x.1 < length ts
+declaration_shrinks = law_shrinks spelled_declaration declaration_at declaration_law declaration_counts
+
+pub block_shrinks : (ts : List Token) (x : List DeclarationText × List Token) → block_at ts ≡ Ok x → length x.1 < length ts
+block_shrinks = law_shrinks spelled_block block_at block_law block_counts
 
 -- programs
 
 end_law : Law Any (λ (u : Unit {0}). ahead at_end ∷ []) end_at
 unfolding end_at
-end_law = told_law (λ u. tt ≡ u) Any _ _ (stand_law (λ u. ahead at_end ∷ []) at_end tt refl) (λ x d. tt) (λ x d. refl)
+end_law = here_law at_end
 
 finish_law : Law Any (λ (u : Unit {0}). breaks ∷ word (codes "END_PROGRAM") ∷ breaks ∷ ahead at_end ∷ []) finish_at
 unfolding finish_at
-finish_law = mapped_law _ Any _ (λ (u : Unit {0}). breaks ∷ word (codes "END_PROGRAM") ∷ breaks ∷ ahead at_end ∷ []) first_of _
-    (pair_law Any Any _ _ _ _ (past_law Any _ _ (keyword_law (codes "END_PROGRAM"))) (past_law Any _ _ end_law))
-    (λ x. refl) (λ x d. tt) (λ u d. (both tt tt, refl, both tt tt))
+finish_law = led_law Any (breaks ∷ word (codes "END_PROGRAM") ∷ []) (λ u. breaks ∷ ahead at_end ∷ []) _ _ (past_law Any _ _ (keyword_law (codes "END_PROGRAM"))) (past_law Any _ _ end_law)
 
-abbrev pub FitsBlocks : ℕ → List (List DeclarationText) → Type 0
-FitsBlocks n bs = AllByRecursion (FitsBlock n) bs × (length bs < n)
+abbrev IsNamedProgram : ProgramText → Type 0
+IsNamedProgram s = IsSome s.name
 
-abbrev pub FitsLines : ℕ → List LineText → Type 0
-FitsLines n ls = AllByRecursion (FitsLine n) ls × (length ls < n)
+abbrev IsBareProgram : ProgramText → Type 0
+IsBareProgram s = None ≡ s.name
 
-abbrev pub Fits : ℕ → ProgramText → Type 0
-Fits n s = FitsBlocks n s.blocks × FitsLines n s.lines
+-- a name, and what follows it in a program
+abbrev spelled_by_title : Option Token → ProgramText → List Part
+spelled_by_title None s = []
+spelled_by_title (Some t) s = name t ∷ (listed ends_blocks spelled_block s.blocks ++ (listed ends_named spelled_line s.lines ++ breaks ∷ word (codes "END_PROGRAM") ∷ breaks ∷ ahead at_end ∷ []))
 
-abbrev pub IsNamedProgram : ℕ → ProgramText → Type 0
-IsNamedProgram n s = IsSome s.name × Fits n s
+abbrev spelled_titled : ProgramText → List Part
+spelled_titled s = spelled_by_title s.name s
 
-abbrev pub IsBareProgram : ℕ → ProgramText → Type 0
-IsBareProgram n s = (None ≡ s.name) × Fits n s
+abbrev titled_at : Reading ProgramText
+titled_at ts = mapped named_program (pair (expect kinds.Name) (pair (many ends_blocks block_at) (closed (many ends_named line_at) finish_at))) ts
 
-named_law : (n : ℕ) → Law (IsNamedProgram n) spelled_program (named_at n)
-unfolding named_at
-named_law n = mapped_law _ (IsNamedProgram n) _ spelled_program named_program _
-    (pair_law Any _ _ _ _ _ (past_law Any _ _ (keyword_law (codes "PROGRAM")))
-    (pair_law Any _ _ _ _ _ (expect_law kinds.Name (omega arith))
-    (pair_law (FitsBlocks n) _ _ _ _ _ (until_law (FitsBlock n) spelled_block ends_blocks (block_at n) n (block_law n))
-    (pair_law (FitsLines n) Any _ _ _ _ (until_law (FitsLine n) spelled_line ends_named (line_at n) n (line_law n)) finish_law))))
-    (λ x. refl) (λ x d. (tt, (d.1.1.0, d.1.1.1.0))) from
+titled_law : Law IsNamedProgram spelled_titled titled_at
+titled_law = mapped_law _ IsNamedProgram _ spelled_titled named_program _
+    (pair_law Any _ _ _ _ _ (expect_law kinds.Name refl)
+    (pair_law Any Any _ _ _ _ (until_law spelled_block ends_blocks block_at block_law block_counts)
+    (closed_law Any _ _ _ _ (until_law spelled_line ends_named line_at line_law line_counts) finish_law)))
+    (λ x. refl) (λ x d. tt) from
   where
-    from : (s : ProgramText) → IsNamedProgram n s → (x : Unit {0} × (Token × (List (List DeclarationText) × (List LineText × Unit {0})))) × (named_program x ≡ s) × (Unit {0} × (Unit {0} × (FitsBlocks n x.1.1.0 × (FitsLines n x.1.1.1.0 × Unit {0}))))
+    from : (s : ProgramText) → IsNamedProgram s → (x : Token × (List (List DeclarationText) × List LineText)) × (named_program x ≡ s) × (Unit {0} × (Unit {0} × Unit {0}))
     from s d =
-        let t = some_from s.name d.0 in
-        (both tt (both t.0 (both s.blocks (both s.lines tt))), ap (λ (o : Option Token). made o) t.1, both tt (both tt (both d.1.0 (both d.1.1 tt))))
+        let t = some_from s.name d in
+        (both t.0 (both s.blocks s.lines), ap (λ (o : Option Token). made o) t.1, both tt (both tt tt))
       where
         made : Option Token → ProgramText
         made o = record { name = o; blocks = s.blocks; lines = s.lines }
+
+named_law : Law IsNamedProgram spelled_program named_at
+unfolding named_at
+named_law = told_spelling IsNamedProgram (λ s. breaks ∷ word (codes "PROGRAM") ∷ spelled_titled s) spelled_program _
+    (led_law IsNamedProgram (breaks ∷ word (codes "PROGRAM") ∷ []) spelled_titled _ _ (past_law Any _ _ (keyword_law (codes "PROGRAM"))) titled_law) (λ s d. same s s.name d)
+  where
+    same : (s : ProgramText) (o : Option Token) → IsSome o → spelled_by o s ≡ breaks ∷ word (codes "PROGRAM") ∷ spelled_by_title o s
+    same s None d = absurd d
+    same s (Some t) d = refl
 
 abbrev spelled_rest : ProgramText → List Part
 spelled_rest s = spelled_bare s
 
-bare_law : (n : ℕ) → Law (IsBareProgram n) spelled_rest (bare_at n)
+bare_law : Law IsBareProgram spelled_rest bare_at
 unfolding bare_at
-bare_law n = mapped_law _ (IsBareProgram n) _ spelled_rest bare_program _
-    (pair_law (FitsBlocks n) _ _ _ _ _ (until_law (FitsBlock n) spelled_block ends_blocks (block_at n) n (block_law n))
-    (pair_law (FitsLines n) Any _ _ _ _ (until_law (FitsLine n) spelled_line ends_lines (line_at n) n (line_law n)) (past_law Any _ _ end_law)))
-    (λ x. refl) (λ x d. (refl, (d.0, d.1.0))) from
+bare_law = mapped_law _ IsBareProgram _ spelled_rest bare_program _
+    (pair_law Any Any _ _ _ _ (until_law spelled_block ends_blocks block_at block_law block_counts)
+    (closed_law Any _ _ _ _ (until_law spelled_line ends_lines line_at line_law line_counts) (past_law Any _ _ end_law)))
+    (λ x. refl) (λ x d. refl) from
   where
-    from : (s : ProgramText) → IsBareProgram n s → (x : List (List DeclarationText) × (List LineText × Unit {0})) × (bare_program x ≡ s) × (FitsBlocks n x.0 × (FitsLines n x.1.0 × Unit {0}))
-    from s d = (both s.blocks (both s.lines tt), ap (λ (o : Option Token). made o) d.0, both d.1.0 (both d.1.1 tt))
+    from : (s : ProgramText) → IsBareProgram s → (x : List (List DeclarationText) × List LineText) × (bare_program x ≡ s) × (Unit {0} × Unit {0})
+    from s d = (both s.blocks s.lines, ap (λ (o : Option Token). made o) d, both tt tt)
       where
         made : Option Token → ProgramText
         made o = record { name = o; blocks = s.blocks; lines = s.lines }
 
-pub program_law : (n : ℕ) → Law (λ s. IsNamedProgram n s ⊎ IsBareProgram n s) spelled_program (program_at n)
+pub program_law : Law Any spelled_program program_at
 unfolding program_at begins_program
-program_law n = else_law (IsNamedProgram n) (IsBareProgram n) spelled_program spelled_rest begins_program _ _ (named_law n) (bare_law n) same begins
+program_law = told_law (λ s. IsNamedProgram s ⊎ IsBareProgram s) Any spelled_program _
+    (else_law IsNamedProgram IsBareProgram spelled_program spelled_rest begins_program _ _ named_law bare_law same begins)
+    (λ x d. tt) (λ s d. some_or_none s.name)
   where
-    same : (s : ProgramText) → IsBareProgram n s → spelled_program s ≡ ahead is_bare ∷ spelled_rest s
-    same s d = ap (λ (o : Option Token). spelled_by o s) (sym d.0)
+    same : (s : ProgramText) → IsBareProgram s → spelled_program s ≡ ahead is_bare ∷ spelled_rest s
+    same s d = ap (λ (o : Option Token). spelled_by o s) (sym d)
 
-    begins : (s : ProgramText) (ts rest : List Token) → IsNamedProgram n s → Spell (spelled_program s) ts rest → begins_program ts ≡ true
-    begins s ts rest d h = by_name s.name d.0 h
+    begins : (s : ProgramText) (ts rest : List Token) → IsNamedProgram s → Spell (spelled_program s) ts rest → begins_program ts ≡ true
+    begins s ts rest d h = by_name s.name d h
       where
         by_name : (o : Option Token) → IsSome o → Spell (spelled_by o s) ts rest → begins_program ts ≡ true
         by_name None d h = absurd d

@@ -1,5 +1,5 @@
 -- The names that a text says are spelled as names are.
-use Rattle.std.proofs.Common.{◌≡◌, ℕ, zero, suc, ◌+◌, ◌-◌, ◌<◌, ◌≤◌, Bool, true, false, cond, eqb, List, [], ◌∷◌, ◌++◌, length, take, drop, Option, Some, None, refl, sym, ap, subst, arith, ◌&&◌, ltb}
+use Rattle.std.proofs.Common.{◌≡◌, ℕ, zero, suc, ◌+◌, ◌-◌, ◌<◌, Bool, true, false, cond, eqb, List, [], ◌∷◌, ◌++◌, length, take, drop, Option, Some, None, refl, sym, ap, subst, arith, ◌&&◌, ltb}
 use Rattle.std.specs.List.{flat_map, AllByRecursion, prefix_len, list_all}
 use Rattle.std.proofs.lemmas.Bool.{eqb-true, ltb-false}
 use Rattle.std.proofs.lemmas.List.Concat.{flat_map-cons}
@@ -14,19 +14,8 @@ use Rattle.il_reader.specs.declared.fault.FaultKind.TheVariants.{BadToken, TooLo
 use Rattle.il_reader.specs.Tokens.{Token, is_letter_byte, is_word_byte, is_number_start, is_blank_byte, is_within, is_n, begins_with, name_of, literal_piece, word_piece, sign_of, solid_piece, comment_piece, comment_len, piece_of, put, tokens_behind, tokens_of}
 use Rattle.il_reader.specs.Reading.{kind_code, is_kind, skip_breaks}
 use Rattle.il_reader.specs.Grammar.{LineText, Labelled, Plain, OperationText, is_line_stop, NamesText, Located, More, DeclarationText, ProgramText, ends_names, ends_block, ends_blocks, ends_lines, ends_named}
-use Rattle.il_reader.specs.Spelling.{Part, breaks, one, this, operator, ahead, Spell, Says, spelled_name, spelled_names, spelled_declaration, spelled_block, spelled_line, spelled_program, spelled_by, going, listed, operator_before, spelled_optional_operation}
-
-abbrev pub begins_letter : List ℕ → Bool
-begins_letter [] = false
-begins_letter (b ∷ bs) = is_letter_byte b
-
--- a name: letters, digits and underscores, a digit not first, well spelled, at most 32 of them
-pub record IsWordText (w : List ℕ) : Type 0 where
-  pub begins : begins_letter w ≡ true
-  pub bytes : list_all is_word_byte w ≡ true
-  pub spelled : is_well_spelled w ≡ true
-  pub some : 0 < length w
-  pub short : length w ≤ 32
+use Rattle.il_reader.specs.Words.{begins_letter, IsWordText, IsWordName, AreWordNames, IsWordDeclaration, IsOptionalOperation, IsOperator, AreWords}
+use Rattle.il_reader.specs.Spelling.{Part, breaks, one, this, operator, ahead, Spell, Says, spelled_name, spelled_names, spelled_declaration, spelled_block, spelled_line, spelled_program, spelled_by, going, listed, spelled_optional_operation}
 
 -- ---- tokens
 
@@ -180,34 +169,6 @@ each_good F s qs good (x ∷ xs) all =
     let e : flat_map s (x ∷ xs) ++ qs ≡ s x ++ (flat_map s xs ++ qs) = rw (flat_map-cons, append_assoc) refl in
     let split = subst P e all in
     (good x (left_good (s x) (flat_map s xs ++ qs) split), each_good F s qs good xs (right_good (s x) (flat_map s xs ++ qs) split))
-
-abbrev pub IsWordName : Token → Type 0
-IsWordName t = IsWordText t.text
-
-abbrev pub AreWordNames : NamesText → Type 0
-AreWordNames (Located t) = Unit {0}
-AreWordNames (More ts) = AllByRecursion IsWordName ts
-
-pub record IsWordDeclaration (d : DeclarationText) : Type 0 where
-  pub name : IsWordText d.name.text
-  pub names : AreWordNames d.names
-
--- an operation whose operator some token is
-abbrev pub IsOperation : OperationText → Type 0
-IsOperation o = (t : Token) × (operator_before o.behind t ≡ Some o.operator)
-
-abbrev pub IsOptionalOperation : Option OperationText → Type 0
-IsOptionalOperation None = Unit {0}
-IsOptionalOperation (Some o) = IsOperation o
-
--- a label is a name
-abbrev pub IsOperator : LineText → Type 0
-IsOperator (Labelled t o) = IsWordText t.text × IsOptionalOperation o
-IsOperator (Plain o) = IsOperation o
-
-pub record AreWords (p : ProgramText) : Type 0 where
-  pub blocks : AllByRecursion (AllByRecursion IsWordDeclaration) p.blocks
-  pub lines : AllByRecursion IsOperator p.lines
 
 a_name : (t : Token) → (is_kind kinds.Name t ≡ true) × IsWordToken t → IsWordText t.text
 a_name t h = h.1 (eqb-true (kind_code t.kind) 2 h.0)

@@ -1,5 +1,5 @@
--- What a text says, and its first fault: the readings of Annex B's productions (IEC 61131-3:2003, B.2 and B.1.4).
-use Rattle.std.specs.Prelude.{ℕ, ◌+◌, List, [], ◌∷◌, length, map, Option, Some, None, is_none, option_map, Result, Ok, Err, Bool, false, not, ◌||◌, ◌&&◌, if◌then◌else◌, codes}
+-- What a text says, and its first fault: the readings of the productions of IEC 61131-3:2003, Annex B, each named beside its reading.
+use Rattle.std.specs.Prelude.{ℕ, List, [], ◌∷◌, map, Option, Some, None, is_none, option_map, Result, Ok, Err, Bool, false, not, ◌||◌, ◌&&◌, if◌then◌else◌, codes}
 use Rattle.il_model.specs.declared.op.Op.{Op}
 use Rattle.il_model.specs.declared.op.Op.TheVariants as ops
 use Rattle.il_model.specs.declared.words.Mnemonic.{Mnemonic}
@@ -25,7 +25,7 @@ use Rattle.il_reader.specs.declared.contents.Names.TheVariants as names
 use Rattle.il_reader.specs.declared.contents.Declaration.{Declaration}
 use Rattle.il_reader.specs.declared.contents.Contents.{Contents}
 use Rattle.il_reader.specs.Tokens.{Token, token, tokens_of}
-use Rattle.il_reader.specs.Reading.{◌>>=◌, first, others, fault_at, is_kind, next_is, next_is_word, skip_breaks, expect, keyword, meaning, many, Reading, pair, mapped, choice, past, mark, stand}
+use Rattle.il_reader.specs.Reading.{◌>>=◌, first, others, fault_at, is_kind, next_is, next_is_word, skip_breaks, expect, keyword, meaning, many, Reading, pair, led, closed, mapped, choice, past, mark, stand}
 
 -- ---- what a text says, without where it lies in memory
 
@@ -183,18 +183,12 @@ variable_at ts = if is_variable (first ts) then Ok (first ts, others ts) else Er
 unfoldable pub constant_at : Reading Token
 constant_at ts = if is_constant (first ts) then Ok (first ts, others ts) else Err (fault_at (first ts))
 
-abbrev pub second : {X : Type 0} → Unit {0} × X → X
-second x = x.1
-
 abbrev pub no_dot : List Token → Bool
 no_dot ts = not (next_is kinds.Dot ts)
 
-abbrev pub a_field : Unit {0} × Token → Option Token
-a_field x = Some (second x)
-
--- a dot and any word, where a dot stands
+-- '.' field_selector of a structured_variable (B.1.4.2), where a dot stands
 unfoldable pub field_at : Reading (Option Token)
-field_at ts = choice (next_is kinds.Dot) (mapped a_field (pair (mark (expect kinds.Dot)) (expect kinds.Name))) (stand no_dot None) ts
+field_at ts = choice (next_is kinds.Dot) (mapped Some (led (mark (expect kinds.Dot)) (expect kinds.Name))) (stand no_dot None) ts
 
 abbrev pub before_dot : List Token → Bool
 before_dot ts = next_is kinds.Dot (skip_breaks ts)
@@ -204,36 +198,39 @@ before_no_dot ts = not (before_dot ts)
 
 -- the same between the parentheses of a call, where line ends are white space
 unfoldable pub inner_field_at : Reading (Option Token)
-inner_field_at ts = choice before_dot (mapped a_field (pair (past (mark (expect kinds.Dot))) (past (expect kinds.Name)))) (stand before_no_dot None) ts
+inner_field_at ts = choice before_dot (mapped Some (led (past (mark (expect kinds.Dot))) (past (expect kinds.Name)))) (stand before_no_dot None) ts
 
 abbrev pub named_by : Token → Option Token → OperandText
 named_by t None = Named t
 named_by t (Some f) = Field t f
 
 abbrev pub named : Token × Option Token → OperandText
-named x = named_by x.0 x.1
+named (name, field) = named_by name field
 
--- an operand that is no name
+-- constant (B.1.2) and direct_variable (B.1.4.1)
 unfoldable pub lone_at : Reading OperandText
 lone_at ts = choice (next_is kinds.Address) (mapped Direct (expect kinds.Address)) (mapped Constant constant_at) ts
 
+-- il_operand (B.2.1)
 unfoldable pub operand_at : Reading OperandText
 operand_at ts = choice next_is_variable (mapped named (pair variable_at field_at)) lone_at ts
 
+-- the same between the parentheses of a call
 unfoldable pub inner_operand_at : Reading OperandText
 inner_operand_at ts = choice next_is_variable (mapped named (pair variable_at inner_field_at)) lone_at ts
 
--- the end of an instruction line, which is not taken
+-- EOL (B.2.1), which is not taken, or the end of the text
 abbrev pub is_line_stop : List Token → Bool
 is_line_stop ts = next_is kinds.Break ts || next_is kinds.End ts
 
 unfoldable pub optional_operand_at : Reading (Option OperandText)
 optional_operand_at ts = choice is_line_stop (stand is_line_stop None) (mapped Some operand_at) ts
 
--- ( with an operand or without
+-- '(' [il_operand] of an il_expression (B.2.1)
 unfoldable pub nested_at : Reading (Option OperandText)
-nested_at ts = mapped second (pair (mark (expect kinds.Open)) optional_operand_at) ts
+nested_at ts = led (mark (expect kinds.Open)) optional_operand_at ts
 
+-- what stands behind an il_expr_operator, which is an il_simple_operator too (B.2.2)
 unfoldable pub either_at : Reading BehindText
 either_at ts = choice (next_is kinds.Open) (mapped Opened nested_at) (mapped Given operand_at) ts
 
@@ -245,93 +242,90 @@ an_output u = sides.Output
 abbrev pub an_input : Unit {0} → Side
 an_input u = sides.Input
 
--- => or :=
+-- the sign of an il_assign_out_operator or of an il_assign_operator (B.2.2)
 unfoldable pub side_at : Reading Side
 side_at ts = choice (next_is kinds.Arrow) (mapped an_output (mark (expect kinds.Arrow))) (mapped an_input (mark (expect kinds.Assign))) ts
 
 abbrev pub an_argument : Token × (Side × OperandText) → ArgumentText
-an_argument x = record { field = x.0; side = x.1.0; operand = x.1.1 }
+an_argument (field, (side, operand)) = record { field = field; side = side; operand = operand }
 
+-- il_param_assignment and il_param_out_assignment (B.2.1), of an operand alone
 unfoldable pub argument_at : Reading ArgumentText
 argument_at ts = mapped an_argument (pair (past (expect kinds.Name)) (pair (past side_at) (past inner_operand_at))) ts
 
 unfoldable pub ends_arguments : List Token → Bool
 ends_arguments ts = not (next_is kinds.Comma (skip_breaks ts))
 
--- a comma and an argument
+-- the next of an il_param_list (B.2.1)
 unfoldable pub next_argument_at : Reading ArgumentText
-next_argument_at ts = mapped second (pair (past (mark (expect kinds.Comma))) argument_at) ts
+next_argument_at ts = led (past (mark (expect kinds.Comma))) argument_at ts
 
 abbrev pub before_close : List Token → Bool
 before_close ts = next_is kinds.Close (skip_breaks ts)
 
 abbrev pub together : {X : Type 0} → X × List X → List X
-together x = x.0 ∷ x.1
+together (x, more) = x ∷ more
 
--- the arguments between the parentheses
-unfoldable pub inside_at : ℕ → Reading (List ArgumentText)
-inside_at n ts = choice before_close (stand before_close []) (mapped together (pair argument_at (many ends_arguments next_argument_at n))) ts
-
-abbrev pub middle : {X : Type 0} → Unit {0} × (X × Unit {0}) → X
-middle x = x.1.0
-
-abbrev pub some_middle : {X : Type 0} → Unit {0} × (X × Unit {0}) → Option X
-some_middle x = Some (middle x)
+-- il_param_list (B.2.1), or nothing
+unfoldable pub inside_at : Reading (List ArgumentText)
+inside_at ts = choice before_close (stand before_close []) (mapped together (pair argument_at (many ends_arguments next_argument_at))) ts
 
 abbrev pub no_open : List Token → Bool
 no_open ts = not (next_is kinds.Open ts)
 
-unfoldable pub arguments_at : ℕ → Reading (Option (List ArgumentText))
-arguments_at n ts = choice (next_is kinds.Open) (mapped some_middle (pair (mark (expect kinds.Open)) (pair (inside_at n) (past (mark (expect kinds.Close)))))) (stand no_open None) ts
+unfoldable pub arguments_at : Reading (Option (List ArgumentText))
+arguments_at ts = choice (next_is kinds.Open) (mapped Some (led (mark (expect kinds.Open)) (closed inside_at (past (mark (expect kinds.Close)))))) (stand no_open None) ts
 
 abbrev pub a_call : Token × Option (List ArgumentText) → CallText
-a_call x = record { instance = x.0; written = x.1 }
+a_call (instance, written) = record { instance = instance; written = written }
 
-unfoldable pub call_at : ℕ → Reading CallText
-call_at n ts = mapped a_call (pair (expect kinds.Name) (arguments_at n)) ts
+-- fb_name and what follows it in an il_fb_call (B.2.1)
+unfoldable pub call_at : Reading CallText
+call_at ts = mapped a_call (pair (expect kinds.Name) arguments_at) ts
 
 -- ---- operations and lines
 
-unfoldable pub behind_at : ℕ → Form → Reading BehindText
-behind_at n forms.Operand ts = mapped Given operand_at ts
-behind_at n forms.Nothing ts = Ok (Nothing, ts)
-behind_at n forms.Label ts = mapped Target (expect kinds.Name) ts
-behind_at n forms.Either ts = either_at ts
-behind_at n forms.Call ts = mapped Called (call_at n) ts
+-- what stands behind an il_simple_operator, an il_return_operator, an il_jump_operator, an il_expr_operator and an il_call_operator (B.2.2)
+unfoldable pub behind_at : Form → Reading BehindText
+behind_at forms.Operand ts = mapped Given operand_at ts
+behind_at forms.Nothing ts = Ok (Nothing, ts)
+behind_at forms.Label ts = mapped Target (expect kinds.Name) ts
+behind_at forms.Either ts = either_at ts
+behind_at forms.Call ts = mapped Called call_at ts
 
-unfoldable pub operation_at : ℕ → Reading OperationText
-operation_at n ts = do
+-- il_simple_operation, il_expression, il_jump_operation, il_fb_call or il_return_operator (B.2.1)
+unfoldable pub operation_at : Reading OperationText
+operation_at ts = do
   operator ← operator_at ts
-  behind ← behind_at n (form_of operator.0.mnemonic.op) operator.1
+  behind ← behind_at (form_of operator.0.mnemonic.op) operator.1
   Ok (record { operator = operator.0; behind = behind.0 }, behind.1)
 
-unfoldable pub optional_operation_at : ℕ → Reading (Option OperationText)
-optional_operation_at n ts = choice is_line_stop (stand is_line_stop None) (mapped Some (operation_at n)) ts
+unfoldable pub optional_operation_at : Reading (Option OperationText)
+optional_operation_at ts = choice is_line_stop (stand is_line_stop None) (mapped Some operation_at) ts
 
--- a word before a colon is a label, and so is one that is no operator
+-- label (B.2.1): a word before a colon, and also one that is no operator
 unfoldable pub is_label : List Token → Bool
 is_label ts = next_is kinds.Name ts && (next_is kinds.Colon (others ts) || is_none (mnemonic_of (first ts).text))
 
 abbrev pub is_no_label : List Token → Bool
 is_no_label ts = not (is_label ts)
 
-abbrev pub labelled : Token × (Unit {0} × Option OperationText) → LineText
-labelled x = Labelled x.0 x.1.1
+abbrev pub labelled : Token × Option OperationText → LineText
+labelled (label, operation) = Labelled label operation
 
-unfoldable pub labelled_at : ℕ → Reading LineText
-labelled_at n ts = mapped labelled (pair (expect kinds.Name) (pair (mark (expect kinds.Colon)) (optional_operation_at n))) ts
+-- label ':' and what may follow it in an il_instruction (B.2.1)
+unfoldable pub labelled_at : Reading LineText
+labelled_at ts = mapped labelled (pair (expect kinds.Name) (led (mark (expect kinds.Colon)) optional_operation_at)) ts
 
-unfoldable pub plain_at : ℕ → Reading LineText
-plain_at n ts = mapped Plain (operation_at n) ts
+unfoldable pub plain_at : Reading LineText
+plain_at ts = mapped Plain operation_at ts
 
-unfoldable pub either_line_at : ℕ → Reading LineText
-either_line_at n ts = choice is_label (labelled_at n) (plain_at n) ts
+unfoldable pub either_line_at : Reading LineText
+either_line_at ts = choice is_label labelled_at plain_at ts
 
-abbrev pub first_of : {X : Type 0} → X × Unit {0} → X
-first_of x = x.0
-
-unfoldable pub line_at : ℕ → Reading LineText
-line_at n ts = mapped first_of (pair (past (either_line_at n)) (stand is_line_stop tt)) ts
+-- il_instruction (B.2.1)
+unfoldable pub line_at : Reading LineText
+line_at ts = closed (past either_line_at) (stand is_line_stop tt) ts
 
 unfoldable pub ends_lines : List Token → Bool
 ends_lines ts = next_is kinds.End (skip_breaks ts)
@@ -345,25 +339,27 @@ ends_named ts = next_is_word (codes "END_PROGRAM") (skip_breaks ts)
 unfoldable pub ends_names : List Token → Bool
 ends_names ts = not (next_is kinds.Comma (skip_breaks ts))
 
--- a comma and a name
+-- the next variable_name of a var1_list (B.1.4.3)
 unfoldable pub name_at : Reading Token
-name_at ts = mapped second (pair (past (mark (expect kinds.Comma))) (past (expect kinds.Name))) ts
+name_at ts = led (past (mark (expect kinds.Comma))) (past (expect kinds.Name)) ts
 
--- AT and a location, or the other names
-unfoldable pub names_at : ℕ → Reading NamesText
-names_at n ts = choice (next_is_word (codes "AT")) (mapped (λ x. Located (second x)) (pair (mark (keyword (codes "AT"))) (past (expect kinds.Address)))) (mapped More (many ends_names name_at n)) ts
+-- location of a located_var_decl, or what follows the first name of a var1_list (B.1.4.3)
+unfoldable pub names_at : Reading NamesText
+names_at ts = choice (next_is_word (codes "AT")) (mapped Located (led (keyword (codes "AT")) (past (expect kinds.Address)))) (mapped More (many ends_names name_at)) ts
 
 abbrev pub no_value : List Token → Bool
 no_value ts = not (next_is kinds.Assign ts)
 
+-- ':=' constant of a simple_spec_init (B.1.3.3), where it stands
 unfoldable pub initial_at : Reading (Option Token)
-initial_at ts = choice (next_is kinds.Assign) (mapped (λ x. Some (second x)) (pair (mark (expect kinds.Assign)) (past constant_at))) (stand no_value None) ts
+initial_at ts = choice (next_is kinds.Assign) (mapped Some (led (mark (expect kinds.Assign)) (past constant_at))) (stand no_value None) ts
 
-abbrev pub declared : Token × (NamesText × (Unit {0} × (Token × (Option Token × Unit {0})))) → DeclarationText
-declared x = record { name = x.0; names = x.1.0; ty = x.1.1.1.0; initial = x.1.1.1.1.0 }
+abbrev pub declared : Token × (NamesText × (Token × Option Token)) → DeclarationText
+declared (name, (names, (ty, initial))) = record { name = name; names = names; ty = ty; initial = initial }
 
-unfoldable pub declaration_at : ℕ → Reading DeclarationText
-declaration_at n ts = mapped declared (pair (past (expect kinds.Name)) (pair (past (names_at n)) (pair (past (mark (expect kinds.Colon))) (pair (past (expect kinds.Name)) (pair (past initial_at) (past (mark (expect kinds.Semicolon)))))))) ts
+-- var1_init_decl, fb_name_decl or located_var_decl, and the semicolon behind it (B.1.4.3)
+unfoldable pub declaration_at : Reading DeclarationText
+declaration_at ts = mapped declared (pair (past (expect kinds.Name)) (pair (past names_at) (led (past (mark (expect kinds.Colon))) (pair (past (expect kinds.Name)) (closed (past initial_at) (past (mark (expect kinds.Semicolon)))))))) ts
 
 unfoldable pub ends_block : List Token → Bool
 ends_block ts = next_is_word (codes "END_VAR") (skip_breaks ts)
@@ -371,17 +367,17 @@ ends_block ts = next_is_word (codes "END_VAR") (skip_breaks ts)
 unfoldable pub ends_blocks : List Token → Bool
 ends_blocks ts = not (next_is_word (codes "VAR") (skip_breaks ts))
 
--- VAR, declarations, END_VAR
-unfoldable pub block_at : ℕ → Reading (List DeclarationText)
-block_at n ts = mapped middle (pair (past (keyword (codes "VAR"))) (pair (many ends_block (declaration_at n) n) (past (keyword (codes "END_VAR"))))) ts
+-- var_declarations and located_var_declarations, which may stand in one block (B.1.4.3)
+unfoldable pub block_at : Reading (List DeclarationText)
+block_at ts = led (past (keyword (codes "VAR"))) (closed (many ends_block declaration_at) (past (keyword (codes "END_VAR")))) ts
 
 -- ---- programs
 
-abbrev pub named_program : Unit {0} × (Token × (List (List DeclarationText) × (List LineText × Unit {0}))) → ProgramText
-named_program x = record { name = Some x.1.0; blocks = x.1.1.0; lines = x.1.1.1.0 }
+abbrev pub named_program : Token × (List (List DeclarationText) × List LineText) → ProgramText
+named_program (name, (blocks, lines)) = record { name = Some name; blocks = blocks; lines = lines }
 
-abbrev pub bare_program : List (List DeclarationText) × (List LineText × Unit {0}) → ProgramText
-bare_program x = record { name = None; blocks = x.0; lines = x.1.0 }
+abbrev pub bare_program : List (List DeclarationText) × List LineText → ProgramText
+bare_program (blocks, lines) = record { name = None; blocks = blocks; lines = lines }
 
 abbrev pub at_end : List Token → Bool
 at_end ts = next_is kinds.End ts
@@ -391,20 +387,21 @@ end_at ts = stand at_end tt ts
 
 -- END_PROGRAM, and nothing behind it
 unfoldable pub finish_at : Reading (Unit {0})
-finish_at ts = mapped first_of (pair (past (keyword (codes "END_PROGRAM"))) (past end_at)) ts
+finish_at ts = led (past (keyword (codes "END_PROGRAM"))) (past end_at) ts
 
-unfoldable pub named_at : ℕ → Reading ProgramText
-named_at n ts = mapped named_program (pair (past (keyword (codes "PROGRAM"))) (pair (expect kinds.Name) (pair (many ends_blocks (block_at n) n) (pair (many ends_named (line_at n) n) finish_at)))) ts
+-- program_declaration (B.1.5.3)
+unfoldable pub named_at : Reading ProgramText
+named_at ts = led (past (keyword (codes "PROGRAM"))) (mapped named_program (pair (expect kinds.Name) (pair (many ends_blocks block_at) (closed (many ends_named line_at) finish_at)))) ts
 
-unfoldable pub bare_at : ℕ → Reading ProgramText
-bare_at n ts = mapped bare_program (pair (many ends_blocks (block_at n) n) (pair (many ends_lines (line_at n) n) (past end_at))) ts
+-- the same without the words around it: declarations and an instruction_list (B.2.1)
+unfoldable pub bare_at : Reading ProgramText
+bare_at ts = mapped bare_program (pair (many ends_blocks block_at) (closed (many ends_lines line_at) (past end_at))) ts
 
 unfoldable pub begins_program : List Token → Bool
 begins_program ts = next_is_word (codes "PROGRAM") (skip_breaks ts)
 
-unfoldable pub program_at : ℕ → Reading ProgramText
-program_at n ts = choice begins_program (named_at n) (bare_at n) ts
+unfoldable pub program_at : Reading ProgramText
+program_at ts = choice begins_program named_at bare_at ts
 
--- a list of the grammar has no more things than the text has tokens, and a text has one token more than bytes at most
 unfoldable pub text_of : List ℕ → Result ProgramText Refusal
-text_of bytes = program_at (2 + length bytes) (tokens_of bytes) >>= λ x. Ok x.0
+text_of bytes = program_at (tokens_of bytes) >>= λ x. Ok x.0

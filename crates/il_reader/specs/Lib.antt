@@ -4,4 +4,5 @@ pub mod Faults
 pub mod Reading
 pub mod Grammar
 pub mod Spelling
+pub mod Words
 pub mod Texts

@@ -1,5 +1,5 @@
 -- Reading from left to right, with the first fault that is met.
-use Rattle.std.specs.Prelude.{◌≡◌, ℕ, zero, suc, List, [], ◌∷◌, Option, Some, None, Result, Ok, Err, Bool, ◌&&◌, ◌==◌, if◌then◌else◌}
+use Rattle.std.specs.Prelude.{◌≡◌, ℕ, zero, suc, List, [], ◌∷◌, length, Option, Some, None, Result, Ok, Err, Bool, ◌&&◌, ◌==◌, if◌then◌else◌}
 use Rattle.il_model.specs.Words.{spells}
 use Rattle.il_reader.specs.declared.fault.Refusal.{Refusal}
 use Rattle.il_reader.specs.declared.fault.Failure.{Failure}
@@ -72,10 +72,14 @@ skip_breaks (t ∷ ts) = if is_kind kinds.Break t then skip_breaks ts else t ∷
 unfoldable pub expect : Kind → List Token → Result (Token × List Token) Refusal
 expect k ts = if is_kind k (first ts) then Ok (first ts, others ts) else Err (fault_at (first ts))
 
--- As many of them as there are before it stops.
-unfoldable pub many : {X : Type 0} → (List Token → Bool) → (List Token → Result (X × List Token) Refusal) → ℕ → List Token → Result (List X × List Token) Refusal
-many stops item zero ts = Err (fault_at (first ts))
-many stops item (suc n) ts = if stops ts then Ok ([], ts) else item ts >>= λ x. many stops item n x.1 >>= λ xs. Ok (x.0 ∷ xs.0, xs.1)
+-- As many of them as there are before it stops, and so many at most.
+unfoldable pub many_within : {X : Type 0} → (List Token → Bool) → (List Token → Result (X × List Token) Refusal) → ℕ → List Token → Result (List X × List Token) Refusal
+many_within stops item zero ts = Err (fault_at (first ts))
+many_within stops item (suc n) ts = if stops ts then Ok ([], ts) else item ts >>= λ x. many_within stops item n x.1 >>= λ xs. Ok (x.0 ∷ xs.0, xs.1)
+
+-- As many of them as there are before it stops: each takes a token, so there are no more of them than tokens.
+unfoldable pub many : {X : Type 0} → (List Token → Bool) → (List Token → Result (X × List Token) Refusal) → List Token → Result (List X × List Token) Refusal
+many stops item ts = many_within stops item (suc (length ts)) ts
 
 -- How readings are put together.
 abbrev pub Reading : Type 0 → Type 0
@@ -87,6 +91,14 @@ both x y = (x, y)
 -- the one and then the other
 abbrev pub pair : {X Y : Type 0} → Reading X → Reading Y → Reading (X × Y)
 pair a b ts = a ts >>= λ x. b x.1 >>= λ y. Ok (both x.0 y.0, y.1)
+
+-- this behind a mark
+abbrev pub led : {X : Type 0} → Reading (Unit {0}) → Reading X → Reading X
+led m a ts = m ts >>= λ u. a u.1
+
+-- this, and a mark behind it
+abbrev pub closed : {X : Type 0} → Reading X → Reading (Unit {0}) → Reading X
+closed a m ts = a ts >>= λ x. m x.1 >>= λ u. Ok (x.0, u.1)
 
 abbrev pub mapped : {X Y : Type 0} → (X → Y) → Reading X → Reading Y
 mapped f a ts = a ts >>= λ x. Ok (f x.0, x.1)

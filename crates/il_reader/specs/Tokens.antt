@@ -110,7 +110,12 @@ pub record Token : Type 0 where
   pub text : List ℕ
   pub left : ℕ
 
--- nothing follows the end or a fault
+-- whether more may follow: nothing follows the end or a fault
+abbrev pub goes_on : Kind → Bool
+goes_on kinds.End = false
+goes_on (kinds.Broken f) = false
+goes_on k = true
+
 abbrev pub after : Kind → List Token → List Token
 after kinds.End ts = []
 after (kinds.Broken f) ts = []

@@ -1,40 +1,17 @@
 //! Blocks of declarations (IEC 61131-3:2003, B.1.4.3 and 2.4.3).
 
-ghost use Rattle.std.specs.Prelude.{◌≡◌, codes, map, option_map};
-ghost use Rattle.il_reader.specs.Tokens.{tokens_of, token};
-ghost use Rattle.il_reader.specs.Reading.{Gives, many};
-ghost use Rattle.il_reader.specs.Grammar.{names_of, declaration, declarations, ends_names, name_at, names_at, initial_at, declaration_at, ends_block, ends_blocks, block_at};
+ghost use Rattle.std.specs.Prelude.{◌≡◌, List, codes, option_map};
+ghost use Rattle.il_reader.specs.Tokens.{Token, tokens_of, token};
+ghost use Rattle.il_reader.specs.Reading.{Gives};
+ghost use Rattle.il_reader.specs.Grammar.{DeclarationText, names_of, declaration, declarations, ends_names, name_at, names_at, initial_at, declaration_at, ends_block, ends_blocks, block_at};
 
 use crate::contents::{Declaration, Names};
 use crate::fault::Failure;
 use crate::lexeme::{Kind, Lexeme, next};
+use crate::lists::{Listed, many};
 use crate::operands::constant_read;
-use crate::reading::{expected, is, is_word, past_breaks, past_keyword, refused};
+use crate::reading::{expected, is, is_word, past_breaks, past_keyword};
 use std::alloc::Global;
-
-#[tactic(auto, unfolding(crate::specs::Grammar::ends_names))]
-fn at_names_end(bytes: &[u8]) -> bool
-    ensures { result ≡ ends_names (tokens_of bytes.now) }
-{
-    let (t, _) = next(past_breaks(bytes));
-    !is(Kind::Comma, t)
-}
-
-#[tactic(auto, unfolding(crate::specs::Grammar::ends_block))]
-fn at_block_end(bytes: &[u8]) -> bool
-    ensures { result ≡ ends_block (tokens_of bytes.now) }
-{
-    let (t, _) = next(past_breaks(bytes));
-    is_word(b"END_VAR", t)
-}
-
-#[tactic(auto, unfolding(crate::specs::Grammar::ends_blocks))]
-fn at_blocks_end(bytes: &[u8]) -> bool
-    ensures { result ≡ ends_blocks (tokens_of bytes.now) }
-{
-    let (t, _) = next(past_breaks(bytes));
-    !is_word(b"VAR", t)
-}
 
 #[tactic(auto, unfolding(crate::specs::Grammar::name_at))]
 fn name_read(bytes: &[u8]) -> Result<(Lexeme<'_>, &[u8]), Failure>
@@ -44,29 +21,35 @@ fn name_read(bytes: &[u8]) -> Result<(Lexeme<'_>, &[u8]), Failure>
     expected(Kind::Name, past_breaks(rest))
 }
 
-fn more_names(
-    alloc: Global,
-    limit: usize,
-    bytes: &[u8],
-) -> Result<(Vec<Lexeme<'_>>, &[u8]), Failure>
-    ensures { Gives (λ x. (map token x.0.items, tokens_of x.1.now)) result (many ends_names name_at limit (tokens_of bytes.now)) }
-{
-    let mut found = Vec::new(alloc);
-    let mut rest = bytes;
-    for _ in 0..limit {
-        if at_names_end(rest) {
-            return Ok((found, rest));
-        }
-        let (one, after) = name_read(rest)?;
-        found.push(one)?;
-        rest = after;
+struct MoreNames;
+
+impl<'a> Listed<'a> for MoreNames {
+    type Item = Lexeme<'a>;
+
+    ghost Said = { Token };
+
+    ghost said = { λ t. token t };
+
+    ghost ends = { ends_names };
+
+    ghost item_at = { name_at };
+
+    #[tactic(auto, unfolding(crate::specs::Grammar::ends_names))]
+    fn stops(bytes: &[u8]) -> bool
+        ensures { result ≡ ends_names (tokens_of bytes.now) }
+    {
+        let (t, _) = next(past_breaks(bytes));
+        !is(Kind::Comma, t)
     }
-    Err(refused(next(rest).0))
+
+    fn item(_alloc: Global, bytes: &'a [u8]) -> Result<(Lexeme<'a>, &'a [u8]), Failure> {
+        name_read(bytes)
+    }
 }
 
 #[tactic(auto, unfolding(crate::specs::Grammar::names_at))]
-fn names(alloc: Global, limit: usize, bytes: &[u8]) -> Result<(Names<'_>, &[u8]), Failure>
-    ensures { Gives (λ x. (names_of x.0, tokens_of x.1.now)) result (names_at limit (tokens_of bytes.now)) }
+fn names(alloc: Global, bytes: &[u8]) -> Result<(Names<'_>, &[u8]), Failure>
+    ensures { Gives (λ x. (names_of x.0, tokens_of x.1.now)) result (names_at (tokens_of bytes.now)) }
 {
     let (t, _) = next(bytes);
     if is_word(b"AT", t) {
@@ -74,7 +57,7 @@ fn names(alloc: Global, limit: usize, bytes: &[u8]) -> Result<(Names<'_>, &[u8])
         let (address, rest) = expected(Kind::Address, past_breaks(rest))?;
         Ok((Names::Located(address), rest))
     } else {
-        let (more, rest) = more_names(alloc, limit, bytes)?;
+        let (more, rest) = many::<MoreNames>(alloc, bytes)?;
         Ok((Names::More(more), rest))
     }
 }
@@ -94,11 +77,11 @@ fn initial(bytes: &[u8]) -> Result<(Option<Lexeme<'_>>, &[u8]), Failure>
 }
 
 #[tactic(auto, unfolding(crate::specs::Grammar::declaration_at))]
-fn declared(alloc: Global, limit: usize, bytes: &[u8]) -> Result<(Declaration<'_>, &[u8]), Failure>
-    ensures { Gives (λ x. (declaration x.0, tokens_of x.1.now)) result (declaration_at limit (tokens_of bytes.now)) }
+fn declared(alloc: Global, bytes: &[u8]) -> Result<(Declaration<'_>, &[u8]), Failure>
+    ensures { Gives (λ x. (declaration x.0, tokens_of x.1.now)) result (declaration_at (tokens_of bytes.now)) }
 {
     let (name, rest) = expected(Kind::Name, past_breaks(bytes))?;
-    let (names, rest) = names(alloc, limit, past_breaks(rest))?;
+    let (names, rest) = names(alloc, past_breaks(rest))?;
     let (_, rest) = expected(Kind::Colon, past_breaks(rest))?;
     let (ty, rest) = expected(Kind::Name, past_breaks(rest))?;
     let (initial, rest) = initial(past_breaks(rest))?;
@@ -114,57 +97,65 @@ fn declared(alloc: Global, limit: usize, bytes: &[u8]) -> Result<(Declaration<'_
     ))
 }
 
-fn block_declarations(
-    alloc: Global,
-    limit: usize,
-    bytes: &[u8],
-) -> Result<(Vec<Declaration<'_>>, &[u8]), Failure>
-    ensures { Gives (λ x. (declarations x.0.items, tokens_of x.1.now)) result (many ends_block (declaration_at limit) limit (tokens_of bytes.now)) }
-{
-    let mut found = Vec::new(alloc);
-    let mut rest = bytes;
-    for _ in 0..limit {
-        if at_block_end(rest) {
-            return Ok((found, rest));
-        }
-        let (one, after) = declared(alloc, limit, rest)?;
-        found.push(one)?;
-        rest = after;
+struct Declarations;
+
+impl<'a> Listed<'a> for Declarations {
+    type Item = Declaration<'a>;
+
+    ghost Said = { DeclarationText };
+
+    ghost said = { declaration };
+
+    ghost ends = { ends_block };
+
+    ghost item_at = { declaration_at };
+
+    #[tactic(auto, unfolding(crate::specs::Grammar::ends_block))]
+    fn stops(bytes: &[u8]) -> bool
+        ensures { result ≡ ends_block (tokens_of bytes.now) }
+    {
+        let (t, _) = next(past_breaks(bytes));
+        is_word(b"END_VAR", t)
     }
-    Err(refused(next(rest).0))
+
+    fn item(alloc: Global, bytes: &'a [u8]) -> Result<(Declaration<'a>, &'a [u8]), Failure> {
+        declared(alloc, bytes)
+    }
 }
 
 #[tactic(auto, unfolding(crate::specs::Grammar::block_at))]
-fn block(
-    alloc: Global,
-    limit: usize,
-    bytes: &[u8],
-) -> Result<(Vec<Declaration<'_>>, &[u8]), Failure>
-    ensures { Gives (λ x. (declarations x.0.items, tokens_of x.1.now)) result (block_at limit (tokens_of bytes.now)) }
+fn block(alloc: Global, bytes: &[u8]) -> Result<(Vec<Declaration<'_>>, &[u8]), Failure>
+    ensures { Gives (λ x. (declarations x.0.items, tokens_of x.1.now)) result (block_at (tokens_of bytes.now)) }
 {
     let rest = past_keyword(b"VAR", past_breaks(bytes))?;
-    let (found, rest) = block_declarations(alloc, limit, rest)?;
+    let (found, rest) = many::<Declarations>(alloc, rest)?;
     let rest = past_keyword(b"END_VAR", past_breaks(rest))?;
     Ok((found, rest))
 }
 
-/// The blocks of declarations at the front.
-pub fn blocks(
-    alloc: Global,
-    limit: usize,
-    bytes: &[u8],
-) -> Result<(Vec<Vec<Declaration<'_>>>, &[u8]), Failure>
-    ensures { Gives (λ x. (map (λ ds. declarations ds.items) x.0.items, tokens_of x.1.now)) result (many ends_blocks (block_at limit) limit (tokens_of bytes.now)) }
-{
-    let mut found = Vec::new(alloc);
-    let mut rest = bytes;
-    for _ in 0..limit {
-        if at_blocks_end(rest) {
-            return Ok((found, rest));
-        }
-        let (one, after) = block(alloc, limit, rest)?;
-        found.push(one)?;
-        rest = after;
+/// The blocks of declarations of a program.
+pub struct Blocks;
+
+impl<'a> Listed<'a> for Blocks {
+    type Item = Vec<Declaration<'a>>;
+
+    ghost Said = { List DeclarationText };
+
+    ghost said = { λ ds. declarations ds.items };
+
+    ghost ends = { ends_blocks };
+
+    ghost item_at = { block_at };
+
+    #[tactic(auto, unfolding(crate::specs::Grammar::ends_blocks))]
+    fn stops(bytes: &[u8]) -> bool
+        ensures { result ≡ ends_blocks (tokens_of bytes.now) }
+    {
+        let (t, _) = next(past_breaks(bytes));
+        !is_word(b"VAR", t)
     }
-    Err(refused(next(rest).0))
+
+    fn item(alloc: Global, bytes: &'a [u8]) -> Result<(Vec<Declaration<'a>>, &'a [u8]), Failure> {
+        block(alloc, bytes)
+    }
 }

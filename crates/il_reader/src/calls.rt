@@ -1,15 +1,16 @@
 //! Calls of instances (IEC 61131-3:2003, 3.2.3: CAL with a list of inputs and outputs).
 
-ghost use Rattle.std.specs.Prelude.{◌≡◌, ◌∷◌, map, option_map};
+ghost use Rattle.std.specs.Prelude.{◌≡◌, map, option_map};
 ghost use Rattle.il_reader.specs.Tokens.{tokens_of, token};
-ghost use Rattle.il_reader.specs.Reading.{Gives, many, mapped};
-ghost use Rattle.il_reader.specs.Grammar.{argument, call, side_at, argument_at, ends_arguments, next_argument_at, inside_at, arguments_at, call_at};
+ghost use Rattle.il_reader.specs.Reading.{Gives};
+ghost use Rattle.il_reader.specs.Grammar.{ArgumentText, argument, call, side_at, argument_at, ends_arguments, next_argument_at, inside_at, arguments_at, call_at};
 
 use crate::contents::{Argument, Call};
 use crate::fault::Failure;
 use crate::lexeme::{Kind, next};
+use crate::lists::{Listed, many};
 use crate::operands::inner_operand_read;
-use crate::reading::{expected, is, past_breaks, refused};
+use crate::reading::{expected, is, past_breaks};
 use il_model::Side;
 use std::alloc::Global;
 
@@ -44,14 +45,6 @@ fn argument_read(bytes: &[u8]) -> Result<(Argument<'_>, &[u8]), Failure>
     ))
 }
 
-#[tactic(auto, unfolding(crate::specs::Grammar::ends_arguments))]
-fn at_arguments_end(bytes: &[u8]) -> bool
-    ensures { result ≡ ends_arguments (tokens_of bytes.now) }
-{
-    let (t, _) = next(past_breaks(bytes));
-    !is(Kind::Comma, t)
-}
-
 #[tactic(auto, unfolding(crate::specs::Grammar::next_argument_at))]
 fn next_argument(bytes: &[u8]) -> Result<(Argument<'_>, &[u8]), Failure>
     ensures { Gives (λ x. (argument x.0, tokens_of x.1.now)) result (next_argument_at (tokens_of bytes.now)) }
@@ -60,54 +53,58 @@ fn next_argument(bytes: &[u8]) -> Result<(Argument<'_>, &[u8]), Failure>
     argument_read(rest)
 }
 
-// The first argument and those behind it.
-fn arguments_from<'a>(
-    alloc: Global,
-    limit: usize,
-    head: Argument<'a>,
-    bytes: &'a [u8],
-) -> Result<(Vec<Argument<'a>>, &'a [u8]), Failure>
-    ensures { Gives (λ x. (map argument x.0.items, tokens_of x.1.now)) result (mapped (λ xs. argument head.entry ∷ xs) (many ends_arguments next_argument_at limit) (tokens_of bytes.entry.now)) }
-{
-    let mut found = Vec::new(alloc);
-    found.push(head)?;
-    let mut rest = bytes;
-    for _ in 0..limit {
-        if at_arguments_end(rest) {
-            return Ok((found, rest));
-        }
-        let (one, after) = next_argument(rest)?;
-        found.push(one)?;
-        rest = after;
+struct MoreArguments;
+
+impl<'a> Listed<'a> for MoreArguments {
+    type Item = Argument<'a>;
+
+    ghost Said = { ArgumentText };
+
+    ghost said = { argument };
+
+    ghost ends = { ends_arguments };
+
+    ghost item_at = { next_argument_at };
+
+    #[tactic(auto, unfolding(crate::specs::Grammar::ends_arguments))]
+    fn stops(bytes: &[u8]) -> bool
+        ensures { result ≡ ends_arguments (tokens_of bytes.now) }
+    {
+        let (t, _) = next(past_breaks(bytes));
+        !is(Kind::Comma, t)
     }
-    Err(refused(next(rest).0))
+
+    fn item(_alloc: Global, bytes: &'a [u8]) -> Result<(Argument<'a>, &'a [u8]), Failure> {
+        next_argument(bytes)
+    }
 }
 
 #[tactic(auto, unfolding(crate::specs::Grammar::inside_at))]
-fn inside(alloc: Global, limit: usize, bytes: &[u8]) -> Result<(Vec<Argument<'_>>, &[u8]), Failure>
-    ensures { Gives (λ x. (map argument x.0.items, tokens_of x.1.now)) result (inside_at limit (tokens_of bytes.now)) }
+fn inside(alloc: Global, bytes: &[u8]) -> Result<(Vec<Argument<'_>>, &[u8]), Failure>
+    ensures { Gives (λ x. (map argument x.0.items, tokens_of x.1.now)) result (inside_at (tokens_of bytes.now)) }
 {
     let (t, _) = next(past_breaks(bytes));
     if is(Kind::Close, t) {
         Ok((Vec::new(alloc), bytes))
     } else {
         let (head, rest) = argument_read(bytes)?;
-        arguments_from(alloc, limit, head, rest)
+        let (mut found, rest) = many::<MoreArguments>(alloc, rest)?;
+        found.insert(0, head)?;
+        Ok((found, rest))
     }
 }
 
 #[tactic(auto, unfolding(crate::specs::Grammar::arguments_at))]
 fn arguments_read(
     alloc: Global,
-    limit: usize,
     bytes: &[u8],
 ) -> Result<(Option<Vec<Argument<'_>>>, &[u8]), Failure>
-    ensures { Gives (λ x. (option_map (λ xs. map argument xs.items) x.0, tokens_of x.1.now)) result (arguments_at limit (tokens_of bytes.now)) }
+    ensures { Gives (λ x. (option_map (λ xs. map argument xs.items) x.0, tokens_of x.1.now)) result (arguments_at (tokens_of bytes.now)) }
 {
     let (t, _) = next(bytes);
     if is(Kind::Open, t) {
         let (_, rest) = expected(Kind::Open, bytes)?;
-        let (found, rest) = inside(alloc, limit, rest)?;
+        let (found, rest) = inside(alloc, rest)?;
         let (_, rest) = expected(Kind::Close, past_breaks(rest))?;
         Ok((Some(found), rest))
     } else {
@@ -117,10 +114,10 @@ fn arguments_read(
 
 /// An instance and what it is called with.
 #[tactic(auto, unfolding(crate::specs::Grammar::call_at))]
-pub fn call_read(alloc: Global, limit: usize, bytes: &[u8]) -> Result<(Call<'_>, &[u8]), Failure>
-    ensures { Gives (λ x. (call x.0, tokens_of x.1.now)) result (call_at limit (tokens_of bytes.now)) }
+pub fn call_read(alloc: Global, bytes: &[u8]) -> Result<(Call<'_>, &[u8]), Failure>
+    ensures { Gives (λ x. (call x.0, tokens_of x.1.now)) result (call_at (tokens_of bytes.now)) }
 {
     let (instance, rest) = expected(Kind::Name, bytes)?;
-    let (written, rest) = arguments_read(alloc, limit, rest)?;
+    let (written, rest) = arguments_read(alloc, rest)?;
     Ok((Call { instance, written }, rest))
 }

@@ -8,6 +8,7 @@ mod contents;
 mod fault;
 mod lexeme;
 mod lines;
+mod lists;
 mod operands;
 mod operations;
 mod place;

@@ -1,13 +1,14 @@
 //! Instruction lines (IEC 61131-3:2003, B.2.1).
 
-ghost use Rattle.std.specs.Prelude.{◌≡◌, map};
+ghost use Rattle.std.specs.Prelude.{◌≡◌};
 ghost use Rattle.il_reader.specs.Tokens.{tokens_of, token};
-ghost use Rattle.il_reader.specs.Reading.{Gives, many};
-ghost use Rattle.il_reader.specs.Grammar.{line, is_line_stop, is_label, labelled_at, plain_at, either_line_at, line_at, ends_lines, ends_named};
+ghost use Rattle.il_reader.specs.Reading.{Gives};
+ghost use Rattle.il_reader.specs.Grammar.{LineText, line, is_line_stop, is_label, labelled_at, plain_at, either_line_at, line_at, ends_lines, ends_named};
 
 use crate::contents::Line;
 use crate::fault::Failure;
 use crate::lexeme::{Kind, next};
+use crate::lists::Listed;
 use crate::operations::{at_line_stop, operation_read, optional_operation};
 use crate::reading::{expected, is, is_word, past_breaks, refused};
 use il_model::words::mnemonic_from;
@@ -27,39 +28,39 @@ fn at_label(bytes: &[u8]) -> bool
 }
 
 #[tactic(auto, unfolding(crate::specs::Grammar::labelled_at))]
-fn labelled(alloc: Global, limit: usize, bytes: &[u8]) -> Result<(Line<'_>, &[u8]), Failure>
-    ensures { Gives (λ x. (line x.0, tokens_of x.1.now)) result (labelled_at limit (tokens_of bytes.now)) }
+fn labelled(alloc: Global, bytes: &[u8]) -> Result<(Line<'_>, &[u8]), Failure>
+    ensures { Gives (λ x. (line x.0, tokens_of x.1.now)) result (labelled_at (tokens_of bytes.now)) }
 {
     let (label, rest) = expected(Kind::Name, bytes)?;
     let (_, rest) = expected(Kind::Colon, rest)?;
-    let (x, rest) = optional_operation(alloc, limit, rest)?;
+    let (x, rest) = optional_operation(alloc, rest)?;
     Ok((Line::Labelled(label, x), rest))
 }
 
 #[tactic(auto, unfolding(crate::specs::Grammar::plain_at))]
-fn plain(alloc: Global, limit: usize, bytes: &[u8]) -> Result<(Line<'_>, &[u8]), Failure>
-    ensures { Gives (λ x. (line x.0, tokens_of x.1.now)) result (plain_at limit (tokens_of bytes.now)) }
+fn plain(alloc: Global, bytes: &[u8]) -> Result<(Line<'_>, &[u8]), Failure>
+    ensures { Gives (λ x. (line x.0, tokens_of x.1.now)) result (plain_at (tokens_of bytes.now)) }
 {
-    let (x, rest) = operation_read(alloc, limit, bytes)?;
+    let (x, rest) = operation_read(alloc, bytes)?;
     Ok((Line::Plain(x), rest))
 }
 
 #[tactic(auto, unfolding(crate::specs::Grammar::either_line_at))]
-fn either_line(alloc: Global, limit: usize, bytes: &[u8]) -> Result<(Line<'_>, &[u8]), Failure>
-    ensures { Gives (λ x. (line x.0, tokens_of x.1.now)) result (either_line_at limit (tokens_of bytes.now)) }
+fn either_line(alloc: Global, bytes: &[u8]) -> Result<(Line<'_>, &[u8]), Failure>
+    ensures { Gives (λ x. (line x.0, tokens_of x.1.now)) result (either_line_at (tokens_of bytes.now)) }
 {
     if at_label(bytes) {
-        labelled(alloc, limit, bytes)
+        labelled(alloc, bytes)
     } else {
-        plain(alloc, limit, bytes)
+        plain(alloc, bytes)
     }
 }
 
 #[tactic(auto, unfolding(crate::specs::Grammar::line_at))]
-fn line_read(alloc: Global, limit: usize, bytes: &[u8]) -> Result<(Line<'_>, &[u8]), Failure>
-    ensures { Gives (λ x. (line x.0, tokens_of x.1.now)) result (line_at limit (tokens_of bytes.now)) }
+fn line_read(alloc: Global, bytes: &[u8]) -> Result<(Line<'_>, &[u8]), Failure>
+    ensures { Gives (λ x. (line x.0, tokens_of x.1.now)) result (line_at (tokens_of bytes.now)) }
 {
-    let (x, rest) = either_line(alloc, limit, past_breaks(bytes))?;
+    let (x, rest) = either_line(alloc, past_breaks(bytes))?;
     if at_line_stop(rest) {
         Ok((x, rest))
     } else {
@@ -67,56 +68,56 @@ fn line_read(alloc: Global, limit: usize, bytes: &[u8]) -> Result<(Line<'_>, &[u
     }
 }
 
-#[tactic(auto, unfolding(crate::specs::Grammar::ends_lines))]
-fn at_lines_end(bytes: &[u8]) -> bool
-    ensures { result ≡ ends_lines (tokens_of bytes.now) }
-{
-    let (t, _) = next(past_breaks(bytes));
-    is(Kind::End, t)
-}
-
-#[tactic(auto, unfolding(crate::specs::Grammar::ends_named))]
-fn at_named_end(bytes: &[u8]) -> bool
-    ensures { result ≡ ends_named (tokens_of bytes.now) }
-{
-    let (t, _) = next(past_breaks(bytes));
-    is_word(b"END_PROGRAM", t)
-}
-
 /// The lines up to the end of the text.
-pub fn lines(alloc: Global, limit: usize, bytes: &[u8]) -> Result<(Vec<Line<'_>>, &[u8]), Failure>
-    ensures { Gives (λ x. (map line x.0.items, tokens_of x.1.now)) result (many ends_lines (line_at limit) limit (tokens_of bytes.now)) }
-{
-    let mut found = Vec::new(alloc);
-    let mut rest = bytes;
-    for _ in 0..limit {
-        if at_lines_end(rest) {
-            return Ok((found, rest));
-        }
-        let (one, after) = line_read(alloc, limit, rest)?;
-        found.push(one)?;
-        rest = after;
+pub struct Lines;
+
+impl<'a> Listed<'a> for Lines {
+    type Item = Line<'a>;
+
+    ghost Said = { LineText };
+
+    ghost said = { line };
+
+    ghost ends = { ends_lines };
+
+    ghost item_at = { line_at };
+
+    #[tactic(auto, unfolding(crate::specs::Grammar::ends_lines))]
+    fn stops(bytes: &[u8]) -> bool
+        ensures { result ≡ ends_lines (tokens_of bytes.now) }
+    {
+        let (t, _) = next(past_breaks(bytes));
+        is(Kind::End, t)
     }
-    Err(refused(next(rest).0))
+
+    fn item(alloc: Global, bytes: &'a [u8]) -> Result<(Line<'a>, &'a [u8]), Failure> {
+        line_read(alloc, bytes)
+    }
 }
 
 /// The lines up to END_PROGRAM.
-pub fn named_lines(
-    alloc: Global,
-    limit: usize,
-    bytes: &[u8],
-) -> Result<(Vec<Line<'_>>, &[u8]), Failure>
-    ensures { Gives (λ x. (map line x.0.items, tokens_of x.1.now)) result (many ends_named (line_at limit) limit (tokens_of bytes.now)) }
-{
-    let mut found = Vec::new(alloc);
-    let mut rest = bytes;
-    for _ in 0..limit {
-        if at_named_end(rest) {
-            return Ok((found, rest));
-        }
-        let (one, after) = line_read(alloc, limit, rest)?;
-        found.push(one)?;
-        rest = after;
+pub struct NamedLines;
+
+impl<'a> Listed<'a> for NamedLines {
+    type Item = Line<'a>;
+
+    ghost Said = { LineText };
+
+    ghost said = { line };
+
+    ghost ends = { ends_named };
+
+    ghost item_at = { line_at };
+
+    #[tactic(auto, unfolding(crate::specs::Grammar::ends_named))]
+    fn stops(bytes: &[u8]) -> bool
+        ensures { result ≡ ends_named (tokens_of bytes.now) }
+    {
+        let (t, _) = next(past_breaks(bytes));
+        is_word(b"END_PROGRAM", t)
     }
-    Err(refused(next(rest).0))
+
+    fn item(alloc: Global, bytes: &'a [u8]) -> Result<(Line<'a>, &'a [u8]), Failure> {
+        line_read(alloc, bytes)
+    }
 }

@@ -1,8 +1,8 @@
 //! Operands: literals, direct addresses, variables and fields of instances (IEC 61131-3:2003, B.2.2 and 2.5.2.1).
 
-ghost use Rattle.std.specs.Prelude.{◌≡◌, ◌<◌, true, option_map};
-ghost use Rattle.il_reader.specs.Tokens.{tokens_of, token};
-ghost use Rattle.il_reader.specs.Reading.{Gives, kind_code};
+ghost use Rattle.std.specs.Prelude.{◌≡◌, true, option_map};
+ghost use Rattle.il_reader.specs.Tokens.{goes_on, tokens_of, token};
+ghost use Rattle.il_reader.specs.Reading.{Gives};
 ghost use Rattle.il_reader.specs.Grammar.{operand, is_truth, is_variable, is_constant, variable_at, constant_at, field_at, inner_field_at, named_by, lone_at, operand_at, inner_operand_at};
 
 use crate::contents::Operand;
@@ -19,7 +19,7 @@ fn truth(t: Lexeme) -> bool
 
 fn variable(t: Lexeme) -> bool
     ensures value { result ≡ is_variable (token t.entry) }
-    ensures inner { result ≡ true → kind_code t.entry.kind < 14 }
+    ensures inner { result ≡ true → goes_on t.entry.kind ≡ true }
 {
     is(Kind::Name, t) && !truth(t)
 }
@@ -27,7 +27,7 @@ fn variable(t: Lexeme) -> bool
 #[tactic(auto, unfolding(crate::specs::Grammar::is_constant))]
 fn constant(t: Lexeme) -> bool
     ensures value { result ≡ is_constant (token t.entry) }
-    ensures inner { result ≡ true → kind_code t.entry.kind < 14 }
+    ensures inner { result ≡ true → goes_on t.entry.kind ≡ true }
 {
     if is(Kind::Name, t) {
         truth(t)

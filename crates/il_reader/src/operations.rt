@@ -1,8 +1,8 @@
 //! Operators with what stands behind them (IEC 61131-3:2003, B.2.1 and B.2.2).
 
-ghost use Rattle.std.specs.Prelude.{◌≡◌, ◌<◌, IfSome, option_map};
-ghost use Rattle.il_reader.specs.Tokens.{tokens_of, token};
-ghost use Rattle.il_reader.specs.Reading.{Gives, kind_code};
+ghost use Rattle.std.specs.Prelude.{◌≡◌, true, IfSome, option_map};
+ghost use Rattle.il_reader.specs.Tokens.{goes_on, tokens_of, token};
+ghost use Rattle.il_reader.specs.Reading.{Gives};
 ghost use Rattle.il_reader.specs.Grammar.{operand, behind, operation, form_of, operator_from, operator_of, operator_at, is_line_stop, optional_operand_at, nested_at, either_at, behind_at, operation_at, optional_operation_at};
 
 use crate::calls::call_read;
@@ -49,7 +49,7 @@ fn operator_with(left: usize, mnemonic: Option<Mnemonic>) -> Option<Operator>
 #[tactic(auto, unfolding(crate::specs::Grammar::operator_of))]
 fn operator(t: Lexeme) -> Option<Operator>
     ensures value { result ≡ operator_of (token t.entry) }
-    ensures inner { IfSome result (λ o. kind_code t.entry.kind < 14) }
+    ensures inner { IfSome result (λ o. goes_on t.entry.kind ≡ true) }
 {
     if is(Kind::Name, t) || is(Kind::Ampersand, t) {
         operator_with(t.left, mnemonic_from(t.text))
@@ -126,13 +126,8 @@ fn either(bytes: &[u8]) -> Result<(Behind<'_>, &[u8]), Failure>
 }
 
 #[tactic(auto, unfolding(crate::specs::Grammar::behind_at))]
-fn behind_read(
-    alloc: Global,
-    limit: usize,
-    form: Form,
-    bytes: &[u8],
-) -> Result<(Behind<'_>, &[u8]), Failure>
-    ensures { Gives (λ x. (behind x.0, tokens_of x.1.now)) result (behind_at limit form (tokens_of bytes.now)) }
+fn behind_read(alloc: Global, form: Form, bytes: &[u8]) -> Result<(Behind<'_>, &[u8]), Failure>
+    ensures { Gives (λ x. (behind x.0, tokens_of x.1.now)) result (behind_at form (tokens_of bytes.now)) }
 {
     match form {
         Form::Operand => {
@@ -146,7 +141,7 @@ fn behind_read(
         }
         Form::Either => either(bytes),
         Form::Call => {
-            let (x, rest) = call_read(alloc, limit, bytes)?;
+            let (x, rest) = call_read(alloc, bytes)?;
             Ok((Behind::Called(x), rest))
         }
     }
@@ -154,15 +149,11 @@ fn behind_read(
 
 /// An operator with what stands behind it.
 #[tactic(auto, unfolding(crate::specs::Grammar::operation_at))]
-pub fn operation_read(
-    alloc: Global,
-    limit: usize,
-    bytes: &[u8],
-) -> Result<(Operation<'_>, &[u8]), Failure>
-    ensures { Gives (λ x. (operation x.0, tokens_of x.1.now)) result (operation_at limit (tokens_of bytes.now)) }
+pub fn operation_read(alloc: Global, bytes: &[u8]) -> Result<(Operation<'_>, &[u8]), Failure>
+    ensures { Gives (λ x. (operation x.0, tokens_of x.1.now)) result (operation_at (tokens_of bytes.now)) }
 {
     let (operator, rest) = operator_read(bytes)?;
-    let (behind, rest) = behind_read(alloc, limit, follows(operator.mnemonic.op), rest)?;
+    let (behind, rest) = behind_read(alloc, follows(operator.mnemonic.op), rest)?;
     Ok((Operation { operator, behind }, rest))
 }
 
@@ -170,15 +161,14 @@ pub fn operation_read(
 #[tactic(auto, unfolding(crate::specs::Grammar::optional_operation_at))]
 pub fn optional_operation(
     alloc: Global,
-    limit: usize,
     bytes: &[u8],
 ) -> Result<(Option<Operation<'_>>, &[u8]), Failure>
-    ensures { Gives (λ x. (option_map operation x.0, tokens_of x.1.now)) result (optional_operation_at limit (tokens_of bytes.now)) }
+    ensures { Gives (λ x. (option_map operation x.0, tokens_of x.1.now)) result (optional_operation_at (tokens_of bytes.now)) }
 {
     if at_line_stop(bytes) {
         Ok((None, bytes))
     } else {
-        let (x, rest) = operation_read(alloc, limit, bytes)?;
+        let (x, rest) = operation_read(alloc, bytes)?;
         Ok((Some(x), rest))
     }
 }

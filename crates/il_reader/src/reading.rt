@@ -1,7 +1,7 @@
 //! Reading one token after the other.
 
-ghost use Rattle.std.specs.Prelude.{◌≡◌, ◌<◌};
-ghost use Rattle.il_reader.specs.Tokens.{tokens_of, token};
+ghost use Rattle.std.specs.Prelude.{◌≡◌, true};
+ghost use Rattle.il_reader.specs.Tokens.{goes_on, tokens_of, token};
 ghost use Rattle.il_reader.specs.Reading.{Gives, fault_at, kind_code, is_kind, is_word_token, skip_breaks, expect, keyword};
 
 use crate::fault::{Failure, FaultKind, Refusal};
@@ -52,7 +52,7 @@ pub fn refused(t: Lexeme) -> Failure
 /// A token of this kind, and what stands after it.
 #[tactic(auto, unfolding(crate::specs::Reading::expect))]
 pub fn expected(kind: Kind, bytes: &[u8]) -> Result<(Lexeme<'_>, &[u8]), Failure>
-    requires { kind_code kind < 14 }
+    requires { goes_on kind ≡ true }
     ensures { Gives (λ x. (token x.0, tokens_of x.1.now)) result (expect kind (tokens_of bytes.now)) }
 {
     let (t, rest) = next(bytes);

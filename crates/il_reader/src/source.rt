@@ -36,10 +36,13 @@ impl<'a> Source<'a> {
     ghost use Rattle.il_reader.specs.Grammar.{declarations, line};
     ghost use Rattle.il_reader.specs.Place.{place_at};
     ghost use Rattle.il_reader.specs.Texts.{IsSource};
+    ghost use Rattle.il_reader.specs.Words.{AreWords};
 
-    /// What is known of every source: its text is short enough, and it says this.
+    /// What is known of every source: its text is short enough, and it says this; and its names are names, and its operators
+    /// take what stands behind them.
     pub fn is_read(&self)
-        ensures { IsSource self.now }
+        ensures source { IsSource self.now }
+        ensures words { AreWords self.now.says }
     {
         let _contents = &self.contents;
     }

@@ -1,16 +1,17 @@
 //! Programs (IEC 61131-3:2003, B.1.5.3): with a name and END_PROGRAM, or without.
 
-ghost use Rattle.std.specs.Prelude.{◌≡◌, ◌^◌, ◌<◌, codes, length, Ok, IfOk};
+ghost use Rattle.std.specs.Prelude.{◌≡◌, codes, Ok, IfOk};
 ghost use Rattle.il_reader.specs.Tokens.{tokens_of, token};
 ghost use Rattle.il_reader.specs.Reading.{Gives};
 ghost use Rattle.il_reader.specs.Spelling.{Says};
 ghost use Rattle.il_reader.specs.Grammar.{program_text, end_at, finish_at, named_at, bare_at, begins_program, program_at, text_of, ProgramText};
 
-use crate::blocks::blocks;
+use crate::blocks::Blocks;
 use crate::contents::Contents;
 use crate::fault::Failure;
 use crate::lexeme::{Kind, next};
-use crate::lines::{lines, named_lines};
+use crate::lines::{Lines, NamedLines};
+use crate::lists::many;
 use crate::reading::{expected, is, is_word, past_breaks, past_keyword, refused};
 use std::alloc::Global;
 
@@ -43,13 +44,13 @@ fn finished(bytes: &[u8]) -> Result<&[u8], Failure>
 }
 
 #[tactic(auto, unfolding(crate::specs::Grammar::named_at))]
-fn named(alloc: Global, limit: usize, bytes: &[u8]) -> Result<(Contents<'_>, &[u8]), Failure>
-    ensures { Gives (λ x. (program_text x.0, tokens_of x.1.now)) result (named_at limit (tokens_of bytes.now)) }
+fn named(alloc: Global, bytes: &[u8]) -> Result<(Contents<'_>, &[u8]), Failure>
+    ensures { Gives (λ x. (program_text x.0, tokens_of x.1.now)) result (named_at (tokens_of bytes.now)) }
 {
     let rest = past_keyword(b"PROGRAM", past_breaks(bytes))?;
     let (name, rest) = expected(Kind::Name, rest)?;
-    let (blocks, rest) = blocks(alloc, limit, rest)?;
-    let (lines, rest) = named_lines(alloc, limit, rest)?;
+    let (blocks, rest) = many::<Blocks>(alloc, rest)?;
+    let (lines, rest) = many::<NamedLines>(alloc, rest)?;
     let rest = finished(rest)?;
     Ok((
         Contents {
@@ -62,11 +63,11 @@ fn named(alloc: Global, limit: usize, bytes: &[u8]) -> Result<(Contents<'_>, &[u
 }
 
 #[tactic(auto, unfolding(crate::specs::Grammar::bare_at))]
-fn bare(alloc: Global, limit: usize, bytes: &[u8]) -> Result<(Contents<'_>, &[u8]), Failure>
-    ensures { Gives (λ x. (program_text x.0, tokens_of x.1.now)) result (bare_at limit (tokens_of bytes.now)) }
+fn bare(alloc: Global, bytes: &[u8]) -> Result<(Contents<'_>, &[u8]), Failure>
+    ensures { Gives (λ x. (program_text x.0, tokens_of x.1.now)) result (bare_at (tokens_of bytes.now)) }
 {
-    let (blocks, rest) = blocks(alloc, limit, bytes)?;
-    let (lines, rest) = lines(alloc, limit, rest)?;
+    let (blocks, rest) = many::<Blocks>(alloc, bytes)?;
+    let (lines, rest) = many::<Lines>(alloc, rest)?;
     let rest = ended(past_breaks(rest))?;
     Ok((
         Contents {
@@ -79,28 +80,26 @@ fn bare(alloc: Global, limit: usize, bytes: &[u8]) -> Result<(Contents<'_>, &[u8
 }
 
 #[tactic(auto, unfolding(crate::specs::Grammar::program_at))]
-fn program(alloc: Global, limit: usize, bytes: &[u8]) -> Result<(Contents<'_>, &[u8]), Failure>
-    ensures { Gives (λ x. (program_text x.0, tokens_of x.1.now)) result (program_at limit (tokens_of bytes.now)) }
+fn program(alloc: Global, bytes: &[u8]) -> Result<(Contents<'_>, &[u8]), Failure>
+    ensures { Gives (λ x. (program_text x.0, tokens_of x.1.now)) result (program_at (tokens_of bytes.now)) }
 {
     if at_program(bytes) {
-        named(alloc, limit, bytes)
+        named(alloc, bytes)
     } else {
-        bare(alloc, limit, bytes)
+        bare(alloc, bytes)
     }
 }
 
 #[tactic(auto, unfolding(crate::specs::Grammar::text_of))]
 fn all(alloc: Global, bytes: &[u8]) -> Result<Contents<'_>, Failure>
-    requires { length bytes.now < 2 ^ 32 }
     ensures { Gives program_text result (text_of bytes.now) }
 {
-    let (contents, _) = program(alloc, 2 + bytes.len(), bytes)?;
+    let (contents, _) = program(alloc, bytes)?;
     Ok(contents)
 }
 
 /// What a text says, from its first token to its last.
 pub fn whole(alloc: Global, bytes: &[u8]) -> Result<Contents<'_>, Failure>
-    requires { length bytes.now < 2 ^ 32 }
     ensures found { IfOk result (λ c. Says bytes.now (program_text c)) }
     ensures only { (p : ProgramText) → Says bytes.now p → text_of bytes.now ≡ Ok p }
     ensures exact { Gives program_text result (text_of bytes.now) }

@@ -3,33 +3,79 @@
 
 mod new_file;
 
+ghost use Rattle.std.specs.Prelude.{◌≡◌, vec_len};
+ghost use Rattle.vr_model.specs.Groups.{group_size};
+
 use il_model::{Budget, Counted, CountedWrite};
 use new_file::NewFile;
+use plc_serve::Settings;
 use plc_tool::Fault;
 use plc_words::{Words, WordsError, read_words};
+use process_image::NewList;
+use replicas::FileStore;
 use std::io::{BufWriter, Write};
+use std::marker::Brand;
 use std::process::ExitCode;
 use std::{env, fs, io};
 use vr_model::Config;
 
+/// What the words of the call came to.
+#[derive(Drop)]
+enum Outcome {
+    /// It's done, with this status.
+    Done(u8),
+    Serve(Service),
+}
+
+/// A controller that is to be served.
+#[derive(Drop)]
+struct Service {
+    source: Vec<u8>,
+    directory: String,
+    stores: Vec<FileStore<HostRuntime>>,
+    settings: Settings,
+    ghost one_each: { vec_len stores ≡ group_size settings.config.f },
+}
+
+/// Threads and sockets are used here alone.
 fn main(rt: HostRuntime) -> ExitCode {
     let mut err = Counted::new(rt.stderr());
     let status = match BufWriter::new(rt.alloc(), rt.stdout()) {
-        Ok(mut out) => called(&rt, &mut out, &mut err),
+        Ok(mut out) => match called(&rt, &mut out, &mut err) {
+            Outcome::Done(status) => status,
+            Outcome::Serve(
+                Service {
+                    source,
+                    directory,
+                    stores,
+                    settings,
+                },
+            ) => plc_serve::serve::<Brand, _, _, _, _>(
+                rt,
+                rt.alloc(),
+                NewList::new(),
+                source.as_slice(),
+                directory,
+                stores,
+                settings,
+                &mut out,
+                &mut err,
+            ),
+        },
         Err(error) => plc_tool::tell(Fault::from(error), &mut err),
     };
     ExitCode::from(status)
 }
 
-/// Does what the words of the call ask for, and answers the status.
-fn called<W: Write, E: CountedWrite>(rt: &HostRuntime, out: &mut W, err: &mut E) -> u8 {
+/// Does what the words of the call ask for, unless that is to serve a controller.
+fn called<W: Write, E: CountedWrite>(rt: &HostRuntime, out: &mut W, err: &mut E) -> Outcome {
     let given = match given_words(rt) {
         Ok(given) => given,
-        Err(error) => return plc_tool::tell_words(&error, out, err),
+        Err(error) => return Outcome::Done(plc_tool::tell_words(&error, out, err)),
     };
     match read_words(rt.alloc(), given.as_slice()) {
         Ok(words) => perform(rt, words, out, err),
-        Err(error) => plc_tool::tell_words(&error, out, err),
+        Err(error) => Outcome::Done(plc_tool::tell_words(&error, out, err)),
     }
 }
 
@@ -38,8 +84,8 @@ fn perform<W: Write, E: CountedWrite>(
     words: Words,
     out: &mut W,
     err: &mut E,
-) -> u8 {
-    match words {
+) -> Outcome {
+    Outcome::Done(match words {
         Words::Asm { source, image } => asm(rt, source, image, out, err),
         Words::List { image } => list(rt, image, out, err),
         Words::Run {
@@ -53,7 +99,28 @@ fn perform<W: Write, E: CountedWrite>(
             config,
             budget,
         } => sim(rt, source, schedule, &config, budget, out, err),
-    }
+        Words::Serve {
+            source,
+            store,
+            scans,
+            config,
+            port,
+            period,
+            budget,
+        } => {
+            let settings = Settings {
+                config,
+                budget,
+                port,
+                period,
+                scans,
+            };
+            match service_of(rt, source, store, settings) {
+                Ok(service) => return Outcome::Serve(service),
+                Err(fault) => plc_tool::tell(fault, err),
+            }
+        }
+    })
 }
 
 fn given_words(rt: &HostRuntime) -> Result<Vec<String>, WordsError> {
@@ -73,8 +140,16 @@ fn asm<W: Write, E: CountedWrite>(
 ) -> u8 {
     match file(rt, source) {
         Ok(source) => {
-            let mut image = NewFile::at(rt, image);
-            plc_tool::asm(rt.alloc(), source.as_slice(), &mut image, out, err)
+            let mut image = Counted::new(NewFile::at(rt, image));
+            let mut counted = Counted::new(&mut *out);
+            let status = plc_tool::asm(
+                rt.alloc(),
+                source.as_slice(),
+                &mut image,
+                &mut counted,
+                err,
+            );
+            flushed(status, out, err)
         }
         Err(fault) => plc_tool::tell(fault, err),
     }
@@ -146,6 +221,22 @@ fn sim<W: Write, E: CountedWrite>(
         err,
     );
     flushed(status, out, err)
+}
+
+/// A file that holds the text, and a directory for the stores.
+fn service_of(
+    rt: &HostRuntime,
+    source: &str,
+    directory: &str,
+    settings: Settings,
+) -> Result<Service, Fault> {
+    let alloc = rt.alloc();
+    Ok(Service {
+        source: file(rt, source)?,
+        directory: format!(in alloc; "{directory}")?,
+        stores: plc_serve::stores(*rt, alloc, settings.config, directory)?,
+        settings,
+    })
 }
 
 /// The status of what was written, once it is flushed.

@@ -32,14 +32,19 @@ impl Pace {
         Ok(Instant::now(rt)?.saturating_duration_since(self.begun))
     }
 
-    /// Sleeps until the next scan is due, and gives its moment in milliseconds. A scan that came a period late or more sets a new
-    /// beginning of periods: none is made up for.
+    /// Sleeps until the next scan is due, and gives its moment in milliseconds. The one behind it is due a period after it was due, or,
+    /// where it came a period late or more, a period from now: no scan is made up for.
     pub(crate) fn await_scan<R: Clock>(&mut self, rt: &R) -> Result<u64, Fault>
         ensures { IfErr result (λ e. status_of e ≡ 2) }
     {
         thread::sleep(rt, self.due.saturating_sub(self.elapsed(rt)?));
         let now = self.elapsed(rt)?;
-        self.due = self.due.saturating_add(self.period).max(now);
+        let next = self.due.saturating_add(self.period);
+        self.due = if next > now {
+            next
+        } else {
+            now.saturating_add(self.period)
+        };
         Ok(u64::try_from(now.as_millis()).unwrap_or(u64::MAX))
     }
 

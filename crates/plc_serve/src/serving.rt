@@ -1,12 +1,12 @@
 //! The controller from its text to its end.
 
-ghost use Rattle.std.specs.Prelude.{◌≡◌, ◌≤◌, ◌⊎◌, IfErr, OnOk, vec_len};
+ghost use Rattle.std.specs.Prelude.{◌≡◌, ◌≤◌, IfErr, IfOk, OnErr, OnOk, vec_len};
 ghost use Rattle.vr_model.specs.Groups.{group_size};
 ghost use Rattle.std.specs.Io.KnownBytes.{Appends};
-ghost use Rattle.plc_tool.specs.Meaning.{IsRefused, Tells, program_of_text};
+ghost use Rattle.std.specs.String.{string_bytes};
 ghost use Rattle.plc_tool.specs.Status.{status_of};
-ghost use Rattle.plc_tool.specs.declared.fault.Fault.TheVariants.{Store};
-ghost use Rattle.plc_serve.specs.Serving.{scans_line};
+ghost use Rattle.plc_tool.specs.Telling.{IsTold, WentOut};
+ghost use Rattle.plc_serve.specs.Serving.{scans_line, port_line, IsWhyRefused, IsToldAtLast};
 
 use crate::door::Door;
 use crate::driving::Drive;
@@ -19,7 +19,7 @@ use loader::Image;
 use plc_tool::{Fault, ended, image};
 use process_image::{Naming, NewList, Pen, ScanDriver, Stage, StageBook, released};
 use replicas::{Cluster, Link, Starts, Switchboard};
-use std::alloc::Global;
+use std::alloc::{AllocError, Global};
 use std::io::Write;
 use std::net::{Net, TcpListener, TcpStream};
 use std::rt::Files;
@@ -42,7 +42,7 @@ pub struct Settings {
     pub budget: Budget,
     /// Of 127.0.0.1; port 0 is any that is free.
     pub port: u16,
-    /// In milliseconds.
+    /// In milliseconds, from 1: with 0 the driver never rests, and asks again after each message.
     pub period: u32,
     /// After so many it ends.
     pub scans: u32,
@@ -50,13 +50,13 @@ pub struct Settings {
 
 /// Judges the text, then the directory, and serves the controller until it has released so many scans: the status. What it serves is the
 /// controller of the text's program, by replicas that each keep a file of the directory. Once it takes connections, `err` has
-/// the line that tells where. At the end `out` has the line that tells how many scans there were.
+/// the line that tells where. At the end `out` has the line that tells how many scans there were, or `err` that of the fault.
 pub fn serve<J, R, S, W: Write, E: CountedWrite>(
     rt: R,
     alloc: Global,
     list: NewList,
     source: &[u8],
-    directory: &str,
+    directory: String,
     stores: Vec<S>,
     settings: Settings,
     out: &mut W,
@@ -71,12 +71,22 @@ where
     requires stores { vec_len stores ≡ group_size settings.config.f }
     ensures status { result ≤ 2 }
     ensures served { result ≡ 0 → Appends (W.contents out.old) (W.contents out.new) (scans_line settings.scans) }
-    // Else the directory holds the file of a replica.
-    ensures refused { result ≡ 1 → out.new ≡ out.old }
+    // Nothing is started then.
+    ensures refused { result ≡ 1 → IsTold E.CountedWrite (IsWhyRefused source.now) result err.old err.new × (out.new ≡ out.old) }
+    // Behind what was told before, as the port.
+    ensures failed { result ≡ 2 → IsToldAtLast E.CountedWrite result err.new }
 {
     ended(
         served::<J, R, S, W, E>(
-            rt, alloc, list, source, directory, stores, settings, out, err,
+            rt,
+            alloc,
+            list,
+            source,
+            directory.as_str(),
+            stores,
+            settings,
+            out,
+            err,
         ),
         err,
     )
@@ -101,7 +111,7 @@ where
     requires list { list ≡ J.book }
     requires stores { vec_len stores ≡ group_size settings.config.f }
     ensures served { OnOk result (Appends (W.contents out.old) (W.contents out.new) (scans_line settings.scans)) }
-    ensures refused { IfErr result (λ e. status_of e ≡ 1 → (Tells e (program_of_text source.now) ⊎ (e ≡ Store)) × (out.new ≡ out.old)) }
+    ensures refused { IfErr result (λ e. status_of e ≡ 1 → IsWhyRefused source.now e × (err.new ≡ err.old) × (out.new ≡ out.old)) }
 {
     let image = image(alloc, source)?;
     if file_count(rt, alloc, settings.config, directory)? > 0 {
@@ -221,7 +231,6 @@ where
     ensures { IfErr result (λ e. status_of e ≡ 2) }
 {
     let port = door.port()?;
-    let line = format!(in alloc; "serving on 127.0.0.1:{port}\n")?;
     let stage = Stage::new(StageBook::new(alloc));
     let inputs = &stage;
     thread::scope(thread::scope_env(), rt, |scope| {
@@ -231,11 +240,55 @@ where
         {
             return Err(Fault::Device);
         }
-        // Where standard error fails, clients come all the same.
-        let _ = write_all(err, line.as_str().as_bytes());
-        let done = drive.run(rt, alloc, &mut inputs.handle(rt), &mut pace, scans);
+        let done = scan_all(rt, alloc, port, inputs, &mut drive, &mut pace, scans, err);
         door.shut();
         places.close(rt);
         done
     })
+}
+
+/// Tells the port, and has the group scan.
+fn scan_all<J, P, L, R, E: CountedWrite>(
+    rt: &R,
+    alloc: Global,
+    port: u16,
+    stage: &Stage,
+    drive: &mut Drive<L, J, P>,
+    pace: &mut Pace,
+    scans: u32,
+    err: &mut E,
+) -> Result<(), Fault>
+where
+    J: Naming,
+    P: Pen<J> + Drop,
+    L: Link + Drop,
+    R: Wait + Clock,
+    ensures told { OnOk result (WentOut E.CountedWrite (port_line port) err.old err.new) }
+    ensures err { IfErr result (λ e. status_of e ≡ 2) }
+{
+    tell_port(alloc, port, err)?;
+    drive.run(rt, alloc, &mut stage.handle(rt), pace, scans)
+}
+
+/// Tells a port by its line. Where standard error fails, clients come all the same.
+fn tell_port<E: CountedWrite>(alloc: Global, port: u16, err: &mut E) -> Result<(), AllocError>
+    ensures told { OnOk result (WentOut E.CountedWrite (port_line port) err.old err.new) }
+    ensures same { OnErr result (err.new ≡ err.old) }
+{
+    let line = line_of(alloc, port)?;
+    tell_line(line.as_str().as_bytes(), err);
+    Ok(())
+}
+
+/// The line that tells a port.
+fn line_of(alloc: Global, port: u16) -> Result<String, AllocError>
+    ensures { IfOk result (λ line. string_bytes line ≡ port_line port) }
+{
+    format!(in alloc; "serving on 127.0.0.1:{port}\n")
+}
+
+fn tell_line<E: CountedWrite>(line: &[u8], err: &mut E)
+    ensures { WentOut E.CountedWrite line.now err.old err.new }
+{
+    let _ = write_all(err, line);
 }

@@ -1,5 +1,5 @@
 -- What a run puts is the answers of the text.
-use Rattle.std.proofs.Common.{◌≡◌, ◌⊎◌, inl, inr, ℕ, List, Result, Ok, Err, ap, arith}
+use Rattle.std.proofs.Common.{◌≡◌, ◌⊎◌, inl, ℕ, List, Result, Ok, Err, ap}
 use Rattle.std.specs.Prelude.{OnOk, IfErr}
 use Rattle.il_model.specs.Text.{Text}
 use Rattle.il_model.specs.Typing.{IsTyped}
@@ -26,14 +26,6 @@ module _ {W : Type 0} (w : CountedWriter W) (text : List ℕ) (budget : ℕ) (co
   is_run (Err e) h = tt
 
   pub is_cut_short : (r : Result (Unit {0}) Fault) → Puts w (lines_of (answers_by c commands)) old new r
-      → IfErr r (λ e. IsRunCutShort w text budget commands old new × IsWhyStopped e (w.faults old) (w.faults new) ⊎ Tells e (program_of_text text) × new ≡ old)
+      → IfErr r (λ e. IsWhyStopped e (w.faults old) (w.faults new) × IsRunCutShort w text budget commands old new ⊎ Tells e (program_of_text text) × new ≡ old)
   is_cut_short (Ok x) h = tt
-  is_cut_short (Err e) h = inl (record { answers = answers_by c commands; are = are; written = h.sent }, h.why)
-
--- a status of 2 is that of a fault
-pub cut_short : {W : Type 0} (w : CountedWriter W) (text : List ℕ) (budget : ℕ) (commands : List NamedCommand) (old new : W) (r : Result (Unit {0}) Fault) (status : ℕ) → status ≡ 2 → OnOk r (status ≡ 0)
-    → IfErr r (λ e. IsRunCutShort w text budget commands old new × IsWhyStopped e (w.faults old) (w.faults new) ⊎ Tells e (program_of_text text) × new ≡ old)
-    → IsRunCutShort w text budget commands old new ⊎ new ≡ old
-cut_short w text budget commands old new (Ok x) status two none h = absurd (omega arith)
-cut_short w text budget commands old new (Err e) status two none (inl h) = inl h.0
-cut_short w text budget commands old new (Err e) status two none (inr h) = inr h.1
+  is_cut_short (Err e) h = inl (h.why, record { answers = answers_by c commands; are = are; written = h.sent })

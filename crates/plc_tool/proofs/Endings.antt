@@ -1,6 +1,7 @@
 -- What a call's end tells, by what it did.
 use Rattle.std.proofs.Common.{◌≡◌, ◌⊎◌, inl, inr, ℕ, List, Result, Ok, Err, subst, sym, ap, ◌∙◌, arith, refl}
 use Rattle.std.specs.Prelude.{IfErr, OnOk}
+use Rattle.il_model.specs.Counted.{Failed}
 use Rattle.il_model.specs.declared.counted.CountedWrite.{Ghosts as CountedWriter}
 use Rattle.plc_json.specs.declared.command.JsonFault.{JsonFault}
 use Rattle.plc_json.specs.declared.command.JsonFault.TheVariants.{Shape, Memory}
@@ -10,34 +11,45 @@ use Rattle.plc_json.specs.Events.{HasSchedule, HasNoSchedule}
 use Rattle.plc_tool.specs.declared.fault.Fault.{Fault}
 use Rattle.plc_tool.specs.declared.fault.Fault.TheVariants as faults
 use Rattle.plc_tool.specs.Meaning.{Tells, IsRefused, IsFirstFault, program_of_text}
-use Rattle.plc_tool.specs.Putting.{IsWhyStopped, IsFaultOfRun}
+use Rattle.plc_tool.specs.Putting.{IsWhyStopped}
 use Rattle.plc_tool.specs.Simulated.{IsToldOf, IsRefusedInput, IsBadSchedule, IsFaultOfSchedule}
 use Rattle.plc_tool.specs.Status.{status_of, fault_of}
-use Rattle.plc_tool.specs.Telling.{Ends, IsTold, EndsTold}
-use Rattle.plc_tool.proofs.Refused.{tells_itself}
+use Rattle.plc_tool.specs.Telling.{Ends, EndsTold, StopsShort, WentOut, fault_line}
+
+-- a fault is told of what has it
+tells_itself : (Y : Type 0) (f : Fault) → Tells {Y = Y} f (Err f)
+tells_itself Y (faults.Read number line column) = refl
+tells_itself Y (faults.Declaration number line column) = refl
+tells_itself Y (faults.Assembly number instruction) = refl
+tells_itself Y (faults.Load number) = refl
+tells_itself Y (faults.LoadAt number position) = refl
+tells_itself Y faults.Commands = refl
+tells_itself Y faults.Schedule = refl
+tells_itself Y (faults.ScheduleAt index reason) = refl
+tells_itself Y faults.Store = refl
+tells_itself Y faults.Device = refl
+tells_itself Y faults.Memory = tt
 
 -- a device's fault and want of memory are no refusal of input
-pub no_input : {Y : Type 0} (e : Fault) → (e ≡ faults.Device) ⊎ (e ≡ faults.Memory) → status_of e ≡ 1 → Y
+no_input : {Y : Type 0} (e : Fault) → (e ≡ faults.Device) ⊎ (e ≡ faults.Memory) → status_of e ≡ 1 → Y
 no_input e (inl is) one = let two : status_of e ≡ 2 = ap status_of is in absurd (omega arith)
 no_input e (inr is) one = let two : status_of e ≡ 2 = ap status_of is in absurd (omega arith)
 
+pub why_stopped : (before after : ℕ) (e : Fault) → IsWhyStopped e before after → (e ≡ faults.Device) ⊎ (e ≡ faults.Memory)
+why_stopped before after e (inl device) = inl device.0
+why_stopped before after e (inr memory) = inr memory
+
 module _ {W : Type 0} (w : CountedWriter W) (F : Fault → Type 0) (status : ℕ) (old new : W) where
-  pub by_first : (A : Type 0) (r : Result (Unit {0}) Fault) → IfErr r (λ e. status_of e ≡ 1 → F e × A) → Ends w r status old new → EndsTold w F status old new
-  by_first A (Ok x) h ends = inl ends
-  by_first A (Err e) h ends = inr (record { fault = e; answered = ends.0; is = λ one. (h one).0; line = ends.1 })
+  -- it stopped for a device or for memory, or at a fault
+  pub by_end : (A B : Type 0) (Why : Fault → Type 0) → ((e : Fault) → Why e → (e ≡ faults.Device) ⊎ (e ≡ faults.Memory)) → (r : Result (Unit {0}) Fault)
+      → IfErr r (λ e. Why e × A ⊎ F e × B) → Ends w r status old new → EndsTold w F status old new
+  by_end A B Why stops (Ok x) h ends = inl ends
+  by_end A B Why stops (Err e) h ends = inr (record { fault = e; answered = ends.0; is = λ one. elim h [ inl why ↦ no_input e (stops e why.0) one | inr told ↦ told.0 ]; line = ends.1 })
 
-  pub by_device : (A B : Type 0) (r : Result (Unit {0}) Fault) → IfErr r (λ e. (e ≡ faults.Device) × A ⊎ F e × B) → Ends w r status old new → EndsTold w F status old new
-  by_device A B (Ok x) h ends = inl ends
-  by_device A B (Err e) h ends = inr (record { fault = e; answered = ends.0; is = λ one. elim h [ inl device ↦ no_input e (inl device.0) one | inr refused ↦ refused.0 ]; line = ends.1 })
-
-  pub by_stop : (A B : Type 0) (before after : ℕ) (r : Result (Unit {0}) Fault) → IfErr r (λ e. A × IsWhyStopped e before after ⊎ F e × B) → Ends w r status old new → EndsTold w F status old new
-  by_stop A B before after (Ok x) h ends = inl ends
-  by_stop A B before after (Err e) h ends = inr (record {
-    fault = e;
-    answered = ends.0;
-    is = λ one. elim h [ inl stop ↦ elim stop.1 [ inl device ↦ no_input e (inl device.0) one | inr memory ↦ no_input e (inr memory) one ] | inr refused ↦ refused.0 ];
-    line = ends.1;
-  })
+  -- at a status of 1 the fault that was told is one of these
+  pub told_at_1 : EndsTold w F status old new → status ≡ 1 → (e : Fault) × (status_of e ≡ 1) × F e
+  told_at_1 (inl good) one = absurd (omega (arith, good.0, one))
+  told_at_1 (inr told) one = let input : status_of told.fault ≡ 1 = sym told.answered ∙ one in (told.fault, input, told.is input)
 
   -- more faults than these
   pub wider : (G : Fault → Type 0) → ((e : Fault) → F e → G e) → EndsTold w F status old new → EndsTold w G status old new
@@ -76,29 +88,50 @@ no_schedule text f budget file e (inr none) = inr (inl none)
 pub no_memory : (text : List ℕ) (f budget : ℕ) (file : List ℕ) (first : Fault) → IsFirstFault (program_of_text text) faults.Memory first → status_of first ≡ 1 → IsFaultOfSchedule text f budget file first
 no_memory text f budget file first told one = elim (first_told (program_of_text text) (λ (f : Fault). ⊥) faults.Memory first told (no_input faults.Memory (inr refl)) one) [ inl t ↦ inl t | inr x ↦ absurd x ]
 
--- a status of 2 is that of a fault: a beginning was written, or nothing
-pub cut : (A B : Type 0) (F G : Fault → Type 0) (r : Result (Unit {0}) Fault) (status : ℕ) → status ≡ 2 → OnOk r (status ≡ 0) → IfErr r (λ e. F e × A ⊎ G e × B) → A ⊎ B
-cut A B F G (Ok x) status two none h = absurd (omega arith)
-cut A B F G (Err e) status two none (inl h) = inl h.1
-cut A B F G (Err e) status two none (inr h) = inr h.1
+-- a status of 1 is that of a fault of the input: the call stopped before it wrote
+pub unwritten : (A B : Type 0) (Why F : Fault → Type 0) → ((e : Fault) → Why e → (e ≡ faults.Device) ⊎ (e ≡ faults.Memory)) → (r : Result (Unit {0}) Fault) (status : ℕ) → status ≡ 1 → OnOk r (status ≡ 0)
+    → IfErr r (λ e. status ≡ status_of e) → IfErr r (λ e. Why e × A ⊎ F e × B) → B
+unwritten A B Why F stops (Ok x) status one none told h = absurd (omega arith)
+unwritten A B Why F stops (Err e) status one none told (inl why) = no_input e (stops e why.0) (sym told ∙ one)
+unwritten A B Why F stops (Err e) status one none told (inr h) = h.1
 
--- a status of 1 is that of a fault of the program: the call stopped before it wrote
-pub refused_by_stop : {Y : Type 0} (m : Result Y Fault) (A B : Type 0) (before after : ℕ) (r : Result (Unit {0}) Fault) (status : ℕ) → status ≡ 1 → OnOk r (status ≡ 0)
-    → IfErr r (λ e. status ≡ status_of e) → IfErr r (λ e. A × IsWhyStopped e before after ⊎ Tells e m × B) → IsRefused m × B
-refused_by_stop m A B before after (Ok x) status one none told h = absurd (omega arith)
-refused_by_stop m A B before after (Err e) status one none told (inl stop) = elim stop.1 [ inl device ↦ no_input e (inl device.0) (sym told ∙ one) | inr memory ↦ no_input e (inr memory) (sym told ∙ one) ]
-refused_by_stop m A B before after (Err e) status one none told (inr h) = (record { fault = e; input = sym told ∙ one; is = h.0 }, h.1)
+-- the program is refused by the fault that was told
+pub refused : {Y : Type 0} (m : Result Y Fault) → (e : Fault) × (status_of e ≡ 1) × Tells e m → IsRefused m
+refused m told = record { fault = told.0; input = told.1; is = told.2 }
 
--- the same of a call with two writers
-pub refused_by_first : {Y V W : Type 0} (m : Result Y Fault) (v_old v_new : V) (old new : W) (r : Result (Unit {0}) Fault) (status : ℕ) → status ≡ 1 → OnOk r (status ≡ 0)
-    → IfErr r (λ e. status ≡ status_of e) → IfErr r (λ e. status_of e ≡ 1 → Tells e m × v_new ≡ v_old × new ≡ old) → IsRefused m × v_new ≡ v_old × new ≡ old
-refused_by_first m v_old v_new old new (Ok x) status one none told h = absurd (omega arith)
-refused_by_first m v_old v_new old new (Err e) status one none told h =
-    let input : status_of e ≡ 1 = sym told ∙ one in
-    let all = h input in
-    (record { fault = e; input = input; is = all.0 }, all.1, all.2)
+-- the one fault of status 2 that is none of a device
+is_memory : (e : Fault) → status_of e ≡ 2 → (e ≡ faults.Device → ⊥) → e ≡ faults.Memory
+is_memory (faults.Read number line column) two other = absurd (omega (arith, two))
+is_memory (faults.Declaration number line column) two other = absurd (omega (arith, two))
+is_memory (faults.Assembly number instruction) two other = absurd (omega (arith, two))
+is_memory (faults.Load number) two other = absurd (omega (arith, two))
+is_memory (faults.LoadAt number position) two other = absurd (omega (arith, two))
+is_memory faults.Commands two other = absurd (omega (arith, two))
+is_memory faults.Schedule two other = absurd (omega (arith, two))
+is_memory (faults.ScheduleAt index reason) two other = absurd (omega (arith, two))
+is_memory faults.Store two other = absurd (omega (arith, two))
+is_memory faults.Device two other = absurd (other refl)
+is_memory faults.Memory two other = refl
 
-pub told_by_first : {V W E : Type 0} (w : CountedWriter E) (F : Fault → Type 0) (v_old v_new : V) (old new : W) (r : Result (Unit {0}) Fault) (status : ℕ) (err_old err_new : E)
-    → IfErr r (λ e. status_of e ≡ 1 → F e × v_new ≡ v_old × new ≡ old) → Ends w r status err_old err_new → EndsTold w F status err_old err_new
-told_by_first w F v_old v_new old new (Ok x) status err_old err_new h ends = inl ends
-told_by_first w F v_old v_new old new (Err e) status err_old err_new h ends = inr (record { fault = e; answered = ends.0; is = λ one. (h one).0; line = ends.1 })
+module _ {W : Type 0} (w : CountedWriter W) (old new : W) where
+  told_as : (e f : Fault) → e ≡ f → WentOut w (fault_line e) old new → WentOut w (fault_line f) old new
+  told_as e f is line = subst (λ (x : Fault). WentOut w (fault_line x) old new) is line
+
+  -- at a status of 2 a device failed in the call, or memory ran out before it wrote
+  pub stops_short : (F : Fault → Type 0) (A B : Type 0) (r : Result (Unit {0}) Fault) (status : ℕ) → (F faults.Device → ⊥) → status ≡ 2
+      → IfErr r (λ e. (e ≡ faults.Device) × A ⊎ F e × B) → Ends w r status old new → StopsShort w A B old new
+  stops_short F A B (Ok x) status other two h ends = absurd (omega (arith, ends.0, two))
+  stops_short F A B (Err e) status other two (inl h) ends = inl (h.1, told_as e faults.Device h.0 ends.1)
+  stops_short F A B (Err e) status other two (inr h) ends =
+      inr (h.1, told_as e faults.Memory (is_memory e (sym ends.0 ∙ two) (λ device. other (subst F device h.0))) ends.1)
+
+  -- at a status of 2 a device failed in the call, or memory ran out in it
+  pub stops_late : (F : Fault → Type 0) (A B : Type 0) (before after : ℕ) (r : Result (Unit {0}) Fault) (status : ℕ) → (F faults.Device → ⊥) → status ≡ 2
+      → IfErr r (λ e. IsWhyStopped e before after × A ⊎ F e × B) → Ends w r status old new → StopsShort w (A × Failed before after) (A ⊎ B) old new
+  stops_late F A B before after (Ok x) status other two h ends = absurd (omega (arith, ends.0, two))
+  stops_late F A B before after (Err e) status other two (inl h) ends = elim h.0 [
+    | inl device ↦ inl ((h.1, device.1), told_as e faults.Device device.0 ends.1)
+    | inr memory ↦ inr (inl h.1, told_as e faults.Memory memory ends.1)
+  ]
+  stops_late F A B before after (Err e) status other two (inr h) ends =
+      inr (inr h.1, told_as e faults.Memory (is_memory e (sym ends.0 ∙ two) (λ device. other (subst F device h.0))) ends.1)

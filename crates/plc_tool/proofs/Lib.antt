@@ -6,5 +6,5 @@ mod Answered
 mod Items
 mod Known
 mod Reported
-mod Refused
 mod Endings
+mod NoDevice

@@ -65,6 +65,18 @@ pub record IsAssembled (text : List ℕ) (image image_after out out_after : Opti
   pub image_written : Appends image image_after (spelling program)
   pub line_written : Appends out out_after (words_line program)
 
+-- a beginning of the text was written, and the writer failed in the call
+pub record IsCutOff {W : Type 0} (w : CountedWriter W) (text : List ℕ) (old new : W) : Type 0 where
+  pub written : (n : ℕ) × Appends (w.held old) (w.held new) (take n text)
+  pub device : Failed (w.faults old) (w.faults new)
+
+-- The image of the program that the text says was cut off, and no line was written; or the whole image was written, and the line cut off.
+pub record IsAssemblyCutShort {V W : Type 0} (v : CountedWriter V) (w : CountedWriter W) (text : List ℕ) (image image_after : V) (out out_after : W) : Type 0 where
+  pub program : Text
+  pub is : IsTypedProgramOfText text program
+  pub written : (IsCutOff v (spelling program) image image_after × (out_after ≡ out))
+      ⊎ (Appends (v.held image) (v.held image_after) (spelling program) × IsCutOff w (words_line program) out out_after)
+
 -- the listing of the image that the bytes are was written
 pub record IsListed (bytes : List ℕ) (old new : Option (List ℕ)) : Type 0 where
   pub program : Text

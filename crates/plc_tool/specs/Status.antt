@@ -1,5 +1,7 @@
 -- The statuses that the program ends with: 0 good, 1 refused input, 2 a device or memory, 3 bad words.
 use Rattle.std.specs.Prelude.{ℕ, ◌≡◌, ◌⊎◌}
+use Rattle.std.specs.declared.io.ErrorKind.{ErrorKind}
+use Rattle.std.specs.declared.io.ErrorKind.TheVariants.{OutOfMemory}
 use Rattle.plc_tool.specs.declared.fault.Fault.{Fault}
 use Rattle.plc_tool.specs.declared.fault.Fault.TheVariants as faults
 use Rattle.plc_json.specs.declared.command.JsonFault.{JsonFault}
@@ -30,3 +32,8 @@ IsStatusOfWords words.Memory status = status ≡ 2
 abbrev pub fault_of : JsonFault → Fault
 fault_of json.Shape = faults.Commands
 fault_of json.Memory = faults.Memory
+
+-- the fault of a stream: want of memory, or its device failed
+abbrev pub stream_fault : ErrorKind → Fault
+stream_fault OutOfMemory = faults.Memory
+stream_fault kind = faults.Device

@@ -63,6 +63,10 @@ pub record IsTold {W : Type 0} (w : CountedWriter W) (IsFault : Fault → Type 0
 abbrev pub EndsTold : {W : Type 0} → CountedWriter W → (Fault → Type 0) → ℕ → W → W → Type 0
 EndsTold w IsFault status old new = ((status ≡ 0) × (new ≡ old)) ⊎ IsTold w IsFault status old new
 
+-- A call stopped short: this is how a device's failure left it, and the device is told; or that is how want of memory did, and it is told.
+abbrev pub StopsShort : {W : Type 0} → CountedWriter W → Type 0 → Type 0 → W → W → Type 0
+StopsShort w IsLeftByDevice IsLeftByMemory old new = (IsLeftByDevice × WentOut w (fault_line faults.Device) old new) ⊎ (IsLeftByMemory × WentOut w (fault_line faults.Memory) old new)
+
 -- why words ask for no work: the text of help on the output; else a line on the other stream
 abbrev pub IsToldOfWords : {W : Type 0} → CountedWriter W → WordsError → ℕ → Option (List ℕ) → Option (List ℕ) → W → W → Type 0
 IsToldOfWords w (words.Shown text) status out out_after old new = ((status ≡ 0) × Appends out out_after (string_bytes text) × (new ≡ old)) ⊎ ((status ≡ 2) × IsTold w (λ fault. ⊥) status old new)

@@ -1,16 +1,15 @@
 //! The image of a text, written.
 
-ghost use Rattle.std.specs.Prelude.{◌≡◌, ◌<◌, ◌≤◌, ◌^◌, IfErr, OnOk, length};
+ghost use Rattle.std.specs.Prelude.{◌≡◌, ◌⊎◌, ◌<◌, ◌≤◌, ◌^◌, IfOk, IfErr, OnOk, length, string_bytes};
 ghost use Rattle.il_model.specs.Text.{Text};
 ghost use Rattle.il_model.specs.Marks.{words_in};
 ghost use Rattle.il_model.specs.Image.{spelling};
-ghost use Rattle.plc_tool.specs.Meaning.{IsAssembled, Tells, image_of_text};
-ghost use Rattle.plc_tool.specs.Status.{status_of};
+ghost use Rattle.plc_tool.specs.Meaning.{IsAssembled, IsAssemblyCutShort, Tells, image_of_text, words_line};
 
 use crate::answering::image_bytes;
 use crate::fault::Fault;
-use std::alloc::Global;
-use std::io::Write;
+use il_model::{CountedWrite, write_all};
+use std::alloc::{AllocError, Global};
 
 /// How many words an image has, those of arguments too, as its header says.
 fn word_count(image: &[u8]) -> u16
@@ -20,21 +19,32 @@ fn word_count(image: &[u8]) -> u16
     u16::from_be_bytes([image[14], image[15]])
 }
 
-/// Writes the image of a text and flushes it, then the line that tells the count of its words.
-pub fn put_image<I: Write, W: Write>(
+/// The line that tells how many words an image has.
+fn words_line(alloc: Global, image: &[u8]) -> Result<String, AllocError>
+    requires { 16 ≤ length image.now }
+    ensures { IfOk result (λ line. (Q : Text) → words_in Q.code < 2 ^ 16 → image.now ≡ spelling Q → string_bytes line ≡ words_line Q) }
+{
+    let words = word_count(image);
+    format!(in alloc; "words {words}\n")
+}
+
+/// Writes the image of a text, then the line that tells the count of its words. Of a text that is refused it tells the first fault,
+/// or that memory ran out, and writes nothing. It answers Device only where a writer failed in this call: that of the image behind a
+/// beginning of it, or the other behind the whole image and a beginning of the line.
+pub fn put_image<I: CountedWrite, W: CountedWrite>(
     alloc: Global,
     text: &[u8],
     image_out: &mut I,
     out: &mut W,
 ) -> Result<(), Fault>
-    ensures assembled { OnOk result (IsAssembled text.now
-        (I.contents image_out.old) (I.contents image_out.new) (W.contents out.old) (W.contents out.new)) }
-    ensures refused { IfErr result (λ e. status_of e ≡ 1 → Tells e (image_of_text text.now) × (image_out.new ≡ image_out.old) × (out.new ≡ out.old)) }
+    ensures ok { OnOk result (IsAssembled text.now
+        (I.held image_out.old) (I.held image_out.new) (W.held out.old) (W.held out.new)) }
+    ensures err { IfErr result (λ e. ((e ≡ Fault.Device)
+        × IsAssemblyCutShort I.CountedWrite W.CountedWrite text.now image_out.old image_out.new out.old out.new)
+        ⊎ (Tells e (image_of_text text.now) × ((image_out.new ≡ image_out.old) × (out.new ≡ out.old)))) }
 {
     let image = image_bytes(alloc, text)?;
-    image_out.write_all(image.as_slice())?;
-    image_out.flush()?;
-    let words = word_count(image.as_slice());
-    writeln!(out, "words {words}")?;
-    Ok(out.flush()?)
+    let line = words_line(alloc, image.as_slice())?;
+    write_all(image_out, image.as_slice())?;
+    Ok(write_all(out, line.as_str().as_bytes())?)
 }

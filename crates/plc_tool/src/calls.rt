@@ -1,7 +1,8 @@
 //! The calls of the program, over byte slices and writers, each answering the status.
 
 ghost use Rattle.std.specs.Prelude.{◌≡◌, ◌≤◌, ◌⊎◌, List, IfErr, IsErr, IsOk, OnOk};
-ghost use Rattle.plc_tool.specs.Meaning.{IsAssembled, IsListed, IsCutShort, IsRefused, IsFirstFault, Tells, image_of_text, program_of_text, program_of_bytes};
+ghost use Rattle.il_model.specs.Counted.{Failed};
+ghost use Rattle.plc_tool.specs.Meaning.{IsAssembled, IsAssemblyCutShort, IsListed, IsCutShort, IsRefused, IsFirstFault, Tells, image_of_text, program_of_text, program_of_bytes};
 ghost use Rattle.plc_json.specs.declared.command.NamedCommand.{NamedCommand};
 ghost use Rattle.plc_json.specs.declared.event.NamedEvent.{NamedEvent};
 ghost use Rattle.plc_json.specs.Commands.{HasCommands, HasNoCommands};
@@ -9,7 +10,7 @@ ghost use Rattle.plc_json.specs.Events.{HasSchedule};
 ghost use Rattle.plc_tool.specs.Putting.{IsRun, IsRunCutShort, IsFaultOfRun};
 ghost use Rattle.plc_tool.specs.Simulated.{IsSimulated, IsReportCutShort, IsRefusedInput, IsBadSchedule, IsToldOf, IsFaultOfSchedule};
 ghost use Rattle.plc_tool.specs.Status.{status_of as status_told};
-ghost use Rattle.plc_tool.specs.Telling.{Ends, EndsTold, WentOut, fault_line};
+ghost use Rattle.plc_tool.specs.Telling.{Ends, EndsTold, StopsShort, WentOut, fault_line};
 ghost use Rattle.plc_tool.specs.declared.fault.Fault as told;
 
 use crate::answering::image;
@@ -22,13 +23,13 @@ use crate::telling::tell;
 use il_model::{Budget, CountedWrite};
 use plc_json::{JsonFault, NamedCommand, NamedEvent};
 use std::alloc::Global;
-use std::io::Write;
 use vr_model::Config;
 
-/// Assembles a source and answers the status: the bytes of its image on `image_out`, flushed, and then on `out` one line
-/// that tells how many words the image has, those of arguments too; or one line on `err` for the first fault. Of a source that is
-/// refused nothing is written on `image_out`. `out` is flushed.
-pub fn asm<I: Write, W: Write, E: CountedWrite>(
+/// Assembles a source and answers the status: the bytes of its image on `image_out`, and then on `out` one line that tells how
+/// many words the image has, those of arguments too; or one line on `err` for the first fault. Of a source that is refused nothing
+/// is written. It answers 2 for a device only where one of the two failed in this call: that of the image behind a beginning of it,
+/// or the other behind the whole image and a beginning of the line. Whoever owns the two flushes them.
+pub fn asm<I: CountedWrite, W: CountedWrite, E: CountedWrite>(
     alloc: Global,
     source: &[u8],
     image_out: &mut I,
@@ -37,8 +38,12 @@ pub fn asm<I: Write, W: Write, E: CountedWrite>(
 ) -> u8
     ensures status { result ≤ 2 }
     ensures assembled { result ≡ 0 → IsAssembled source.now
-        (I.contents image_out.old) (I.contents image_out.new) (W.contents out.old) (W.contents out.new) }
+        (I.held image_out.old) (I.held image_out.new) (W.held out.old) (W.held out.new) }
     ensures refused { result ≡ 1 → IsRefused (image_of_text source.now) × (image_out.new ≡ image_out.old) × (out.new ≡ out.old) }
+    // Where nothing was written, memory ran out before the first byte, and that is told; else a writer failed in this call.
+    ensures cut { result ≡ 2 → StopsShort E.CountedWrite
+        (IsAssemblyCutShort I.CountedWrite W.CountedWrite source.now image_out.old image_out.new out.old out.new)
+        ((image_out.new ≡ image_out.old) × (out.new ≡ out.old)) err.old err.new }
     ensures told { EndsTold E.CountedWrite (λ fault. Tells fault (image_of_text source.now)) result err.old err.new }
 {
     ended(put_image(alloc, source, image_out, out), err)
@@ -55,8 +60,8 @@ pub fn list<W: CountedWrite, E: CountedWrite>(
     ensures status { result ≤ 2 }
     ensures listed { result ≡ 0 → IsListed image.now (W.held out.old) (W.held out.new) }
     ensures refused { result ≡ 1 → IsRefused (program_of_bytes image.now) × (out.new ≡ out.old) }
-    // Where nothing was written, memory ran out before the first line.
-    ensures cut { result ≡ 2 → IsCutShort W.CountedWrite image.now out.old out.new ⊎ (out.new ≡ out.old) }
+    // Where nothing was written, memory ran out before the first line, and that is told; else `out` failed in this call.
+    ensures cut { result ≡ 2 → StopsShort E.CountedWrite (IsCutShort W.CountedWrite image.now out.old out.new) (out.new ≡ out.old) err.old err.new }
     ensures told { EndsTold E.CountedWrite (λ fault. Tells fault (program_of_bytes image.now)) result err.old err.new }
 {
     ended(put_listing(alloc, image, out), err)
@@ -78,9 +83,12 @@ pub fn run<W: CountedWrite, E: CountedWrite>(
         × IsRun source.now budget.instructions named (W.held out.old) (W.held out.new) }
     ensures refused { result ≡ 1 → IsRefused (program_of_text source.now) ⊎ HasNoCommands commands.now }
     ensures unwritten { result ≡ 1 → out.new ≡ out.old }
-    // Where nothing was written, memory ran out before the first command.
-    ensures cut { result ≡ 2 → ((named : List NamedCommand) × HasCommands commands.now named
-        × IsRunCutShort W.CountedWrite source.now budget.instructions named out.old out.new) ⊎ (out.new ≡ out.old) }
+    // A device is told only where `out` failed in this call. Where nothing was written, memory ran out before the first command.
+    ensures cut { result ≡ 2 → StopsShort E.CountedWrite
+        ((named : List NamedCommand) × HasCommands commands.now named
+        × IsRunCutShort W.CountedWrite source.now budget.instructions named out.old out.new × Failed (W.faults out.old) (W.faults out.new))
+        (((named : List NamedCommand) × HasCommands commands.now named
+        × IsRunCutShort W.CountedWrite source.now budget.instructions named out.old out.new) ⊎ (out.new ≡ out.old)) err.old err.new }
     ensures told { EndsTold E.CountedWrite (IsFaultOfRun source.now commands.now) result err.old err.new }
 {
     match plc_json::commands(alloc, commands) {
@@ -102,8 +110,10 @@ pub fn run_commands<W: CountedWrite, E: CountedWrite>(
     ensures status { result ≤ 2 }
     ensures answered { result ≡ 0 → IsRun source.now budget.instructions commands.now (W.held out.old) (W.held out.new) }
     ensures refused { result ≡ 1 → IsRefused (program_of_text source.now) × (out.new ≡ out.old) }
-    // Where nothing was written, memory ran out before the first command.
-    ensures cut { result ≡ 2 → IsRunCutShort W.CountedWrite source.now budget.instructions commands.now out.old out.new ⊎ (out.new ≡ out.old) }
+    // A device is told only where `out` failed in this call. Where nothing was written, memory ran out before the first command.
+    ensures cut { result ≡ 2 → StopsShort E.CountedWrite
+        (IsRunCutShort W.CountedWrite source.now budget.instructions commands.now out.old out.new × Failed (W.faults out.old) (W.faults out.new))
+        (IsRunCutShort W.CountedWrite source.now budget.instructions commands.now out.old out.new ⊎ (out.new ≡ out.old)) err.old err.new }
     ensures told { EndsTold E.CountedWrite (λ fault. Tells fault (program_of_text source.now)) result err.old err.new }
 {
     ended(put_run(alloc, source, budget, commands, out), err)
@@ -135,9 +145,12 @@ pub fn sim<W: CountedWrite, E: CountedWrite>(
         × IsSimulated source.now config.now.f budget.instructions named (W.held out.old) (W.held out.new) }
     ensures refused { result ≡ 1 → IsRefused (program_of_text source.now) ⊎ IsBadSchedule source.now config.now.f budget.instructions schedule.now }
     ensures unwritten { result ≡ 1 → out.new ≡ out.old }
-    // Where nothing was written, memory ran out before there was a report.
-    ensures cut { result ≡ 2 → ((named : List NamedEvent) × HasSchedule schedule.now named
-        × IsReportCutShort source.now config.now.f budget.instructions named (W.held out.old) (W.held out.new)) ⊎ (out.new ≡ out.old) }
+    // A device is told only where `out` failed in this call. Where nothing was written, memory ran out before there was a report.
+    ensures cut { result ≡ 2 → StopsShort E.CountedWrite
+        ((named : List NamedEvent) × HasSchedule schedule.now named
+        × IsReportCutShort source.now config.now.f budget.instructions named (W.held out.old) (W.held out.new) × Failed (W.faults out.old) (W.faults out.new))
+        (((named : List NamedEvent) × HasSchedule schedule.now named
+        × IsReportCutShort source.now config.now.f budget.instructions named (W.held out.old) (W.held out.new)) ⊎ (out.new ≡ out.old)) err.old err.new }
     ensures told { EndsTold E.CountedWrite (IsFaultOfSchedule source.now config.now.f budget.instructions schedule.now) result err.old err.new }
 {
     match plc_json::schedule(alloc, schedule) {
@@ -160,7 +173,10 @@ pub fn sim_events<W: CountedWrite, E: CountedWrite>(
     ensures status { result ≤ 2 }
     ensures simulated { result ≡ 0 → IsSimulated source.now config.now.f budget.instructions named.now (W.held out.old) (W.held out.new) }
     ensures refused { result ≡ 1 → IsRefusedInput source.now config.now.f budget.instructions named.now × (out.new ≡ out.old) }
-    ensures cut { result ≡ 2 → IsReportCutShort source.now config.now.f budget.instructions named.now (W.held out.old) (W.held out.new) ⊎ (out.new ≡ out.old) }
+    // A device is told only where `out` failed in this call. Where nothing was written, memory ran out before there was a report.
+    ensures cut { result ≡ 2 → StopsShort E.CountedWrite
+        (IsReportCutShort source.now config.now.f budget.instructions named.now (W.held out.old) (W.held out.new) × Failed (W.faults out.old) (W.faults out.new))
+        (IsReportCutShort source.now config.now.f budget.instructions named.now (W.held out.old) (W.held out.new) ⊎ (out.new ≡ out.old)) err.old err.new }
     ensures told { EndsTold E.CountedWrite (IsToldOf source.now config.now.f budget.instructions named.now) result err.old err.new }
 {
     ended(put_report(alloc, source, named, config, budget, out), err)

@@ -1,7 +1,8 @@
 //! Why a call of the program was refused: one line of text and one status for each fault.
 
 ghost use Rattle.std.specs.Prelude.{◌≡◌};
-ghost use Rattle.plc_tool.specs.Status.{status_of, fault_of};
+ghost use Rattle.std.specs.IoError.{error_kind};
+ghost use Rattle.plc_tool.specs.Status.{status_of, fault_of, stream_fault};
 ghost use Rattle.plc_tool.specs.declared.fault.Fault.TheVariants.{Device, Memory};
 
 use il_model::DeviceFault;
@@ -105,7 +106,7 @@ impl From<DeviceFault> for Fault {
 
 /// A writer over memory, and the reading of a whole file, answer want of memory as an error of their device.
 impl From<io::Error> for Fault {
-    ghost from_gives = { λ _ e. status_of e ≡ 2 };
+    ghost from_gives = { λ error e. (e ≡ stream_fault (error_kind error)) × (status_of e ≡ 2) };
 
     fn from(error: io::Error) -> Fault {
         match error.kind() {

@@ -5,7 +5,6 @@ ghost use Rattle.plc_tool.specs.Lines.{lines_of};
 ghost use Rattle.plc_tool.specs.Meaning.{Tells, program_of_text};
 ghost use Rattle.plc_tool.specs.Named.{answers_by};
 ghost use Rattle.plc_tool.specs.Putting.{Puts, IsRun, IsRunCutShort, IsWhyStopped};
-ghost use Rattle.plc_tool.specs.Status.{status_of};
 
 use crate::answering::image;
 use crate::fault::Fault;
@@ -44,8 +43,8 @@ pub fn put_run<W: CountedWrite>(
     out: &mut W,
 ) -> Result<(), Fault>
     ensures ok { OnOk result (IsRun text.now budget.instructions commands.now (W.held out.old) (W.held out.new)) }
-    ensures err { IfErr result (λ e. (IsRunCutShort W.CountedWrite text.now budget.instructions commands.now out.old out.new
-        × IsWhyStopped e (W.faults out.old) (W.faults out.new))
+    ensures err { IfErr result (λ e. (IsWhyStopped e (W.faults out.old) (W.faults out.new)
+        × IsRunCutShort W.CountedWrite text.now budget.instructions commands.now out.old out.new)
         ⊎ (Tells e (program_of_text text.now) × (out.new ≡ out.old))) }
     ensures counts { W.faults out.old ≤ W.faults out.new }
 {

@@ -3,9 +3,8 @@
 ghost use Rattle.std.specs.Prelude.{◌≡◌, ◌⊎◌, [], IfOk, IfErr, OnOk, string_bytes};
 ghost use Rattle.vr_core.specs.Answers.{answer_to};
 ghost use Rattle.schedules.specs.Traces.{IsTraced};
-ghost use Rattle.plc_tool.specs.Putting.{Puts};
+ghost use Rattle.plc_tool.specs.Putting.{Puts, IsWhyStopped};
 ghost use Rattle.plc_tool.specs.Simulated.{IsSimulated, IsReportCutShort, IsWhyNoReport, IsToldOf, report_line};
-ghost use Rattle.plc_tool.specs.Status.{status_of};
 
 use crate::answering::image;
 use crate::events::all_known;
@@ -82,8 +81,9 @@ pub fn put_report<W: CountedWrite>(
     out: &mut W,
 ) -> Result<(), Fault>
     ensures simulated { OnOk result (IsSimulated text.now config.now.f budget.instructions named.now (W.held out.old) (W.held out.new)) }
-    ensures cut { IfErr result (λ _. IsReportCutShort text.now config.now.f budget.instructions named.now (W.held out.old) (W.held out.new) ⊎ (out.new ≡ out.old)) }
-    ensures refused { IfErr result (λ e. status_of e ≡ 1 → IsToldOf text.now config.now.f budget.instructions named.now e × (out.new ≡ out.old)) }
+    ensures err { IfErr result (λ e. (IsWhyStopped e (W.faults out.old) (W.faults out.new)
+        × IsReportCutShort text.now config.now.f budget.instructions named.now (W.held out.old) (W.held out.new))
+        ⊎ (IsToldOf text.now config.now.f budget.instructions named.now e × (out.new ≡ out.old))) }
 {
     let image = image(alloc, text)?;
     let events = all_known(alloc, &image, named)?;

@@ -1,6 +1,7 @@
 //! The forms of a call.
 
 use crate::error::WordsError;
+use clap::builder::ValueParser;
 use clap::{Arg, ArgAction, ArgMatches, Command, value_parser};
 use il_model::Budget;
 use std::alloc::{AllocError, Global};
@@ -15,11 +16,23 @@ const BUDGET: &str = "budget";
 /// The word of the option `--f`.
 const FAILURES: &str = "f";
 
+/// The word of the option `--store`.
+const STORE: &str = "store";
+
+/// The word of the option `--scans`.
+const SCANS: &str = "scans";
+
+/// The word of the option `--port`.
+const PORT: &str = "port";
+
+/// The word of the option `--period`.
+const PERIOD: &str = "period";
+
 const NO_FORM: &str = "error: the words name no form of call\n";
 
 const STATUSES: &str = "Exit status:
   0  good
-  1  the source, the image, the commands or the schedule were refused
+  1  the source, the image, the commands, the schedule or the store were refused
   2  a device failed, or memory ran out
   3  these words are no call of the program";
 
@@ -126,6 +139,20 @@ replica is out of range, 2 the message is not yet sent, 3 the replica had the no
 client submits while it waits, or retries while it doesn't, 5 the replica is up, 6 the client's
 numbers are used up.";
 
+const SERVING: &str = with_source_faults!(
+    "Takes connections of Modbus TCP on 127.0.0.1, and says so by the line 'serving on 127.0.0.1:P' on
+standard error. Each period the 2F+1 replicas scan the inputs that clients wrote. After N scans it
+ends, and prints 'scans N'. Up to 16 clients are served at once; a connection beyond is closed.
+Bits are numbered 0 to 511 (%IXb.n is 8b+n), registers 0 to 63:
+  functions 1, 5, 15         read and write the bits of %I
+  functions 3, 6, 16         read and write its words
+  functions 2, 4             read the bits and the words of %Q, as the last scan released them
+
+Each replica keeps its view in a file of DIR, replica-0 to replica-2F. DIR is made where it isn't
+there. Where it holds such a file, 'plc: store' is told, and nothing has started.
+"
+);
+
 /// What the words ask for.
 #[derive(Clone, Copy, PartialEq, Eq)]
 pub enum Words<'a> {
@@ -149,6 +176,17 @@ pub enum Words<'a> {
         source: &'a str,
         schedule: &'a str,
         config: Config,
+        budget: Budget,
+    },
+    /// Serves the program of a file to Modbus clients at a port, by a group of replicas with stores in a directory: a scan each period, in
+    /// milliseconds and within the budget, until there were so many.
+    Serve {
+        source: &'a str,
+        store: &'a str,
+        scans: u32,
+        config: Config,
+        port: u16,
+        period: u32,
         budget: Budget,
     },
 }
@@ -175,7 +213,8 @@ fn program<'a>(alloc: Global) -> Result<Command<'a>, AllocError> {
         .subcommand(asm_command(alloc)?)?
         .subcommand(list_command(alloc)?)?
         .subcommand(run_command(alloc)?)?
-        .subcommand(sim_command(alloc)?)
+        .subcommand(sim_command(alloc)?)?
+        .subcommand(serve_command(alloc)?)
 }
 
 fn asm_command<'a>(alloc: Global) -> Result<Command<'a>, AllocError> {
@@ -212,6 +251,27 @@ fn sim_command<'a>(alloc: Global) -> Result<Command<'a>, AllocError> {
         .arg(budget(alloc))
 }
 
+fn serve_command<'a>(alloc: Global) -> Result<Command<'a>, AllocError> {
+    Command::new(alloc, "serve")
+        .about("Runs a program on replicas in threads, and serves it to Modbus clients")
+        .after_help(SERVING)
+        .arg(file(alloc, "SOURCE").help("The program's text, in Instruction List"))?
+        .arg(directory(alloc))?
+        .arg(
+            count(alloc, SCANS, "N")
+                .required(true)
+                .help("After how many scans it ends"),
+        )?
+        .arg(failures(alloc))?
+        .arg(port(alloc))?
+        .arg(
+            count(alloc, PERIOD, "MS")
+                .default_value("100")
+                .help("Milliseconds from scan to scan"),
+        )?
+        .arg(budget(alloc))
+}
+
 fn file<'a>(alloc: Global, name: &'a str) -> Arg<'a> {
     Arg::new(alloc, name).required(true).action(ArgAction::Set)
 }
@@ -236,6 +296,34 @@ fn failures<'a>(alloc: Global) -> Arg<'a> {
         .help("How many of the 2F+1 replicas may fail, 1 to 3")
 }
 
+/// The option is wanted, and refused where it is given twice or empty.
+fn directory<'a>(alloc: Global) -> Arg<'a> {
+    Arg::new(alloc, STORE)
+        .long(STORE)
+        .value_name("DIR")
+        .required(true)
+        .value_parser(ValueParser::NonEmptyString)
+        .help("The directory for the stores of the replicas")
+}
+
+/// The option is refused where it is given twice, or no number of 32 bits above 0.
+fn count<'a>(alloc: Global, name: &'a str, value: &'a str) -> Arg<'a> {
+    Arg::new(alloc, name)
+        .long(name)
+        .value_name(value)
+        .value_parser(value_parser!(u32).range(1..=4_294_967_295))
+}
+
+/// The option is refused where it is given twice, or no number of a port.
+fn port<'a>(alloc: Global) -> Arg<'a> {
+    Arg::new(alloc, PORT)
+        .long(PORT)
+        .value_name("P")
+        .value_parser(value_parser!(u16).range(1..=65_535))
+        .default_value("5020")
+        .help("The port of 127.0.0.1, 1 to 65535")
+}
+
 fn form_of<'a>(matches: &ArgMatches<'a>) -> Option<Words<'a>> {
     let (name, inner) = matches.subcommand()?;
     match name {
@@ -255,6 +343,15 @@ fn form_of<'a>(matches: &ArgMatches<'a>) -> Option<Words<'a>> {
             source: inner.get_str("SOURCE")?,
             schedule: inner.get_str("SCHEDULE")?,
             config: Config::new(inner.get_one::<u8>(FAILURES)?)?,
+            budget: Budget::new(inner.get_one::<u32>(BUDGET)?)?,
+        }),
+        "serve" => Some(Words::Serve {
+            source: inner.get_str("SOURCE")?,
+            store: inner.get_str(STORE)?,
+            scans: inner.get_one::<u32>(SCANS)?,
+            config: Config::new(inner.get_one::<u8>(FAILURES)?)?,
+            port: inner.get_one::<u16>(PORT)?,
+            period: inner.get_one::<u32>(PERIOD)?,
             budget: Budget::new(inner.get_one::<u32>(BUDGET)?)?,
         }),
         _ => None,

@@ -37,8 +37,15 @@ fn asm(alloc: Global, source: &[u8]) -> Vec<u8> {
     let mut image = Vec::new(alloc);
     let mut out = Vec::new(alloc);
     let mut err = Vec::new(alloc);
-    let mut told = Counted::new(&mut err);
-    match plc_tool::asm(alloc, source, &mut image, &mut out, &mut told) {
+    let mut given = Counted::new(&mut image);
+    let mut counted = Counted::new(&mut out);
+    match plc_tool::asm(
+        alloc,
+        source,
+        &mut given,
+        &mut counted,
+        &mut Counted::new(&mut err),
+    ) {
         0 => out,
         _ => err,
     }

@@ -98,8 +98,8 @@ fn assembled<I: Write>(alloc: Global, image: &mut I) -> (u8, Vec<u8>, Vec<u8>) {
     let status = plc_tool::asm(
         alloc,
         COUNTING,
-        image,
-        &mut out,
+        &mut Counted::new(image),
+        &mut Counted::new(&mut out),
         &mut Counted::new(&mut err),
     );
     (status, out, err)

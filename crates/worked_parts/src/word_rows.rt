@@ -6,6 +6,7 @@ use std::alloc::{AllocError, Global};
 use std::io;
 use std::process::Abort;
 use std::test::Fail;
+use vr_model::Config;
 
 fn ask_for(rt: &impl Abort, alloc: Global, rows: &[(&[&str], Words)]) {
     for (given, wanted) in rows.iter() {
@@ -21,6 +22,44 @@ fn run(instructions: u32) -> Result<Words<'static>, Fail> {
         commands: "b.json",
         budget: Budget::new(instructions).ok_or("no budget")?,
     })
+}
+
+/// So many scans of `a.il`, with stores in `d`.
+fn serve(scans: u32, failures: u8, port: u16, period: u32) -> Result<Words<'static>, Fail> {
+    Ok(Words::Serve {
+        source: "a.il",
+        store: "d",
+        scans,
+        config: Config::new(failures).ok_or("no config")?,
+        port,
+        period,
+        budget: Budget::new(10_000).ok_or("no budget")?,
+    })
+}
+
+#[test]
+fn words_ask_to_serve(rt: HostRuntime) -> Result<(), Fail> {
+    let first: &[&str] = &["plc", "serve", "a.il", "--store", "d", "--scans", "1"];
+    let greatest: &[&str] = &[
+        "plc",
+        "serve",
+        "--scans=4294967295",
+        "--store=d",
+        "--f=3",
+        "--port=65535",
+        "--period=4294967295",
+        "a.il",
+    ];
+    let least: &[&str] = &[
+        "plc", "serve", "a.il", "--store", "d", "--scans", "9", "--port", "1", "--period", "1",
+    ];
+    let rows: [(&[&str], Words); 3] = [
+        (first, serve(1, 1, 5020, 100)?),
+        (greatest, serve(4_294_967_295, 3, 65_535, 4_294_967_295)?),
+        (least, serve(9, 1, 1, 1)?),
+    ];
+    ask_for(&rt, rt.alloc(), &rows);
+    Ok(())
 }
 
 #[test]
@@ -167,6 +206,53 @@ fn budgets_out_of_range_are_bad(rt: HostRuntime) -> Result<(), Fail> {
         ),
     ];
     are_bad(&rt, rt.alloc(), &["plc", "run", "a", "b"], &rows)
+}
+
+#[test]
+fn words_of_serve_out_of_range_are_bad(rt: HostRuntime) -> Result<(), Fail> {
+    let rows: [Row; 10] = [
+        (
+            &["--scans", "1"],
+            "error: the following required arguments were not provided:\n  --store <DIR>\n",
+        ),
+        (
+            &["--store", "d"],
+            "error: the following required arguments were not provided:\n  --scans <N>\n",
+        ),
+        (
+            &["--store", "", "--scans", "1"],
+            "error: a value is required for '--store <DIR>' but none was supplied",
+        ),
+        (
+            &["--store", "d", "--scans", "0"],
+            "error: invalid value '0' for '--scans <N>'",
+        ),
+        (
+            &["--store", "d", "--scans=4294967296"],
+            "error: invalid value '4294967296' for '--scans <N>'",
+        ),
+        (
+            &["--store", "d", "--scans", "1", "--port", "0"],
+            "error: invalid value '0' for '--port <P>'",
+        ),
+        (
+            &["--store", "d", "--scans", "1", "--port=65536"],
+            "error: invalid value '65536' for '--port <P>'",
+        ),
+        (
+            &["--store", "d", "--scans", "1", "--period", "0"],
+            "error: invalid value '0' for '--period <MS>'",
+        ),
+        (
+            &["--store", "d", "--scans", "1", "--period=4294967296"],
+            "error: invalid value '4294967296' for '--period <MS>'",
+        ),
+        (
+            &["--store", "d", "--scans", "1", "--f", "4"],
+            "error: invalid value '4' for '--f <F>'",
+        ),
+    ];
+    are_bad(&rt, rt.alloc(), &["plc", "serve", "a.il"], &rows)
 }
 
 #[test]

@@ -68,8 +68,8 @@ pub fn assembled(alloc: Global, text: &[u8]) -> Written {
     written.status = plc_tool::asm(
         alloc,
         text,
-        &mut written.image,
-        &mut written.out,
+        &mut Counted::new(&mut written.image),
+        &mut Counted::new(&mut written.out),
         &mut Counted::new(&mut written.err),
     );
     written

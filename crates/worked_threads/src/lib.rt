@@ -5,6 +5,8 @@
 #[cfg(test)]
 mod cluster_rows;
 #[cfg(test)]
+mod serve_rows;
+#[cfg(test)]
 mod serving_rows;
 #[cfg(test)]
 mod shelf;

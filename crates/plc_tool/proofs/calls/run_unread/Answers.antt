@@ -1,8 +1,16 @@
-use Rattle.plc_tool.proofs.Refused.{unread}
+use Rattle.std.proofs.Common.{◌≡◌, inl, inr, sym, ◌∙◌}
+use Rattle.plc_tool.specs.Meaning.{program_of_text}
+use Rattle.plc_tool.specs.Status.{status_of}
+use Rattle.plc_tool.proofs.Endings.{first_told, refused}
 use Rattle.plc_tool.proofs.calls.run_unread.Goals as goal
 
 pub returns-clause-refused : goal.returns-clause-refused
-returns-clause-refused g c = λ one. unread _ _ c.first_fault.result _ c.first_fault.ensures c.tell.ensures.status one
+returns-clause-refused g c = λ one.
+    let input = sym c.tell.ensures.status ∙ one in
+    elim (first_told (program_of_text c.args.source.now) (λ _. status_of c.args.fault ≡ 1) c.args.fault c.first_fault.result c.first_fault.ensures (λ other. other) input) [
+      | inl told ↦ inl (refused (program_of_text c.args.source.now) (c.first_fault.result, input, told))
+      | inr other ↦ inr other
+    ]
 
 pub returns-clause-told : goal.returns-clause-told
 returns-clause-told g c = (c.first_fault.result, c.first_fault.ensures, c.tell.ensures.status, c.tell.ensures.line)

@@ -1,13 +1,20 @@
-use Rattle.plc_tool.proofs.Reported.{refused_input, cut_report}
-use Rattle.plc_tool.proofs.Endings.{by_first}
+use Rattle.plc_tool.proofs.Endings.{by_end, told_at_1, unwritten, stops_late, why_stopped}
+use Rattle.plc_tool.proofs.NoDevice.{of_schedule}
 use Rattle.plc_tool.specs.Simulated.{IsToldOf}
 use Rattle.plc_tool.proofs.calls.sim_events.Goals as goal
 
+pub returns-clause-told : goal.returns-clause-told
+returns-clause-told g c =
+    by_end g.E.CountedWrite (IsToldOf c.args.source.now c.args.config.now.f c.args.budget.instructions c.args.named.now) _ _ _ _ _ _ (why_stopped _ _) _ c.put_report.ensures.err c.ended.ensures.ends
+
 pub returns-clause-refused : goal.returns-clause-refused
-returns-clause-refused g c = λ one. refused_input _ _ _ _ _ _ c.put_report.result _ one c.ended.ensures.done c.ended.ensures.told c.put_report.ensures.refused
+returns-clause-refused g c = λ one.
+    let told = told_at_1 g.E.CountedWrite _ _ _ _ (returns-clause-told g c) one in (
+      record { fault = told.0; input = told.1; is = told.2 },
+      unwritten _ _ _ _ (why_stopped _ _) _ _ one c.ended.ensures.done c.ended.ensures.told c.put_report.ensures.err,
+    )
 
 pub returns-clause-cut : goal.returns-clause-cut
-returns-clause-cut g c = λ two. cut_report g.W.CountedWrite _ _ _ _ _ _ c.put_report.result _ two c.ended.ensures.done c.put_report.ensures.cut
-
-pub returns-clause-told : goal.returns-clause-told
-returns-clause-told g c = by_first g.E.CountedWrite (IsToldOf c.args.source.now c.args.config.now.f c.args.budget.instructions c.args.named.now) _ _ _ _ _ c.put_report.ensures.refused c.ended.ensures.ends
+returns-clause-cut g c = λ two.
+    stops_late g.E.CountedWrite _ _ (IsToldOf c.args.source.now c.args.config.now.f c.args.budget.instructions c.args.named.now) _ _ _ _ _ _
+    (of_schedule c.args.source.now c.args.config.now.f c.args.budget.instructions c.args.named.now) two c.put_report.ensures.err c.ended.ensures.ends

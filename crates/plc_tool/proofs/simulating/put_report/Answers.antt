@@ -1,7 +1,7 @@
 use Rattle.std.proofs.Common.{subst}
 use Rattle.schedules.specs.Traces.{IsTraced}
 use Rattle.vr_core.specs.Answers.{answer_to}
-use Rattle.plc_tool.proofs.Reported.{is_simulated, is_cut_short, not_refused}
+use Rattle.plc_tool.proofs.Reported.{is_simulated, is_cut_short}
 use Rattle.plc_tool.proofs.simulating.put_report.Goals as goal
 
 pub returns-clause-simulated : goal.returns-clause-simulated
@@ -11,12 +11,9 @@ returns-clause-simulated g c =
     (subst (λ events. IsTraced c.args.config.now.f (answer_to c.in_ok-image.image c.args.budget.instructions) events c.in_ok-trace.trace) c.as_slice.ensures.value c.in_ok-trace.ensures.traced)
     c.in_ok-trace.ensures.none_lost c.put_trace.result c.put_trace.ensures
 
-pub returns-clause-cut : goal.returns-clause-cut
-returns-clause-cut g c =
+pub returns-clause-err : goal.returns-clause-err
+returns-clause-err g c =
     is_cut_short g.W.CountedWrite c.in_ok-trace.trace c.args.out.now c.put_trace.new.out c.args.text.now c.args.config.now.f c.args.budget.instructions c.in_ok-image.image c.args.named.now c.in_ok-events.events.items
     c.in_ok-image.ensures.found c.in_ok-events.ensures.known
     (subst (λ events. IsTraced c.args.config.now.f (answer_to c.in_ok-image.image c.args.budget.instructions) events c.in_ok-trace.trace) c.as_slice.ensures.value c.in_ok-trace.ensures.traced)
     c.in_ok-trace.ensures.none_lost c.put_trace.result c.put_trace.ensures
-
-pub returns-clause-refused : goal.returns-clause-refused
-returns-clause-refused g c = not_refused g.W.CountedWrite c.in_ok-trace.trace c.args.out.now c.put_trace.new.out c.args.text.now c.args.config.now.f c.args.budget.instructions c.args.named.now c.put_trace.result c.put_trace.ensures

@@ -1,0 +1,9 @@
+use Rattle.std.proofs.Common.{subst}
+use Rattle.il_reader.specs.Texts.{SourceText}
+use Rattle.il_reader.specs.Grammar.{program_text}
+use Rattle.il_reader.specs.Words.{AreWords}
+use Rattle.il_reader.proofs.WordTexts.{said_words}
+use Rattle.il_reader.proofs.source.Source.is_read.Goals as goal
+
+pub returns-clause-words : goal.returns-clause-words
+returns-clause-words c = subst (λ (s : SourceText). AreWords s.says) c.self.view_is (said_words c.self.inside.text.now (program_text c.self.inside.contents) c.self.invariant.said)
