@@ -5,3 +5,8 @@ pub mod Programs
 pub mod Complete
 pub mod Sources
 pub mod WordTexts
+pub mod Written
+pub mod Checks
+pub mod FirstFaults
+pub mod TextFaults
+pub mod WorkedFaults

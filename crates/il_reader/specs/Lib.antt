@@ -5,4 +5,5 @@ pub mod Reading
 pub mod Grammar
 pub mod Spelling
 pub mod Words
+pub mod FirstFault
 pub mod Texts

@@ -173,6 +173,10 @@ spelled_by (Some t) s = spelled_named t s
 abbrev pub spelled_program : ProgramText → List Part
 spelled_program s = spelled_by s.name s
 
--- the text says this, from its first token to its last
+-- the tokens say this, from the first to the last
+abbrev pub SaysTokens : List Token → ProgramText → Type 0
+SaysTokens tokens s = (rest : List Token) × Spell (spelled_program s) tokens rest
+
+-- the text says this
 abbrev pub Says : List ℕ → ProgramText → Type 0
-Says bytes s = (rest : List Token) × Spell (spelled_program s) (tokens_of bytes) rest
+Says bytes s = SaysTokens (tokens_of bytes) s

@@ -6,6 +6,7 @@ mod blocks;
 mod calls;
 mod contents;
 mod fault;
+mod first_fault;
 mod lexeme;
 mod lines;
 mod lists;
@@ -20,6 +21,7 @@ pub use contents::{
     Argument, Behind, Call, Contents, Declaration, Line, Names, Operand, Operation, Operator,
 };
 pub use fault::{Fault, FaultKind, ReadError};
+pub use first_fault::{fault_stands_first, worked_faults};
 pub use lexeme::{Kind, Lexeme};
 pub use place::{Place, place_of};
 pub use source::{Source, read};
