@@ -15,10 +15,11 @@ use Rattle.il_model.specs.declared.program.Operand.TheVariants as operands
 use Rattle.il_model.specs.declared.program.Instr.{Instr}
 use Rattle.il_model.specs.Text.{Text, Declarations, declared_by}
 use Rattle.il_model.specs.Kinds.{field_number}
-use Rattle.il_model.specs.Resolved.{target_of, kind_in, called_kind}
+use Rattle.il_model.specs.Resolved.{target_of, instance_in, kind_in, called_kind}
 use Rattle.il_model.specs.Marks.{Mark, marks_from, words_in, address_of}
 use Rattle.il_model.specs.Constants.{same_value, literal_of, joined_constants, constants_from, operands_in, operands_of}
-use Rattle.il_model.specs.Image.{target_code, plain_code, operand_code, coded_word, op_code, modifier_code, side_code, field_number_code, word_bytes, argument_bytes, instruction_bytes, header_bytes, variable_bytes, instance_bytes, mark_bytes, constant_bytes, spelling}
+use Rattle.il_model.specs.CodedOperands.{code_of}
+use Rattle.il_model.specs.Image.{number_or_unused, coded_operand, operand_code, coded_word, op_code, modifier_code, side_code, field_number_code, word_bytes, argument_bytes, instruction_bytes, header_bytes, variable_bytes, instance_bytes, mark_bytes, constant_bytes, spelling}
 use Rattle.il_model.specs.Settled.{settled_argument, settled_line, settled}
 use Rattle.il_model.proofs.ArgumentFaults.{settled_argument_none}
 use Rattle.il_model.proofs.Settling.{Alike, literal_is, settled_none, called_settled, settling_alike, target_alike, typed_program}
@@ -66,23 +67,23 @@ declared_alike P Q a =
     ap (λ (vs : List Variable). let ds : Declarations = record { variables = vs; instances = P.instances } in ds) (sym a.variables)
     ∙ ap (λ (xs : List Instance). let ds : Declarations = record { variables = Q.variables; instances = xs } in ds) (sym a.instances)
 
-plain_alike : (P Q : Text) (o : Operand) → AreAlike P Q → plain_code (declared_by P) o ≡ plain_code (declared_by Q) o
-plain_alike P Q o a = ap (λ (ds : Declarations). plain_code ds o) (declared_alike P Q a.alike)
+coded_alike : (P Q : Text) (constants : List Value) (o : Operand) → AreAlike P Q → code_of (coded_operand (declared_by P) constants o) ≡ code_of (coded_operand (declared_by Q) constants o)
+coded_alike P Q constants o a = ap (λ (ds : Declarations). code_of (coded_operand ds constants o)) (declared_alike P Q a.alike)
 
 address_by : (P Q : Text) (o : Option ℕ) → AreAlike P Q → option_map (address_of P.code) o ≡ option_map (address_of Q.code) o
 address_by P Q None a = refl
 address_by P Q (Some n) a = ap (λ (k : ℕ). Some k) (a.address n)
 
 code_alike : (P Q : Text) (constants : List Value) (o : Operand) → AreAlike P Q → operand_code P constants o ≡ operand_code Q constants o
-code_alike P Q constants operands.Absent a = plain_alike P Q operands.Absent a
+code_alike P Q constants operands.Absent a = refl
 code_alike P Q constants (operands.Literal v) a = refl
 code_alike P Q constants (operands.Bare z) a = refl
-code_alike P Q constants (operands.Variable name) a = plain_alike P Q (operands.Variable name) a
+code_alike P Q constants (operands.Variable name) a = coded_alike P Q constants (operands.Variable name) a
 code_alike P Q constants (operands.Direct loc) a = refl
 code_alike P Q constants (operands.Label name) a =
-    ap target_code (address_by P Q (target_of P name) a ∙ ap (option_map (address_of Q.code)) (sym (target_alike P Q name a.alike)))
-code_alike P Q constants (operands.Field name field) a = plain_alike P Q (operands.Field name field) a
-code_alike P Q constants (operands.Instance name) a = plain_alike P Q (operands.Instance name) a
+    ap number_or_unused (address_by P Q (target_of P name) a ∙ ap (option_map (address_of Q.code)) (sym (target_alike P Q name a.alike)))
+code_alike P Q constants (operands.Field name field) a = coded_alike P Q constants (operands.Field name field) a
+code_alike P Q constants (operands.Instance name) a = ap (λ (xs : List Instance). number_or_unused (instance_in xs name)) (sym a.alike.instances)
 
 -- an operand that is no literal now stands in the program as it is
 code_by : (P Q : Text) (constants : List Value) (p q : Operand) (literal : Option Value) → AreAlike P Q → literal_of q ≡ literal → (literal_of q ≡ None → q ≡ p) → settled_code P constants p literal ≡ operand_code Q constants q

@@ -33,7 +33,7 @@ lines_by (p ∷ ps) (q ∷ qs) len at = let here = at zero p refl in ((here.0, s
 
 settled_at : (P Q : Text) → IsTypedProgramOf P Q → IsSettledAt P.code Q.code
 settled_at P Q is n p here =
-    let all = bind_ok (shape_at Q (length Q.code)) (closed Q) true is.typed in
+    let all = bind_ok (shape_at Q (length Q.code)) (closed Q) tt is.typed in
     let sh = ok_before Q (length Q.code) all.0 all.1 n (omega (arith, slice_get_within P.code n p here, is.same.count)) in
     (sh.0.cr, is.placed n sh.0 sh.1 ∙ ap (option_map (settled_line sh.0.cr)) here)
 

@@ -1,6 +1,6 @@
 -- The bytes of a typed program, told by the program that it was before and by the literals that its operands are now.
 use Rattle.std.specs.Prelude.{◌≡◌, ℕ, List, [], ◌∷◌, ◌++◌, ◌+◌, ◌≤◌, length, map, Option, Some, None, Result, Ok, Err}
-use Rattle.std.specs.List.{flat_map, position}
+use Rattle.std.specs.List.{flat_map}
 use Rattle.std.specs.Option.{option_and_then}
 use Rattle.il_model.specs.declared.value.Value.{Value}
 use Rattle.il_model.specs.declared.program.Operand.{Operand}
@@ -13,7 +13,8 @@ use Rattle.il_model.specs.Text.{Text}
 use Rattle.il_model.specs.Marks.{marks_from, words_in, word_count}
 use Rattle.il_model.specs.Settled.{settled, settled_argument}
 use Rattle.il_model.specs.Constants.{same_value, literal_of, joined_constants}
-use Rattle.il_model.specs.Image.{constant_code, operand_code, coded_word, op_code, modifier_code, side_code, field_number_code, header_bytes, variable_bytes, instance_bytes, mark_bytes, constant_bytes}
+use Rattle.il_model.specs.CodedOperands.{code_of}
+use Rattle.il_model.specs.Image.{coded_literal, operand_code, coded_word, op_code, modifier_code, side_code, field_number_code, header_bytes, variable_bytes, instance_bytes, mark_bytes, constant_bytes}
 use Rattle.assembler.specs.declared.fault.AsmError.{AsmError}
 use Rattle.assembler.specs.Assembled.{Refuses}
 
@@ -43,7 +44,7 @@ all_literals (line ∷ code) (literal ∷ literals) = literals_in line literal +
 
 -- a literal is its constant's number
 abbrev pub settled_code : Text → List Value → Operand → Option Value → ℕ
-settled_code P constants operand (Some v) = constant_code (position (same_value v) constants)
+settled_code P constants operand (Some v) = code_of (coded_literal constants v)
 settled_code P constants operand None = operand_code P constants operand
 
 abbrev pub settled_word : Text → List Value → Instr → Option Value → List ℕ

@@ -4,18 +4,22 @@ ghost use Rattle.std.specs.Prelude.{◌≡◌, ◌≤◌, ◌++◌, OnOk, IfOk, 
 ghost use Rattle.std.specs.Option.{option_and_then};
 ghost use Rattle.assembler.specs.Encoded.{constants_in, all_literals, settled_code, settled_passing_word, settled_instruction, settled_words, settled_bytes, HasFewArguments, addresses_from};
 ghost use Rattle.std.specs.Int.{w8, w16, w32, to_be_bytes};
-ghost use Rattle.std.specs.List.{AllByRecursion, flat_map, position};
+ghost use Rattle.std.specs.List.{AllByRecursion, flat_map};
 ghost use Rattle.il_model.specs.Kinds.{field_number};
 ghost use Rattle.il_model.specs.Marks.{with_mark, marks_from, words_in};
-ghost use Rattle.il_model.specs.Constants.{same_value};
-ghost use Rattle.il_model.specs.Image.{name_bytes, variable_bytes, instance_bytes, mark_bytes, constant_bytes, constant_code, target_code, field_code, field_number_code, operand_code, coded_word, counts_bytes};
+ghost use Rattle.il_model.specs.declared.coded_operand.CodedOperand.TheVariants as coded;
+ghost use Rattle.il_model.specs.CodedOperands.{code_of};
+ghost use Rattle.il_model.specs.Image.{name_bytes, variable_bytes, instance_bytes, mark_bytes, constant_bytes, numbered, coded_literal, coded_field, number_or_unused, field_number_code, operand_code, coded_word, counts_bytes};
 
 use crate::constants::constants_of;
 use il_model::arguments::argument_literal;
-use il_model::codes::{bits, location_code, modifier_code, op_code, side_code, type_code};
+use il_model::coded_operand::FIRST_CONSTANT;
+use il_model::codes::{MAGIC, bits, location_code, modifier_code, op_code, side_code, type_code};
 use il_model::constant_table::Constants;
 use il_model::indexed::IndexedProgram;
-use il_model::{Argument, BlockKind, Instance, Instr, Name, Operand, Place, Value, Variable};
+use il_model::{
+    Argument, BlockKind, CodedOperand, Instance, Instr, Name, Operand, Place, Value, Variable,
+};
 use std::alloc::{AllocError, Global};
 
 fn put_u8(out: &mut Vec<u8>, n: usize) -> Result<(), AllocError>
@@ -64,12 +68,13 @@ fn put_constant(out: &mut Vec<u8>, v: Value) -> Result<(), AllocError>
     put_u32(out, bits(v))
 }
 
-fn constant_number(constants: &Constants, v: Value) -> usize
-    ensures { result ≡ constant_code (position (same_value v) constants.now) }
+/// The code of a literal's constant.
+fn literal_code(constants: &Constants, v: Value) -> usize
+    ensures { result ≡ code_of (coded_literal constants.now v) }
 {
     match constants.place(v) {
-        Some(k) => 32768 + k,
-        None => 65535,
+        Some(k) => FIRST_CONSTANT as usize + k,
+        None => CodedOperand::Unused.code(),
     }
 }
 
@@ -81,23 +86,32 @@ fn put_instance(out: &mut Vec<u8>, x: &Instance) -> Result<(), AllocError>
 }
 
 fn target_address(addresses: &[usize], target: Option<u16>) -> usize
-    ensures { result ≡ target_code (option_and_then (slice_get addresses.now) target) }
+    ensures { result ≡ number_or_unused (option_and_then (slice_get addresses.now) target) }
 {
     match target {
         Some(n) => match addresses.get(n as usize) {
             Some(address) => *address,
-            None => 65535,
+            None => CodedOperand::Unused.code(),
         },
-        None => 65535,
+        None => CodedOperand::Unused.code(),
     }
 }
 
-fn field_code(place: Option<Place>) -> usize
-    ensures { result ≡ field_code place }
+fn coded_field(place: Option<Place>) -> CodedOperand
+    ensures { result ≡ coded_field place }
 {
     match place {
-        Some(Place::Field(i, n)) => 20480 + (8 * i as usize + n as usize),
-        _ => 65535,
+        Some(Place::Field(instance, field)) => CodedOperand::Field { instance, field },
+        _ => CodedOperand::Unused,
+    }
+}
+
+fn coded_variable(number: Option<u16>) -> CodedOperand
+    ensures { result ≡ numbered coded.Variable number }
+{
+    match number {
+        Some(i) => CodedOperand::Variable(i),
+        None => CodedOperand::Unused,
     }
 }
 
@@ -112,19 +126,16 @@ fn operand_code(
     ensures { result ≡ operand_code program.now constants.now operand.now }
 {
     match operand {
-        Operand::Literal(v) => constant_number(constants, *v),
         Operand::Label(name) => target_address(addresses, program.target_of(name)),
-        Operand::Variable(name) => match program.variable_named(name) {
-            Some(i) => 16384 + i as usize,
-            None => 65535,
-        },
-        Operand::Field(name, field) => field_code(program.field_of(name, field)),
         Operand::Instance(name) => match program.instance_named(name) {
             Some(i) => i as usize,
-            None => 65535,
+            None => CodedOperand::Unused.code(),
         },
-        Operand::Direct(loc) => location_code(Some(*loc)),
-        Operand::Absent | Operand::Bare(_) => 65535,
+        Operand::Literal(v) => literal_code(constants, *v),
+        Operand::Variable(name) => coded_variable(program.variable_named(name)).code(),
+        Operand::Field(name, field) => coded_field(program.field_of(name, field)).code(),
+        Operand::Direct(loc) => CodedOperand::Location(*loc).code(),
+        Operand::Absent | Operand::Bare(_) => CodedOperand::Unused.code(),
     }
 }
 
@@ -140,7 +151,7 @@ fn settled_code(
     ensures { result ≡ settled_code program.now constants.now operand.now literal }
 {
     match literal {
-        Some(v) => constant_number(constants, v),
+        Some(v) => literal_code(constants, v),
         None => operand_code(program, addresses, constants, operand),
     }
 }
@@ -351,7 +362,7 @@ pub fn encode(
     let (addresses, words) = addresses_of(alloc, code)?;
     let addresses = addresses.as_slice();
     let mut out = Vec::new(alloc);
-    put_u32(&mut out, 1229738051)?;
+    out.extend_from_slice(&MAGIC)?;
     put_u16(&mut out, 1)?;
     put_counts(
         &mut out,

@@ -25,6 +25,7 @@ use Rattle.il_model.specs.Resolved.{is_labelled}
 use Rattle.il_model.specs.Typing.{Shape, shape_at, arrived}
 use Rattle.controller_model.specs.Suits.{AreCells, HasValues, HasShape, Suits}
 use Rattle.controller_model.proofs.Instances.{all_cold}
+use Rattle.controller_model.proofs.FirstValues.{firsts_first}
 
 pub some_of : (b : Bool) (x v : Value) → cond b (Some x) None ≡ Some v → x ≡ v
 some_of true x v e = cc
@@ -54,7 +55,7 @@ variable_ty seen v is =
     let z = cast_signed w32 (cast_unsigned w32 (number_of v.initial)) in
     first_ty v.location v.ty (made v.ty z) v.initial (λ x e. made_ty v.ty z x e) is.initial
 
-firsts_typed : (seen vs : List Variable) → AreItems IsVariable seen vs → map ty_of (map (λ (v : Variable). v.initial) vs) ≡ map (λ (v : Variable). v.ty) vs
+pub firsts_typed : (seen vs : List Variable) → AreItems IsVariable seen vs → map ty_of (map (λ (v : Variable). v.initial) vs) ≡ map (λ (v : Variable). v.ty) vs
 firsts_typed seen [] are = refl
 firsts_typed seen (v ∷ vs) are = ap (λ (t : Ty). t ∷ map ty_of (map (λ (v : Variable). v.initial) vs)) (variable_ty seen v are.0) ∙ ap (λ (ts : List Ty). v.ty ∷ ts) (firsts_typed (seen ++ v ∷ []) vs are.1)
 
@@ -102,11 +103,11 @@ at_start Q s vals here no_cr none =
 
 pub cold_suits : (Q : Text) → IsText Q → Suits Q (cold Q)
 cold_suits Q is =
-    at_start Q (cold Q) (record { own = firsts_typed [] Q.variables is.variables; instances = all_cold Q.instances; input = first_cells_are Area.Input Q.variables; output = first_cells_are Area.Output Q.variables; memory = first_cells_are Area.Memory Q.variables }) refl refl refl
+    at_start Q (cold Q) (record { own = firsts_typed [] Q.variables is.variables; firsts = firsts_first Q.variables; instances = all_cold Q.instances; input = first_cells_are Area.Input Q.variables; output = first_cells_are Area.Output Q.variables; memory = first_cells_are Area.Memory Q.variables }) refl refl refl
 
 pub started_suits : (Q : Text) (s : State) (inputs : Cells) → Suits Q s → AreCells inputs → Suits Q (started s inputs)
 started_suits Q s inputs suits are =
-    at_start Q (started s inputs) (record { own = suits.values.own; instances = suits.values.instances; input = are; output = suits.values.output; memory = suits.values.memory }) refl refl refl
+    at_start Q (started s inputs) (record { own = suits.values.own; firsts = suits.values.firsts; instances = suits.values.instances; input = are; output = suits.values.output; memory = suits.values.memory }) refl refl refl
 
 pub rested_suits : (Q : Text) (s : State) → Suits Q s → Suits Q (rested s)
-rested_suits Q s suits = at_start Q (rested s) (record { own = suits.values.own; instances = suits.values.instances; input = suits.values.input; output = suits.values.output; memory = suits.values.memory }) refl refl refl
+rested_suits Q s suits = at_start Q (rested s) (record { own = suits.values.own; firsts = suits.values.firsts; instances = suits.values.instances; input = suits.values.input; output = suits.values.output; memory = suits.values.memory }) refl refl refl

@@ -16,7 +16,7 @@ use Rattle.il_model.specs.declared.slot.Slot.{Slot}
 use Rattle.il_model.specs.declared.snapshot.ForcedSlot.{ForcedSlot}
 use Rattle.il_model.specs.Values.{ty_of}
 use Rattle.il_model.specs.Row.{same_type}
-use Rattle.il_model.specs.Codes.{area_loc, any_loc}
+use Rattle.il_model.specs.CodedOperands.{area_loc, any_loc}
 use Rattle.il_model.specs.Typing.{loc_type}
 use Rattle.il_model.proofs.RowTypes.{and_yes, same_type_is}
 use Rattle.controller_model.specs.declared.forces.Mask.{Mask}

@@ -1,5 +1,7 @@
 pub mod Rows
 pub mod Instances
+pub mod FirstValues
+pub mod OwnValues
 pub mod Safe
 pub mod Calls
 pub mod NeverStuck

@@ -14,7 +14,7 @@ use Rattle.il_model.specs.declared.command.Refusal.{Refusal}
 use Rattle.il_model.specs.declared.command.Refusal.TheVariants as refusals
 use Rattle.il_model.specs.Areas.{area_of}
 use Rattle.il_model.specs.Cells.{safe_image}
-use Rattle.il_model.specs.Codes.{any_loc}
+use Rattle.il_model.specs.CodedOperands.{any_loc}
 use Rattle.il_model.specs.Text.{Text}
 use Rattle.controller_model.specs.declared.phase.Phase.{Phase}
 use Rattle.controller_model.specs.declared.phase.Phase.TheVariants as phases

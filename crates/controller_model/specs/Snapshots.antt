@@ -8,7 +8,10 @@ use Rattle.il_model.specs.declared.value.Value.TheVariants as values
 use Rattle.il_model.specs.declared.kind.BlockKind.{BlockKind}
 use Rattle.il_model.specs.declared.program.Instance.{Instance}
 use Rattle.il_model.specs.declared.program.Variable.{Variable}
+use Rattle.il_model.specs.declared.program.Area.{Area}
+use Rattle.il_model.specs.declared.program.Area.TheVariants as areas
 use Rattle.il_model.specs.declared.program.Loc.{Loc}
+use Rattle.il_model.specs.declared.program.Loc.TheVariants.{Bit, Word}
 use Rattle.il_model.specs.declared.fetched.Deferred.{Deferred}
 use Rattle.il_model.specs.declared.typing.Held.{Held}
 use Rattle.il_model.specs.declared.op.Op.{Op}
@@ -21,20 +24,26 @@ use Rattle.il_model.specs.Values.{ty_of}
 use Rattle.il_model.specs.Operators.{same_truth}
 use Rattle.il_model.specs.Row.{same_type}
 use Rattle.il_model.specs.Kinds.{kind_code}
+use Rattle.il_model.specs.CodedOperands.{loc_code}
 use Rattle.il_model.specs.Image.{op_code}
 use Rattle.il_model.specs.Typing.{Shape, shape_at, loc_type}
 use Rattle.il_model.specs.Text.{Text}
 use Rattle.function_blocks.specs.Blocks.{kind_of, block_words, is_block}
-use Rattle.std.specs.List.{AllByRecursion}
+use Rattle.std.specs.List.{AllByRecursion, items_where_true, range_with_len}
 use Rattle.controller_model.specs.declared.forces.Mask.{Mask}
 use Rattle.controller_model.specs.declared.forces.Forces.{Forces}
 use Rattle.controller_model.specs.declared.phase.Phase.{Phase}
 use Rattle.controller_model.specs.declared.phase.Phase.TheVariants as phases
-use Rattle.controller_model.specs.State.{State, BlockInstance}
+use Rattle.controller_model.specs.State.{State, BlockInstance, has_own}
 use Rattle.controller_model.specs.Suits.{held_of, input_types}
+use Rattle.controller_model.specs.Scan.{is_break}
 use Rattle.controller_model.specs.Commands.{Control, forcible_at}
 
 -- ---- what a snapshot has of a state
+
+-- the values of the variables without a location, in order
+abbrev pub own_values : List Variable → List Value → List Value
+own_values vs own = items_where_true (map has_own vs) own
 
 abbrev pub saved_instance : BlockInstance → SavedBlock
 saved_instance x = record { kind = kind_of x.block; inputs = x.inputs; words = block_words x.block }
@@ -53,22 +62,26 @@ forced_words n [] = []
 forced_words n (None ∷ fs) = forced_words (suc n) fs
 forced_words n (Some z ∷ fs) = record { slot = record { 0 = n }; value = values.Int z } ∷ forced_words (suc n) fs
 
--- the bits of an area from its base on, and then its words
-abbrev pub forced_from : ℕ → Mask → List ForcedSlot
-forced_from base m = forced_bits base m.bits ++ forced_words (base + 1024) m.words
+-- the bits of an area, and then its words, from the codes of the first ones on
+abbrev pub forced_in : Area → Mask → List ForcedSlot
+forced_in area m = forced_bits (loc_code (Bit area 0)) m.bits ++ forced_words (loc_code (Word area 0)) m.words
 
 -- what is forced, rising by slot
 abbrev pub forced_slots : Forces → List ForcedSlot
-forced_slots f = forced_from 0 f.input ++ forced_from 4096 f.output
+forced_slots f = forced_in areas.Input f.input ++ forced_in areas.Output f.output
+
+-- the positions of the breakpoints, rising
+abbrev pub break_positions : List Bool → List ℕ
+break_positions breaks = filter (is_break breaks) (range_with_len 0 (length breaks))
 
 abbrev pub saved_phase : Phase → ℕ → SavedPhase
 saved_phase phases.Idle performed = saved_phases.Idle
 saved_phase phases.Held performed = saved_phases.Held performed
 saved_phase (phases.Stopped stop) performed = saved_phases.Stopped stop
 
-abbrev pub saved : Control → SavedController
-saved s = record {
-  variables = s.cycle.state.own;
+abbrev pub saved : Text → Control → SavedController
+saved Q s = record {
+  variables = own_values Q.variables s.cycle.state.own;
   instances = map saved_instance s.cycle.state.instances;
   input = s.cycle.state.input;
   output = s.cycle.state.output;
@@ -79,7 +92,7 @@ saved s = record {
   count = s.cycle.count;
   moment = s.cycle.moment;
   forces = forced_slots s.cycle.forces;
-  breaks = s.breaks;
+  breaks = break_positions s.breaks;
   phase = saved_phase s.phase s.cycle.performed;
 }
 
@@ -98,6 +111,15 @@ abbrev pub fit_instances : List Instance → List SavedBlock → Bool
 fit_instances [] [] = true
 fit_instances (d ∷ ds) (x ∷ xs) = fits_instance d x && fit_instances ds xs
 fit_instances ds xs = false
+
+-- the types of the variables without a location, in order
+abbrev pub own_types : List Variable → List Ty
+own_types vs = map (λ (v : Variable). v.ty) (filter has_own vs)
+
+-- each at an instruction, and above the one before it
+abbrev pub fit_breaks : ℕ → ℕ → List ℕ → Bool
+fit_breaks least end [] = true
+fit_breaks least end (p ∷ ps) = nat_le least p && (nat_lt p end && fit_breaks (suc p) end ps)
 
 -- a location of %I or %Q by its slot, with a value of its type
 abbrev pub fits_location : Value → Option Loc → Bool
@@ -146,7 +168,7 @@ fits_phase Q budget s (saved_phases.Stopped stop) = fits_run Q s
 
 abbrev pub fits : Text → ℕ → SavedController → Bool
 fits Q budget s =
-    are_types s.variables (map (λ (v : Variable). v.ty) Q.variables)
+    are_types s.variables (own_types Q.variables)
     && (fit_instances Q.instances s.instances
-    && (nat_eq (length s.breaks) (length Q.code)
+    && (fit_breaks 0 (length Q.code) s.breaks
     && (fit_forces 0 s.forces && fits_phase Q budget s s.phase)))

@@ -12,7 +12,7 @@ use Rattle.il_model.specs.declared.program.Area.TheVariants as areas
 use Rattle.il_model.specs.declared.program.Loc.TheVariants.{Bit, Word}
 use Rattle.il_model.specs.declared.snapshot.ForcedSlot.{ForcedSlot}
 use Rattle.il_model.specs.Row.{same_type}
-use Rattle.il_model.specs.Codes.{any_loc, area_loc}
+use Rattle.il_model.specs.CodedOperands.{any_loc, area_loc}
 use Rattle.controller_model.specs.declared.forces.Mask.{Mask}
 use Rattle.controller_model.specs.declared.forces.Forces.{Forces}
 use Rattle.controller_model.specs.Commands.{forcible, forcible_at}

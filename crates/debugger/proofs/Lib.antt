@@ -1,5 +1,5 @@
 pub mod Found
-pub mod LocationCodes
+pub mod Flags
 pub mod Opens
 pub mod Opened
 pub mod States

@@ -7,7 +7,6 @@ use Rattle.std.proofs.lemmas.List.{reverse-reverse}
 use Rattle.il_model.specs.declared.value.Ty.{Ty}
 use Rattle.il_model.specs.declared.value.Value.{Value}
 use Rattle.il_model.specs.declared.program.Place.{Place}
-use Rattle.il_model.specs.declared.program.Variable.{Variable}
 use Rattle.il_model.specs.declared.cells.Cells.{Cells}
 use Rattle.il_model.specs.declared.fetched.Deferred.{Deferred}
 use Rattle.il_model.specs.declared.typing.Held.{Held}
@@ -27,7 +26,7 @@ use Rattle.controller_model.specs.Cold.{rested}
 use Rattle.controller_model.specs.Scan.{Cycle}
 use Rattle.controller_model.specs.Suits.{Suits, held_of}
 use Rattle.controller_model.specs.Commands.{Control}
-use Rattle.controller_model.specs.Snapshots.{saved_phase, saved, are_types, fit_instances, fit_forces, fits_types, fits_run, is_at_rest, fits_phase, fits}
+use Rattle.controller_model.specs.Snapshots.{break_positions, saved_phase, saved, own_types, are_types, fit_instances, fit_breaks, fit_forces, fits_types, fits_run, is_at_rest, fits_phase, fits}
 use Rattle.controller_model.proofs.Fitting.{IsTypedSo, types_fit}
 use Rattle.scan_cycle.specs.Parts.{FitsMachine, AreLawful, HasState}
 use Rattle.scan_cycle.specs.Kept.{KeptCycle, IsCycleOf}
@@ -37,17 +36,17 @@ use Rattle.debugger.specs.Restored.{IsRestored}
 
 -- the parts of a shape that fits
 pub record AreFitting (Q : Text) (budget : ℕ) (s : SavedController) : Type 0 where
-  pub variables : are_types s.variables (map (λ (v : Variable). v.ty) Q.variables) ≡ true
+  pub variables : are_types s.variables (own_types Q.variables) ≡ true
   pub instances : fit_instances Q.instances s.instances ≡ true
-  pub breaks : nat_eq (length s.breaks) (length Q.code) ≡ true
+  pub breaks : fit_breaks 0 (length Q.code) s.breaks ≡ true
   pub forces : fit_forces 0 s.forces ≡ true
   pub phase : fits_phase Q budget s s.phase ≡ true
 
 pub fitting : (Q : Text) (budget : ℕ) (s : SavedController) → fits Q budget s ≡ true → AreFitting Q budget s
 fitting Q budget s h =
-    let a = and_yes (are_types s.variables (map (λ (v : Variable). v.ty) Q.variables)) _ h in
+    let a = and_yes (are_types s.variables (own_types Q.variables)) _ h in
     let b = and_yes (fit_instances Q.instances s.instances) _ a.1 in
-    let c = and_yes (nat_eq (length s.breaks) (length Q.code)) _ b.1 in
+    let c = and_yes (fit_breaks 0 (length Q.code) s.breaks) _ b.1 in
     let d = and_yes (fit_forces 0 s.forces) (fits_phase Q budget s s.phase) c.1 in
     record { variables = a.0; instances = b.0; breaks = c.0; forces = d.0; phase = d.1 }
 
@@ -109,6 +108,9 @@ fits_machine Q budget s h =
 pub fits_slots : (Q : Text) (budget : ℕ) (s : SavedController) → fits Q budget s ≡ true → fit_forces 0 s.forces ≡ true
 fits_slots Q budget s h = (fitting Q budget s h).forces
 
+pub fits_breaks : (Q : Text) (budget : ℕ) (s : SavedController) → fits Q budget s ≡ true → fit_breaks 0 (length Q.code) s.breaks ≡ true
+fits_breaks Q budget s h = (fitting Q budget s h).breaks
+
 performed_less : (Q : Text) (budget : ℕ) (s : SavedController) (p : SavedPhase) → 0 < budget → fits_phase Q budget s p ≡ true → performed_in p < budget
 performed_less Q budget s saved_phases.Idle some h = some
 performed_less Q budget s (saved_phases.Held n) some h = ltb-true n budget (and_yes (fits_run Q s) (nat_lt n budget) h).1
@@ -123,7 +125,7 @@ rested_is st a b c =
     ∙ ap (λ (ds : List Deferred). let t : State = record st { cr = None; kept = ds } in t) b
     ∙ ap (λ (n : ℕ). let t : State = record st { cr = None; kept = []; position = n } in t) c
 
-opens : (Q : Text) (budget : ℕ) (s : SavedController) (c : Cycle) (p : SavedPhase) (phase : Phase) → HasCycle s c → c.performed ≡ performed_in p → saved_phase phase (performed_in p) ≡ p → fits_phase Q budget s p ≡ true → IsOpen Q phase c
+opens : (Q : Text) (budget : ℕ) (s : SavedController) (c : Cycle) (p : SavedPhase) (phase : Phase) → HasCycle Q s c → c.performed ≡ performed_in p → saved_phase phase (performed_in p) ≡ p → fits_phase Q budget s p ≡ true → IsOpen Q phase c
 opens Q budget s c saved_phases.Idle phases.Idle has n e h =
     let r = resting s h in
     (rested_is c.state (sym has.state.cr ∙ r.cr) (nil_kept c.state.kept (sym has.state.deferred ∙ r.deferred)) (sym has.state.position ∙ r.position), n)
@@ -138,31 +140,31 @@ opens Q budget s c (saved_phases.Held m) (phases.Stopped u) has n e h = absurd c
 opens Q budget s c (saved_phases.Stopped t) phases.Idle has n e h = absurd cc
 opens Q budget s c (saved_phases.Stopped t) phases.Held has n e h = absurd cc
 
-kept_is : (Q : Text) (budget : ℕ) (s : SavedController) (c : KeptCycle) (flags : List Bool) (phase : Phase) → 0 < budget → fits Q budget s ≡ true → IsCycleOf Q c → HasCycle s c.cycle → c.cycle.performed ≡ performed_in s.phase → flags ≡ s.breaks → saved_phase phase (performed_in s.phase) ≡ s.phase → IsKept Q budget c flags phase
+kept_is : (Q : Text) (budget : ℕ) (s : SavedController) (c : KeptCycle) (flags : List Bool) (phase : Phase) → 0 < budget → fits Q budget s ≡ true → IsCycleOf Q c → HasCycle Q s c.cycle → c.cycle.performed ≡ performed_in s.phase → length flags ≡ length Q.code → saved_phase phase (performed_in s.phase) ≡ s.phase → IsKept Q budget c flags phase
 kept_is Q budget s c flags phase some h is has n breaks p =
     let f = fitting Q budget s h in
     record {
       cycle = is;
-      breaks = ap length breaks ∙ eqb-true (length s.breaks) (length Q.code) f.breaks;
+      breaks = breaks;
       performed = subst (λ (k : ℕ). k < budget) (sym n) (performed_less Q budget s s.phase some f.phase);
       scan = opens Q budget s c.cycle s.phase phase has n p f.phase;
     }
 
-saved_by : (a a2 : List Value) (b b2 : List SavedBlock) (i i2 o o2 m m2 : Cells) (cr cr2 : Option Value) (d d2 : List Deferred) (n n2 t t2 u u2 : ℕ) (f f2 : List ForcedSlot) (br br2 : List Bool) (p p2 : SavedPhase)
+saved_by : (a a2 : List Value) (b b2 : List SavedBlock) (i i2 o o2 m m2 : Cells) (cr cr2 : Option Value) (d d2 : List Deferred) (n n2 t t2 u u2 : ℕ) (f f2 : List ForcedSlot) (br br2 : List ℕ) (p p2 : SavedPhase)
     → a ≡ a2 → b ≡ b2 → i ≡ i2 → o ≡ o2 → m ≡ m2 → cr ≡ cr2 → d ≡ d2 → n ≡ n2 → t ≡ t2 → u ≡ u2 → f ≡ f2 → br ≡ br2 → p ≡ p2
     → (let s : SavedController = record { variables = a; instances = b; input = i; output = o; memory = m; cr = cr; deferred = d; position = n; count = t; moment = u; forces = f; breaks = br; phase = p } in s)
     ≡ record { variables = a2; instances = b2; input = i2; output = o2; memory = m2; cr = cr2; deferred = d2; position = n2; count = t2; moment = u2; forces = f2; breaks = br2; phase = p2 }
 saved_by a a2 b b2 i i2 o o2 m m2 cr cr2 d d2 n n2 t t2 u u2 f f2 br br2 p p2 e1 e2 e3 e4 e5 e6 e7 e8 e9 e10 e11 e12 e13 = rw (e1, e2, e3, e4, e5, e6, e7, e8, e9, e10, e11, e12, e13) refl
 
-pub saved_is : (s : SavedController) (c : Cycle) (flags : List Bool) (phase : Phase) → HasCycle s c → flags ≡ s.breaks → saved_phase phase c.performed ≡ s.phase → saved (record { cycle = c; breaks = flags; phase = phase }) ≡ s
-saved_is s c flags phase has breaks p =
+pub saved_is : (Q : Text) (s : SavedController) (c : Cycle) (flags : List Bool) (phase : Phase) → HasCycle Q s c → break_positions flags ≡ s.breaks → saved_phase phase c.performed ≡ s.phase → saved Q (record { cycle = c; breaks = flags; phase = phase }) ≡ s
+saved_is Q s c flags phase has breaks p =
     saved_by _ _ _ _ _ _ _ _ _ _ _ _ _ _ _ _ _ _ _ _ _ _ _ _ _ _ (sym has.state.variables) (sym has.state.instances) (sym has.state.input) (sym has.state.output) (sym has.state.memory) (sym has.state.cr) (sym has.state.deferred) (sym has.state.position) (sym has.count) (sym has.moment) (sym has.forces) breaks p
 
-made : (Q : Text) (budget : ℕ) (s : SavedController) (c : KeptCycle) (flags : List Bool) (phase : Phase) → fits Q budget s ≡ true → HasCycle s c.cycle → c.cycle.performed ≡ performed_in s.phase → AreLawful c.cycle.state.instances → AreMasks c.cycle.forces → flags ≡ s.breaks → saved_phase phase (performed_in s.phase) ≡ s.phase → IsKept Q budget c flags phase → IsRestored Q budget s (record { program = Q; budget = budget; control = record { cycle = c.cycle; breaks = flags; phase = phase } })
+made : (Q : Text) (budget : ℕ) (s : SavedController) (c : KeptCycle) (flags : List Bool) (phase : Phase) → fits Q budget s ≡ true → HasCycle Q s c.cycle → c.cycle.performed ≡ performed_in s.phase → AreLawful c.cycle.state.instances → AreMasks c.cycle.forces → break_positions flags ≡ s.breaks → saved_phase phase (performed_in s.phase) ≡ s.phase → IsKept Q budget c flags phase → IsRestored Q budget s (record { program = Q; budget = budget; control = record { cycle = c.cycle; breaks = flags; phase = phase } })
 made Q budget s c flags phase h has n lawful masks breaks p k = record {
   program = refl;
   budget_is = refl;
-  saved = saved_is s c.cycle flags phase has breaks (ap (saved_phase phase) n ∙ p);
+  saved = saved_is Q s c.cycle flags phase has breaks (ap (saved_phase phase) n ∙ p);
   fits = h;
   lawful = record { suits = k.cycle.suits; blocks = lawful; forces = masks; breaks = k.breaks; performed = k.performed; scan = k.scan };
 }
@@ -172,9 +174,9 @@ pub record IsMade (Q : Text) (budget : ℕ) (s : SavedController) (c : KeptCycle
   pub kept : IsKept Q budget c flags phase
   pub restored : IsRestored Q budget s (record { program = Q; budget = budget; control = record { cycle = c.cycle; breaks = flags; phase = phase } })
 
-pub made_of : (Q : Text) (budget : ℕ) (s : SavedController) (o : Option KeptCycle) (c : KeptCycle) (flags : List Bool) (phase : Phase) → 0 < budget → fits Q budget s ≡ true → o ≡ Some c → IfSome o (IsCycleOf Q) → RestoresCycle s (option_map (λ (k : KeptCycle). k.cycle) o) → AreMasks c.cycle.forces → flags ≡ s.breaks → saved_phase phase (performed_in s.phase) ≡ s.phase → IsMade Q budget s c flags phase
-made_of Q budget s o c flags phase some h found of_program has masks breaks p =
+pub made_of : (Q : Text) (budget : ℕ) (s : SavedController) (o : Option KeptCycle) (c : KeptCycle) (flags : List Bool) (phase : Phase) → 0 < budget → fits Q budget s ≡ true → o ≡ Some c → IfSome o (IsCycleOf Q) → RestoresCycle Q s (option_map (λ (k : KeptCycle). k.cycle) o) → AreMasks c.cycle.forces → length flags ≡ length Q.code → break_positions flags ≡ s.breaks → saved_phase phase (performed_in s.phase) ≡ s.phase → IsMade Q budget s c flags phase
+made_of Q budget s o c flags phase some h found of_program has masks each breaks p =
     let is = subst (λ (x : Option KeptCycle). IfSome x (IsCycleOf Q)) found of_program in
-    let r = subst (λ (x : Option KeptCycle). RestoresCycle s (option_map (λ (k : KeptCycle). k.cycle) x)) found has in
-    let k = kept_is Q budget s c flags phase some h is r.0 r.1 breaks p in
+    let r = subst (λ (x : Option KeptCycle). RestoresCycle Q s (option_map (λ (k : KeptCycle). k.cycle) x)) found has in
+    let k = kept_is Q budget s c flags phase some h is r.0 r.1 each p in
     record { kept = k; restored = made Q budget s c flags phase h r.0 r.1 r.2 masks breaks p k }

@@ -1,12 +1,11 @@
 -- What is saved of a controller fits, and no two controllers of one program and one budget are saved as the same.
 use Rattle.std.proofs.Common.{◌≡◌, ℕ, zero, suc, ◌<◌, ◌≤◌, Bool, true, false, List, [], ◌∷◌, length, map, reverse, Option, None, Result, Ok, Err, refl, sym, ap, subst, ◌∙◌, arith}
 use Rattle.std.specs.Prelude.{◌&&◌, nat_eq, nat_lt, is_none}
-use Rattle.std.proofs.lemmas.Bool.{eq-eqb, lt-ltb}
+use Rattle.std.proofs.lemmas.Bool.{lt-ltb}
 use Rattle.std.proofs.lemmas.List.{reverse-reverse}
 use Rattle.il_model.specs.declared.value.Value.{Value}
 use Rattle.il_model.specs.declared.value.Stop.{Stop}
 use Rattle.il_model.specs.declared.cells.Cells.{Cells}
-use Rattle.il_model.specs.declared.program.Variable.{Variable}
 use Rattle.il_model.specs.declared.fetched.Deferred.{Deferred}
 use Rattle.il_model.specs.declared.snapshot.SavedPhase.{SavedPhase}
 use Rattle.il_model.specs.Snapshots.{SavedController}
@@ -20,7 +19,7 @@ use Rattle.controller_model.specs.State.{State, BlockInstance}
 use Rattle.controller_model.specs.Scan.{Cycle}
 use Rattle.controller_model.specs.Suits.{Suits, held_of}
 use Rattle.controller_model.specs.Commands.{Control}
-use Rattle.controller_model.specs.Snapshots.{saved_instance, saved_phase, saved, are_types, fit_instances, fit_forces, fits_types, fits_run, is_at_rest, fits_phase, fits}
+use Rattle.controller_model.specs.Snapshots.{own_values, saved_instance, break_positions, saved_phase, saved, own_types, are_types, fit_instances, fit_breaks, fit_forces, fits_types, fits_run, is_at_rest, fits_phase, fits}
 use Rattle.controller_model.proofs.Fitting.{and_both, of_types, instances_fit, IsTypedSo, types_fit}
 use Rattle.scan_cycle.specs.Parts.{AreLawful}
 use Rattle.debugger.specs.declared.snap_error.SnapError.{SnapError}
@@ -30,6 +29,8 @@ use Rattle.debugger.specs.Restored.{IsRestored, Restores, IsSame, RestoresTheSam
 use Rattle.controller_model.specs.State.{BlockInstance}
 use Rattle.controller_model.specs.Snapshots.{AreKnown}
 use Rattle.debugger.proofs.States.{states}
+use Rattle.controller_model.proofs.OwnValues.{own_typed, own_same}
+use Rattle.debugger.proofs.Flags.{positions_fit, breaks_same}
 use Rattle.debugger.proofs.ForcesAgain.{slots_fit, forces_same}
 
 -- ---- it fits
@@ -37,23 +38,24 @@ use Rattle.debugger.proofs.ForcesAgain.{slots_fit, forces_same}
 abbrev rests : State → Bool
 rests st = is_none st.cr && (nat_eq (length (reverse st.kept)) 0 && nat_eq st.position 0)
 
-run_fits : (Q : Text) (s : Control) → Suits Q s.cycle.state → s.cycle.state.position < length Q.code → fits_run Q (saved s) ≡ true
+run_fits : (Q : Text) (s : Control) → Suits Q s.cycle.state → s.cycle.state.position < length Q.code → fits_run Q (saved Q s) ≡ true
 run_fits Q s suits lt =
-    and_both (nat_lt s.cycle.state.position (length Q.code)) (fits_types (saved s) (shape_at Q s.cycle.state.position)) (lt-ltb s.cycle.state.position (length Q.code) lt)
-    (types_fit Q (saved s) (record { shape = suits.shape; types = suits.types; cr = suits.has.cr; kept = ap (map held_of) (reverse-reverse s.cycle.state.kept) ∙ suits.has.kept }))
+    and_both (nat_lt s.cycle.state.position (length Q.code)) (fits_types (saved Q s) (shape_at Q s.cycle.state.position)) (lt-ltb s.cycle.state.position (length Q.code) lt)
+    (types_fit Q (saved Q s) (record { shape = suits.shape; types = suits.types; cr = suits.has.cr; kept = ap (map held_of) (reverse-reverse s.cycle.state.kept) ∙ suits.has.kept }))
 
-phase_fits : (Q : Text) (budget : ℕ) (s : Control) (phase : Phase) → Suits Q s.cycle.state → IsOpen Q phase s.cycle → s.cycle.performed < budget → fits_phase Q budget (saved s) (saved_phase phase s.cycle.performed) ≡ true
+phase_fits : (Q : Text) (budget : ℕ) (s : Control) (phase : Phase) → Suits Q s.cycle.state → IsOpen Q phase s.cycle → s.cycle.performed < budget → fits_phase Q budget (saved Q s) (saved_phase phase s.cycle.performed) ≡ true
 phase_fits Q budget s phases.Idle suits is_open some = ap rests is_open.0
-phase_fits Q budget s phases.Held suits is_open some = and_both (fits_run Q (saved s)) (nat_lt s.cycle.performed budget) (run_fits Q s suits is_open) (lt-ltb s.cycle.performed budget some)
+phase_fits Q budget s phases.Held suits is_open some = and_both (fits_run Q (saved Q s)) (nat_lt s.cycle.performed budget) (run_fits Q s suits is_open) (lt-ltb s.cycle.performed budget some)
 phase_fits Q budget s (phases.Stopped stop) suits is_open some = run_fits Q s suits is_open.0
 
-pub saved_fits : (o : Owned) → IsController o → fits o.program o.budget (saved o.control) ≡ true
+pub saved_fits : (o : Owned) → IsController o → fits o.program o.budget (saved o.program o.control) ≡ true
 saved_fits o is =
     let st = o.control.cycle.state in
-    and_both (are_types st.own (map (λ (v : Variable). v.ty) o.program.variables)) _ (ap (are_types st.own) (sym is.suits.values.own) ∙ of_types st.own)
+    let own : List Value = own_values o.program.variables st.own in
+    and_both (are_types own (own_types o.program.variables)) _ (ap (are_types own) (sym (own_typed o.program.variables st.own is.suits.values.own)) ∙ of_types own)
     (and_both (fit_instances o.program.instances (map saved_instance st.instances)) _ (instances_fit o.program.instances st.instances is.suits.values.instances)
-    (and_both (nat_eq (length o.control.breaks) (length o.program.code)) _ (eq-eqb (length o.control.breaks) (length o.program.code) is.breaks)
-    (and_both (fit_forces 0 (saved o.control).forces) _ (slots_fit o.control.cycle.forces is.forces)
+    (and_both (fit_breaks 0 (length o.program.code) (break_positions o.control.breaks)) _ (positions_fit o.control.breaks (length o.program.code) is.breaks)
+    (and_both (fit_forces 0 (saved o.program o.control).forces) _ (slots_fit o.control.cycle.forces is.forces)
     (phase_fits o.program o.budget o.control o.control.phase is.suits is.scan is.performed))))
 
 -- ---- it is one's own
@@ -87,7 +89,7 @@ owned_same o p a b c =
     ∙ ap (λ (n : ℕ). let x : Owned = record { program = p.program; budget = n; control = o.control } in x) b
     ∙ ap (λ (k : Control). let x : Owned = record { program = p.program; budget = p.budget; control = k } in x) c
 
-pub one_saved : ((xs ys : List BlockInstance) → AreKnown xs ys) → (o p : Owned) → IsController o → IsController p → o.program ≡ p.program → o.budget ≡ p.budget → saved o.control ≡ saved p.control → o ≡ p
+pub one_saved : ((xs ys : List BlockInstance) → AreKnown xs ys) → (o p : Owned) → IsController o → IsController p → o.program ≡ p.program → o.budget ≡ p.budget → saved o.program o.control ≡ saved p.program p.control → o ≡ p
 one_saved known o p a b is-program is-budget e =
     let xs = known o.control.cycle.state.instances p.control.cycle.state.instances a.blocks b.blocks (ap (λ (s : SavedController). s.instances) e) in
     let kept : o.control.cycle.state.kept ≡ p.control.cycle.state.kept =
@@ -95,8 +97,13 @@ one_saved known o p a b is-program is-budget e =
     let forces = forces_same o.control.cycle.forces p.control.cycle.forces a.forces b.forces (ap (λ (s : SavedController). s.forces) e) in
     let scan = subst (λ (Q : Text). IsOpen Q o.control.phase o.control.cycle) is-program a.scan in
     let phase = phase_same p.program o.control.phase p.control.phase o.control.cycle p.control.cycle scan b.scan (ap (λ (s : SavedController). s.phase) e) in
-    let state = state_same _ _ _ _ _ _ _ _ _ _ _ _ _ _ _ _ (ap (λ (s : SavedController). s.variables) e) xs (ap (λ (s : SavedController). s.input) e) (ap (λ (s : SavedController). s.output) e) (ap (λ (s : SavedController). s.memory) e) (ap (λ (s : SavedController). s.cr) e) kept (ap (λ (s : SavedController). s.position) e) in
-    let control = control_same _ _ _ _ _ _ _ _ _ _ _ _ _ _ state (ap (λ (s : SavedController). s.count) e) (ap (λ (s : SavedController). s.moment) e) phase.1 forces (ap (λ (s : SavedController). s.breaks) e) phase.0 in
+    let suits = subst (λ (Q : Text). Suits Q o.control.cycle.state) is-program a.suits in
+    let listed : own_values p.program.variables o.control.cycle.state.own ≡ own_values p.program.variables p.control.cycle.state.own =
+    ap (λ (Q : Text). own_values Q.variables o.control.cycle.state.own) (sym is-program) ∙ ap (λ (s : SavedController). s.variables) e in
+    let own = own_same p.program.variables o.control.cycle.state.own p.control.cycle.state.own suits.values.own b.suits.values.own suits.values.firsts b.suits.values.firsts listed in
+    let breaks = breaks_same o.control.breaks p.control.breaks (a.breaks ∙ ap (λ (Q : Text). length Q.code) is-program ∙ sym b.breaks) (ap (λ (s : SavedController). s.breaks) e) in
+    let state = state_same _ _ _ _ _ _ _ _ _ _ _ _ _ _ _ _ own xs (ap (λ (s : SavedController). s.input) e) (ap (λ (s : SavedController). s.output) e) (ap (λ (s : SavedController). s.memory) e) (ap (λ (s : SavedController). s.cr) e) kept (ap (λ (s : SavedController). s.position) e) in
+    let control = control_same _ _ _ _ _ _ _ _ _ _ _ _ _ _ state (ap (λ (s : SavedController). s.count) e) (ap (λ (s : SavedController). s.moment) e) phase.1 forces breaks phase.0 in
     owned_same o p is-program is-budget control
 
 -- ---- the law
@@ -105,7 +112,7 @@ true_false : (b : Bool) → b ≡ true → b ≡ false → ⊥
 true_false b e f = cc
 
 pub restored_same : ((xs ys : List BlockInstance) → AreKnown xs ys) → (o : Owned) (r : Result Owned SnapError) → RestoresTheSame o r
-restored_same known o (Ok c) = λ is h. one_saved known c o h.lawful is h.program h.budget_is h.saved
-restored_same known o (Err BadShape) = λ is h. absurd (true_false (fits o.program o.budget (saved o.control)) (saved_fits o is) h)
+restored_same known o (Ok c) = λ is h. one_saved known c o h.lawful is h.program h.budget_is (ap (λ (Q : Text). saved Q c.control) h.program ∙ h.saved)
+restored_same known o (Err BadShape) = λ is h. absurd (true_false (fits o.program o.budget (saved o.program o.control)) (saved_fits o is) h)
 restored_same known o (Err BadBlock) = λ is h. absurd (states o.control.cycle.state.instances (map saved_instance o.control.cycle.state.instances) refl is.blocks h.1)
 restored_same known o (Err Memory) = λ is h. refl

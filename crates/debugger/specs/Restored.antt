@@ -17,7 +17,7 @@ error_number Memory = 3
 pub record IsRestored (Q : Text) (budget : ℕ) (s : SavedController) (c : Owned) : Type 0 where
   pub program : c.program ≡ Q
   pub budget_is : c.budget ≡ budget
-  pub saved : saved c.control ≡ s
+  pub saved : saved Q c.control ≡ s
   pub fits : fits Q budget s ≡ true
   pub lawful : IsController c
 
@@ -36,4 +36,4 @@ IsSame o (Err e) = e ≡ Memory
 
 -- what is saved of a controller is restored, with the same program and budget, to the same controller, unless memory runs out
 abbrev pub RestoresTheSame : Owned → Result Owned SnapError → Type 0
-RestoresTheSame o r = IsController o → Restores o.program o.budget (saved o.control) r → IsSame o r
+RestoresTheSame o r = IsController o → Restores o.program o.budget (saved o.program o.control) r → IsSame o r

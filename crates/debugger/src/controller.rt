@@ -6,16 +6,16 @@ ghost use Rattle.il_model.specs.declared.command.Command.TheVariants.{Reset};
 ghost use Rattle.il_model.specs.declared.command.Answer.TheVariants.{Stopped};
 ghost use Rattle.il_model.specs.Cells.{safe_image};
 ghost use Rattle.controller_model.specs.Slots.{places_of, peeked};
-ghost use Rattle.controller_model.specs.Commands.{answer_of, phase_of, answered, scanned, gone_on, every, flagged, forcible_at, forced_at, unforced_at, shown, result_read, applied};
+ghost use Rattle.controller_model.specs.Commands.{answer_of, phase_of, scanned, gone_on, every, flagged, forcible_at, forced_at, unforced_at, shown, result_read, applied};
 ghost use Rattle.controller_model.specs.Snapshots.{saved_phase, saved};
 ghost use Rattle.scan_cycle.specs.Parts.{performed_in};
 ghost use Rattle.debugger.specs.Owned.{cold_owned, IsController};
 ghost use Rattle.debugger.specs.Restored.{Restores};
 
+use crate::breaks::{break_flags, break_positions};
 use crate::shape::fits;
 use crate::snap_error::SnapError;
 use controller_model::{Phase, ScanOut};
-use il_model::codes::any_loc;
 use il_model::{
     Answer, Area, Budget, Command, InImage, Loc, OutImage, Refusal, SavedPhase, Slot, Snapshot,
     Stop, Value,
@@ -104,9 +104,10 @@ fn restored_phase(phase: SavedPhase) -> Phase
 pub(crate) fn forcible_at(slot: Slot) -> Option<Loc>
     ensures { result ≡ forcible_at slot.0 }
 {
-    match any_loc(slot.0)? {
-        Loc::Bit(Area::Memory, _) | Loc::Word(Area::Memory, _) => None,
-        loc => Some(loc),
+    let loc = Loc::of_code(slot.0)?;
+    match loc.area() {
+        Area::Input | Area::Output => Some(loc),
+        Area::Memory => None,
     }
 }
 
@@ -145,21 +146,22 @@ impl Controller {
     /// What a snapshot is to have of it: all that its answers depend on but its image and its budget. It fails only where memory
     /// runs out.
     pub fn save(&self, alloc: Global) -> Result<Snapshot, AllocError>
-        ensures saved { IfOk result (λ s. s ≡ saved self.now.control) }
+        ensures saved { IfOk result (λ s. s ≡ saved self.now.program self.now.control) }
         ensures lawful { IfOk result (λ s. IsController self.now) }
     {
         self.cycle.whole();
-        let mut snapshot = self.cycle.parts(alloc)?;
-        snapshot.breaks = Vec::from_slice(alloc, self.breaks.as_slice())?;
+        self.image.lawful();
+        let mut snapshot = self.cycle.parts(alloc, &self.image)?;
+        snapshot.breaks = break_positions(alloc, self.breaks.as_slice())?;
         snapshot.phase = saved_phase(self.phase, self.cycle.performed());
         Ok(snapshot)
     }
 
     /// The controller of this image and this budget that a snapshot is of.
     ///
-    /// `BadShape`: the snapshot doesn't fit. It has a value of its type for each variable, an instance of its kind for each
-    /// instance, with a value of its type for each input, a flag for each instruction, and forces of locations of `%I` and `%Q`
-    /// (IEC 61131-3:2003, 2.4.1.1), rising by slot, each to a value of its type. A held or stopped scan is at an instruction, with
+    /// `BadShape`: the snapshot doesn't fit. It has a value of its type for each variable without a location, an instance of its
+    /// kind for each instance, with a value of its type for each input, breakpoints at instructions, rising, and forces of
+    /// locations of `%I` and `%Q` (IEC 61131-3:2003, 2.4.1.1), rising by slot, each to a value of its type. A held or stopped scan is at an instruction, with
     /// a current result and deferred operators of the types on arrival there, and a held one has performed fewer instructions than
     /// the budget says; without an open scan there is no current result and no deferred operator, and the position is 0. All this is
     /// judged before the blocks.
@@ -179,7 +181,7 @@ impl Controller {
         if !have_states(snapshot.instances.as_slice()) {
             return Err(SnapError::BadBlock);
         }
-        let breaks = Vec::from_slice(alloc, snapshot.breaks.as_slice())?;
+        let breaks = break_flags(alloc, image.len(), snapshot.breaks.as_slice())?;
         let Some(cycle) = ScanCycle::from_parts(alloc, &image, snapshot)? else {
             return Err(SnapError::BadBlock);
         };

@@ -10,6 +10,7 @@ ghost use Rattle.debugger.specs.Restored.{RestoresTheSame};
 
 use controller_model::snapshots_tell_instances;
 
+mod breaks;
 mod controller;
 mod names;
 mod shape;

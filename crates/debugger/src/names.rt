@@ -1,24 +1,23 @@
 //! The slots of names.
 
-ghost use Rattle.std.specs.Prelude.{◌≡◌, ◌<◌, ◌+◌, length, take, drop, position, IfSome, nat_lt, if◌then◌else◌};
+ghost use Rattle.std.specs.Prelude.{◌≡◌, ◌<◌, ◌+◌, length, take, drop, position, IfSome};
 ghost use Rattle.std.specs.Option.{option_map};
-ghost use Rattle.il_model.specs.Image.{loc_code};
+ghost use Rattle.il_model.specs.CodedOperands.{loc_code};
 ghost use Rattle.il_model.specs.Kinds.{field_name};
-ghost use Rattle.il_model.specs.Locations.{dot_at, location_of};
+ghost use Rattle.il_model.specs.Locations.{location_of};
 ghost use Rattle.il_model.specs.Words.{spells};
 ghost use Rattle.controller_model.specs.Slots.{variable_slot, instance_slot, field_slot, dotted_slot, slot_number, slot_of};
 
-use il_model::codes::location_code;
 use il_model::location::{dot, location};
 use il_model::words::is_spelled;
-use il_model::{Field, Instance, Slot, Variable};
+use il_model::{CodedOperand, Field, Instance, Slot, Variable};
 use loader::Image;
 
 fn location_slot(name: &[u8]) -> Option<u16>
     ensures { result ≡ option_map loc_code (location_of name.now) }
 {
     let found = location(name)?;
-    Some(location_code(Some(found)) as u16)
+    Some(found.code() as u16)
 }
 
 fn variable_named(variables: &[Variable], name: &[u8]) -> Option<usize>
@@ -35,7 +34,7 @@ fn variable_slot(image: &Image, name: &[u8]) -> Option<u16>
 {
     image.lawful();
     let i = variable_named(image.variables(), name)?;
-    Some(16384 + i as u16)
+    Some(CodedOperand::Variable(i as u16).code() as u16)
 }
 
 fn instance_named(instances: &[Instance], name: &[u8]) -> Option<usize>
@@ -61,7 +60,11 @@ fn instance_slot(i: usize, instance: &Instance, field: &[u8]) -> Option<u16>
     ensures { result ≡ instance_slot i field.now instance.now }
 {
     let n = field_named(instance.kind.fields(), field)?;
-    Some(20480 + 8 * i as u16 + n as u16)
+    let coded = CodedOperand::Field {
+        instance: i as u16,
+        field: n as u8,
+    };
+    Some(coded.code() as u16)
 }
 
 fn field_slot(image: &Image, name: &[u8], field: &[u8]) -> Option<u16>
@@ -95,9 +98,8 @@ fn slot_number(image: &Image, name: &[u8]) -> Option<u16>
 }
 
 /// The slot of the location (`%IX0.3`), of the instance's field (`T1.Q`) or of the variable that a name is, without regard to
-/// case (IEC 61131-3:2003, 2.4.1.1 and 2.5.2); None exactly where the name is none of these. A location's slot is its code in
-/// the image, a variable's is 16384 and its number, a field's is 20480, eight times the number of its instance, and its number in
-/// the kind; variables and instances are numbered from 0 as they are declared. It takes no memory.
+/// case (IEC 61131-3:2003, 2.4.1.1 and 2.5.2); None exactly where the name is none of these. The slot is the operand's code in
+/// the image; variables and instances are numbered from 0 as they are declared. It takes no memory.
 pub fn slot(image: &Image, name: &[u8]) -> Option<Slot>
     ensures { result ≡ slot_of image.now name.now }
 {

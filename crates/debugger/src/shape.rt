@@ -2,7 +2,7 @@
 
 ghost use Rattle.std.specs.Prelude.{◌≡◌};
 ghost use Rattle.controller_model.specs.Commands.{forcible_at};
-ghost use Rattle.controller_model.specs.Snapshots.{fits_location, fit_forces, is_at_rest, fits_phase, fits};
+ghost use Rattle.controller_model.specs.Snapshots.{fit_breaks, fits_location, fit_forces, is_at_rest, fits_phase, fits};
 
 use crate::controller::forcible_at;
 use il_model::resolve::loc_type;
@@ -37,6 +37,20 @@ fn fit_forces(forces: &[ForcedSlot]) -> bool
     true
 }
 
+/// Whether the positions rise, and each is an instruction's.
+fn fit_breaks(positions: &[u16], end: usize) -> bool
+    ensures { result ≡ fit_breaks 0 end positions.now }
+{
+    let mut least = 0;
+    for position in positions {
+        if (*position as u32) < least || *position as usize >= end {
+            return false;
+        }
+        least = *position as u32 + 1;
+    }
+    true
+}
+
 fn is_at_rest(snapshot: &Snapshot) -> bool
     ensures { result ≡ is_at_rest snapshot.now }
 {
@@ -62,7 +76,7 @@ pub fn fits(image: &Image, budget: Budget, snapshot: &Snapshot) -> bool
     ensures { result ≡ fits image.now budget.instructions snapshot.now }
 {
     fits_values(image, snapshot)
-        && snapshot.breaks.len() == image.len()
+        && fit_breaks(snapshot.breaks.as_slice(), image.len())
         && fit_forces(snapshot.forces.as_slice())
         && fits_phase(image, budget, snapshot)
 }

@@ -34,21 +34,23 @@ use Rattle.il_model.specs.Literals.{literal_of}
 use Rattle.il_model.specs.Names.{same_name, is_reserved, is_lawful_name}
 use Rattle.il_model.specs.Resolved.{instance_in}
 use Rattle.il_model.specs.Words.{spells, look, mnemonic_of, mnemonic_table}
-use Rattle.il_model.specs.Image.{loc_code, type_code}
+use Rattle.il_model.specs.CodedOperands.{loc_code, IsCell}
+use Rattle.il_model.specs.Image.{type_code}
 use Rattle.il_model.specs.Areas.{area_of}
 use Rattle.il_model.specs.Typing.{is_output}
 use Rattle.il_model.specs.Codes as codes_of
-use Rattle.il_model.specs.Codes.{is_number, is_new_name, is_taken, is_type, length_of, may_start_with, usage_of, has_form, allowed_by, formed_by, is_empty}
+use Rattle.il_model.specs.Codes.{is_new_name, is_taken, length_of, may_start_with, usage_of, has_form, allowed_by, formed_by, is_empty}
 use Rattle.il_model.specs.Fits.{IsVariable, IsInstance, AreItems}
-use Rattle.il_model.specs.Declarable.{IsLabel, IsOperand, as_value, IsArgument, IsInstruction, IsDeclared}
+use Rattle.il_model.specs.Lawful.{IsLabel}
+use Rattle.il_model.specs.Declarable.{IsOperand, as_value, IsArgument, IsInstruction, IsDeclared}
 use Rattle.il_model.proofs.LiteralLaws.{IsInRange, literal_good, IsStart, start_again}
 use Rattle.il_model.proofs.Positions.{position_first, position_later, position_past}
 use Rattle.il_reader.specs.declared.contents.Operator.{Operator}
 use Rattle.il_reader.specs.declared.operations.Form.{Form}
 use Rattle.il_reader.specs.declared.operations.Form.TheVariants as forms
-use Rattle.il_reader.specs.declared.lexeme.Kind.TheVariants as tokens
+use Rattle.il_reader.specs.declared.lexeme.Sign.TheVariants as signs
 use Rattle.il_reader.specs.Tokens.{Token}
-use Rattle.il_reader.specs.Reading.{is_kind}
+use Rattle.il_reader.specs.Reading.{is_sign}
 use Rattle.il_reader.specs.Grammar.{OperandText, Constant, Direct, Named, Field, ArgumentText, arguments_of, BehindText, Nothing, Given, Target, Opened, Called, OperationText, LineText, Labelled, Plain, NamesText, Located, More, DeclarationText, ProgramText, form_of, closing, operator_of, operator_from}
 use Rattle.il_reader.specs.Spelling.{accepts, accepting, operator_before}
 use Rattle.il_reader.specs.Words.{IsWordText, IsWordName, AreWordNames, IsWordDeclaration, IsOperation, IsOptionalOperation, IsOperator, AreWords}
@@ -61,7 +63,8 @@ use Rattle.il_model.specs.Locations as written
 use Rattle.declarations.specs.Resolution.{◌>>=◌, each, refused, capitals, declared_type, nothing, has_name, has_instance, is_full, new_name, suits, free_loc, free_location, found_type, known_type, variable, same_type, fitting, fitted, is_input, written_value, elementary_value, first_value, planned_value, with_declared, declare_name, declare_located, declare_listed, declare_by, declare, declare_block, direct, constant, argument_of, pushed_argument, behind_arguments, behind_of, opens, with_opening, instruction_of, room, label_of, instruct_labelled, instruct_plain, instruct}
 use Rattle.declarations.specs.Resolution as resolution
 use Rattle.declarations.proofs.Capitals.{capitals_lawful, capitals_length}
-use Rattle.declarations.proofs.Places.{IsPlace, location_place, code_again, code_small, located_again}
+use Rattle.il_model.proofs.CodedOperands.{loc_small, located_again}
+use Rattle.il_model.proofs.WrittenLocations.{location_cell}
 
 abbrev done : {A : Type 0} → A → Result A Refusal
 done x = Ok x
@@ -128,7 +131,7 @@ type_again types.Dint = refl
 type_again types.Time = refl
 
 record IsFreePlace (type : DeclaredType) (known : Declarations) (loc : Loc) : Type 0 where
-  place : IsPlace loc
+  place : IsCell loc
   suits : suits (Some type) loc ≡ true
   free : is_taken known.variables (loc_code loc) ≡ false
 
@@ -151,7 +154,7 @@ variable_fits known t name type o v word new place start =
     by_place None place start = record { length = long_enough t word; name = fresh; type = type_again type; location = refl; location_small = omega arith; initial = start.again; initial_small = start.small }
     by_place (Some loc) place start =
         let p = place loc refl in
-        record { length = long_enough t word; name = fresh; type = type_again type; location = located_again known.variables type loc p.place p.suits p.free; location_small = omega (arith, code_small loc p.place); initial = start.again; initial_small = start.small }
+        record { length = long_enough t word; name = fresh; type = type_again type; location = located_again known.variables type loc p.place p.suits p.free; location_small = omega (arith, loc_small loc p.place); initial = start.again; initial_small = start.small }
 
 abbrev instance : List ℕ → BlockKind → Instance
 instance name kind = record { name = name; kind = kind }
@@ -322,7 +325,7 @@ place_is type known t loc e = by_location (written.location_of t.text) refl e
         chosen : (a b : Bool) → suits (Some type) x ≡ a → is_taken known.variables (loc_code x) ≡ b → cond a (cond b (refused kinds.Overlap t) (Ok x)) (refused kinds.BadLocation t) ≡ Ok loc → IsFreePlace type known loc
         chosen false b g k h = absurd cc
         chosen true true g k h = absurd cc
-        chosen true false g k h = subst (IsFreePlace type known) (ok_is x loc h) (record { place = location_place t.text x f; suits = g; free = k })
+        chosen true false g k h = subst (IsFreePlace type known) (ok_is x loc h) (record { place = location_cell t.text x f; suits = g; free = k })
 
 becomes : (z known : Declarations) → done known ≡ done z → Fine known → Fine z
 becomes z known e fine = subst Fine (ok_is known z e) fine
@@ -423,7 +426,7 @@ mnemonic_fits w m e = look_fits mnemonic_table w m refl e
 
 operator_fits : (t : Token) (x : Operator) → operator_of t ≡ Some x → fits x.mnemonic.op x.mnemonic.modifier ≡ true
 unfolding operator_of
-operator_fits t x e = chosen (is_kind tokens.Name t || is_kind tokens.Ampersand t) (is_kind tokens.Close t) e
+operator_fits t x e = chosen (is_sign signs.Name t || is_sign signs.Ampersand t) (is_sign signs.Close t) e
   where
     by_mnemonic : (o : Option Mnemonic) → mnemonic_of t.text ≡ o → operator_from t.left o ≡ Some x → fits x.mnemonic.op x.mnemonic.modifier ≡ true
     by_mnemonic None f h = absurd cc
@@ -538,8 +541,8 @@ given_is ds (Direct t) x e = by_location (written.location_of t.text) refl e
     by_location : (o : Option Loc) → written.location_of t.text ≡ o → direct t o ≡ Ok x → IsGiven ds x
     by_location None f h = absurd cc
     by_location (Some loc) f h =
-        let p = location_place t.text loc f in
-        subst (IsGiven ds) (ok_is (operands.Direct loc) x h) (record { value = refl; lawful = (code_again loc p, code_small loc p) })
+        let p = location_cell t.text loc f in
+        subst (IsGiven ds) (ok_is (operands.Direct loc) x h) (record { value = refl; lawful = p })
 given_is ds (Named t) x e = chosen (has_name ds (capitals t.text)) refl e
   where
     chosen : (b : Bool) → has_name ds (capitals t.text) ≡ b → cond b (Ok (operands.Variable (capitals t.text))) (refused kinds.UnknownName t) ≡ Ok x → IsGiven ds x

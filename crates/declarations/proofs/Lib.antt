@@ -1,5 +1,14 @@
 pub mod Steps
 pub mod Capitals
-pub mod Places
 pub mod Fits
 pub mod DeclaredTables
+pub mod FaultList
+pub mod Agreeing
+pub mod Names
+pub mod DeclarationFaults
+pub mod InstructionFaults
+pub mod Falling
+pub mod Ordered
+pub mod FaultRules
+pub mod FaultLaws
+pub mod WorkedFaults

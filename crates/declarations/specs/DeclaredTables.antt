@@ -9,7 +9,8 @@ use Rattle.il_model.specs.declared.program.Variable.{Variable}
 use Rattle.il_model.specs.declared.program.Instance.{Instance}
 use Rattle.il_model.specs.Names.{same_name}
 use Rattle.il_model.specs.Resolved.{instance_in}
-use Rattle.il_model.specs.Codes.{is_number, is_taken}
+use Rattle.il_model.specs.Codes.{is_number}
+use Rattle.il_model.specs.LocationTables.{AreCodes}
 
 -- whether a table has a name
 abbrev pub is_in : BTreeSet (Vec ℕ Global) → List ℕ → Bool
@@ -18,9 +19,6 @@ is_in names name = sorted.contains_by (λ k. slice_cmp nat_cmp name k.items) nam
 -- a table has one name more
 abbrev pub AddsName : BTreeSet (Vec ℕ Global) → BTreeSet (Vec ℕ Global) → List ℕ → Type 0
 AddsName old new name = (other : List ℕ) → is_in new other ≡ (if same_name name other then true else is_in old other)
-
-abbrev pub AreCodes : List Variable → BTreeSet ℕ → Type 0
-AreCodes seen s = (n : ℕ) → sorted.contains nat_cmp s n ≡ is_taken seen n
 
 pub record AreDeclaredTables (vs : List Variable) (xs : List Instance) (variable_names instance_names : BTreeSet (Vec ℕ Global)) (placed : BTreeSet ℕ) : Type 0 where
   pub variables : (name : List ℕ) → is_in variable_names name ≡ is_some (is_number vs name)

@@ -1,3 +1,6 @@
 pub mod DeclaredTables
+pub mod Declaring
 pub mod Faults
+pub mod FirstFault
 pub mod Resolution
+pub mod TextFaults

@@ -1,5 +1,5 @@
 -- The program that a text declares, or the first fault in the text: declarations stand before instructions, and what is asked of a name or of a location is asked of those before it.
-use Rattle.std.specs.Prelude.{◌≡◌, ℕ, List, [], ◌∷◌, ◌++◌, length, map, Option, Some, None, is_some, unwrap_or, Result, Ok, Err, Bool, true, false, not, ◌||◌, pos, nat_le, if◌then◌else◌, codes}
+use Rattle.std.specs.Prelude.{◌≡◌, ℕ, List, [], ◌∷◌, ◌++◌, length, map, Option, Some, None, is_some, unwrap_or, Result, Ok, Err, Bool, true, false, not, ◌||◌, nat_le, if◌then◌else◌, codes}
 use Rattle.il_model.specs.declared.value.Ty.{Ty}
 use Rattle.il_model.specs.declared.value.Ty.TheVariants as types
 use Rattle.il_model.specs.declared.value.Value.{Value}
@@ -21,10 +21,12 @@ use Rattle.il_model.specs.Kinds.{kind_of_name}
 use Rattle.il_model.specs.Resolved.{instance_in}
 use Rattle.il_model.specs.Names.{is_reserved}
 use Rattle.il_model.specs.Words.{upper, spells}
+pub use Rattle.il_model.specs.Words.{plain}
+pub use Rattle.il_model.specs.Row.{same_type}
 use Rattle.il_model.specs.Values.{ty_of, zero_of, number_of, made}
 use Rattle.il_model.specs.Literals.{literal_of}
 use Rattle.il_model.specs.Areas.{area_of}
-use Rattle.il_model.specs.Image.{loc_code}
+use Rattle.il_model.specs.CodedOperands.{loc_code}
 use Rattle.il_model.specs.Typing.{loc_type, is_output}
 use Rattle.il_model.specs.Codes.{is_number, is_taken, is_type}
 use Rattle.il_reader.specs.Tokens.{Token}
@@ -144,13 +146,6 @@ abbrev pub variable : List ℕ → Ty → Option Loc → Value → Variable
 variable name type location initial = record { name = name; ty = type; location = location; initial = initial }
 
 -- ---- initial values
-
-abbrev pub same_type : Ty → Ty → Bool
-same_type types.Bool types.Bool = true
-same_type types.Int types.Int = true
-same_type types.Dint types.Dint = true
-same_type types.Time types.Time = true
-same_type a b = false
 
 -- a literal as a value of a type: a bare number that fits it, or a value of that type
 abbrev pub fitting : Ty → Option Literal → Option Value
@@ -281,9 +276,6 @@ opens b = false
 
 abbrev pub with_opening : Bool → Modifier → Modifier
 with_opening o m = record { negated = m.negated; conditional = m.conditional; opens = o }
-
-abbrev pub plain : Modifier
-plain = record { negated = false; conditional = false; opens = false }
 
 -- the instruction of an operation, or the empty one
 unfoldable pub instruction_of : Declarations → Option (List ℕ) → Option OperationText → Result Instr Refusal

@@ -1,9 +1,9 @@
 //! What is declared so far.
 
-ghost use Rattle.std.specs.Prelude.{◌≡◌, ◌++◌, [], ◌∷◌, OnOk};
-ghost use Rattle.declarations.specs.DeclaredTables.{AddsName, AreCodes};
+ghost use Rattle.std.specs.Prelude.{◌≡◌, OnOk};
+ghost use Rattle.declarations.specs.DeclaredTables.{AddsName};
 
-use il_model::codes::location_code;
+use il_model::location_table::put_code;
 use il_model::name::Name;
 use il_model::program::Loc;
 use il_model::{Instance, Variable};
@@ -43,23 +43,9 @@ fn put_name(alloc: Global, names: &mut BTreeSet<Vec<u8>>, name: &Name) -> Result
     Ok(())
 }
 
-/// Puts the code of a variable's location, if it has one, to those of the others.
-fn put_code(codes: &mut BTreeSet<usize>, seen: &[Variable], v: &Variable) -> Result<(), AllocError>
-    requires { AreCodes seen.now codes.old }
-    ensures { OnOk result (AreCodes (seen.now ++ v.now ∷ []) codes.new) }
-{
-    match v.location {
-        Some(loc) => {
-            codes.insert(location_code(Some(loc)))?;
-            Ok(())
-        }
-        None => Ok(()),
-    }
-}
-
 impl Declared {
     ghost use Rattle.std.specs.Prelude.{length, IfOk, OnErr};
-    ghost use Rattle.il_model.specs.Image.{loc_code};
+    ghost use Rattle.il_model.specs.CodedOperands.{loc_code};
     ghost use Rattle.il_model.specs.Codes.{is_taken};
     ghost use Rattle.declarations.specs.Resolution.{nothing, has_name, has_instance, with_variable, with_instance};
 
@@ -108,7 +94,7 @@ impl Declared {
     pub fn is_taken(&self, loc: Loc) -> bool
         ensures { result ≡ is_taken self.now.variables (loc_code loc) }
     {
-        self.codes.contains(&location_code(Some(loc)))
+        self.codes.contains(&loc.code())
     }
 
     fn with_variable(self, alloc: Global, v: Variable) -> Result<Declared, AllocError>

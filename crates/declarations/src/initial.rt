@@ -2,7 +2,7 @@
 
 ghost use Rattle.std.specs.Prelude.{◌≡◌, option_map};
 ghost use Rattle.il_reader.specs.Tokens.{token};
-ghost use Rattle.declarations.specs.Resolution.{Gives, same_type, fitting, is_input, written_value, elementary_value, first_value, planned_value};
+ghost use Rattle.declarations.specs.Resolution.{Gives, fitting, is_input, written_value, elementary_value, first_value, planned_value};
 
 use crate::fault::{DeclKind, Failure};
 use crate::variables::{DeclaredType, refused};
@@ -12,21 +12,12 @@ use il_model::value::{Ty, Value, make};
 use il_model::written::literal;
 use il_reader::Lexeme;
 
-fn same_type(a: Ty, b: Ty) -> bool
-    ensures { result ≡ same_type a b }
-{
-    matches!(
-        (a, b),
-        (Ty::Bool, Ty::Bool) | (Ty::Int, Ty::Int) | (Ty::Dint, Ty::Dint) | (Ty::Time, Ty::Time)
-    )
-}
-
 fn fitting(ty: Ty, given: Option<Literal>) -> Option<Value>
     ensures { result ≡ fitting ty given }
 {
     match given? {
         Literal::Bare(z) => make(ty, i64::from(z)),
-        Literal::Typed(v) => if same_type(v.ty(), ty) {
+        Literal::Typed(v) => if v.ty() == ty {
             make(ty, v.number())
         } else {
             None

@@ -4,6 +4,8 @@ ghost use Rattle.std.specs.Prelude.{map, IfOk};
 ghost use Rattle.il_model.specs.Declarable.{IsDeclared};
 ghost use Rattle.il_reader.specs.Grammar.{declarations};
 ghost use Rattle.declarations.specs.Resolution.{Gives, Answers, nothing, declare_block, program_at, resolution_of, each};
+ghost use Rattle.declarations.specs.Declaring.{IsProgramOf};
+ghost use Rattle.declarations.specs.FirstFault.{HasNoFault, IsGiven, TellsFirst, IsTold};
 
 use crate::declared::Declared;
 use crate::fault::{DeclError, Failure, Fault};
@@ -38,6 +40,20 @@ fn program(alloc: Global, source: &Source) -> Result<Program, Failure>
     }
 }
 
+fn walked(alloc: Global, source: &Source) -> Result<Program, DeclError>
+    ensures text { IfOk result (λ p. IsDeclared p) }
+    ensures exact { Answers (λ p. p) result (resolution_of source.now) }
+{
+    match program(alloc, source) {
+        Ok(program) => Ok(program),
+        Err(Failure::Refused(refusal)) => Err(DeclError::Fault(Fault {
+            kind: refusal.kind,
+            place: source.place(refusal.left),
+        })),
+        Err(Failure::Memory) => Err(DeclError::Memory),
+    }
+}
+
 /// The program of a text that was read: its variables and its function block instances in the order of their declarations, the
 /// variables with their first values, and its instructions, one for a label alone too, all names in capital letters. Numbers
 /// without a type stay bare; labels of jumps and fields of instances are not looked up. Else the first fault in the text with
@@ -47,15 +63,17 @@ pub fn resolve(alloc: Global, source: Source<'_>) -> Result<Program, DeclError>
     // operator has letters and an operand that it takes; an operand, of a call's arguments too, is a variable or an instance
     // that is declared, a location or a value.
     ensures text { IfOk result (λ p. IsDeclared p) }
-    // The program is what the text declares, and a fault is the first one.
+    // The program is what the text declares, and the text has no fault.
+    ensures found { IfOk result (λ p. IsProgramOf source.entry.says p × HasNoFault source.entry.says) }
+    // What a text without a fault declares is the program, unless memory runs out.
+    ensures only { IsGiven source.entry result }
+    // A fault that is told is the first of all that the text has.
+    ensures refused { TellsFirst source.entry result }
+    // The first fault of the text is told, unless memory runs out.
+    ensures told { IsTold source.entry result }
+    // The same by a walk over the text.
     ensures exact { Answers (λ p. p) result (resolution_of source.entry) }
 {
-    match program(alloc, &source) {
-        Ok(program) => Ok(program),
-        Err(Failure::Refused(refusal)) => Err(DeclError::Fault(Fault {
-            kind: refusal.kind,
-            place: source.place(refusal.left),
-        })),
-        Err(Failure::Memory) => Err(DeclError::Memory),
-    }
+    source.is_read();
+    walked(alloc, &source)
 }

@@ -19,16 +19,15 @@ use Rattle.il_model.specs.declared.program.Operand.TheVariants as operands
 use Rattle.il_model.specs.declared.program.Instr.{Instr}
 use Rattle.il_model.specs.declared.fetched.Source.{Source}
 use Rattle.il_model.specs.declared.fetched.Source.TheVariants as sources
-use Rattle.il_model.specs.declared.typing.TypeFault.{TypeFault}
 use Rattle.il_model.specs.Names.{same_name}
 use Rattle.il_model.specs.Kinds.{kind_fields, field_name, field_number, field_type, is_input}
 use Rattle.il_model.specs.Text.{Text}
 use Rattle.il_model.specs.Resolved.{source_of, called_kind}
-use Rattle.il_model.specs.Typing.{shape_at, closed, top_of, source_row, source_kind, passing_fault, goes_so, first_fault, argument_fault, arguments_fault, IsTyped}
+use Rattle.il_model.specs.Typing.{shape_at, closed, top_of, source_row, source_kind, passing_fault, goes_so, argument_fault, arguments_fault, IsTyped}
 use Rattle.il_model.specs.Marks.{word_count, words_in}
 use Rattle.il_model.specs.Constants.{literal_of, operands_in, operands_of}
 use Rattle.il_model.proofs.Declared.{fields_few, field_so}
-use Rattle.il_model.proofs.TypedLines.{bind_ok, ok_before, typed_line, sourced, fault_none, is_among, IsArgumentOf, argument_typed, no_arguments}
+use Rattle.il_model.proofs.TypedLines.{bind_ok, ok_before, typed_line, sourced, fault_none, is_among, IsArgumentOf, argument_typed, no_arguments, first_none}
 
 -- an instruction whose operand stands for something, and whose arguments have no fault
 pub record IsTypedLine (Q : Text) (line : Instr) : Type 0 where
@@ -39,7 +38,7 @@ pub record IsTypedLine (Q : Text) (line : Instr) : Type 0 where
 typed_so : (Q : Text) → IsTyped Q → (n : ℕ) (line : Instr) → slice_get Q.code n ≡ Some line → IsTypedLine Q line
 typed_so Q typed n line here =
     let lt : n < length Q.code = slice_get_within Q.code n line here in
-    let all = bind_ok (shape_at Q (length Q.code)) (closed Q) true typed in
+    let all = bind_ok (shape_at Q (length Q.code)) (closed Q) tt typed in
     let sh = ok_before Q (length Q.code) all.0 all.1 n (omega arith) in
     let l = typed_line Q typed n sh.0 line lt sh.1 here in
     let f = fault_none (source_row Q sh.0.cr (top_of sh.0.kept) (length sh.0.kept) line (source_of Q line.operand)) (arguments_fault Q (called_kind Q line.operand) [] line.arguments) l.effect l.row in
@@ -115,11 +114,6 @@ field_named_so kind name n field numbered there =
 abbrev count : (Argument → Bool) → List Argument → ℕ
 count p [] = 0
 count p (a ∷ args) = cond (p a) 1 0 + count p args
-
-first_none : (o p : Option TypeFault) → first_fault o p ≡ None → (o ≡ None) × (p ≡ None)
-first_none None p h = (refl, h)
-first_none (Some f) None h = absurd cc
-first_none (Some f) (Some g) h = absurd cc
 
 argument_so : (Q : Text) (k : BlockKind) (seen : List Argument) (a : Argument) → argument_fault Q (Some k) seen a ≡ None → (is_among seen a ≡ false) × IsArgumentOf Q k a
 argument_so Q k seen a h =

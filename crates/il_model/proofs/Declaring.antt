@@ -27,7 +27,7 @@ use Rattle.il_model.specs.Kinds.{any_field, field_type}
 use Rattle.il_model.specs.Typing.{Shape, shape_at, closed, IsTyped}
 use Rattle.il_model.specs.Codes.{usage_of, has_form, formed_by}
 use Rattle.il_model.specs.Fits.{IsVariable, IsInstance, AreItems, IsImage}
-use Rattle.il_model.specs.Lawful.{IsLabel, IsOperand, IsPassed, IsLawful, AreLawful}
+use Rattle.il_model.specs.Lawful.{IsOperand, IsPassed, IsLawful, AreLawful}
 use Rattle.il_model.specs.Declarable.{as_value, IsArgument, IsInstruction, IsDeclared}
 use Rattle.il_model.specs.Declarable as declarable
 use Rattle.il_model.specs.Settled.{wanted_type, settled_number, settled_as, settled_operand, settled_passing, settled_argument, settled_line, settled, is_bare, has_bare, IsTypedProgramOf}
@@ -68,7 +68,7 @@ plain_operand ds operands.Absent is e = tt
 plain_operand ds (operands.Literal v) is e = is
 plain_operand ds (operands.Bare z) is e = absurd cc
 plain_operand ds (operands.Variable name) is e = is
-plain_operand ds (operands.Direct loc) is e = is.0
+plain_operand ds (operands.Direct loc) is e = is
 plain_operand ds (operands.Label name) is e = tt
 plain_operand ds (operands.Field name field) is e = is
 plain_operand ds (operands.Instance name) is e = is
@@ -78,7 +78,7 @@ operand_fits ds cr op m operands.Absent is e = tt
 operand_fits ds cr op m (operands.Literal v) is e = is
 operand_fits ds cr op m (operands.Bare z) is e = bare_operand ds z (settled_number cr op m.opens z) (λ v h. by_type (wanted_type cr op m.opens z) z v h) e
 operand_fits ds cr op m (operands.Variable name) is e = is
-operand_fits ds cr op m (operands.Direct loc) is e = is.0
+operand_fits ds cr op m (operands.Direct loc) is e = is
 operand_fits ds cr op m (operands.Label name) is e = tt
 operand_fits ds cr op m (operands.Field name field) is e = is
 operand_fits ds cr op m (operands.Instance name) is e = is
@@ -166,10 +166,6 @@ arguments_fit ds (a ∷ args) are e =
 
 -- ---- one instruction
 
-label_fits : (label : Option (List ℕ)) → declarable.IsLabel label → IsLabel label
-label_fits None is = tt
-label_fits (Some name) is = is
-
 line_fits : (ds : Declarations) (cr : Option Ty) (line : Instr) → IsInstruction ds line → has_bare (settled_line cr line) ≡ false → IsLawful ds (settled_line cr line)
 line_fits ds cr line is e =
     let n = neither (is_bare (settled_operand cr line.op line.modifier line.operand)) (list_any has_bare_operand (map settled_argument line.arguments)) e in
@@ -178,7 +174,7 @@ line_fits ds cr line is e =
       form = formed_fits (usage_of line.op) cr line.op line.modifier line.operand is.formed n.0;
       operand = operand_fits ds cr line.op line.modifier line.operand is.operand n.0;
       arguments = arguments_fit ds line.arguments is.arguments n.1;
-      label = label_fits line.label is.label;
+      label = is.label;
       labelled = is.placed;
     }
 
@@ -198,7 +194,7 @@ mapped_some f None line e = absurd cc
 mapped_some f (Some p) line e = (p, refl, cc)
 
 typed_shape : (Q : Text) → IsTyped Q → (sh : Shape) × (shape_at Q (length Q.code) ≡ Ok sh)
-typed_shape Q typed = let b = bind_ok (shape_at Q (length Q.code)) (closed Q) true typed in (b.0, b.1)
+typed_shape Q typed = let b = bind_ok (shape_at Q (length Q.code)) (closed Q) tt typed in (b.0, b.1)
 
 settled_lines : (P Q : Text) → IsDeclared P → IsTypedProgramOf P Q → (n : ℕ) (line : Instr) → slice_get Q.code n ≡ Some line → IsLawful (declared_by P) line
 settled_lines P Q is t n line e =

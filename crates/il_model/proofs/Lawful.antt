@@ -1,10 +1,10 @@
 -- A typed program whose parts are lawful each for itself has an image.
-use Rattle.std.proofs.Common.{inl, inr, ◌⊎◌, ◌≡◌, ℕ, suc, ◌+◌, ◌-◌, ◌^◌, ◌<◌, ◌≤◌, Bool, true, false, cond, ltb, eqb, List, [], ◌∷◌, ◌++◌, length, get_or, Option, Some, None, Ok, Err, refl, sym, ap, subst, ◌∙◌, append_assoc, arith}
+use Rattle.std.proofs.Common.{inl, inr, ◌⊎◌, ◌≡◌, ℕ, suc, ◌+◌, ◌-◌, ◌^◌, ◌<◌, ◌≤◌, Bool, true, false, cond, ltb, eqb, List, [], ◌∷◌, ◌++◌, length, get_or, Option, Some, None, Result, Ok, Err, refl, sym, ap, subst, ◌∙◌, append_assoc, arith}
 use Rattle.std.specs.Prelude.{ℤ, pos, negsuc, map, slice_get, is_some, not, nat_eq, ◌&&◌, ◌||◌}
 use Rattle.std.specs.List.{position, AllByRecursion}
 use Rattle.std.specs.Option.{option_map, option_and_then}
 use Rattle.std.specs.Int.{w32, cast_signed, cast_unsigned}
-use Rattle.std.proofs.lemmas.Bool.{eqb-true, ltb-true, ltb-false, lt-ltb, le-ltb, eq-eqb, ne_eqb, or_left, or_right}
+use Rattle.std.proofs.lemmas.Bool.{eqb-true, ltb-true, ltb-false, or_left, or_right}
 use Rattle.std.proofs.lemmas.Int.{ints, to_z-of_z}
 use Rattle.std.proofs.lemmas.List.{length-append, append-nil}
 use Rattle.std.proofs.lemmas.Option.{slice_get-get_or}
@@ -19,15 +19,13 @@ use Rattle.il_model.specs.declared.op.Op.TheVariants as ops
 use Rattle.il_model.specs.declared.op.Modifier.{Modifier}
 use Rattle.il_model.specs.declared.kind.BlockKind.{BlockKind}
 use Rattle.il_model.specs.declared.kind.Field.{Field}
-use Rattle.il_model.specs.declared.program.Area.{Area}
-use Rattle.il_model.specs.declared.program.Area.TheVariants as areas
-use Rattle.il_model.specs.declared.program.Loc.{Loc}
-use Rattle.il_model.specs.declared.program.Loc.TheVariants.{Bit, Word}
 use Rattle.il_model.specs.declared.program.Variable.{Variable}
 use Rattle.il_model.specs.declared.program.Instance.{Instance}
 use Rattle.il_model.specs.declared.program.Argument.{Argument}
 use Rattle.il_model.specs.declared.program.Operand.{Operand}
 use Rattle.il_model.specs.declared.program.Operand.TheVariants as operands
+use Rattle.il_model.specs.declared.coded_operand.CodedOperand.{CodedOperand}
+use Rattle.il_model.specs.declared.coded_operand.CodedOperand.TheVariants as coded
 use Rattle.il_model.specs.declared.program.Instr.{Instr}
 use Rattle.il_model.specs.declared.fetched.Source.{Source}
 use Rattle.il_model.specs.declared.fetched.Source.TheVariants as sources
@@ -35,6 +33,7 @@ use Rattle.il_model.specs.declared.codes.LetterSet.{LetterSet}
 use Rattle.il_model.specs.declared.codes.LetterSet.TheVariants as letters
 use Rattle.il_model.specs.declared.codes.Form.{Form}
 use Rattle.il_model.specs.declared.codes.Form.TheVariants as forms
+use Rattle.il_model.specs.declared.typing.TypeFault.{TypeFault}
 use Rattle.il_model.specs.declared.typing.TypeFault.TheVariants.{Unbalanced, DuplicateLabel}
 use Rattle.il_model.specs.Values.{ty_of, number_of, made, is_within}
 use Rattle.il_model.specs.Operators.{same_truth, same_number}
@@ -45,15 +44,17 @@ use Rattle.il_model.specs.Resolved.{has_label, target_of, instance_in, field_of,
 use Rattle.il_model.specs.Typing.{shape_at, closed, label_at, label_row, arguments_fault, IsTyped}
 use Rattle.il_model.specs.Marks.{Mark, with_mark, word_count, words_in, address_of, marks_from}
 use Rattle.il_model.specs.Constants.{same_value, literal_of, joined_constants, constants_from, operands_in, operands_of, constants_of}
-use Rattle.il_model.specs.Image.{type_code, loc_code, op_code, flag, modifier_code, plain_code, numbered_code, instance_code, constant_code, target_code, operand_code}
-use Rattle.il_model.specs.Codes.{tested, type_of, area_loc, any_loc, is_known, usage_of, allows, has_form, allowed_by, formed_by, op_list, modifier_of, letters_of, raw_operand, operand_of, value_operand, label_there, is_jump, is_call, numbered_operand}
+use Rattle.il_model.specs.CodedOperands.{code_of}
+use Rattle.il_model.specs.Image.{type_code, op_code, flag, modifier_code, numbered, coded_literal, coded_operand, number_or_unused, operand_code}
+use Rattle.il_model.specs.Codes.{tested, type_of, is_known, usage_of, allows, has_form, allowed_by, formed_by, op_list, modifier_of, letters_of, named_operand, value_operand, label_there, is_jump, is_call, numbered_operand}
 use Rattle.il_model.specs.Fits.{IsVariable, IsInstance, IsMark, IsConstant, IsPassing, IsWord, AreItems, IsImage}
 use Rattle.il_model.specs.Lawful.{IsOperand, IsLabel, IsPassed, IsLawful, AreLawful}
 use Rattle.il_model.proofs.TypedLines.{bind_ok, ok_before, typed_line, IsArgumentOf, arguments_typed, no_arguments}
 use Rattle.il_model.proofs.Positions.{position_front, found_in_front, found_last, position_later, position_first}
 use Rattle.il_model.proofs.Marks.{words_in-append, address_small, table_labels, label_in}
 use Rattle.il_model.proofs.Constants.{same_self, constants_grow}
-use Rattle.il_model.proofs.Declared.{map_some, operand_again, instance_again, field_so, field_again}
+use Rattle.il_model.proofs.CodedOperands.{coded_again, own_small}
+use Rattle.il_model.proofs.Declared.{StandsAt, variable_stands, map_some, instance_again, field_so, field_stands}
 use Rattle.il_model.proofs.Calls.{IsTypedLine, typed_lines, words_few, literal_count, literals_few}
 
 again : {A : Type 0} (test : A → Bool) (o : Option A) (x : A) → o ≡ Some x → test x ≡ true → option_and_then (tested test) o ≡ Some x
@@ -472,23 +473,6 @@ literals_known (o ∷ os) seen = (
 
 -- ---- operands
 
-area_by : (a b c : Bool) (area : Area) (k : ℕ) (l : Loc) → ltb k 512 ≡ a → ltb k 1024 ≡ b → ltb k 1088 ≡ c → cond a (Some (Bit area k)) (cond b None (cond c (Some (Word area (k - 1024))) None)) ≡ Some l → k < 1088
-area_by true b c area k l f g h e = let lt = ltb-true k 512 f in omega arith
-area_by false true c area k l f g h e = absurd cc
-area_by false false true area k l f g h e = ltb-true k 1088 h
-area_by false false false area k l f g h e = absurd cc
-
-area_small : (area : Area) (k : ℕ) (l : Loc) → area_loc area k ≡ Some l → k < 1088
-area_small area k l e = area_by (ltb k 512) (ltb k 1024) (ltb k 1088) area k l refl refl refl e
-
-any_by : (a b : Bool) (n : ℕ) (l : Loc) → ltb n 4096 ≡ a → ltb n 8192 ≡ b → cond a (area_loc areas.Input n) (cond b (area_loc areas.Output (n - 4096)) (area_loc areas.Memory (n - 8192))) ≡ Some l → n < 16384
-any_by true b n l f g e = let lt = ltb-true n 4096 f in omega arith
-any_by false true n l f g e = let lt = ltb-true n 8192 g in omega arith
-any_by false false n l f g e = let lt = area_small areas.Memory (n - 8192) l e in omega arith
-
-any_small : (n : ℕ) (l : Loc) → any_loc n ≡ Some l → n < 16384
-any_small n l e = any_by (ltb n 4096) (ltb n 8192) n l refl refl e
-
 place_below : {X : Type 0} (p : X → Bool) (xs : List X) (i : ℕ) → position p xs ≡ Some i → i < length xs
 place_below p xs i e = (position_front p xs [] i e).before
 
@@ -497,24 +481,16 @@ record IsRead (ds : Declarations) (cs : List Value) (o : Operand) (code : ℕ) :
   read : value_operand ds cs code ≡ Some o
   small : code < 2 ^ 16
 
--- one that is no constant
-plain_read : (ds : Declarations) (cs : List Value) (o : Operand) (n : ℕ) → n < 32768 → operand_of ds n ≡ Some o → IsRead ds cs o n
-plain_read ds cs o n lt e = record { read = rw (or_left (ltb n 32768) (eqb n 65535) (lt-ltb n 32768 lt)) e; small = omega arith }
-
-direct_again : (ds : Declarations) (cs : List Value) (loc : Loc) → any_loc (loc_code loc) ≡ Some loc → IsRead ds cs (operands.Direct loc) (loc_code loc)
-direct_again ds cs loc e =
-    let lt : loc_code loc < 16384 = any_small (loc_code loc) loc e in
-    let raw : raw_operand ds (loc_code loc) ≡ Some (operands.Direct loc) = rw (lt-ltb (loc_code loc) 16384 lt, e) refl in
-    plain_read ds cs (operands.Direct loc) (loc_code loc) (omega arith)
-    (again (λ o. nat_eq (plain_code ds o) (loc_code loc)) (raw_operand ds (loc_code loc)) (operands.Direct loc) raw (eq-eqb (loc_code loc) (loc_code loc) refl))
+-- one that stands under its code
+stands_again : (ds : Declarations) (cs : List Value) (o : Operand) (x : CodedOperand) → StandsAt ds cs o x → IsRead ds cs o (code_of (coded_operand ds cs o))
+stands_again ds cs o x at =
+    let read : value_operand ds cs (code_of x) ≡ Some o = ap (option_and_then (named_operand ds cs)) (coded_again x at.own) ∙ at.named in
+    subst (λ (y : CodedOperand). IsRead ds cs o (code_of y)) (sym at.coded) (record { read = read; small = own_small x at.own })
 
 variable_by : (o : Option ℕ) (ds : Declarations) (cs : List Value) (name : List ℕ) → length ds.variables ≤ 512 → position (λ (v : Variable). same_name v.name name) ds.variables ≡ o → is_some o ≡ true
-    → IsRead ds cs (operands.Variable name) (plain_code ds (operands.Variable name))
+    → IsRead ds cs (operands.Variable name) (code_of (coded_operand ds cs (operands.Variable name)))
 variable_by None ds cs name few e h = absurd cc
-variable_by (Some i) ds cs name few e h =
-    let lt = place_below (λ (v : Variable). same_name v.name name) ds.variables i e in
-    let code : plain_code ds (operands.Variable name) ≡ 16384 + i = ap numbered_code e in
-    plain_read ds cs (operands.Variable name) (plain_code ds (operands.Variable name)) (omega (arith, code)) (operand_again ds name i few e)
+variable_by (Some i) ds cs name few e h = stands_again ds cs (operands.Variable name) (coded.Variable i) (variable_stands ds cs name i few e)
 
 constant_there : (cs : List Value) (v : Value) (k : ℕ) → position (same_value v) cs ≡ Some k → slice_get cs k ≡ Some v
 constant_there [] v k e = absurd cc
@@ -522,16 +498,11 @@ constant_there (c ∷ cs) v k e =
     let r = position-Some (same_value v) (c ∷ cs) k c e in
     slice_get-get_or (c ∷ cs) k c r.0 ∙ ap (λ (x : Value). Some x) (sym (same_value_is v (get_or (c ∷ cs) k c) r.1))
 
-constant_by : (o : Option ℕ) (ds : Declarations) (cs : List Value) (v : Value) → length cs ≤ 20480 → position (same_value v) cs ≡ o → is_some o ≡ true → IsRead ds cs (operands.Literal v) (constant_code (position (same_value v) cs))
+constant_by : (o : Option ℕ) (ds : Declarations) (cs : List Value) (v : Value) → length cs ≤ 20480 → position (same_value v) cs ≡ o → is_some o ≡ true → IsRead ds cs (operands.Literal v) (code_of (coded_literal cs v))
 constant_by None ds cs v few e h = absurd cc
 constant_by (Some k) ds cs v few e h =
     let lt = place_below (same_value v) cs k e in
-    let past : ltb (32768 + k) 32768 ≡ false = le-ltb (32768 + k) 32768 (omega arith) in
-    let there : eqb (32768 + k) 65535 ≡ false = ne_eqb (32768 + k) 65535 (λ e. omega (arith, e)) in
-    let back : 32768 + k - 32768 ≡ k = omega arith in
-    let all : value_operand ds cs (32768 + k) ≡ Some (operands.Literal v) = rw (past, there, back, constant_there cs v k e) refl in
-    let code : constant_code (position (same_value v) cs) ≡ 32768 + k = ap constant_code e in
-    record { read = ap (value_operand ds cs) code ∙ all; small = omega (arith, code) }
+    stands_again ds cs (operands.Literal v) (coded.Constant k) (record { coded = ap (numbered coded.Constant) e; own = omega arith; named = ap (option_map operands.Literal) (constant_there cs v k e) })
 
 -- what an image has room for
 record HasRoom (Q : Text) : Type 0 where
@@ -547,13 +518,12 @@ value_again Q operands.Absent src room form ok there known = absurd cc
 value_again Q (operands.Literal v) src room form ok there known = constant_by (position (same_value v) (constants_of Q)) (declared_by Q) (constants_of Q) v room.constants refl (known v refl)
 value_again Q (operands.Bare z) src room form ok there known = absurd cc
 value_again Q (operands.Variable name) src room form ok there known = variable_by (position (λ (v : Variable). same_name v.name name) Q.variables) (declared_by Q) (constants_of Q) name room.variables refl ok
-value_again Q (operands.Direct loc) src room form ok there known = direct_again (declared_by Q) (constants_of Q) loc ok
+value_again Q (operands.Direct loc) src room form ok there known = stands_again (declared_by Q) (constants_of Q) (operands.Direct loc) (coded.Location loc) (record { coded = refl; own = ok; named = refl })
 value_again Q (operands.Label name) src room form ok there known = absurd cc
 value_again Q (operands.Field name field) src room form ok there known =
     let place = map_some (field_of Q name field) sources.Of src there in
-    let f = field_again (declared_by Q) name field place.0 room.instances place.1 in
-    let small : plain_code (declared_by Q) (operands.Field name field) < 21504 = f.small in
-    plain_read (declared_by Q) (constants_of Q) (operands.Field name field) (plain_code (declared_by Q) (operands.Field name field)) (omega arith) f.read
+    let f = field_stands (declared_by Q) (constants_of Q) name field place.0 room.instances place.1 in
+    stands_again (declared_by Q) (constants_of Q) (operands.Field name field) (coded.Field f.instance f.number) f.stands
 value_again Q (operands.Instance name) src room form ok there known = absurd cc
 
 -- an operand that reads back from its number behind an operator
@@ -575,7 +545,7 @@ label_again Q op name src room jump there =
     let lt = address_small Q.code k (place_below (has_label name) Q.code k e) in
     let words = room.words in
     let at : label_there (marks_from 0 Q.code) (address_of Q.code k) ≡ Some name = label_in Q.code (marks_from 0 Q.code) name k (table_labels Q.code) e in
-    let code : target_code (option_map (address_of Q.code) (target_of Q name)) ≡ address_of Q.code k = ap (λ (o : Option ℕ). target_code (option_map (address_of Q.code) o)) e in
+    let code : number_or_unused (option_map (address_of Q.code) (target_of Q name)) ≡ address_of Q.code k = ap (λ (o : Option ℕ). number_or_unused (option_map (address_of Q.code) o)) e in
     let one : numbered_operand (declared_by Q) (marks_from 0 Q.code) (constants_of Q) op (address_of Q.code k) ≡ Some (operands.Label name) = rw (jump, at) refl in
     record { read = ap (numbered_operand (declared_by Q) (marks_from 0 Q.code) (constants_of Q) op) code ∙ one; small = omega (arith, code) }
 
@@ -586,7 +556,7 @@ called_again Q op name src room jump call there =
     let e : instance_in Q.instances name ≡ Some i = number.1 in
     let lt = place_below (λ (x : Instance). same_name x.name name) Q.instances i e in
     let few = room.instances in
-    let code : instance_code (instance_in Q.instances name) ≡ i = ap instance_code e in
+    let code : number_or_unused (instance_in Q.instances name) ≡ i = ap number_or_unused e in
     let one : numbered_operand (declared_by Q) (marks_from 0 Q.code) (constants_of Q) op i ≡ Some (operands.Instance name) = rw (jump, call) (instance_again (declared_by Q) name i e) in
     record { read = ap (numbered_operand (declared_by Q) (marks_from 0 Q.code) (constants_of Q) op) code ∙ one; small = omega (arith, code) }
 
@@ -689,22 +659,22 @@ has_line before name = is_some (position (has_label name) before)
 record AreKnown (seen : List Mark) (before : List Instr) : Type 0 where
   each : (x : List ℕ) → known_label seen x ≡ true → has_line before x ≡ true
 
-first_one : (b : Bool) (first n depth : ℕ) (x : Bool) → eqb first n ≡ b → cond b (cond (ltb 0 depth) (Err Unbalanced) (Ok true)) (Err DuplicateLabel) ≡ Ok x → first ≡ n
-first_one true first n depth x e h = eqb-true first n e
-first_one false first n depth x e h = absurd cc
+first_one : (b : Bool) (first n depth : ℕ) → eqb first n ≡ b → (let r : Result (Unit {0}) TypeFault = cond b (cond (ltb 0 depth) (Err Unbalanced) (Ok tt)) (Err DuplicateLabel) in r ≡ Ok tt) → first ≡ n
+first_one true first n depth e h = eqb-true first n e
+first_one false first n depth e h = absurd cc
 
-first_by : (t : Option ℕ) (n depth : ℕ) (x : Bool) → label_at t n depth ≡ Ok x → t ≡ Some n
-first_by None n depth x h = absurd cc
-first_by (Some first) n depth x h = ap (λ (k : ℕ). Some k) (first_one (eqb first n) first n depth x refl h)
+first_by : (t : Option ℕ) (n depth : ℕ) → label_at t n depth ≡ Ok tt → t ≡ Some n
+first_by None n depth h = absurd cc
+first_by (Some first) n depth h = ap (λ (k : ℕ). Some k) (first_one (eqb first n) first n depth refl h)
 
 -- a label of a typed program stands where it is found
 label_stands : (Q : Text) (n : ℕ) (line : Instr) (name : List ℕ) → IsTyped Q → n < length Q.code → slice_get Q.code n ≡ Some line → line.label ≡ Some name → target_of Q name ≡ Some n
 label_stands Q n line name typed lt here is =
-    let all = bind_ok (shape_at Q (length Q.code)) (closed Q) true typed in
+    let all = bind_ok (shape_at Q (length Q.code)) (closed Q) tt typed in
     let sh = ok_before Q (length Q.code) all.0 all.1 n (omega arith) in
     let l = typed_line Q typed n sh.0 line lt sh.1 here in
-    let row : label_row Q n (length sh.0.kept) (Some name) ≡ Ok l.label_of = sym (ap (label_row Q n (length sh.0.kept)) is) ∙ l.label in
-    first_by (target_of Q name) n (length sh.0.kept) l.label_of row
+    let row : label_row Q n (length sh.0.kept) (Some name) ≡ Ok tt = sym (ap (label_row Q n (length sh.0.kept)) is) ∙ l.label in
+    first_by (target_of Q name) n (length sh.0.kept) row
 
 some_same : (a b : ℕ) → (let o : Option ℕ = Some a in o ≡ Some b) → a ≡ b
 some_same a b e = cc

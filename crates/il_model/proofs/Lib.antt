@@ -4,13 +4,16 @@ pub mod Room
 pub mod Loop
 pub mod Marks
 pub mod Constants
+pub mod CodedOperands
 pub mod Declared
 pub mod Calls
 pub mod BlockKinds
 pub mod Literals
 pub mod Lawful
 pub mod Positions
+pub mod LocationTables
 pub mod ArgumentFaults
+pub mod FirstFaults
 pub mod FaultyWords
 pub mod Settling
 pub mod Indexing
@@ -18,6 +21,7 @@ pub mod Decimals
 pub mod Declaring
 pub mod LiteralLaws
 pub mod LocationLaws
+pub mod WrittenLocations
 pub mod HeldNumbers
 pub mod ConstantKeys
 pub mod Streams

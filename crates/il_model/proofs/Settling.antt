@@ -152,12 +152,12 @@ label_row_alike : (P Q : Text) (n depth : ℕ) (label : Option (List ℕ)) → A
 label_row_alike P Q n depth None e = refl
 label_row_alike P Q n depth (Some name) e = ap (λ (o : Option ℕ). label_at o n depth) (target_alike P Q name e)
 
-abbrev after_rows : Shape → Result Bool TypeFault → Result Effect TypeFault → Bool → Result Shape TypeFault
+abbrev after_rows : Shape → Result (Unit {0}) TypeFault → Result Effect TypeFault → Bool → Result Shape TypeFault
 after_rows sh a b here = a >>= λ _. b >>= λ e. Ok (cond here (record (applied sh e) { cr = None }) (applied sh e))
 
 pub after_alike : (P Q : Text) (n : ℕ) (sh : Shape) (line : Instr) → Alike P Q → after_line Q n sh line ≡ after_line P n sh line
 after_alike P Q n sh line e =
-    ap (λ (a : Result Bool TypeFault). after_rows sh a (line_row Q sh line) (is_labelled Q (n + 1))) (label_row_alike P Q n (length sh.kept) line.label e)
+    ap (λ (a : Result (Unit {0}) TypeFault). after_rows sh a (line_row Q sh line) (is_labelled Q (n + 1))) (label_row_alike P Q n (length sh.kept) line.label e)
     ∙ ap (λ (b : Result Effect TypeFault). after_rows sh (label_row P n (length sh.kept) line.label) b (is_labelled Q (n + 1))) (line_row_alike P Q sh line e)
     ∙ ap (after_rows sh (label_row P n (length sh.kept) line.label) (line_row P sh line)) (labelled_alike P Q (n + 1) e)
 
@@ -321,21 +321,21 @@ goes_settled P n sh sh' line at here h =
 pub fails_settled : (P : Text) (n : ℕ) (sh : Shape) (line : Instr) (fault : TypeFault) → n < length P.code → shape_at (settled_text P) n ≡ Ok sh → slice_get P.code n ≡ Some line → after_line P n sh (settled_line sh.cr line) ≡ Err fault → settled P ≡ Err (fault, n)
 fails_settled P n sh line fault lt at here h =
     let one = fails_at (settled_text P) n sh (settled_line sh.cr line) fault (omega (arith, text_count P)) at (here_settled P n sh line at here) (after_alike P (settled_text P) n sh (settled_line sh.cr line) (text_alike P) ∙ h) in
-    ap (λ (r : Result Bool (TypeFault × ℕ)). r >>= λ _. Ok (settled_text P)) (sym one)
+    ap (λ (r : Result (Unit {0}) (TypeFault × ℕ)). r >>= λ _. Ok (settled_text P)) (sym one)
 
 ends_judged : (P : Text) (sh : Shape) → shape_at (settled_text P) (length P.code) ≡ Ok sh → judged (settled_text P) ≡ closed (settled_text P) sh
 ends_judged P sh at = ap (λ (k : ℕ). shape_at (settled_text P) k >>= closed (settled_text P)) (text_count P) ∙ ap (λ (r : Result Shape (TypeFault × ℕ)). r >>= closed (settled_text P)) at
 
 pub stays_open : (P : Text) (sh : Shape) → shape_at (settled_text P) (length P.code) ≡ Ok sh → 0 < length sh.kept → settled P ≡ Err (TypeFault.Unbalanced, length P.code)
 stays_open P sh at lt =
-    let open_end : closed (settled_text P) sh ≡ Err (TypeFault.Unbalanced, length (settled_text P).code) = ap (λ (b : Bool). let r : Result Bool (TypeFault × ℕ) = cond b (Err (TypeFault.Unbalanced, length (settled_text P).code)) (Ok true) in r) (lt-ltb 0 (length sh.kept) lt) in
-    ap (λ (r : Result Bool (TypeFault × ℕ)). r >>= λ _. Ok (settled_text P)) (ends_judged P sh at ∙ open_end)
+    let open_end : closed (settled_text P) sh ≡ Err (TypeFault.Unbalanced, length (settled_text P).code) = ap (λ (b : Bool). let r : Result (Unit {0}) (TypeFault × ℕ) = cond b (Err (TypeFault.Unbalanced, length (settled_text P).code)) (Ok tt) in r) (lt-ltb 0 (length sh.kept) lt) in
+    ap (λ (r : Result (Unit {0}) (TypeFault × ℕ)). r >>= λ _. Ok (settled_text P)) (ends_judged P sh at ∙ open_end)
     ∙ ap (λ (k : ℕ). let r : Result Text (TypeFault × ℕ) = Err (TypeFault.Unbalanced, k) in r) (text_count P)
 
 pub ends_settled : (P : Text) (sh : Shape) → shape_at (settled_text P) (length P.code) ≡ Ok sh → length sh.kept ≤ 0 → settled P ≡ Ok (settled_text P)
 ends_settled P sh at le =
-    let closed_end : closed (settled_text P) sh ≡ Ok true = ap (λ (b : Bool). let r : Result Bool (TypeFault × ℕ) = cond b (Err (TypeFault.Unbalanced, length (settled_text P).code)) (Ok true) in r) (le-ltb 0 (length sh.kept) le) in
-    ap (λ (r : Result Bool (TypeFault × ℕ)). r >>= λ _. Ok (settled_text P)) (ends_judged P sh at ∙ closed_end)
+    let closed_end : closed (settled_text P) sh ≡ Ok tt = ap (λ (b : Bool). let r : Result (Unit {0}) (TypeFault × ℕ) = cond b (Err (TypeFault.Unbalanced, length (settled_text P).code)) (Ok tt) in r) (le-ltb 0 (length sh.kept) le) in
+    ap (λ (r : Result (Unit {0}) (TypeFault × ℕ)). r >>= λ _. Ok (settled_text P)) (ends_judged P sh at ∙ closed_end)
 
 -- ---- what holds of a typed program
 
@@ -435,7 +435,7 @@ settles_line cr line e =
     record { label = refl; op = refl; modifier = refl; operand = settles cr line.op line.modifier line.operand both.0; arguments = are_settled line.arguments both.1 }
 
 shape_within : (Q : Text) → IsTyped Q → (n : ℕ) → n ≤ length Q.code → (sh : Shape) × (shape_at Q n ≡ Ok sh)
-shape_within Q typed n le = let all = bind_ok (shape_at Q (length Q.code)) (closed Q) true typed in ok_before Q (length Q.code) all.0 all.1 n le
+shape_within Q typed n le = let all = bind_ok (shape_at Q (length Q.code)) (closed Q) tt typed in ok_before Q (length Q.code) all.0 all.1 n le
 
 -- a typed program has no bare number
 pub typed_plain : (Q : Text) → IsTyped Q → HasNoBare Q
@@ -462,15 +462,6 @@ text_typed P typed = record {
   placed = text_arrival P;
 }
 
-true_by : (b c : Bool) (f : TypeFault × ℕ) → (let r : Result Bool (TypeFault × ℕ) = cond b (Err f) (Ok true) in r) ≡ Ok c → c ≡ true
-true_by true c f e = absurd cc
-true_by false c f e = let is : true ≡ c = cc in sym is
-
-judged_true : (Q : Text) (b : Bool) → judged Q ≡ Ok b → IsTyped Q
-judged_true Q b e =
-    let all = bind_ok (shape_at Q (length Q.code)) (closed Q) b e in
-    e ∙ ap (λ (x : Bool). let r : Result Bool (TypeFault × ℕ) = Ok x in r) (true_by (nat_lt 0 (length all.0.kept)) b (TypeFault.Unbalanced, length Q.code) all.2)
-
 text_is : (P Q : Text) → (let r : Result Text (TypeFault × ℕ) = Ok P in r) ≡ Ok Q → P ≡ Q
 text_is P Q e = cc
 
@@ -479,7 +470,7 @@ pub typed_program : (P Q : Text) → settled P ≡ Ok Q → IsTypedProgramOf P Q
 typed_program P Q e =
     let all = bind_ok (judged (settled_text P)) (λ _. Ok (settled_text P)) Q e in
     let is : settled_text P ≡ Q = text_is (settled_text P) Q all.2 in
-    subst (IsTypedProgramOf P) is (text_typed P (judged_true (settled_text P) all.0 all.1))
+    subst (IsTypedProgramOf P) is (text_typed P all.1)
 
 -- ---- there is no other typed program
 
@@ -542,7 +533,7 @@ text_same P Q is =
 pub typed_only : (P Q : Text) → IsTypedProgramOf P Q → settled P ≡ Ok Q
 typed_only P Q is =
     let same = text_same P Q is in
-    ap (λ (r : Result Bool (TypeFault × ℕ)). r >>= λ _. Ok (settled_text P)) (ap judged (sym same) ∙ is.typed)
+    ap (λ (r : Result (Unit {0}) (TypeFault × ℕ)). r >>= λ _. Ok (settled_text P)) (ap judged (sym same) ∙ is.typed)
     ∙ ap (λ (R : Text). let r : Result Text (TypeFault × ℕ) = Ok R in r) (sym same)
 
 -- ---- a program without bare numbers

@@ -1,5 +1,5 @@
 -- What the numbers in an image stand for: types, locations, operators, letters, operands.
-use Rattle.std.specs.Prelude.{ℕ, ◌-◌, ◌/◌, ◌%◌, zero, suc, Bool, true, false, not, ◌&&◌, ◌||◌, List, [], ◌∷◌, slice_get, Option, Some, None, is_some, is_none, nat_lt, nat_eq, if◌then◌else◌}
+use Rattle.std.specs.Prelude.{ℕ, zero, suc, Bool, true, false, not, ◌&&◌, ◌||◌, List, [], ◌∷◌, slice_get, Option, Some, None, is_some, is_none, nat_lt, nat_eq, if◌then◌else◌}
 use Rattle.std.specs.List.{position}
 use Rattle.std.specs.Option.{option_map, option_and_then}
 use Rattle.std.specs.Int.{w32, cast_signed}
@@ -9,10 +9,7 @@ use Rattle.il_model.specs.declared.value.Value.{Value}
 use Rattle.il_model.specs.declared.op.Op.{Op}
 use Rattle.il_model.specs.declared.op.Op.TheVariants as ops
 use Rattle.il_model.specs.declared.op.Modifier.{Modifier}
-use Rattle.il_model.specs.declared.program.Area.{Area}
-use Rattle.il_model.specs.declared.program.Area.TheVariants as areas
 use Rattle.il_model.specs.declared.program.Loc.{Loc}
-use Rattle.il_model.specs.declared.program.Loc.TheVariants.{Bit, Word}
 use Rattle.il_model.specs.declared.program.Variable.{Variable}
 use Rattle.il_model.specs.declared.program.Instance.{Instance}
 use Rattle.il_model.specs.declared.program.Side.{Side}
@@ -37,7 +34,9 @@ use Rattle.il_model.specs.Areas.{area_of}
 use Rattle.il_model.specs.Typing.{loc_type, is_output}
 use Rattle.il_model.specs.Marks.{Mark}
 use Rattle.il_model.specs.Constants.{same_value}
-use Rattle.il_model.specs.Image.{plain_code, loc_code}
+use Rattle.il_model.specs.declared.coded_operand.CodedOperand.{CodedOperand}
+use Rattle.il_model.specs.declared.coded_operand.CodedOperand.TheVariants as coded
+use Rattle.il_model.specs.CodedOperands.{loc_code, with_code}
 
 abbrev pub tested : {A : Type 0} → (A → Bool) → A → Option A
 tested test x = if test x then Some x else None
@@ -67,17 +66,6 @@ type_of (suc (suc zero)) = Some types.Dint
 type_of (suc (suc (suc zero))) = Some types.Time
 type_of n = None
 
-abbrev pub area_loc : Area → ℕ → Option Loc
-area_loc area n =
-    if nat_lt n 512 then Some (Bit area n)
-    else (if nat_lt n 1024 then None else (if nat_lt n 1088 then Some (Word area (n - 1024)) else None))
-
--- the location that a code stands for
-abbrev pub any_loc : ℕ → Option Loc
-any_loc n =
-    if nat_lt n 4096 then area_loc areas.Input n
-    else (if nat_lt n 8192 then area_loc areas.Output (n - 4096) else area_loc areas.Memory (n - 8192))
-
 abbrev pub has_code : ℕ → Option Loc → Bool
 has_code n None = false
 has_code n (Some loc) = nat_eq (loc_code loc) n
@@ -90,16 +78,18 @@ is_type types.Bool (Some types.Bool) = true
 is_type types.Int (Some types.Int) = true
 is_type t o = false
 
--- a location of the type, with that code, which no other variable has
-abbrev pub is_free : List Variable → Ty → ℕ → Loc → Bool
-is_free seen t n loc = nat_eq (loc_code loc) n && is_type t (loc_type loc) && not (is_taken seen n)
+-- a location of the type, which no other variable has
+abbrev pub is_free : List Variable → Ty → Loc → Bool
+is_free seen t loc = is_type t (loc_type loc) && not (is_taken seen (loc_code loc))
 
-abbrev pub free_loc : List Variable → Ty → ℕ → Option Loc → Option (Option Loc)
-free_loc seen t n None = None
-free_loc seen t n (Some loc) = if is_free seen t n loc then Some (Some loc) else None
+-- where a variable may lie: at no location, or at a free one
+abbrev pub free_loc : List Variable → Ty → CodedOperand → Option (Option Loc)
+free_loc seen t coded.Unused = Some None
+free_loc seen t (coded.Location loc) = if is_free seen t loc then Some (Some loc) else None
+free_loc seen t operand = None
 
 abbrev pub location_of : List Variable → Ty → ℕ → Option (Option Loc)
-location_of seen t n = if nat_eq n 65535 then Some None else free_loc seen t n (any_loc n)
+location_of seen t n = option_and_then (free_loc seen t) (with_code n)
 
 -- an input has no first value of its own
 abbrev pub may_start_with : Option Loc → Value → Bool
@@ -212,25 +202,17 @@ op_of n = slice_get op_list n
 abbrev pub letters_of : Op → ℕ → Option Modifier
 letters_of op n = option_and_then (tested (allowed_by (usage_of op))) (modifier_of n)
 
--- a number behind those of the variables is that of a field, 8 for each instance
-abbrev pub named_operand : Declarations → ℕ → Option Operand
-named_operand ds n =
-    if nat_lt n 20480 then variable_named (slice_get ds.variables (n - 16384))
-    else field_named (slice_get ds.instances ((n - 20480) / 8)) ((n - 20480) % 8)
+-- the operand that stands under those numbers, if the declarations and the constants have it
+abbrev pub named_operand : Declarations → List Value → CodedOperand → Option Operand
+named_operand ds constants (coded.Location loc) = Some (operands.Direct loc)
+named_operand ds constants (coded.Variable i) = variable_named (slice_get ds.variables i)
+named_operand ds constants (coded.Field i n) = field_named (slice_get ds.instances i) n
+named_operand ds constants (coded.Constant k) = option_map operands.Literal (slice_get constants k)
+named_operand ds constants coded.Unused = Some operands.Absent
 
-abbrev pub raw_operand : Declarations → ℕ → Option Operand
-raw_operand ds n =
-    if nat_lt n 16384 then option_map operands.Direct (any_loc n)
-    else (if nat_eq n 65535 then Some operands.Absent else named_operand ds n)
-
--- no operand, a location, a variable or a field, that has this code
-abbrev pub operand_of : Declarations → ℕ → Option Operand
-operand_of ds n = option_and_then (tested (λ o. nat_eq (plain_code ds o) n)) (raw_operand ds n)
-
--- an operand that is no label: a constant of the table, or one of the above
+-- an operand that is neither a label nor an instance that is called, by its code
 abbrev pub value_operand : Declarations → List Value → ℕ → Option Operand
-value_operand ds constants n =
-    if nat_lt n 32768 || nat_eq n 65535 then operand_of ds n else option_map operands.Literal (slice_get constants (n - 32768))
+value_operand ds constants n = option_and_then (named_operand ds constants) (with_code n)
 
 -- the name of the first label at an address
 abbrev pub label_there : List Mark → ℕ → Option (List ℕ)

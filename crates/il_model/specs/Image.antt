@@ -1,6 +1,6 @@
 -- The bytes of a program: one spelling for each. In this order: a header, the variables, the instances, the labels, the
 -- constants, the words. All numbers are big-endian.
-use Rattle.std.specs.Prelude.{ℕ, ◌+◌, ◌*◌, Bool, true, false, List, ◌++◌, length, Option, Some, None}
+use Rattle.std.specs.Prelude.{ℕ, ◌+◌, Bool, true, false, List, ◌++◌, length, codes, Option, Some, None}
 use Rattle.std.specs.Option.{option_map, option_and_then}
 use Rattle.std.specs.List.{flat_map}
 use Rattle.std.specs.Int.{w8, w16, w32, to_be_bytes, cast_unsigned}
@@ -9,12 +9,9 @@ use Rattle.il_model.specs.declared.value.Ty.TheVariants as types
 use Rattle.il_model.specs.declared.op.Op.{Op}
 use Rattle.il_model.specs.declared.op.Op.TheVariants as ops
 use Rattle.il_model.specs.declared.op.Modifier.{Modifier}
-use Rattle.il_model.specs.declared.program.Area.{Area}
-use Rattle.il_model.specs.declared.program.Area.TheVariants as areas
 use Rattle.il_model.specs.declared.program.Loc.{Loc}
-use Rattle.il_model.specs.declared.program.Loc.TheVariants.{Bit, Word}
 use Rattle.il_model.specs.declared.program.Place.{Place}
-use Rattle.il_model.specs.declared.program.Place.TheVariants.{Field}
+use Rattle.il_model.specs.declared.program.Place.TheVariants as places
 use Rattle.il_model.specs.declared.program.Variable.{Variable}
 use Rattle.il_model.specs.declared.program.Instance.{Instance}
 use Rattle.il_model.specs.declared.program.Argument.{Argument}
@@ -25,9 +22,12 @@ use Rattle.il_model.specs.declared.program.Operand.{Operand}
 use Rattle.il_model.specs.declared.program.Operand.TheVariants as operands
 use Rattle.il_model.specs.declared.program.Instr.{Instr}
 use Rattle.il_model.specs.declared.value.Value.{Value}
+use Rattle.il_model.specs.declared.coded_operand.CodedOperand.{CodedOperand}
+use Rattle.il_model.specs.declared.coded_operand.CodedOperand.TheVariants as coded
 use Rattle.il_model.specs.Values.{ty_of, number_of}
 use Rattle.il_model.specs.Names.{same_name}
 use Rattle.std.specs.List.{position}
+use Rattle.il_model.specs.CodedOperands.{code_of}
 use Rattle.il_model.specs.Text.{Text, Declarations, declared_by}
 use Rattle.il_model.specs.Kinds.{kind_code, field_number}
 use Rattle.il_model.specs.Resolved.{target_of, instance_in, field_in, called_kind}
@@ -40,18 +40,9 @@ type_code types.Int = 1
 type_code types.Dint = 2
 type_code types.Time = 3
 
-abbrev pub base_of : Area → ℕ
-base_of areas.Input = 0
-base_of areas.Output = 4096
-base_of areas.Memory = 8192
-
-abbrev pub loc_code : Loc → ℕ
-loc_code (Bit a n) = base_of a + n
-loc_code (Word a n) = base_of a + (1024 + n)
-
 abbrev pub location_code : Option Loc → ℕ
-location_code None = 65535
-location_code (Some loc) = loc_code loc
+location_code None = code_of coded.Unused
+location_code (Some loc) = code_of (coded.Location loc)
 
 abbrev pub name_bytes : List ℕ → List ℕ
 name_bytes name = to_be_bytes w8 (length name) ++ name
@@ -94,10 +85,6 @@ flag false n = 0
 abbrev pub modifier_code : Modifier → ℕ
 modifier_code m = flag m.negated 1 + (flag m.conditional 2 + flag m.opens 4)
 
-abbrev pub numbered_code : Option ℕ → ℕ
-numbered_code None = 65535
-numbered_code (Some i) = 16384 + i
-
 -- a label: its name and the address of its word
 abbrev pub mark_bytes : Mark → List ℕ
 mark_bytes m = name_bytes m.name ++ to_be_bytes w16 m.at
@@ -105,38 +92,37 @@ mark_bytes m = name_bytes m.name ++ to_be_bytes w16 m.at
 abbrev pub constant_bytes : Value → List ℕ
 constant_bytes v = to_be_bytes w8 (type_code (ty_of v)) ++ to_be_bytes w32 (cast_unsigned w32 (number_of v))
 
-abbrev pub constant_code : Option ℕ → ℕ
-constant_code None = 65535
-constant_code (Some k) = 32768 + k
+-- what stands there under a number, if it is there
+abbrev pub numbered : (ℕ → CodedOperand) → Option ℕ → CodedOperand
+numbered sort None = coded.Unused
+numbered sort (Some n) = sort n
 
-abbrev pub target_code : Option ℕ → ℕ
-target_code None = 65535
-target_code (Some n) = n
+-- a literal by its number among the constants
+abbrev pub coded_literal : List Value → Value → CodedOperand
+coded_literal constants v = numbered coded.Constant (position (same_value v) constants)
 
--- an instance that is called is its number
-abbrev pub instance_code : Option ℕ → ℕ
-instance_code None = 65535
-instance_code (Some i) = i
+abbrev pub coded_field : Option Place → CodedOperand
+coded_field (Some (places.Field i n)) = coded.Field i n
+coded_field place = coded.Unused
 
--- a field of an instance is the instance's number times 8 and its own
-abbrev pub field_code : Option Place → ℕ
-field_code (Some (Field i n)) = 20480 + (8 * i + n)
-field_code place = 65535
+-- an operand by numbers: a variable has its own, located or not; labels and instances that are called aren't in the table
+abbrev pub coded_operand : Declarations → List Value → Operand → CodedOperand
+coded_operand ds constants (operands.Literal v) = coded_literal constants v
+coded_operand ds constants (operands.Direct loc) = coded.Location loc
+coded_operand ds constants (operands.Variable name) = numbered coded.Variable (position (λ (v : Variable). same_name v.name name) ds.variables)
+coded_operand ds constants (operands.Field name field) = coded_field (field_in ds.instances name field)
+coded_operand ds constants operand = coded.Unused
 
--- no operand, a location, a variable, located or not, by its number, a field, or an instance that is called
-abbrev pub plain_code : Declarations → Operand → ℕ
-plain_code ds operands.Absent = 65535
-plain_code ds (operands.Direct loc) = loc_code loc
-plain_code ds (operands.Variable name) = numbered_code (position (λ (v : Variable). same_name v.name name) ds.variables)
-plain_code ds (operands.Field name field) = field_code (field_in ds.instances name field)
-plain_code ds (operands.Instance name) = instance_code (instance_in ds.instances name)
-plain_code ds operand = 65535
+-- what is named behind JMP or CAL is a number of its own
+abbrev pub number_or_unused : Option ℕ → ℕ
+number_or_unused None = code_of coded.Unused
+number_or_unused (Some n) = n
 
--- a constant is its number in the table, a label the address where it stands
+-- a label is the address where it stands, an instance that is called its number, and every other operand its code
 abbrev pub operand_code : Text → List Value → Operand → ℕ
-operand_code Q constants (operands.Literal v) = constant_code (position (same_value v) constants)
-operand_code Q constants (operands.Label name) = target_code (option_map (address_of Q.code) (target_of Q name))
-operand_code Q constants operand = plain_code (declared_by Q) operand
+operand_code Q constants (operands.Label name) = number_or_unused (option_map (address_of Q.code) (target_of Q name))
+operand_code Q constants (operands.Instance name) = number_or_unused (instance_in Q.instances name)
+operand_code Q constants operand = code_of (coded_operand (declared_by Q) constants operand)
 
 -- a word: three numbers
 abbrev pub coded_word : ℕ → ℕ → ℕ → List ℕ
@@ -171,9 +157,13 @@ abbrev pub counts_bytes : ℕ → ℕ → ℕ → ℕ → ℕ → List ℕ
 counts_bytes variables instances labels constants words =
     to_be_bytes w16 variables ++ (to_be_bytes w16 instances ++ (to_be_bytes w16 labels ++ (to_be_bytes w16 constants ++ to_be_bytes w16 words)))
 
--- ILPC, the version, and the counts
+-- how each image begins
+abbrev pub magic : List ℕ
+magic = codes "ILPC"
+
+-- that, the version, and the counts
 abbrev pub header_bytes : ℕ → ℕ → ℕ → ℕ → ℕ → List ℕ
-header_bytes variables instances labels constants words = to_be_bytes w32 1229738051 ++ (to_be_bytes w16 1 ++ counts_bytes variables instances labels constants words)
+header_bytes variables instances labels constants words = magic ++ (to_be_bytes w16 1 ++ counts_bytes variables instances labels constants words)
 
 abbrev pub spelled_with : Text → List Mark → List Value → List ℕ
 spelled_with Q labels constants =

@@ -1,30 +1,32 @@
 -- What a program is whose parts are lawful each for itself. Once it is typed it has an image.
-use Rattle.std.specs.Prelude.{◌≡◌, ℕ, true, false, List, [], ◌∷◌, length, Option, Some, None, is_some}
-use Rattle.std.specs.List.{position, AllByRecursion}
+use Rattle.std.specs.Prelude.{◌≡◌, ℕ, ℤ, true, false, List, [], ◌∷◌, length, Option, Some, None, is_some}
+use Rattle.std.specs.List.{AllByRecursion}
 use Rattle.il_model.specs.declared.codes.Form.TheVariants as forms
-use Rattle.il_model.specs.declared.program.Variable.{Variable}
 use Rattle.il_model.specs.declared.program.Argument.{Argument}
 use Rattle.il_model.specs.declared.program.Operand.{Operand}
 use Rattle.il_model.specs.declared.program.Operand.TheVariants as operands
 use Rattle.il_model.specs.declared.program.Instr.{Instr}
 use Rattle.il_model.specs.Values.{made, ty_of, number_of}
-use Rattle.il_model.specs.Names.{same_name, is_lawful_name}
+use Rattle.il_model.specs.Names.{is_lawful_name}
 use Rattle.il_model.specs.Text.{Declarations}
 use Rattle.il_model.specs.Resolved.{instance_in}
-use Rattle.il_model.specs.Image.{loc_code}
-use Rattle.il_model.specs.Codes.{length_of, any_loc, usage_of, allowed_by, formed_by, has_form, is_pointless}
+use Rattle.il_model.specs.CodedOperands.{IsCell}
+use Rattle.il_model.specs.Codes.{is_number, length_of, usage_of, allowed_by, formed_by, has_form, is_pointless}
 
--- a value that fits its type, a variable or an instance that is declared, a location that is there; labels and fields are judged
--- with the types
+-- a value that fits its type, a variable or an instance that is declared, a location that is there, and of a bare number what is
+-- asked of it; labels and fields are judged with the types
+abbrev pub IsOperandOf : (ℤ → Type 0) → Declarations → Operand → Type 0
+IsOperandOf IsNumber ds operands.Absent = Unit {0}
+IsOperandOf IsNumber ds (operands.Literal v) = made (ty_of v) (number_of v) ≡ Some v
+IsOperandOf IsNumber ds (operands.Bare z) = IsNumber z
+IsOperandOf IsNumber ds (operands.Variable name) = is_some (is_number ds.variables name) ≡ true
+IsOperandOf IsNumber ds (operands.Direct loc) = IsCell loc
+IsOperandOf IsNumber ds (operands.Label name) = Unit {0}
+IsOperandOf IsNumber ds (operands.Field name field) = is_some (instance_in ds.instances name) ≡ true
+IsOperandOf IsNumber ds (operands.Instance name) = is_some (instance_in ds.instances name) ≡ true
+
 abbrev pub IsOperand : Declarations → Operand → Type 0
-IsOperand ds operands.Absent = Unit {0}
-IsOperand ds (operands.Literal v) = made (ty_of v) (number_of v) ≡ Some v
-IsOperand ds (operands.Bare z) = Unit {0}
-IsOperand ds (operands.Variable name) = is_some (position (λ (v : Variable). same_name v.name name) ds.variables) ≡ true
-IsOperand ds (operands.Direct loc) = any_loc (loc_code loc) ≡ Some loc
-IsOperand ds (operands.Label name) = Unit {0}
-IsOperand ds (operands.Field name field) = is_some (instance_in ds.instances name) ≡ true
-IsOperand ds (operands.Instance name) = is_some (instance_in ds.instances name) ≡ true
+IsOperand ds operand = IsOperandOf (λ z. Unit {0}) ds operand
 
 abbrev pub IsLabel : Option (List ℕ) → Type 0
 IsLabel None = Unit {0}

@@ -8,7 +8,7 @@ pub mod Row
 pub mod Typing
 pub mod Faulty
 pub mod Settled
-pub mod Checked
+pub mod CodedOperands
 pub mod Image
 pub mod ConstantTables
 pub mod Marks
@@ -16,6 +16,8 @@ pub mod Constants
 pub mod Cells
 pub mod Limits
 pub mod Codes
+pub mod InstructionFaults
+pub mod LocationTables
 pub mod Fits
 pub mod Words
 pub mod Kinds

@@ -93,8 +93,7 @@ combine_row (Some c) op negated kind = Err TypeMismatch
 
 abbrev pub jump_row : Option Ty → Bool → Kind → Result Effect TypeFault
 jump_row cr conditional kinds.Target = leave_row cr conditional
-jump_row cr conditional kinds.NoTarget = Err UnknownLabel
-jump_row cr conditional kind = Err TypeMismatch
+jump_row cr conditional kind = Err UnknownLabel
 
 -- CAL leaves the current result as it was; its arguments are judged by rows of their own
 abbrev pub call_row : Option Ty → Bool → Kind → Result Effect TypeFault

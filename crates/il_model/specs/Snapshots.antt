@@ -1,5 +1,5 @@
 -- A snapshot of a controller, as its definitions see it.
-use Rattle.std.specs.Prelude.{ℕ, Bool, List, Option}
+use Rattle.std.specs.Prelude.{ℕ, List, Option}
 use Rattle.il_model.specs.declared.value.Value.{Value}
 use Rattle.il_model.specs.declared.value.Stop.{Stop}
 use Rattle.il_model.specs.declared.kind.BlockKind.{BlockKind}
@@ -16,6 +16,7 @@ pub record SavedBlock : Type 0 where
   pub words : List ℕ
 
 pub record SavedController : Type 0 where
+  -- of the variables without a location, in order
   pub variables : List Value
   pub instances : List SavedBlock
   pub input : Cells
@@ -29,5 +30,6 @@ pub record SavedController : Type 0 where
   pub moment : ℕ
   -- rising by slot
   pub forces : List ForcedSlot
-  pub breaks : List Bool
+  -- positions, rising
+  pub breaks : List ℕ
   pub phase : SavedPhase

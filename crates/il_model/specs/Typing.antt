@@ -183,12 +183,12 @@ abbrev pub line_row : Text → Shape → Instr → Result Effect TypeFault
 line_row Q sh line = line_row_of Q sh.cr (top_of sh.kept) (length sh.kept) line
 
 -- a label stands once, and not while a parenthesis is open
-abbrev pub label_at : Option ℕ → ℕ → ℕ → Result Bool TypeFault
+abbrev pub label_at : Option ℕ → ℕ → ℕ → Result (Unit {0}) TypeFault
 label_at None n depth = Err DuplicateLabel
-label_at (Some first) n depth = if nat_eq first n then (if nat_lt 0 depth then Err Unbalanced else Ok true) else Err DuplicateLabel
+label_at (Some first) n depth = if nat_eq first n then (if nat_lt 0 depth then Err Unbalanced else Ok tt) else Err DuplicateLabel
 
-abbrev pub label_row : Text → ℕ → ℕ → Option (List ℕ) → Result Bool TypeFault
-label_row Q n depth None = Ok true
+abbrev pub label_row : Text → ℕ → ℕ → Option (List ℕ) → Result (Unit {0}) TypeFault
+label_row Q n depth None = Ok tt
 label_row Q n depth (Some name) = label_at (target_of Q name) n depth
 
 abbrev pub applied : Shape → Effect → Shape
@@ -217,11 +217,11 @@ shape_at Q zero = Ok (arrived Q 0 (record { cr = None; kept = [] }))
 shape_at Q (suc n) = shape_at Q n >>= λ sh. after_at Q n sh (slice_get Q.code n)
 
 -- no parenthesis is open at the end
-abbrev pub closed : Text → Shape → Result Bool (TypeFault × ℕ)
-closed Q sh = if nat_lt 0 (length sh.kept) then Err (Unbalanced, length Q.code) else Ok true
+abbrev pub closed : Text → Shape → Result (Unit {0}) (TypeFault × ℕ)
+closed Q sh = if nat_lt 0 (length sh.kept) then Err (Unbalanced, length Q.code) else Ok tt
 
-abbrev pub judged : Text → Result Bool (TypeFault × ℕ)
+abbrev pub judged : Text → Result (Unit {0}) (TypeFault × ℕ)
 judged Q = shape_at Q (length Q.code) >>= closed Q
 
 abbrev pub IsTyped : Text → Type 0
-IsTyped Q = judged Q ≡ Ok true
+IsTyped Q = judged Q ≡ Ok tt

@@ -1,10 +1,12 @@
 //! The types on arrival at each instruction, and whether a program is typed.
 
-ghost use Rattle.std.specs.Prelude.{◌≡◌, ◌<◌, length, reverse, Ok, Err, Some};
+ghost use Rattle.std.specs.Prelude.{◌≡◌, ◌<◌, ℕ, length, reverse, Ok, Err, Some};
 ghost use Rattle.il_model.specs.Typing.{judged, shape_at, source_row, line_row, line_row_of, label_at, label_row, applied, arrived, top_of, Shape, after_line};
 ghost use Rattle.il_model.specs.Resolved.{is_labelled};
 ghost use Rattle.il_model.specs.Row.{HasRoom};
-ghost use Rattle.il_model.specs.Checked.{told};
+ghost use Rattle.il_model.specs.declared.program.Instr.{Instr};
+ghost use Rattle.il_model.specs.Text.{Text};
+ghost use Rattle.il_model.specs.InstructionFaults.{applies, TellsFirst};
 ghost use Rattle.std.specs.Prelude.{OnOk, IfErr};
 
 use crate::arguments::{arguments_fault, with_fault};
@@ -15,7 +17,7 @@ use crate::{Effect, Held, Instr, Name, Program, Source, Ty, TypeFault};
 use arrayvec::ArrayVec;
 use std::marker::Model;
 
-fn label_at(first: Option<u16>, n: usize, depth: usize) -> Result<bool, TypeFault>
+fn label_at(first: Option<u16>, n: usize, depth: usize) -> Result<(), TypeFault>
     ensures { result ≡ label_at first n depth }
 {
     match first {
@@ -26,7 +28,7 @@ fn label_at(first: Option<u16>, n: usize, depth: usize) -> Result<bool, TypeFaul
             if depth > 0 {
                 Err(TypeFault::Unbalanced)
             } else {
-                Ok(true)
+                Ok(())
             }
         }
         None => Err(TypeFault::DuplicateLabel),
@@ -38,12 +40,12 @@ pub(crate) fn label_row(
     n: usize,
     depth: usize,
     label: &Option<Name>,
-) -> Result<bool, TypeFault>
+) -> Result<(), TypeFault>
     ensures { result ≡ label_row program.now n depth label.now }
 {
     match label {
         Some(name) => label_at(program.target_of(name), n, depth),
-        None => Ok(true),
+        None => Ok(()),
     }
 }
 
@@ -132,13 +134,15 @@ impl Types {
         }
     }
 
-    pub(crate) fn cr(&self) -> Option<Ty>
+    /// The type of the current result, if there is one.
+    pub fn cr(&self) -> Option<Ty>
         ensures { result ≡ self.now.cr }
     {
         self.cr
     }
 
-    pub(crate) fn top(&self) -> Option<Held>
+    /// The operator that waits for the innermost closing parenthesis, if one is open.
+    pub fn top(&self) -> Option<Held>
         ensures { result ≡ top_of self.now.kept }
     {
         self.kept.as_slice().last().copied()
@@ -151,7 +155,15 @@ impl Types {
         self.kept.len()
     }
 
-    pub(crate) fn apply(&mut self, effect: Effect)
+    /// The operators that wait for a closing parenthesis, the outermost first.
+    pub fn held(&self) -> &[Held]
+        ensures { reverse result.now ≡ self.now.kept }
+    {
+        self.kept.as_slice()
+    }
+
+    /// What an instruction does to the types.
+    pub fn apply(&mut self, effect: Effect)
         requires { HasRoom (length self.old.kept) effect }
         ensures { self.new ≡ applied self.old effect }
     {
@@ -169,7 +181,7 @@ impl Types {
     }
 
     /// At a label there is no current result.
-    pub(crate) fn arrive(&mut self, program: &Program, n: usize)
+    pub fn arrive(&mut self, program: &Program, n: usize)
         ensures { self.new ≡ arrived program.now n self.old }
     {
         if is_labelled(program, n) {
@@ -210,7 +222,7 @@ fn is_labelled(program: &Program, n: usize) -> bool
 
 /// Whether a program is typed, or the first fault with the instruction's number.
 pub fn check(program: &IndexedProgram) -> Result<(), (TypeFault, usize)>
-    ensures { told result ≡ judged program.now }
+    ensures { result ≡ judged program.now }
 {
     let mut types = Types::start(program.program());
     let code = program.code();
@@ -226,3 +238,9 @@ pub fn check(program: &IndexedProgram) -> Result<(), (TypeFault, usize)>
         Ok(())
     }
 }
+
+/// Of the faults that an instruction has the one of least rank is told, in whatever program it stands, at whatever place, and with
+/// whatever types the program comes to it. For proofs; it does nothing.
+pub fn the_first_fault_is_told()
+    ensures { (Q : Text) (n : ℕ) (sh : Shape) (line : Instr) → TellsFirst (applies Q n sh line) (after_line Q n sh line) }
+{}

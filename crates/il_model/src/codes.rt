@@ -4,13 +4,17 @@ ghost use Rattle.std.specs.Prelude.{◌≡◌, Some, false};
 ghost use Rattle.std.specs.Int.{w32, cast_signed, cast_unsigned};
 ghost use Rattle.il_model.specs.declared.codes.Form.TheVariants as forms;
 ghost use Rattle.il_model.specs.Values.{number_of};
-ghost use Rattle.il_model.specs.Image.{type_code, base_of, loc_code, location_code, op_code, flag, modifier_code, side_code};
-ghost use Rattle.il_model.specs.Codes.{length_of, type_of, area_loc, any_loc, is_type, may_start_with, initial_of, op_of, modifier_of, usage_of, allows, has_form, allowed_by, formed_by, letters_of, side_of, is_pointless};
+ghost use Rattle.il_model.specs.Image.{type_code, location_code, op_code, flag, modifier_code, side_code};
+ghost use Rattle.il_model.specs.Codes.{length_of, type_of, is_type, may_start_with, initial_of, op_of, modifier_of, usage_of, allows, has_form, allowed_by, formed_by, letters_of, side_of, is_pointless};
 
+use crate::coded_operand::CodedOperand;
 use crate::op::{Modifier, Op};
-use crate::program::{Area, Instr, Loc, Operand, Side};
+use crate::program::{Instr, Loc, Operand, Side};
 use crate::resolve::is_output;
 use crate::value::{Ty, Value, make};
+
+/// How each image begins.
+pub const MAGIC: [u8; 4] = *b"ILPC";
 
 pub fn type_code(ty: Ty) -> usize
     ensures { result ≡ type_code ty }
@@ -35,58 +39,12 @@ pub fn type_of(code: u8) -> Option<Ty>
     }
 }
 
-fn base_of(area: Area) -> usize
-    ensures { result ≡ base_of area }
-{
-    match area {
-        Area::Input => 0,
-        Area::Output => 4096,
-        Area::Memory => 8192,
-    }
-}
-
-fn loc_code(loc: Loc) -> usize
-    ensures { result ≡ loc_code loc }
-{
-    match loc {
-        Loc::Bit(area, n) => base_of(area) + n as usize,
-        Loc::Word(area, n) => base_of(area) + (1024 + n as usize),
-    }
-}
-
 pub fn location_code(location: Option<Loc>) -> usize
     ensures { result ≡ location_code location }
 {
     match location {
-        Some(loc) => loc_code(loc),
-        None => 65535,
-    }
-}
-
-fn area_loc(area: Area, n: u16) -> Option<Loc>
-    ensures { result ≡ area_loc area n }
-{
-    if n < 512 {
-        Some(Loc::Bit(area, n))
-    } else if n < 1024 {
-        None
-    } else if n < 1088 {
-        Some(Loc::Word(area, n - 1024))
-    } else {
-        None
-    }
-}
-
-/// The location that a code stands for.
-pub fn any_loc(n: u16) -> Option<Loc>
-    ensures { result ≡ any_loc n }
-{
-    if n < 4096 {
-        area_loc(Area::Input, n)
-    } else if n < 8192 {
-        area_loc(Area::Output, n - 4096)
-    } else {
-        area_loc(Area::Memory, n - 8192)
+        Some(loc) => CodedOperand::Location(loc).code(),
+        None => CodedOperand::Unused.code(),
     }
 }
 
@@ -169,7 +127,7 @@ fn letters(negated: bool, conditional: bool, opens: bool) -> Option<Modifier>
     })
 }
 
-pub fn modifier_of(code: u8) -> Option<Modifier>
+fn modifier_of(code: u8) -> Option<Modifier>
     ensures { result ≡ modifier_of code }
 {
     match code {
@@ -225,7 +183,7 @@ fn row(letters: LetterSet, form: Form) -> Usage
 }
 
 /// The table of the operators: the letters and the form of operand that each takes.
-pub fn usage_of(op: Op) -> Usage
+fn usage_of(op: Op) -> Usage
     ensures { result ≡ usage_of op }
 {
     match op {

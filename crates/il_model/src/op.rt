@@ -114,13 +114,6 @@ impl Op {
             _ => unreachable!(),
         }
     }
-
-    /// The code of an operator.
-    pub fn code(self) -> u8
-        ensures { slice_get OPS result ≡ Some self }
-    {
-        self as u8
-    }
 }
 
 /// The type that an operator with an operand gives, or none where it has no row at these types.

@@ -8,6 +8,9 @@ use crate::op::{Modifier, Op};
 use crate::value::{Ty, Value};
 use std::marker::Model;
 
+/// How far the words of an area stand behind its first bit.
+const FIRST_WORD: u16 = 0x400;
+
 /// One of the three areas.
 #[derive(Clone, Copy, Debug, PartialEq, Eq)]
 pub enum Area {
@@ -21,6 +24,77 @@ pub enum Area {
 pub enum Loc {
     Bit(Area, u16),
     Word(Area, u16),
+}
+
+impl Area {
+    ghost use Rattle.std.specs.Prelude.{◌≡◌};
+    ghost use Rattle.il_model.specs.CodedOperands.{base_of, area_loc};
+
+    /// The code of the first bit.
+    fn base(self) -> u16
+        ensures { result ≡ base_of self }
+    {
+        match self {
+            Area::Input => 0,
+            Area::Output => 0x1000,
+            Area::Memory => 0x2000,
+        }
+    }
+
+    /// The bit or the word that stands so far behind the first bit.
+    fn location(self, n: u16) -> Option<Loc>
+        ensures { result ≡ area_loc self n }
+    {
+        if n < 512 {
+            Some(Loc::Bit(self, n))
+        } else if n < FIRST_WORD {
+            None
+        } else if n < FIRST_WORD + 64 {
+            Some(Loc::Word(self, n - FIRST_WORD))
+        } else {
+            None
+        }
+    }
+}
+
+impl Loc {
+    ghost use Rattle.std.specs.Prelude.{◌≡◌};
+    ghost use Rattle.il_model.specs.Areas.{area_of};
+    ghost use Rattle.il_model.specs.CodedOperands.{loc_code, any_loc};
+
+    /// The area that it lies in.
+    pub fn area(self) -> Area
+        ensures { result ≡ area_of self }
+    {
+        match self {
+            Loc::Bit(area, _) | Loc::Word(area, _) => area,
+        }
+    }
+
+    /// The code.
+    pub fn code(self) -> usize
+        ensures { result ≡ loc_code self }
+    {
+        match self {
+            Loc::Bit(area, n) => area.base() as usize + n as usize,
+            Loc::Word(area, n) => area.base() as usize + (FIRST_WORD as usize + n as usize),
+        }
+    }
+
+    /// The location with that code, or None where no location has it.
+    pub fn of_code(code: u16) -> Option<Loc>
+        ensures { result ≡ any_loc code }
+    {
+        let output = Area::Output.base();
+        let memory = Area::Memory.base();
+        if code < output {
+            Area::Input.location(code)
+        } else if code < memory {
+            Area::Output.location(code - output)
+        } else {
+            Area::Memory.location(code - memory)
+        }
+    }
 }
 
 /// Where a value lies: in a variable without a location, by its number in the order of declaration, at a location, or in a

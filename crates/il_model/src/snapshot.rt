@@ -47,7 +47,7 @@ impl Model for SavedInstance {
 /// A controller as it was when it was saved: all that its answers depend on but its image and its budget.
 #[derive(Drop)]
 pub struct Snapshot {
-    /// A value for each declared variable, in order; one with a location keeps its first value here.
+    /// The values of the variables without a location, in order.
     pub variables: Vec<Value>,
     /// The function block instances, in the order of declaration.
     pub instances: Vec<SavedInstance>,
@@ -66,8 +66,8 @@ pub struct Snapshot {
     pub moment: u64,
     /// What is forced, rising by slot.
     pub forces: Vec<ForcedSlot>,
-    /// A flag for each instruction: whether a breakpoint stands there.
-    pub breaks: Vec<bool>,
+    /// The positions of the breakpoints, rising.
+    pub breaks: Vec<u16>,
     pub phase: SavedPhase,
 }
 

@@ -115,8 +115,7 @@ pub fn row_of(
             }
             match kind {
                 Kind::Target => leave_types(cr, modifier),
-                Kind::NoTarget => Err(TypeFault::UnknownLabel),
-                _ => Err(TypeFault::TypeMismatch),
+                _ => Err(TypeFault::UnknownLabel),
             }
         }
         Op::Cal => {

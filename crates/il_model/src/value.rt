@@ -2,7 +2,6 @@
 
 ghost use Rattle.std.specs.Prelude.{◌≡◌};
 ghost use Rattle.il_model.specs.Values.{ty_of, zero_of, number_of, made};
-ghost use Rattle.il_model.specs.Constants.{same_value};
 
 /// An elementary type (IEC 61131-3:2003, 2.3.1).
 #[derive(Clone, Copy, Debug, PartialEq, Eq)]
@@ -122,19 +121,6 @@ pub fn make(ty: Ty, z: i64) -> Option<Value>
                 None
             }
         }
-    }
-}
-
-/// Whether two values are of one type with one number.
-pub fn same_value(a: Value, b: Value) -> bool
-    ensures { result ≡ same_value a b }
-{
-    match (a, b) {
-        (Value::Bool(x), Value::Bool(y)) => x == y,
-        (Value::Int(x), Value::Int(y)) => x == y,
-        (Value::Dint(x), Value::Dint(y)) => x == y,
-        (Value::Time(x), Value::Time(y)) => x == y,
-        _ => false,
     }
 }
 

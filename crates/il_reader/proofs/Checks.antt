@@ -2,11 +2,11 @@
 use Rattle.std.proofs.Common.{◌≡◌, ℕ, zero, suc, length, Bool, true, false, not, cond, List, [], ◌∷◌, ◌++◌, Result, Ok, Err, refl, sym, ap, ◌∙◌, arith, ◌<◌, ◌≤◌}
 use Rattle.std.specs.List.{AllByRecursion}
 use Rattle.il_reader.specs.declared.fault.Refusal.{Refusal}
-use Rattle.il_reader.specs.declared.lexeme.Kind.TheVariants as kinds
+use Rattle.il_reader.specs.declared.lexeme.Sign.TheVariants as signs
 use Rattle.il_reader.specs.Tokens.{Token, goes_on, tokens_of}
-use Rattle.il_reader.specs.Reading.{◌>>=◌, is_kind, first, fault_at, skip_breaks, many_within, many, no_token, Reading, both, pair, led, closed, mapped, mark, choice, stand}
+use Rattle.il_reader.specs.Reading.{◌>>=◌, is_sign, first, fault_at, skip_breaks, many_within, many, no_token, Reading, both, pair, led, closed, mapped, mark, choice, stand}
 use Rattle.il_reader.proofs.Laws.{taken}
-use Rattle.il_reader.proofs.Written.{written, kind_goes, Written}
+use Rattle.il_reader.proofs.Written.{written, sign_goes, Written}
 
 -- whether what is left is read
 abbrev pub Check : Type 0
@@ -28,7 +28,7 @@ followed r k ts = r ts >>= λ x. k x.1
 
 -- more may follow it
 abbrev pub GoesOn : Token → Type 0
-GoesOn t = goes_on t.kind ≡ true
+GoesOn t = goes_on t.class ≡ true
 
 -- The fault stands where no list that is read begins so, however it goes on, while a text can follow what is before.
 pub record FirstAt (m : Check) (ts : List Token) (f : Refusal) : Type 0 where
@@ -179,7 +179,7 @@ standing_exact q k n b some = record { placed = placed; some = some }
 abbrev pub behind_breaks : Check → Check
 behind_breaks m ts = m (skip_breaks ts)
 
-pub no_break : (us : List Token) → is_kind kinds.Break (first us) ≡ false → skip_breaks us ≡ us
+pub no_break : (us : List Token) → is_sign signs.Break (first us) ≡ false → skip_breaks us ≡ us
 unfolding skip_breaks
 no_break [] e = refl
 no_break (u ∷ us) e = rw e refl
@@ -187,25 +187,25 @@ no_break (u ∷ us) e = rw e refl
 pub skips_once : (us : List Token) → skip_breaks (skip_breaks us) ≡ skip_breaks us
 unfolding skip_breaks
 skips_once [] = refl
-skips_once (u ∷ us) = by_test (is_kind kinds.Break u) refl (skips_once us)
+skips_once (u ∷ us) = by_test (is_sign signs.Break u) refl (skips_once us)
   where
-    by_test : (b : Bool) → is_kind kinds.Break u ≡ b → skip_breaks (skip_breaks us) ≡ skip_breaks us → skip_breaks (cond b (skip_breaks us) (u ∷ us)) ≡ cond b (skip_breaks us) (u ∷ us)
+    by_test : (b : Bool) → is_sign signs.Break u ≡ b → skip_breaks (skip_breaks us) ≡ skip_breaks us → skip_breaks (cond b (skip_breaks us) (u ∷ us)) ≡ cond b (skip_breaks us) (u ∷ us)
     by_test true is h = h
     by_test false is h = rw is refl
 
 pub past_below : (m : Check) (n : ℕ) → Below n m → ReadsSome (behind_breaks m) → Below n (behind_breaks m)
 unfolding skip_breaks
-past_below m n b some [] f lt h = same_first (behind_breaks m) m [] f (λ us e. ap m (no_break us (ap (λ (t : Token). is_kind kinds.Break t) e))) some (b [] f lt h)
-past_below m n b some (t ∷ ts) f lt h = by_test (is_kind kinds.Break t) refl h (past_below m n b some ts f (omega (arith, lt)))
+past_below m n b some [] f lt h = same_first (behind_breaks m) m [] f (λ us e. ap m (no_break us (ap (λ (t : Token). is_sign signs.Break t) e))) some (b [] f lt h)
+past_below m n b some (t ∷ ts) f lt h = by_test (is_sign signs.Break t) refl h (past_below m n b some ts f (omega (arith, lt)))
   where
-    by_test : (c : Bool) → is_kind kinds.Break t ≡ c → m (cond c (skip_breaks ts) (t ∷ ts)) ≡ bad f
+    by_test : (c : Bool) → is_sign signs.Break t ≡ c → m (cond c (skip_breaks ts) (t ∷ ts)) ≡ bad f
         → (m (skip_breaks ts) ≡ bad f → FirstAt (behind_breaks m) ts f)
         → FirstAt (behind_breaks m) (t ∷ ts) f
-    by_test true is h more = farther (behind_breaks m) (behind_breaks m) t ts f (kind_goes kinds.Break refl refl t is) (λ us. rw is refl) (more h)
-    by_test false is h more = same_first (behind_breaks m) m (t ∷ ts) f (λ us e. ap m (no_break us (ap (λ (u : Token). is_kind kinds.Break u) e ∙ is))) some (b (t ∷ ts) f lt h)
+    by_test true is h more = farther (behind_breaks m) (behind_breaks m) t ts f (sign_goes signs.Break t is) (λ us. rw is refl) (more h)
+    by_test false is h more = same_first (behind_breaks m) m (t ∷ ts) f (λ us e. ap m (no_break us (ap (λ (u : Token). is_sign signs.Break u) e ∙ is))) some (b (t ∷ ts) f lt h)
 
 -- behind line ends, where something that is read begins with none
-pub past_exact : (m : Check) (n : ℕ) → Below n m → (text : List ℕ) → is_kind kinds.Break (first (tokens_of text)) ≡ false → m (tokens_of text) ≡ good → Exact n (behind_breaks m)
+pub past_exact : (m : Check) (n : ℕ) → Below n m → (text : List ℕ) → is_sign signs.Break (first (tokens_of text)) ≡ false → m (tokens_of text) ≡ good → Exact n (behind_breaks m)
 past_exact m n b text solid reads =
     let some : ReadsSome (behind_breaks m) = (text, ap m (no_break (tokens_of text) solid) ∙ reads) in
     record { placed = past_below m n b some; some = some }
@@ -376,7 +376,7 @@ list_blind q stops solid item k l blind ts = list_same q stops solid item k l bl
 pub record Stopped (q : Token → Bool) (k : Check) : Type 0 where
   pub text : List ℕ
   pub stop : q (first (tokens_of text)) ≡ true
-  pub solid : is_kind kinds.Break (first (tokens_of text)) ≡ false
+  pub solid : is_sign signs.Break (first (tokens_of text)) ≡ false
   pub reads : k (tokens_of text) ≡ good
 
 pub list_some : {X : Type 0} (q : Token → Bool) (stops : List Token → Bool) (solid item : Reading X) (k : Check) → Listed q stops solid item → Blind k → (s : Stopped q k) → followed (many stops item) k (tokens_of s.text) ≡ good

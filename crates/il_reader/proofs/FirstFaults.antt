@@ -5,35 +5,37 @@ use Rattle.std.specs.List.{AllByRecursion}
 use Rattle.il_model.specs.declared.words.Mnemonic.{Mnemonic}
 use Rattle.il_model.specs.Words.{spells, mnemonic_of}
 use Rattle.il_reader.specs.declared.fault.Refusal.{Refusal}
-use Rattle.il_reader.specs.declared.lexeme.Kind.{Kind}
-use Rattle.il_reader.specs.declared.lexeme.Kind.TheVariants as kinds
+use Rattle.il_reader.specs.declared.lexeme.Sign.{Sign}
+use Rattle.il_reader.specs.declared.lexeme.Sign.TheVariants as signs
+use Rattle.il_reader.specs.declared.lexeme.Class.{Class}
+use Rattle.il_reader.specs.declared.lexeme.Class.TheVariants as classes
 use Rattle.il_model.specs.declared.program.Side.{Side}
 use Rattle.il_reader.specs.declared.contents.Operator.{Operator}
 use Rattle.il_reader.specs.declared.operations.Form.{Form}
 use Rattle.il_reader.specs.declared.operations.Form.TheVariants as forms
 use Rattle.il_reader.specs.Tokens.{Token, goes_on, tokens_of}
-use Rattle.il_reader.specs.Reading.{◌>>=◌, Reading, is_kind, is_word_token, no_token, first, others, fault_at, skip_breaks, expect, keyword, pair, led, closed, choice, mapped, past, mark, stand, many, meant}
+use Rattle.il_reader.specs.Reading.{◌>>=◌, Reading, is_sign, is_end, is_word_token, no_token, first, others, fault_at, skip_breaks, expect, keyword, pair, led, closed, choice, mapped, past, mark, stand, many, meant}
 use Rattle.il_reader.specs.Grammar.{is_variable, is_constant, variable_at, constant_at, named, field_at, inner_field_at, lone_at, operand_at, inner_operand_at, before_dot, Direct, Constant, OperandText, ArgumentText, side_at, an_output, an_input, an_argument, argument_at, ends_arguments, next_argument_at, before_close, together, inside_at, arguments_at, a_call, call_at, BehindText, Given, Target, Opened, Called, OperationText, form_of, operator_of, operator_at, optional_operand_at, nested_at, either_at, behind_at, operation_at, optional_operation_at, is_line_stop, operator_from, LineText, Plain, is_label, labelled, labelled_at, plain_at, either_line_at, line_at, Located, More, DeclarationText, ends_names, name_at, names_at, initial_at, declared, declaration_at, ends_block, ends_blocks, block_at, ProgramText, ends_lines, ends_named, end_at, finish_at, named_program, bare_program, named_at, bare_at, begins_program, program_at}
 use Rattle.il_reader.specs.FirstFault.{StandsAt, IsFirstFault}
 use Rattle.il_reader.proofs.Programs.{next_shrinks, line_shrinks, name_shrinks, declaration_shrinks, block_shrinks, program_law}
-use Rattle.il_reader.proofs.Written.{kind_goes, Written, token_of, a_dot, dot_makes, dot_written, comma_written, a_close, close_makes, close_written, an_open, open_makes, open_written, a_colon, colon_makes, colon_written, semicolon_written, an_assign, assign_makes, assign_written, arrow_written, an_address, address_makes, address_written, a_break, break_makes, a_name, name_makes, name_written, variable_written, a_truth, truth_makes, truth_written, an_at, at_makes, at_written, an_end_var, end_var_makes, end_var_written, var_written, program_written, an_end_program, end_program_makes, end_program_written, end_makes}
+use Rattle.il_reader.proofs.Written.{sign_goes, Written, token_of, a_dot, dot_makes, dot_written, comma_written, a_close, close_makes, close_written, an_open, open_makes, open_written, a_colon, colon_makes, colon_written, semicolon_written, an_assign, assign_makes, assign_written, arrow_written, an_address, address_makes, address_written, a_break, break_makes, a_name, name_makes, name_written, variable_written, a_truth, truth_makes, truth_written, an_at, at_makes, at_written, an_end_var, end_var_makes, end_var_written, var_written, program_written, an_end_program, end_program_makes, end_program_written, end_makes}
 use Rattle.il_reader.proofs.Checks.{GoesOn, Check, good, bad, leaving, followed, FirstAt, Below, ReadsSome, Exact, here, farther, same_first, same_below, same_exact, fewer_below, fewer, taken_exact, chosen_by, choice_below, behind_breaks, skips_once, past_exact, past_taken_exact, tail, mapped_same, mapped_exact, mark_exact, mark_same, pair_exact, pair_same, led_exact, closed_exact, closed_same, choice_same, option_same, stop_same, stand_same, next, either_exact, option_exact, stop_exact, stand_exact, Blind, Listed, list_blind, Stopped, list_some, list_exact}
 
 -- tokens
 
-expect_exact : (j : Kind) → Written (is_kind j) → is_kind j no_token ≡ false → (n : ℕ) (k : Check) → Exact n k → Exact (suc n) (followed (expect j) k)
+expect_exact : (j : Sign) → Written (is_sign j) → (n : ℕ) (k : Check) → Exact n k → Exact (suc n) (followed (expect j) k)
 unfolding expect
-expect_exact j w none n k e = taken_exact (is_kind j) (λ t. t) w none n k e
+expect_exact j w n k e = taken_exact (is_sign j) (λ t. t) w refl n k e
 
-past_expect_exact : (j : Kind) → Written (is_kind j) → is_kind j no_token ≡ false → (n : ℕ) (k : Check) → Exact n k → Exact (suc n) (followed (past (expect j)) k)
+past_expect_exact : (j : Sign) → Written (is_sign j) → (n : ℕ) (k : Check) → Exact n k → Exact (suc n) (followed (past (expect j)) k)
 unfolding expect
-past_expect_exact j w none n k e = past_taken_exact (is_kind j) (λ t. t) w none n k e
+past_expect_exact j w n k e = past_taken_exact (is_sign j) (λ t. t) w refl n k e
 
-sign_exact : (j : Kind) → Written (is_kind j) → is_kind j no_token ≡ false → (n : ℕ) (k : Check) → Exact n k → Exact (suc n) (followed (mark (expect j)) k)
-sign_exact j w none n k e = mark_exact (expect j) (suc n) k (expect_exact j w none n k e)
+sign_exact : (j : Sign) → Written (is_sign j) → (n : ℕ) (k : Check) → Exact n k → Exact (suc n) (followed (mark (expect j)) k)
+sign_exact j w n k e = mark_exact (expect j) (suc n) k (expect_exact j w n k e)
 
-past_sign_exact : (j : Kind) → Written (is_kind j) → is_kind j no_token ≡ false → (n : ℕ) (k : Check) → Exact n k → Exact (suc n) (followed (past (mark (expect j))) k)
-past_sign_exact j w none n k e = same_exact (followed (past (mark (expect j))) k) (followed (past (expect j)) k) (suc n) (λ ts. mark_same (expect j) k (skip_breaks ts)) (past_expect_exact j w none n k e)
+past_sign_exact : (j : Sign) → Written (is_sign j) → (n : ℕ) (k : Check) → Exact n k → Exact (suc n) (followed (past (mark (expect j))) k)
+past_sign_exact j w n k e = same_exact (followed (past (mark (expect j))) k) (followed (past (expect j)) k) (suc n) (λ ts. mark_same (expect j) k (skip_breaks ts)) (past_expect_exact j w n k e)
 
 keyword_exact : (w : List ℕ) → Written (is_word_token w) → (n : ℕ) (k : Check) → Exact n k → Exact (suc n) (followed (keyword w) k)
 unfolding keyword
@@ -62,23 +64,23 @@ unfolding constant_at is_constant
 past_constant_exact n k e = past_taken_exact is_constant (λ t. t) truth_written refl n k e
 
 abbrev dotted : Reading Token
-dotted = led (mark (expect kinds.Dot)) (expect kinds.Name)
+dotted = led (mark (expect signs.Dot)) (expect signs.Name)
 
 field_exact : (n : ℕ) (k : Check) → Exact n k → Exact n (followed field_at k)
 unfolding field_at expect
-field_exact n k e = option_exact (is_kind kinds.Dot) (mapped Some dotted) None n k e.placed
+field_exact n k e = option_exact (is_sign signs.Dot) (mapped Some dotted) None n k e.placed
     (fewer (followed (mapped Some dotted) k) n (fewer (followed (mapped Some dotted) k) (suc n) on)).placed
     (a_dot (a_name e.some.0)) (rw (dot_makes (a_name e.some.0), name_makes e.some.0) e.some.1)
   where
     on : Exact (suc (suc n)) (followed (mapped Some dotted) k)
-    on = mapped_exact Some dotted _ k (led_exact (mark (expect kinds.Dot)) (expect kinds.Name) _ k (sign_exact kinds.Dot dot_written refl _ _ (expect_exact kinds.Name name_written refl n k e)))
+    on = mapped_exact Some dotted _ k (led_exact (mark (expect signs.Dot)) (expect signs.Name) _ k (sign_exact signs.Dot dot_written _ _ (expect_exact signs.Name name_written n k e)))
 
 abbrev past_dotted : Reading Token
-past_dotted = led (past (mark (expect kinds.Dot))) (past (expect kinds.Name))
+past_dotted = led (past (mark (expect signs.Dot))) (past (expect signs.Name))
 
 -- the same, where the dot stands next
 abbrev solid_dotted : Reading Token
-solid_dotted = led (mark (expect kinds.Dot)) (past (expect kinds.Name))
+solid_dotted = led (mark (expect signs.Dot)) (past (expect signs.Name))
 
 inner_field_exact : (n : ℕ) (k : Check) → Exact n k → Blind k → Exact n (followed inner_field_at k)
 unfolding inner_field_at expect skip_breaks
@@ -86,13 +88,13 @@ inner_field_exact n k e blind = same_exact (followed inner_field_at k) (behind_b
     (past_exact body n below (a_dot (a_name e.some.0)) (rw (dot_makes (a_name e.some.0)) refl) (rw (dot_makes (a_name e.some.0), name_makes e.some.0) e.some.1))
   where
     body : Check
-    body = chosen_by (is_kind kinds.Dot) (followed (mapped Some solid_dotted) k) k
+    body = chosen_by (is_sign signs.Dot) (followed (mapped Some solid_dotted) k) k
 
     on : Exact (suc (suc n)) (followed (mapped Some solid_dotted) k)
-    on = mapped_exact Some solid_dotted _ k (led_exact (mark (expect kinds.Dot)) (past (expect kinds.Name)) _ k (sign_exact kinds.Dot dot_written refl _ _ (past_expect_exact kinds.Name name_written refl n k e)))
+    on = mapped_exact Some solid_dotted _ k (led_exact (mark (expect signs.Dot)) (past (expect signs.Name)) _ k (sign_exact signs.Dot dot_written _ _ (past_expect_exact signs.Name name_written n k e)))
 
     below : Below n body
-    below = choice_below (is_kind kinds.Dot) (followed (mapped Some solid_dotted) k) k n
+    below = choice_below (is_sign signs.Dot) (followed (mapped Some solid_dotted) k) k n
         (fewer (followed (mapped Some solid_dotted) k) n (fewer (followed (mapped Some solid_dotted) k) (suc n) on)).placed e.placed
         (a_dot (a_name e.some.0), rw (dot_makes (a_name e.some.0), name_makes e.some.0) e.some.1)
 
@@ -101,8 +103,8 @@ inner_field_exact n k e blind = same_exact (followed inner_field_at k) (behind_b
 
 lone_exact : (n : ℕ) (k : Check) → Exact n k → Exact (suc n) (followed lone_at k)
 unfolding lone_at expect
-lone_exact n k e = either_exact (is_kind kinds.Address) (mapped Direct (expect kinds.Address)) (mapped Constant constant_at) (suc n) k
-    (mapped_exact Direct (expect kinds.Address) _ k (expect_exact kinds.Address address_written refl n k e)).placed
+lone_exact n k e = either_exact (is_sign signs.Address) (mapped Direct (expect signs.Address)) (mapped Constant constant_at) (suc n) k
+    (mapped_exact Direct (expect signs.Address) _ k (expect_exact signs.Address address_written n k e)).placed
     (mapped_exact Constant constant_at _ k (constant_exact n k e)).placed
     (an_address e.some.0) (rw (address_makes e.some.0) e.some.1)
 
@@ -126,9 +128,9 @@ inner_operand_exact n k e blind = by_field_exact inner_field_at n k e (inner_fie
 
 side_exact : (n : ℕ) (k : Check) → Exact n k → Exact (suc n) (followed side_at k)
 unfolding side_at expect
-side_exact n k e = either_exact (is_kind kinds.Arrow) (mapped an_output (mark (expect kinds.Arrow))) (mapped an_input (mark (expect kinds.Assign))) (suc n) k
-    (mapped_exact an_output (mark (expect kinds.Arrow)) _ k (sign_exact kinds.Arrow arrow_written refl n k e)).placed
-    (mapped_exact an_input (mark (expect kinds.Assign)) _ k (sign_exact kinds.Assign assign_written refl n k e)).placed
+side_exact n k e = either_exact (is_sign signs.Arrow) (mapped an_output (mark (expect signs.Arrow))) (mapped an_input (mark (expect signs.Assign))) (suc n) k
+    (mapped_exact an_output (mark (expect signs.Arrow)) _ k (sign_exact signs.Arrow arrow_written n k e)).placed
+    (mapped_exact an_input (mark (expect signs.Assign)) _ k (sign_exact signs.Assign assign_written n k e)).placed
     (an_assign e.some.0) (rw (assign_makes e.some.0) e.some.1)
 
 past_side_exact : (n : ℕ) (k : Check) → Exact n k → Exact (suc n) (followed (past side_at) k)
@@ -143,43 +145,43 @@ abbrev sided : Reading (Side × OperandText)
 sided = pair (past side_at) (past inner_operand_at)
 
 abbrev solid_argument : Reading ArgumentText
-solid_argument = mapped an_argument (pair (expect kinds.Name) sided)
+solid_argument = mapped an_argument (pair (expect signs.Name) sided)
 
 sided_exact : (n : ℕ) (k : Check) → Exact n k → Blind k → Exact (suc (suc n)) (followed sided k)
 sided_exact n k e blind = pair_exact (past side_at) (past inner_operand_at) _ k (past_side_exact _ _ (past_inner_operand_exact n k e blind))
 
 solid_argument_exact : (n : ℕ) (k : Check) → Exact n k → Blind k → Exact (suc (suc (suc n))) (followed solid_argument k)
-solid_argument_exact n k e blind = mapped_exact an_argument (pair (expect kinds.Name) sided) _ k (pair_exact (expect kinds.Name) sided _ k (expect_exact kinds.Name name_written refl _ _ (sided_exact n k e blind)))
+solid_argument_exact n k e blind = mapped_exact an_argument (pair (expect signs.Name) sided) _ k (pair_exact (expect signs.Name) sided _ k (expect_exact signs.Name name_written _ _ (sided_exact n k e blind)))
 
 argument_exact : (n : ℕ) (k : Check) → Exact n k → Blind k → Exact (suc (suc (suc n))) (followed argument_at k)
 unfolding argument_at
-argument_exact n k e blind = mapped_exact an_argument (pair (past (expect kinds.Name)) sided) _ k (pair_exact (past (expect kinds.Name)) sided _ k (past_expect_exact kinds.Name name_written refl _ _ (sided_exact n k e blind)))
+argument_exact n k e blind = mapped_exact an_argument (pair (past (expect signs.Name)) sided) _ k (pair_exact (past (expect signs.Name)) sided _ k (past_expect_exact signs.Name name_written _ _ (sided_exact n k e blind)))
 
 abbrev solid_next_argument : Reading ArgumentText
-solid_next_argument = led (mark (expect kinds.Comma)) argument_at
+solid_next_argument = led (mark (expect signs.Comma)) argument_at
 
 solid_next_exact : (n : ℕ) (k : Check) → Exact n k → Blind k → Exact (suc (suc (suc (suc n)))) (followed solid_next_argument k)
-solid_next_exact n k e blind = led_exact (mark (expect kinds.Comma)) argument_at _ k (sign_exact kinds.Comma comma_written refl _ _ (argument_exact n k e blind))
+solid_next_exact n k e blind = led_exact (mark (expect signs.Comma)) argument_at _ k (sign_exact signs.Comma comma_written _ _ (argument_exact n k e blind))
 
 abbrev no_comma : Token → Bool
-no_comma t = not (is_kind kinds.Comma t)
+no_comma t = not (is_sign signs.Comma t)
 
 arguments_listed : Listed no_comma ends_arguments solid_next_argument next_argument_at
 unfolding ends_arguments next_argument_at
 arguments_listed = record { stop = λ ts. refl; past = λ ts. refl; less = next_shrinks }
 
 abbrev closing_check : Check → Check
-closing_check k = followed (past (mark (expect kinds.Close))) k
+closing_check k = followed (past (mark (expect signs.Close))) k
 
 more_exact : (n : ℕ) (k : Check) → Exact n k → Exact (suc n) (followed (many ends_arguments next_argument_at) (closing_check k))
 unfolding expect skip_breaks
 more_exact n k e = list_exact no_comma ends_arguments solid_next_argument next_argument_at (suc n) (closing_check k) arguments_listed blind
     (record { text = a_close e.some.0; stop = rw (close_makes e.some.0) refl; solid = rw (close_makes e.some.0) refl; reads = rw (close_makes e.some.0) e.some.1 })
-    (past_sign_exact kinds.Close close_written refl n k e).placed
+    (past_sign_exact signs.Close close_written n k e).placed
     step
   where
     blind : Blind (closing_check k)
-    blind = past_blind (mark (expect kinds.Close)) k
+    blind = past_blind (mark (expect signs.Close)) k
 
     more : Check
     more = followed (many ends_arguments next_argument_at) (closing_check k)
@@ -201,43 +203,43 @@ inside_exact n k e = same_exact (followed inside_at c) (behind_breaks body) (suc
     c = closing_check k
 
     body : Check
-    body = chosen_by (is_kind kinds.Close) c (followed solid_list c)
+    body = chosen_by (is_sign signs.Close) c (followed solid_list c)
 
     blind : Blind (followed (many ends_arguments next_argument_at) c)
-    blind = list_blind no_comma ends_arguments solid_next_argument next_argument_at c arguments_listed (past_blind (mark (expect kinds.Close)) k)
+    blind = list_blind no_comma ends_arguments solid_next_argument next_argument_at c arguments_listed (past_blind (mark (expect signs.Close)) k)
 
     on : Exact (suc (suc (suc (suc n)))) (followed solid_list c)
     on = mapped_exact together (pair solid_argument (many ends_arguments next_argument_at)) _ c (pair_exact solid_argument (many ends_arguments next_argument_at) _ c (solid_argument_exact _ _ (more_exact n k e) blind))
 
     below : Below (suc n) body
-    below = choice_below (is_kind kinds.Close) c (followed solid_list c) (suc n)
-        (past_sign_exact kinds.Close close_written refl n k e).placed
+    below = choice_below (is_sign signs.Close) c (followed solid_list c) (suc n)
+        (past_sign_exact signs.Close close_written n k e).placed
         (fewer_below (followed solid_list c) (suc n) (suc (suc (suc (suc n)))) (omega arith) on.placed)
         (a_close e.some.0, rw (close_makes e.some.0) e.some.1)
 
     same : (ts : List Token) → followed inside_at c ts ≡ behind_breaks body ts
-    same ts = stop_same before_close [] (mapped together (pair argument_at (many ends_arguments next_argument_at))) c ts ∙ rw (past_blind (mark (expect kinds.Close)) k ts) refl
+    same ts = stop_same before_close [] (mapped together (pair argument_at (many ends_arguments next_argument_at))) c ts ∙ rw (past_blind (mark (expect signs.Close)) k ts) refl
 
 abbrev in_parentheses : Reading (List ArgumentText)
-in_parentheses = led (mark (expect kinds.Open)) (closed inside_at (past (mark (expect kinds.Close))))
+in_parentheses = led (mark (expect signs.Open)) (closed inside_at (past (mark (expect signs.Close))))
 
 arguments_exact : (n : ℕ) (k : Check) → Exact n k → Exact n (followed arguments_at k)
 unfolding arguments_at inside_at expect skip_breaks
-arguments_exact n k e = option_exact (is_kind kinds.Open) (mapped Some in_parentheses) None n k e.placed
+arguments_exact n k e = option_exact (is_sign signs.Open) (mapped Some in_parentheses) None n k e.placed
     (fewer_below (followed (mapped Some in_parentheses) k) n (suc (suc n)) (omega arith) on.placed)
     (an_open (a_close e.some.0)) (rw (open_makes (a_close e.some.0), close_makes e.some.0) e.some.1)
   where
     on : Exact (suc (suc n)) (followed (mapped Some in_parentheses) k)
-    on = mapped_exact Some in_parentheses _ k (led_exact (mark (expect kinds.Open)) (closed inside_at (past (mark (expect kinds.Close)))) _ k (sign_exact kinds.Open open_written refl _ _ (closed_exact inside_at (past (mark (expect kinds.Close))) _ k (inside_exact n k e))))
+    on = mapped_exact Some in_parentheses _ k (led_exact (mark (expect signs.Open)) (closed inside_at (past (mark (expect signs.Close)))) _ k (sign_exact signs.Open open_written _ _ (closed_exact inside_at (past (mark (expect signs.Close))) _ k (inside_exact n k e))))
 
 call_exact : (n : ℕ) (k : Check) → Exact n k → Exact (suc n) (followed call_at k)
 unfolding call_at
-call_exact n k e = mapped_exact a_call (pair (expect kinds.Name) arguments_at) _ k (pair_exact (expect kinds.Name) arguments_at _ k (expect_exact kinds.Name name_written refl n _ (arguments_exact n k e)))
+call_exact n k e = mapped_exact a_call (pair (expect signs.Name) arguments_at) _ k (pair_exact (expect signs.Name) arguments_at _ k (expect_exact signs.Name name_written n _ (arguments_exact n k e)))
 
 -- operations
 
 abbrev stops_line : Token → Bool
-stops_line t = is_kind kinds.Break t || is_kind kinds.End t
+stops_line t = is_sign signs.Break t || is_end t
 
 some_operand_exact : (n : ℕ) (k : Check) → Exact n k → Exact (suc n) (followed (mapped Some operand_at) k)
 some_operand_exact n k e = mapped_exact Some operand_at _ k (operand_exact n k e)
@@ -250,7 +252,7 @@ optional_operand_exact n k e = stop_exact stops_line None (mapped Some operand_a
 
 nested_exact : (n : ℕ) (k : Check) → Exact n k → Exact (suc n) (followed nested_at k)
 unfolding nested_at
-nested_exact n k e = led_exact (mark (expect kinds.Open)) optional_operand_at _ k (sign_exact kinds.Open open_written refl _ _ (optional_operand_exact n k e))
+nested_exact n k e = led_exact (mark (expect signs.Open)) optional_operand_at _ k (sign_exact signs.Open open_written _ _ (optional_operand_exact n k e))
 
 given_exact : (n : ℕ) (k : Check) → Exact n k → Exact (suc n) (followed (mapped Given operand_at) k)
 given_exact n k e = mapped_exact Given operand_at _ k (operand_exact n k e)
@@ -261,12 +263,12 @@ opened_exact n k e = mapped_exact Opened nested_at _ k (nested_exact n k e)
 -- something that is read of it, and begins with no colon
 record Plainly (m : Check) : Type 0 where
   text : List ℕ
-  no_colon : is_kind kinds.Colon (first (tokens_of text)) ≡ false
+  no_colon : is_sign signs.Colon (first (tokens_of text)) ≡ false
   reads : m (tokens_of text) ≡ good
 
 either_behind_exact : (n : ℕ) (k : Check) → Exact n k → Exact (suc n) (followed either_at k)
 unfolding either_at operand_at lone_at expect
-either_behind_exact n k e = either_exact (is_kind kinds.Open) (mapped Opened nested_at) (mapped Given operand_at) (suc n) k
+either_behind_exact n k e = either_exact (is_sign signs.Open) (mapped Opened nested_at) (mapped Given operand_at) (suc n) k
     (opened_exact n k e).placed
     (given_exact n k e).placed
     (an_address e.some.0) (rw (address_makes e.some.0) e.some.1)
@@ -275,7 +277,7 @@ behind_exact : (form : Form) (n : ℕ) (k : Check) → Exact n k → Exact n (fo
 unfolding behind_at
 behind_exact forms.Operand n k e = fewer (followed (mapped Given operand_at) k) n (given_exact n k e)
 behind_exact forms.Nothing n k e = e
-behind_exact forms.Label n k e = fewer (followed (mapped Target (expect kinds.Name)) k) n (mapped_exact Target (expect kinds.Name) _ k (expect_exact kinds.Name name_written refl n k e))
+behind_exact forms.Label n k e = fewer (followed (mapped Target (expect signs.Name)) k) n (mapped_exact Target (expect signs.Name) _ k (expect_exact signs.Name name_written n k e))
 behind_exact forms.Either n k e = fewer (followed either_at k) n (either_behind_exact n k e)
 behind_exact forms.Call n k e = fewer (followed (mapped Called call_at) k) n (mapped_exact Called call_at _ k (call_exact n k e))
 
@@ -309,14 +311,14 @@ some_operator o = Some o
 no_operator : (o : Operator) → None ≡ some_operator o → ⊥
 no_operator o e = absurd cc
 
-operator_goes : (t : Token) (o : Operator) → operator_of t ≡ Some o → goes_on t.kind ≡ true
+operator_goes : (t : Token) (o : Operator) → operator_of t ≡ Some o → goes_on t.class ≡ true
 unfolding operator_of
-operator_goes t o e = by_kind t.kind refl
+operator_goes t o e = by_class t.class refl
   where
-    by_kind : (j : Kind) → t.kind ≡ j → goes_on t.kind ≡ true
-    by_kind kinds.End is = let none : operator_of t ≡ None = rw is refl in absurd (no_operator o (sym none ∙ e))
-    by_kind (kinds.Broken f) is = let none : operator_of t ≡ None = rw is refl in absurd (no_operator o (sym none ∙ e))
-    by_kind j is = rw is refl
+    by_class : (c : Class) → t.class ≡ c → goes_on t.class ≡ true
+    by_class classes.End is = let none : operator_of t ≡ None = rw is refl in absurd (no_operator o (sym none ∙ e))
+    by_class (classes.Broken f) is = let none : operator_of t ≡ None = rw is refl in absurd (no_operator o (sym none ∙ e))
+    by_class (classes.Sign s) is = rw is refl
 
 operation_exact : (n : ℕ) (k : Check) → Exact n k → Exact (suc n) (followed operation_at k)
 unfolding operator_of behind_at
@@ -348,7 +350,7 @@ optional_operation_exact n k e = stop_exact stops_line None (mapped Some operati
 
 -- a name before a colon, or one that is no operator
 abbrev label_test : Token → Token → Bool
-label_test t u = is_kind kinds.Name t && (is_kind kinds.Colon u || is_none (mnemonic_of t.text))
+label_test t u = is_sign signs.Name t && (is_sign signs.Colon u || is_none (mnemonic_of t.text))
 
 true_is_false : true ≡ false → ⊥
 true_is_false e = absurd cc
@@ -368,15 +370,15 @@ still_none true c d true e z = absurd (never_false c e)
 still_none true c d false e z = rw z refl
 
 -- what is neither a label nor an operator is no name
-no_name : (t u : Token) → operator_of t ≡ None → label_test t u ≡ false → is_kind kinds.Name t ≡ false
+no_name : (t u : Token) → operator_of t ≡ None → label_test t u ≡ false → is_sign signs.Name t ≡ false
 unfolding operator_of
-no_name t u none e = by_name (is_kind kinds.Name t) refl
+no_name t u none e = by_name (is_sign signs.Name t) refl
   where
-    by_word : (o : Option Mnemonic) → operator_from t.left o ≡ None → (is_kind kinds.Colon u || is_none o) ≡ false → ⊥
-    by_word None n f = never_false (is_kind kinds.Colon u) f
+    by_word : (o : Option Mnemonic) → operator_from t.left o ≡ None → (is_sign signs.Colon u || is_none o) ≡ false → ⊥
+    by_word None n f = never_false (is_sign signs.Colon u) f
     by_word (Some x) n f = absurd cc
 
-    by_name : (b : Bool) → is_kind kinds.Name t ≡ b → is_kind kinds.Name t ≡ false
+    by_name : (b : Bool) → is_sign signs.Name t ≡ b → is_sign signs.Name t ≡ false
     by_name false is = is
     by_name true is = absurd (by_word (mnemonic_of t.text) (rw is at none) (rw is at e))
 
@@ -384,25 +386,25 @@ no_name t u none e = by_name (is_kind kinds.Name t) refl
 record LineEnd (k : Check) : Type 0 where
   text : List ℕ
   stop : stops_line (first (tokens_of text)) ≡ true
-  no_colon : is_kind kinds.Colon (first (tokens_of text)) ≡ false
+  no_colon : is_sign signs.Colon (first (tokens_of text)) ≡ false
   reads : k (tokens_of text) ≡ good
 
 plain_end : (k : Check) → LineEnd k → Plainly k
 plain_end k s = record { text = s.text; no_colon = s.no_colon; reads = s.reads }
 
 abbrev behind_label : Check → Check
-behind_label m = followed (led (mark (expect kinds.Colon)) optional_operation_at) m
+behind_label m = followed (led (mark (expect signs.Colon)) optional_operation_at) m
 
 -- what is checked of a line by its first two tokens
 abbrev line_body : Check → Check
-line_body m ts = cond (is_label ts) (followed (expect kinds.Name) (behind_label m) ts) (by_operator m (operator_of (first ts)) ts)
+line_body m ts = cond (is_label ts) (followed (expect signs.Name) (behind_label m) ts) (by_operator m (operator_of (first ts)) ts)
 
 content_same : (m : Check) (ts : List Token) → followed either_line_at m ts ≡ line_body m ts
 unfolding either_line_at labelled_at plain_at
 content_same m ts =
     choice_same is_label labelled_at plain_at m ts
-    ∙ ap (λ (z : Result (Unit {0}) Refusal). cond (is_label ts) z (followed plain_at m ts)) (mapped_same labelled (pair (expect kinds.Name) (led (mark (expect kinds.Colon)) optional_operation_at)) m ts ∙ pair_same (expect kinds.Name) (led (mark (expect kinds.Colon)) optional_operation_at) m ts)
-    ∙ ap (λ (z : Result (Unit {0}) Refusal). cond (is_label ts) (followed (expect kinds.Name) (behind_label m) ts) z) (mapped_same Plain operation_at m ts ∙ operation_same m ts)
+    ∙ ap (λ (z : Result (Unit {0}) Refusal). cond (is_label ts) z (followed plain_at m ts)) (mapped_same labelled (pair (expect signs.Name) (led (mark (expect signs.Colon)) optional_operation_at)) m ts ∙ pair_same (expect signs.Name) (led (mark (expect signs.Colon)) optional_operation_at) m ts)
+    ∙ ap (λ (z : Result (Unit {0}) Refusal). cond (is_label ts) (followed (expect signs.Name) (behind_label m) ts) z) (mapped_same Plain operation_at m ts ∙ operation_same m ts)
 
 content_exact : (n : ℕ) (m : Check) → Exact n m → LineEnd m → Exact (suc n) (followed either_line_at m)
 unfolding is_label operator_of behind_at expect optional_operation_at
@@ -414,16 +416,16 @@ content_exact n m e s = same_exact (followed either_line_at m) body (suc n) (con
     some : ReadsSome body
     some = (a_close e.some.0, rw (close_makes e.some.0) e.some.1)
 
-    colon : behind_label m (token_of kinds.Colon (codes ":") s.text ∷ tokens_of s.text) ≡ good
+    colon : behind_label m (token_of signs.Colon (codes ":") s.text ∷ tokens_of s.text) ≡ good
     colon = rw s.stop s.reads
 
-    behind_name : (t : Token) (ts : List Token) (f : Refusal) → length ts < n → label_test t (first ts) ≡ true → is_kind kinds.Name t ≡ true → behind_label m ts ≡ bad f → FirstAt body (t ∷ ts) f
+    behind_name : (t : Token) (ts : List Token) (f : Refusal) → length ts < n → label_test t (first ts) ≡ true → is_sign signs.Name t ≡ true → behind_label m ts ≡ bad f → FirstAt body (t ∷ ts) f
     behind_name t ts f lt is name h =
         let after : Check = λ us. body (t ∷ us) in
-        let l : Exact (suc n) (behind_label m) = led_exact (mark (expect kinds.Colon)) optional_operation_at _ m (sign_exact kinds.Colon colon_written refl _ _ (optional_operation_exact n m e)) in
+        let l : Exact (suc n) (behind_label m) = led_exact (mark (expect signs.Colon)) optional_operation_at _ m (sign_exact signs.Colon colon_written _ _ (optional_operation_exact n m e)) in
         let reads : ReadsSome after = (a_colon s.text, rw (colon_makes s.text, name) colon) in
         let same : (us : List Token) → first us ≡ first ts → after us ≡ behind_label m us = λ us q. let at : label_test t (first us) ≡ true = ap (label_test t) q ∙ is in rw (at, name) refl in
-        farther body after t ts f (kind_goes kinds.Name refl refl t name) (λ us. refl) (same_first after (behind_label m) ts f same reads (l.placed ts f (omega (arith, lt)) h))
+        farther body after t ts f (sign_goes signs.Name t name) (λ us. refl) (same_first after (behind_label m) ts f same reads (l.placed ts f (omega (arith, lt)) h))
 
     by_operation : (t : Token) (ts : List Token) (f : Refusal) → length ts < n → label_test t (first ts) ≡ false → (o : Option Operator) → operator_of t ≡ o → by_operator m o (t ∷ ts) ≡ bad f → FirstAt body (t ∷ ts) f
     by_operation t ts f lt is None none h =
@@ -434,14 +436,14 @@ content_exact n m e s = same_exact (followed either_line_at m) body (suc n) (con
         let k : Check = followed (behind_at (form_of o.mnemonic.op)) m in
         let b = behind_exact (form_of o.mnemonic.op) n m e in
         let p = behind_plainly (form_of o.mnemonic.op) m (plain_end m s) in
-        let none = still_none (is_kind kinds.Name t) (is_kind kinds.Colon (first ts)) (is_kind kinds.Colon (first (tokens_of p.text))) (is_none (mnemonic_of t.text)) is p.no_colon in
+        let none = still_none (is_sign signs.Name t) (is_sign signs.Colon (first ts)) (is_sign signs.Colon (first (tokens_of p.text))) (is_none (mnemonic_of t.text)) is p.no_colon in
         let reads : ReadsSome after = (p.text, rw (none, found) p.reads) in
         let same : (us : List Token) → first us ≡ first ts → after us ≡ k us = λ us q. let at : label_test t (first us) ≡ false = ap (label_test t) q ∙ is in rw (at, found) refl in
         farther body after t ts f (operator_goes t o found) (λ us. refl) (same_first after k ts f same reads (b.placed ts f lt h))
 
-    by_label : (t : Token) (ts : List Token) (f : Refusal) → length ts < n → (b : Bool) → label_test t (first ts) ≡ b → cond b (followed (expect kinds.Name) (behind_label m) (t ∷ ts)) (by_operator m (operator_of t) (t ∷ ts)) ≡ bad f → FirstAt body (t ∷ ts) f
+    by_label : (t : Token) (ts : List Token) (f : Refusal) → length ts < n → (b : Bool) → label_test t (first ts) ≡ b → cond b (followed (expect signs.Name) (behind_label m) (t ∷ ts)) (by_operator m (operator_of t) (t ∷ ts)) ≡ bad f → FirstAt body (t ∷ ts) f
     by_label t ts f lt true is h =
-        let name = label_name (is_kind kinds.Name t) _ is in
+        let name = label_name (is_sign signs.Name t) _ is in
         behind_name t ts f lt is name (rw name at h)
     by_label t ts f lt false is h = by_operation t ts f lt is (operator_of t) refl h
 
@@ -466,10 +468,10 @@ led_blind : {X : Type 0} (m : Reading (Unit {0})) (a : Reading X) (k : Check) �
 led_blind m a k ts = ap (followed (led m a) k) (sym (skips_once ts))
 
 abbrev solid_name : Reading Token
-solid_name = led (mark (expect kinds.Comma)) (past (expect kinds.Name))
+solid_name = led (mark (expect signs.Comma)) (past (expect signs.Name))
 
 solid_name_exact : (n : ℕ) (k : Check) → Exact n k → Exact (suc (suc n)) (followed solid_name k)
-solid_name_exact n k e = led_exact (mark (expect kinds.Comma)) (past (expect kinds.Name)) _ k (sign_exact kinds.Comma comma_written refl _ _ (past_expect_exact kinds.Name name_written refl n k e))
+solid_name_exact n k e = led_exact (mark (expect signs.Comma)) (past (expect signs.Name)) _ k (sign_exact signs.Comma comma_written _ _ (past_expect_exact signs.Name name_written n k e))
 
 names_listed : Listed no_comma ends_names solid_name name_at
 unfolding ends_names name_at
@@ -483,7 +485,7 @@ more_names_exact n k e blind s = list_exact no_comma ends_names solid_name name_
     more = followed (many ends_names name_at) k
 
 abbrev a_location : Reading Token
-a_location = led (keyword (codes "AT")) (past (expect kinds.Address))
+a_location = led (keyword (codes "AT")) (past (expect signs.Address))
 
 names_exact : (n : ℕ) (k : Check) → Exact n k → Blind k → Stopped no_comma k → Exact n (followed names_at k)
 unfolding names_at keyword expect spells skip_breaks
@@ -493,55 +495,55 @@ names_exact n k e blind s = either_exact (is_word_token (codes "AT")) (mapped Lo
     (an_at (an_address e.some.0)) (rw (at_makes (an_address e.some.0), address_makes e.some.0) e.some.1)
   where
     on : Exact (suc (suc n)) (followed (mapped Located a_location) k)
-    on = mapped_exact Located a_location _ k (led_exact (keyword (codes "AT")) (past (expect kinds.Address)) _ k (keyword_exact (codes "AT") at_written _ _ (past_expect_exact kinds.Address address_written refl n k e)))
+    on = mapped_exact Located a_location _ k (led_exact (keyword (codes "AT")) (past (expect signs.Address)) _ k (keyword_exact (codes "AT") at_written _ _ (past_expect_exact signs.Address address_written n k e)))
 
 past_names_exact : (n : ℕ) (k : Check) → Exact n k → Blind k → Stopped no_comma k → Exact n (followed (past names_at) k)
 unfolding names_at keyword expect spells skip_breaks
 past_names_exact n k e blind s = past_exact (followed names_at k) n (names_exact n k e blind s).placed (an_at (an_address e.some.0)) (rw (at_makes (an_address e.some.0)) refl) (rw (at_makes (an_address e.some.0), address_makes e.some.0) e.some.1)
 
 abbrev a_value : Reading Token
-a_value = led (mark (expect kinds.Assign)) (past constant_at)
+a_value = led (mark (expect signs.Assign)) (past constant_at)
 
 initial_exact : (n : ℕ) (k : Check) → Exact n k → Exact n (followed initial_at k)
 unfolding initial_at expect constant_at is_constant skip_breaks spells
-initial_exact n k e = option_exact (is_kind kinds.Assign) (mapped Some a_value) None n k e.placed
+initial_exact n k e = option_exact (is_sign signs.Assign) (mapped Some a_value) None n k e.placed
     (fewer (followed (mapped Some a_value) k) n (fewer (followed (mapped Some a_value) k) (suc n) on)).placed
     (an_assign (a_truth e.some.0)) (rw (assign_makes (a_truth e.some.0), truth_makes e.some.0) e.some.1)
   where
     on : Exact (suc (suc n)) (followed (mapped Some a_value) k)
-    on = mapped_exact Some a_value _ k (led_exact (mark (expect kinds.Assign)) (past constant_at) _ k (sign_exact kinds.Assign assign_written refl _ _ (past_constant_exact n k e)))
+    on = mapped_exact Some a_value _ k (led_exact (mark (expect signs.Assign)) (past constant_at) _ k (sign_exact signs.Assign assign_written _ _ (past_constant_exact n k e)))
 
 past_initial_exact : (n : ℕ) (k : Check) → Exact n k → Exact n (followed (past initial_at) k)
 unfolding initial_at expect constant_at is_constant skip_breaks spells
 past_initial_exact n k e = past_exact (followed initial_at k) n (initial_exact n k e).placed (an_assign (a_truth e.some.0)) (rw (assign_makes (a_truth e.some.0)) refl) (rw (assign_makes (a_truth e.some.0), truth_makes e.some.0) e.some.1)
 
 abbrev valued : Reading (Option Token)
-valued = closed (past initial_at) (past (mark (expect kinds.Semicolon)))
+valued = closed (past initial_at) (past (mark (expect signs.Semicolon)))
 
 abbrev typed : Reading (Token × Option Token)
-typed = pair (past (expect kinds.Name)) valued
+typed = pair (past (expect signs.Name)) valued
 
 abbrev colon_typed : Reading (Token × Option Token)
-colon_typed = led (past (mark (expect kinds.Colon))) typed
+colon_typed = led (past (mark (expect signs.Colon))) typed
 
 typed_exact : (n : ℕ) (k : Check) → Exact n k → Exact (suc (suc n)) (followed typed k)
-typed_exact n k e = pair_exact (past (expect kinds.Name)) valued _ k (past_expect_exact kinds.Name name_written refl _ _
-    (closed_exact (past initial_at) (past (mark (expect kinds.Semicolon))) _ k (past_initial_exact _ _ (past_sign_exact kinds.Semicolon semicolon_written refl n k e))))
+typed_exact n k e = pair_exact (past (expect signs.Name)) valued _ k (past_expect_exact signs.Name name_written _ _
+    (closed_exact (past initial_at) (past (mark (expect signs.Semicolon))) _ k (past_initial_exact _ _ (past_sign_exact signs.Semicolon semicolon_written n k e))))
 
 abbrev solid_declaration : Reading DeclarationText
-solid_declaration = mapped declared (pair (expect kinds.Name) (pair (past names_at) colon_typed))
+solid_declaration = mapped declared (pair (expect signs.Name) (pair (past names_at) colon_typed))
 
 solid_declaration_exact : (n : ℕ) (k : Check) → Exact n k → Exact (suc (suc (suc (suc n)))) (followed solid_declaration k)
 unfolding expect skip_breaks
-solid_declaration_exact n k e = mapped_exact declared (pair (expect kinds.Name) (pair (past names_at) colon_typed)) _ k
-    (pair_exact (expect kinds.Name) (pair (past names_at) colon_typed) _ k (expect_exact kinds.Name name_written refl _ _
-    (pair_exact (past names_at) colon_typed _ k (past_names_exact _ _ colon (led_blind (mark (expect kinds.Colon)) typed k) stopped))))
+solid_declaration_exact n k e = mapped_exact declared (pair (expect signs.Name) (pair (past names_at) colon_typed)) _ k
+    (pair_exact (expect signs.Name) (pair (past names_at) colon_typed) _ k (expect_exact signs.Name name_written _ _
+    (pair_exact (past names_at) colon_typed _ k (past_names_exact _ _ colon (led_blind (mark (expect signs.Colon)) typed k) stopped))))
   where
     t : Exact (suc (suc n)) (followed typed k)
     t = typed_exact n k e
 
     colon : Exact (suc (suc (suc n))) (followed colon_typed k)
-    colon = led_exact (past (mark (expect kinds.Colon))) typed _ k (past_sign_exact kinds.Colon colon_written refl _ _ t)
+    colon = led_exact (past (mark (expect signs.Colon))) typed _ k (past_sign_exact signs.Colon colon_written _ _ t)
 
     stopped : Stopped no_comma (followed colon_typed k)
     stopped = record { text = a_colon t.some.0; stop = rw (colon_makes t.some.0) refl; solid = rw (colon_makes t.some.0) refl; reads = rw (colon_makes t.some.0) t.some.1 }
@@ -602,7 +604,7 @@ final_below n ts f lt h = absurd (good_is_bad f h)
 
 past_end_exact : (n : ℕ) → Exact n (followed (past end_at) final)
 unfolding end_at
-past_end_exact n = past_exact (followed end_at final) n (stand_exact (is_kind kinds.End) tt n final (final_below n) [] (rw end_makes refl) refl).placed [] (rw end_makes refl) (rw end_makes refl)
+past_end_exact n = past_exact (followed end_at final) n (stand_exact (is_end) tt n final (final_below n) [] (rw end_makes refl) refl).placed [] (rw end_makes refl) (rw end_makes refl)
 
 finish_exact : (n : ℕ) → Exact (suc n) (followed finish_at final)
 unfolding finish_at spells
@@ -612,7 +614,7 @@ finish_exact n = led_exact (past (keyword (codes "END_PROGRAM"))) (past end_at) 
 lines_exact : (q : Token → Bool) (stops : List Token → Bool) (n : ℕ) (k : Check) → Listed q stops solid_line line_at → Blind k → Stopped q k → Below n k → LineEnd (followed (many stops line_at) k) → Exact n (followed (many stops line_at) k)
 lines_exact q stops n k listed blind s b ends = list_exact q stops solid_line line_at n k listed blind s b (λ p m. (solid_line_exact p (followed (many stops line_at) k) m.placed ends).placed)
 
-bare_listed : Listed (is_kind kinds.End) ends_lines solid_line line_at
+bare_listed : Listed (is_end) ends_lines solid_line line_at
 unfolding ends_lines line_at
 bare_listed = record { stop = λ ts. refl; past = λ ts. refl; less = line_shrinks }
 
@@ -626,7 +628,7 @@ bare_lines = followed (many ends_lines line_at) (followed (past end_at) final)
 abbrev named_lines : Check
 named_lines = followed (many ends_named line_at) (followed finish_at final)
 
-bare_stopped : Stopped (is_kind kinds.End) (followed (past end_at) final)
+bare_stopped : Stopped (is_end) (followed (past end_at) final)
 unfolding end_at skip_breaks
 bare_stopped = record { text = []; stop = rw end_makes refl; solid = rw end_makes refl; reads = rw end_makes refl }
 
@@ -639,21 +641,21 @@ unfolding finish_at
 finish_blind = led_blind (keyword (codes "END_PROGRAM")) (past end_at) final
 
 bare_lines_blind : Blind bare_lines
-bare_lines_blind = list_blind (is_kind kinds.End) ends_lines solid_line line_at (followed (past end_at) final) bare_listed (past_blind end_at final)
+bare_lines_blind = list_blind (is_end) ends_lines solid_line line_at (followed (past end_at) final) bare_listed (past_blind end_at final)
 
 named_lines_blind : Blind named_lines
 named_lines_blind = list_blind (is_word_token (codes "END_PROGRAM")) ends_named solid_line line_at (followed finish_at final) named_listed finish_blind
 
 bare_lines_read : bare_lines (tokens_of []) ≡ good
 unfolding bare_stopped
-bare_lines_read = list_some (is_kind kinds.End) ends_lines solid_line line_at (followed (past end_at) final) bare_listed (past_blind end_at final) bare_stopped
+bare_lines_read = list_some (is_end) ends_lines solid_line line_at (followed (past end_at) final) bare_listed (past_blind end_at final) bare_stopped
 
 named_lines_read : named_lines (tokens_of (an_end_program [])) ≡ good
 unfolding named_stopped
 named_lines_read = list_some (is_word_token (codes "END_PROGRAM")) ends_named solid_line line_at (followed finish_at final) named_listed finish_blind named_stopped
 
 bare_lines_exact : (n : ℕ) → Exact n bare_lines
-bare_lines_exact n = lines_exact (is_kind kinds.End) ends_lines n (followed (past end_at) final) bare_listed (past_blind end_at final) bare_stopped (past_end_exact n).placed
+bare_lines_exact n = lines_exact (is_end) ends_lines n (followed (past end_at) final) bare_listed (past_blind end_at final) bare_stopped (past_end_exact n).placed
     (record { text = []; stop = rw end_makes refl; no_colon = rw end_makes refl; reads = bare_lines_read })
 
 named_lines_exact : (n : ℕ) → Exact n named_lines
@@ -663,7 +665,7 @@ named_lines_exact n = lines_exact (is_word_token (codes "END_PROGRAM")) ends_nam
   where
     broken : named_lines (tokens_of (a_break (an_end_program []))) ≡ good
     broken = ap named_lines (break_makes (an_end_program []))
-        ∙ named_lines_blind (token_of kinds.Break (10 ∷ []) (an_end_program []) ∷ tokens_of (an_end_program []))
+        ∙ named_lines_blind (token_of signs.Break (10 ∷ []) (an_end_program []) ∷ tokens_of (an_end_program []))
         ∙ sym (named_lines_blind (tokens_of (an_end_program [])))
         ∙ named_lines_read
 
@@ -718,7 +720,7 @@ unfolding bare_body_stopped
 bare_read = bare_same (tokens_of []) ∙ list_some no_var ends_blocks solid_block block_at (followed bare_body final) blocks_listed bare_body_blind bare_body_stopped
 
 abbrev titled : Reading ProgramText
-titled = mapped named_program (pair (expect kinds.Name) (pair (many ends_blocks block_at) named_body))
+titled = mapped named_program (pair (expect signs.Name) (pair (many ends_blocks block_at) named_body))
 
 abbrev solid_named : Reading ProgramText
 solid_named = led (keyword (codes "PROGRAM")) titled
@@ -727,8 +729,8 @@ solid_named_exact : (n : ℕ) → Exact n (followed solid_named final)
 unfolding spells
 solid_named_exact n = fewer (followed solid_named final) n (fewer (followed solid_named final) (suc n)
     (led_exact (keyword (codes "PROGRAM")) titled _ final (keyword_exact (codes "PROGRAM") program_written _ _
-    (mapped_exact named_program (pair (expect kinds.Name) (pair (many ends_blocks block_at) named_body)) _ final
-    (pair_exact (expect kinds.Name) (pair (many ends_blocks block_at) named_body) _ final (expect_exact kinds.Name name_written refl n _
+    (mapped_exact named_program (pair (expect signs.Name) (pair (many ends_blocks block_at) named_body)) _ final
+    (pair_exact (expect signs.Name) (pair (many ends_blocks block_at) named_body) _ final (expect_exact signs.Name name_written n _
     (pair_exact (many ends_blocks block_at) named_body n final (named_blocks_exact n))))))))
 
 program_exact : (n : ℕ) → Exact n (followed program_at final)

@@ -5,8 +5,8 @@ use Rattle.std.proofs.lemmas.List.Concat.{flat_map-cons}
 use Rattle.il_reader.specs.declared.fault.Refusal.{Refusal}
 use Rattle.il_reader.specs.Tokens.{Token}
 use Rattle.il_reader.specs.declared.contents.Operator.{Operator}
-use Rattle.il_reader.specs.Reading.{◌>>=◌, is_kind, first, others, fault_at, skip_breaks, many_within, many, no_token, Reading, both, pair, led, closed, mapped, choice, past, mark, stand, meant, meaning}
-use Rattle.il_reader.specs.declared.lexeme.Kind.TheVariants as kinds
+use Rattle.il_reader.specs.Reading.{◌>>=◌, is_sign, first, others, fault_at, skip_breaks, many_within, many, no_token, Reading, both, pair, led, closed, mapped, choice, past, mark, stand, meant, meaning}
+use Rattle.il_reader.specs.declared.lexeme.Sign.TheVariants as signs
 use Rattle.il_reader.specs.Spelling.{Part, breaks, one, this, operator, ahead, Spell, going}
 
 abbrev done : {A : Type 0} → A → Result A Refusal
@@ -276,7 +276,7 @@ count-append (operator f x ∷ ps) qs = omega (arith, count-append ps qs)
 skip-shrinks : (ts : List Token) → length (skip_breaks ts) ≤ length ts
 unfolding skip_breaks
 skip-shrinks [] = omega arith
-skip-shrinks (t ∷ ts) = shorter (is_kind kinds.Break t) (skip-shrinks ts)
+skip-shrinks (t ∷ ts) = shorter (is_sign signs.Break t) (skip-shrinks ts)
   where
     shorter : (b : Bool) → length (skip_breaks ts) ≤ length ts → length (cond b (skip_breaks ts) (t ∷ ts)) ≤ length (t ∷ ts)
     shorter true h = omega arith

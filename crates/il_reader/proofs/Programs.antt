@@ -1,36 +1,31 @@
 -- The laws of each part of the grammar.
-use Rattle.std.proofs.Common.{◌≡◌, ℕ, length, ◌<◌, Bool, true, false, cond, eqb, List, [], ◌∷◌, ◌++◌, Option, Some, None, Result, Ok, refl, sym, ap, subst, ◌∙◌, arith, codes, inl, inr, ◌⊎◌, ◌&&◌, ◌||◌}
+use Rattle.std.proofs.Common.{◌≡◌, ℕ, length, ◌<◌, Bool, true, false, cond, List, [], ◌∷◌, ◌++◌, Option, Some, None, Result, Ok, refl, sym, ap, subst, ◌∙◌, arith, codes, inl, inr, ◌⊎◌, ◌&&◌, ◌||◌}
 use Rattle.std.specs.List.{flat_map}
-use Rattle.std.proofs.lemmas.Bool.{eqb-true}
 use Rattle.il_reader.specs.declared.fault.Refusal.{Refusal}
-use Rattle.il_reader.specs.declared.lexeme.Kind.{Kind}
-use Rattle.il_reader.specs.declared.lexeme.Kind.TheVariants as kinds
+use Rattle.il_reader.specs.declared.lexeme.Sign.{Sign}
+use Rattle.il_reader.specs.declared.lexeme.Sign.TheVariants as signs
+use Rattle.il_reader.specs.declared.lexeme.Class.{Class}
+use Rattle.il_reader.specs.declared.lexeme.Class.TheVariants as classes
 use Rattle.il_reader.specs.declared.contents.Operator.{Operator}
 use Rattle.il_model.specs.declared.program.Side.{Side}
 use Rattle.il_model.specs.declared.program.Side.TheVariants as sides
 use Rattle.il_reader.specs.declared.operations.Form.{Form}
 use Rattle.il_reader.specs.declared.operations.Form.TheVariants as forms
-use Rattle.il_reader.specs.Tokens.{Token, goes_on}
-use Rattle.il_reader.specs.Reading.{◌>>=◌, Reading, kind_code, is_kind, no_token, first, skip_breaks, expect, both, pair, choice, mapped, mark, stand, many, closed, next_is, is_word_token, next_is_word, keyword}
-use Rattle.il_reader.specs.Grammar.{OperandText, Constant, Direct, Named, Field, ArgumentText, CallText, BehindText, Nothing, Given, Target, Opened, Called, no_dot, field_at, before_dot, before_no_dot, inner_field_at, named_by, named, next_is_variable, lone_at, inner_operand_at, an_output, an_input, side_at, an_argument, argument_at, ends_arguments, next_argument_at, before_close, together, inside_at, no_open, arguments_at, a_call, call_at, OperationText, LineText, Labelled, Plain, NamesText, Located, More, DeclarationText, ProgramText, is_truth, is_variable, is_constant, form_of, operator_of, operator_at, variable_at, constant_at, operand_at, is_line_stop, optional_operand_at, nested_at, either_at, behind_at, operation_at, optional_operation_at, is_label, is_no_label, labelled, labelled_at, plain_at, either_line_at, line_at, ends_lines, ends_named, ends_names, name_at, names_at, no_value, initial_at, declared, declaration_at, ends_block, ends_blocks, block_at, named_program, bare_program, at_end, end_at, finish_at, named_at, bare_at, begins_program, program_at}
+use Rattle.il_reader.specs.Tokens.{Token}
+use Rattle.il_reader.specs.Reading.{◌>>=◌, Reading, same_sign, is_class_of, is_sign, is_end_class, no_token, first, skip_breaks, expect, both, pair, choice, mapped, mark, stand, many, closed, next_is, at_end, is_word_token, next_is_word, keyword}
+use Rattle.il_reader.specs.Grammar.{OperandText, Constant, Direct, Named, Field, ArgumentText, CallText, BehindText, Nothing, Given, Target, Opened, Called, no_dot, field_at, before_dot, before_no_dot, inner_field_at, named_by, named, next_is_variable, lone_at, inner_operand_at, an_output, an_input, side_at, an_argument, argument_at, ends_arguments, next_argument_at, before_close, together, inside_at, no_open, arguments_at, a_call, call_at, OperationText, LineText, Labelled, Plain, NamesText, Located, More, DeclarationText, ProgramText, is_truth, is_variable, is_constant, form_of, operator_of, operator_at, variable_at, constant_at, operand_at, is_line_stop, optional_operand_at, nested_at, either_at, behind_at, operation_at, optional_operation_at, is_label, is_no_label, labelled, labelled_at, plain_at, either_line_at, line_at, ends_lines, ends_named, ends_names, name_at, names_at, no_value, initial_at, declared, declaration_at, ends_block, ends_blocks, block_at, named_program, bare_program, end_at, finish_at, named_at, bare_at, begins_program, program_at}
 use Rattle.il_reader.specs.Spelling.{Part, breaks, one, this, operator, ahead, Spell, name, sign, word, spelled_operand, spelled_inner_operand, spelled_side, spelled_argument, spelled_next, spelled_inside, spelled_arguments, spelled_call, spelled_optional, accepts, accepting, spelled_behind, spelled_operation, spelled_optional_operation, spelled_content, spelled_line, spelled_name, is_not_at, spelled_names, spelled_initial, spelled_declaration, spelled_block, is_bare, spelled_bare, spelled_by, spelled_program, listed}
 use Rattle.il_reader.proofs.Laws.{Law, Any, ok_is, bind_ok, count, law_shrinks, led_law, closed_law, many_law, until_law, pair_law, mapped_law, choice_law, told_law, past_law, else_law, no_front, stand_law, token_law, one_law, mark_law, meaning_law}
 
 -- tokens
 
--- the end is none of those behind which more follows
-no_end : (k : Kind) → goes_on k ≡ true → is_kind k no_token ≡ false
-no_end kinds.End e = absurd cc
-no_end (kinds.Broken f) e = absurd cc
-no_end k e = refl
-
-expect_law : (k : Kind) → goes_on k ≡ true → Law Any (λ t. this (is_kind k) t ∷ []) (expect k)
+expect_law : (s : Sign) → Law Any (λ t. this (is_sign s) t ∷ []) (expect s)
 unfolding expect
-expect_law k inner = token_law (is_kind k) (no_end k inner)
+expect_law s = token_law (is_sign s) refl
 
-mark_expect_law : (k : Kind) → goes_on k ≡ true → Law Any (λ (u : Unit {0}). one (is_kind k) ∷ []) (mark (expect k))
+mark_expect_law : (s : Sign) → Law Any (λ (u : Unit {0}). one (is_sign s) ∷ []) (mark (expect s))
 unfolding expect
-mark_expect_law k inner = mark_law (is_kind k) (expect_law k inner)
+mark_expect_law s = mark_law (is_sign s) (expect_law s)
 
 -- the token that begins
 front : (p : Token → Bool) (ps : List Part) (ts rest : List Token) → Spell (one p ∷ ps) ts rest → p (first ts) ≡ true
@@ -67,8 +62,33 @@ some_or_none : {X : Type 0} (o : Option X) → IsSome o ⊎ (None ≡ o)
 some_or_none None = inr refl
 some_or_none (Some x) = inl tt
 
-kind_other : (j k : Kind) (t : Token) → is_kind j t ≡ true → eqb (kind_code j) (kind_code k) ≡ false → is_kind k t ≡ false
-kind_other j k t is differ = rw (eqb-true (kind_code t.kind) (kind_code j) is) differ
+same_is : (a b : Sign) → same_sign a b ≡ true → a ≡ b
+same_is signs.Break signs.Break e = refl
+same_is signs.Name signs.Name e = refl
+same_is signs.Literal signs.Literal e = refl
+same_is signs.Address signs.Address e = refl
+same_is signs.Colon signs.Colon e = refl
+same_is signs.Assign signs.Assign e = refl
+same_is signs.Arrow signs.Arrow e = refl
+same_is signs.Comma signs.Comma e = refl
+same_is signs.Semicolon signs.Semicolon e = refl
+same_is signs.Open signs.Open e = refl
+same_is signs.Close signs.Close e = refl
+same_is signs.Dot signs.Dot e = refl
+same_is signs.Ampersand signs.Ampersand e = refl
+same_is _ _ e = absurd cc
+
+class_is : (s : Sign) (t : Token) → is_sign s t ≡ true → t.class ≡ classes.Sign s
+class_is s t is = by_class t.class is
+  where
+    by_class : (c : Class) → is_class_of s c ≡ true → c ≡ classes.Sign s
+    by_class (classes.Sign u) e = ap (λ (v : Sign). classes.Sign v) (sym (same_is s u e))
+    by_class (classes.Broken f) e = absurd cc
+    by_class classes.End e = absurd cc
+
+-- what a sign is not, a token of that sign is not
+sign_not : (p : Class → Bool) (s : Sign) (t : Token) → is_sign s t ≡ true → p (classes.Sign s) ≡ false → p t.class ≡ false
+sign_not p s t is lacks = rw (class_is s t is) lacks
 
 -- the same under another spelling that is the same
 told_spelling : {X : Type 0} (D : X → Type 0) (s q : X → List Part) (a : Reading X) → Law D s a → ((x : X) → D x → q x ≡ s x) → Law D q a
@@ -102,33 +122,33 @@ either_true : (a b : Bool) → a ≡ true → (a || b) ≡ true
 either_true a b e = rw e refl
 
 -- a constant is a name or a literal
-constant_kind : (k : Kind) (t : Token) → is_constant t ≡ true → eqb 2 (kind_code k) ≡ false → eqb 3 (kind_code k) ≡ false → is_kind k t ≡ false
+constant_not : (p : Class → Bool) (t : Token) → is_constant t ≡ true → p (classes.Sign signs.Name) ≡ false → p (classes.Sign signs.Literal) ≡ false → p t.class ≡ false
 unfolding is_constant
-constant_kind k t is two three = chosen (is_kind kinds.Name t) refl
+constant_not p t is no_name no_literal = chosen (is_sign signs.Name t) refl
   where
-    chosen : (b : Bool) → is_kind kinds.Name t ≡ b → is_kind k t ≡ false
-    chosen true e = kind_other kinds.Name k t e two
-    chosen false e = kind_other kinds.Literal k t (rw e at is) three
+    chosen : (b : Bool) → is_sign signs.Name t ≡ b → p t.class ≡ false
+    chosen true e = sign_not p signs.Name t e no_name
+    chosen false e = sign_not p signs.Literal t (rw e at is) no_literal
 
 -- a constant is no variable
 constant_other : (t : Token) → is_constant t ≡ true → is_variable t ≡ false
 unfolding is_constant
-constant_other t is = chosen (is_kind kinds.Name t) refl
+constant_other t is = chosen (is_sign signs.Name t) refl
   where
-    chosen : (b : Bool) → is_kind kinds.Name t ≡ b → is_variable t ≡ false
+    chosen : (b : Bool) → is_sign signs.Name t ≡ b → is_variable t ≡ false
     chosen true e = let truth : is_truth t ≡ true = rw e at is in rw (e, truth) refl
     chosen false e = rw e refl
 
-other_name : (t : Token) → is_kind kinds.Name t ≡ false → is_variable t ≡ false
+other_name : (t : Token) → is_sign signs.Name t ≡ false → is_variable t ≡ false
 other_name t is = rw is refl
 
 abbrev spelled_field : Option Token → List Part
 spelled_field None = ahead no_dot ∷ []
-spelled_field (Some f) = sign kinds.Dot ∷ name f ∷ []
+spelled_field (Some f) = sign signs.Dot ∷ name f ∷ []
 
 abbrev spelled_inner_field : Option Token → List Part
 spelled_inner_field None = ahead before_no_dot ∷ []
-spelled_inner_field (Some f) = breaks ∷ sign kinds.Dot ∷ breaks ∷ name f ∷ []
+spelled_inner_field (Some f) = breaks ∷ sign signs.Dot ∷ breaks ∷ name f ∷ []
 
 from_some : {X : Type 0} (o : Option X) → IsSome o → (x : X) × (Some x ≡ o) × Unit {0}
 from_some None d = absurd d
@@ -137,32 +157,32 @@ from_some (Some x) d = (x, refl, tt)
 field_law : Law Any spelled_field field_at
 unfolding field_at
 field_law = told_law (λ o. IsSome o ⊎ (None ≡ o)) Any spelled_field _
-    (choice_law IsSome (λ o. None ≡ o) spelled_field (next_is kinds.Dot) _ _
-    (mapped_law Any IsSome _ spelled_field Some _ (led_law Any _ _ _ _ (mark_expect_law kinds.Dot refl) (expect_law kinds.Name refl)) (λ x. refl) (λ x d. tt) from_some)
+    (choice_law IsSome (λ o. None ≡ o) spelled_field (next_is signs.Dot) _ _
+    (mapped_law Any IsSome _ spelled_field Some _ (led_law Any _ _ _ _ (mark_expect_law signs.Dot) (expect_law signs.Name)) (λ x. refl) (λ x d. tt) from_some)
     (stand_law spelled_field no_dot None refl)
     begins begins_not)
     (λ x d. tt) (λ o d. some_or_none o)
   where
-    begins : (o : Option Token) (ts rest : List Token) → IsSome o → Spell (spelled_field o) ts rest → next_is kinds.Dot ts ≡ true
+    begins : (o : Option Token) (ts rest : List Token) → IsSome o → Spell (spelled_field o) ts rest → next_is signs.Dot ts ≡ true
     begins None ts rest d h = absurd d
-    begins (Some f) ts rest d h = front (is_kind kinds.Dot) (name f ∷ []) ts rest h
+    begins (Some f) ts rest d h = front (is_sign signs.Dot) (name f ∷ []) ts rest h
 
-    begins_not : (o : Option Token) (ts rest : List Token) → None ≡ o → Spell (spelled_field o) ts rest → next_is kinds.Dot ts ≡ false
-    begins_not None ts rest d h = no_front (next_is kinds.Dot ts) h.0
+    begins_not : (o : Option Token) (ts rest : List Token) → None ≡ o → Spell (spelled_field o) ts rest → next_is signs.Dot ts ≡ false
+    begins_not None ts rest d h = no_front (next_is signs.Dot ts) h.0
     begins_not (Some f) ts rest d h = absurd cc
 
 inner_field_law : Law Any spelled_inner_field inner_field_at
 unfolding inner_field_at
 inner_field_law = told_law (λ o. IsSome o ⊎ (None ≡ o)) Any spelled_inner_field _
     (choice_law IsSome (λ o. None ≡ o) spelled_inner_field before_dot _ _
-    (mapped_law Any IsSome _ spelled_inner_field Some _ (led_law Any _ _ _ _ (past_law Any _ _ (mark_expect_law kinds.Dot refl)) (past_law Any _ _ (expect_law kinds.Name refl))) (λ x. refl) (λ x d. tt) from_some)
+    (mapped_law Any IsSome _ spelled_inner_field Some _ (led_law Any _ _ _ _ (past_law Any _ _ (mark_expect_law signs.Dot)) (past_law Any _ _ (expect_law signs.Name))) (λ x. refl) (λ x d. tt) from_some)
     (stand_law spelled_inner_field before_no_dot None refl)
     begins begins_not)
     (λ x d. tt) (λ o d. some_or_none o)
   where
     begins : (o : Option Token) (ts rest : List Token) → IsSome o → Spell (spelled_inner_field o) ts rest → before_dot ts ≡ true
     begins None ts rest d h = absurd d
-    begins (Some f) ts rest d h = front (is_kind kinds.Dot) (breaks ∷ name f ∷ []) (skip_breaks ts) rest h
+    begins (Some f) ts rest d h = front (is_sign signs.Dot) (breaks ∷ name f ∷ []) (skip_breaks ts) rest h
 
     begins_not : (o : Option Token) (ts rest : List Token) → None ≡ o → Spell (spelled_inner_field o) ts rest → before_dot ts ≡ false
     begins_not None ts rest d h = no_front (before_dot ts) h.0
@@ -186,13 +206,13 @@ IsLone x = IsDirect x ⊎ IsConstant x
 
 abbrev spelled_lone : OperandText → List Part
 spelled_lone (Constant t) = this is_constant t ∷ []
-spelled_lone (Direct t) = this (is_kind kinds.Address) t ∷ []
+spelled_lone (Direct t) = this (is_sign signs.Address) t ∷ []
 spelled_lone x = []
 
 lone_law : Law IsLone spelled_lone lone_at
 unfolding lone_at
-lone_law = choice_law IsDirect IsConstant spelled_lone (next_is kinds.Address) _ _
-    (mapped_law Any IsDirect _ spelled_lone Direct _ (expect_law kinds.Address refl) (λ x. refl) (λ x d. tt) a_direct)
+lone_law = choice_law IsDirect IsConstant spelled_lone (next_is signs.Address) _ _
+    (mapped_law Any IsDirect _ spelled_lone Direct _ (expect_law signs.Address) (λ x. refl) (λ x d. tt) a_direct)
     (mapped_law Any IsConstant _ spelled_lone Constant _ constant_law (λ x. refl) (λ x d. tt) a_constant)
     begins begins_not
   where
@@ -208,14 +228,14 @@ lone_law = choice_law IsDirect IsConstant spelled_lone (next_is kinds.Address) _
     a_constant (Named t) d = absurd d
     a_constant (Field t f) d = absurd d
 
-    begins : (o : OperandText) (ts rest : List Token) → IsDirect o → Spell (spelled_lone o) ts rest → next_is kinds.Address ts ≡ true
-    begins (Direct t) ts rest d h = front_this (is_kind kinds.Address) t [] ts rest h
+    begins : (o : OperandText) (ts rest : List Token) → IsDirect o → Spell (spelled_lone o) ts rest → next_is signs.Address ts ≡ true
+    begins (Direct t) ts rest d h = front_this (is_sign signs.Address) t [] ts rest h
     begins (Constant t) ts rest d h = absurd d
     begins (Named t) ts rest d h = absurd d
     begins (Field t f) ts rest d h = absurd d
 
-    begins_not : (o : OperandText) (ts rest : List Token) → IsConstant o → Spell (spelled_lone o) ts rest → next_is kinds.Address ts ≡ false
-    begins_not (Constant t) ts rest d h = constant_kind kinds.Address (first ts) (front_this is_constant t [] ts rest h) refl refl
+    begins_not : (o : OperandText) (ts rest : List Token) → IsConstant o → Spell (spelled_lone o) ts rest → next_is signs.Address ts ≡ false
+    begins_not (Constant t) ts rest d h = constant_not (is_class_of signs.Address) (first ts) (front_this is_constant t [] ts rest h) refl refl
     begins_not (Direct t) ts rest d h = absurd d
     begins_not (Named t) ts rest d h = absurd d
     begins_not (Field t f) ts rest d h = absurd d
@@ -223,7 +243,7 @@ lone_law = choice_law IsDirect IsConstant spelled_lone (next_is kinds.Address) _
 -- an operand whose field, if it has one, is spelled so
 abbrev spelled_by_field : (Option Token → List Part) → OperandText → List Part
 spelled_by_field q (Constant t) = this is_constant t ∷ []
-spelled_by_field q (Direct t) = this (is_kind kinds.Address) t ∷ []
+spelled_by_field q (Direct t) = this (is_sign signs.Address) t ∷ []
 spelled_by_field q (Named t) = this is_variable t ∷ q None
 spelled_by_field q (Field t f) = this is_variable t ∷ q (Some f)
 
@@ -265,7 +285,7 @@ by_field_law q a law = told_law (λ o. IsNamed o ⊎ IsLone o) Any (spelled_by_f
 
     begins_not : (o : OperandText) (ts rest : List Token) → IsLone o → Spell (spelled_by_field q o) ts rest → next_is_variable ts ≡ false
     begins_not (Constant t) ts rest d h = constant_other (first ts) (front_this is_constant t [] ts rest h)
-    begins_not (Direct t) ts rest d h = other_name (first ts) (kind_other kinds.Address kinds.Name (first ts) (front_this (is_kind kinds.Address) t [] ts rest h) refl)
+    begins_not (Direct t) ts rest d h = other_name (first ts) (sign_not (is_class_of signs.Name) signs.Address (first ts) (front_this (is_sign signs.Address) t [] ts rest h) refl)
     begins_not (Named t) ts rest (inl d) h = absurd d
     begins_not (Named t) ts rest (inr d) h = absurd d
     begins_not (Field t f) ts rest (inl d) h = absurd d
@@ -297,15 +317,20 @@ inner_operand_law = told_spelling Any (spelled_by_field spelled_inner_field) spe
     same (Named t) = refl
     same (Field t f) = refl
 
--- an operand begins with none but a name, a literal or an address
-operand_kind : (k : Kind) (x : OperandText) (ts rest : List Token) → Spell (spelled_operand x) ts rest → eqb 2 (kind_code k) ≡ false → eqb 3 (kind_code k) ≡ false → eqb 4 (kind_code k) ≡ false → next_is k ts ≡ false
-operand_kind k (Constant t) ts rest h two three four = constant_kind k (first ts) (front_this is_constant t [] ts rest h) two three
-operand_kind k (Direct t) ts rest h two three four = kind_other kinds.Address k (first ts) (front_this (is_kind kinds.Address) t [] ts rest h) four
-operand_kind k (Named t) ts rest h two three four = kind_other kinds.Name k (first ts) (and_left _ _ (front_this is_variable t (ahead no_dot ∷ []) ts rest h)) two
-operand_kind k (Field t f) ts rest h two three four = kind_other kinds.Name k (first ts) (and_left _ _ (front_this is_variable t (sign kinds.Dot ∷ name f ∷ []) ts rest h)) two
+-- an operand begins with a name, a literal or an address
+operand_not : (p : Class → Bool) (x : OperandText) (ts rest : List Token) → Spell (spelled_operand x) ts rest
+    → p (classes.Sign signs.Name) ≡ false → p (classes.Sign signs.Literal) ≡ false → p (classes.Sign signs.Address) ≡ false → p (first ts).class ≡ false
+operand_not p (Constant t) ts rest h no_name no_literal no_address = constant_not p (first ts) (front_this is_constant t [] ts rest h) no_name no_literal
+operand_not p (Direct t) ts rest h no_name no_literal no_address = sign_not p signs.Address (first ts) (front_this (is_sign signs.Address) t [] ts rest h) no_address
+operand_not p (Named t) ts rest h no_name no_literal no_address = sign_not p signs.Name (first ts) (and_left _ _ (front_this is_variable t (ahead no_dot ∷ []) ts rest h)) no_name
+operand_not p (Field t f) ts rest h no_name no_literal no_address = sign_not p signs.Name (first ts) (and_left _ _ (front_this is_variable t (sign signs.Dot ∷ name f ∷ []) ts rest h)) no_name
+
+-- a line end, or the end of the text
+abbrev stops_line : Class → Bool
+stops_line c = is_class_of signs.Break c || is_end_class c
 
 operand_no_stop : (x : OperandText) (ts rest : List Token) → Spell (spelled_operand x) ts rest → is_line_stop ts ≡ false
-operand_no_stop x ts rest h = either_false _ _ (operand_kind kinds.Break x ts rest h refl refl refl) (operand_kind kinds.End x ts rest h refl refl refl)
+operand_no_stop x ts rest h = operand_not stops_line x ts rest h refl refl refl
 
 -- nothing, or something before the end of the line
 optional_operand_law : Law Any spelled_optional optional_operand_at
@@ -329,9 +354,9 @@ optional_operand_law = told_law (λ o. (None ≡ o) ⊎ IsSome o) Any spelled_op
     all None d = inl refl
     all (Some x) d = inr tt
 
-nested_law : Law Any (λ o. sign kinds.Open ∷ spelled_optional o) nested_at
+nested_law : Law Any (λ o. sign signs.Open ∷ spelled_optional o) nested_at
 unfolding nested_at
-nested_law = led_law Any (sign kinds.Open ∷ []) spelled_optional _ _ (mark_expect_law kinds.Open refl) optional_operand_law
+nested_law = led_law Any (sign signs.Open ∷ []) spelled_optional _ _ (mark_expect_law signs.Open) optional_operand_law
 
 -- calls
 
@@ -346,9 +371,9 @@ IsInput sides.Output = ⊥
 side_law : Law Any spelled_side side_at
 unfolding side_at
 side_law = told_law (λ x. IsOutput x ⊎ IsInput x) Any spelled_side _
-    (choice_law IsOutput IsInput spelled_side (next_is kinds.Arrow) _ _
-    (mapped_law Any IsOutput _ spelled_side an_output _ (mark_expect_law kinds.Arrow refl) (λ x. refl) (λ x d. tt) output)
-    (mapped_law Any IsInput _ spelled_side an_input _ (mark_expect_law kinds.Assign refl) (λ x. refl) (λ x d. tt) input)
+    (choice_law IsOutput IsInput spelled_side (next_is signs.Arrow) _ _
+    (mapped_law Any IsOutput _ spelled_side an_output _ (mark_expect_law signs.Arrow) (λ x. refl) (λ x d. tt) output)
+    (mapped_law Any IsInput _ spelled_side an_input _ (mark_expect_law signs.Assign) (λ x. refl) (λ x d. tt) input)
     begins begins_not)
     (λ x d. tt) all
   where
@@ -360,12 +385,12 @@ side_law = told_law (λ x. IsOutput x ⊎ IsInput x) Any spelled_side _
     input sides.Input d = (tt, refl, tt)
     input sides.Output d = absurd d
 
-    begins : (x : Side) (ts rest : List Token) → IsOutput x → Spell (spelled_side x) ts rest → next_is kinds.Arrow ts ≡ true
-    begins sides.Output ts rest d h = front (is_kind kinds.Arrow) [] ts rest h
+    begins : (x : Side) (ts rest : List Token) → IsOutput x → Spell (spelled_side x) ts rest → next_is signs.Arrow ts ≡ true
+    begins sides.Output ts rest d h = front (is_sign signs.Arrow) [] ts rest h
     begins sides.Input ts rest d h = absurd d
 
-    begins_not : (x : Side) (ts rest : List Token) → IsInput x → Spell (spelled_side x) ts rest → next_is kinds.Arrow ts ≡ false
-    begins_not sides.Input ts rest d h = kind_other kinds.Assign kinds.Arrow (first ts) (front (is_kind kinds.Assign) [] ts rest h) refl
+    begins_not : (x : Side) (ts rest : List Token) → IsInput x → Spell (spelled_side x) ts rest → next_is signs.Arrow ts ≡ false
+    begins_not sides.Input ts rest d h = sign_not (is_class_of signs.Arrow) signs.Assign (first ts) (front (is_sign signs.Assign) [] ts rest h) refl
     begins_not sides.Output ts rest d h = absurd d
 
     all : (x : Side) → Unit {0} → IsOutput x ⊎ IsInput x
@@ -375,16 +400,16 @@ side_law = told_law (λ x. IsOutput x ⊎ IsInput x) Any spelled_side _
 argument_law : Law Any spelled_argument argument_at
 unfolding argument_at
 argument_law = mapped_law _ Any _ spelled_argument an_argument _
-    (pair_law Any _ _ _ _ _ (past_law Any _ _ (expect_law kinds.Name refl)) (pair_law Any Any _ _ _ _ (past_law Any _ _ side_law) (past_law Any _ _ inner_operand_law)))
+    (pair_law Any _ _ _ _ _ (past_law Any _ _ (expect_law signs.Name)) (pair_law Any Any _ _ _ _ (past_law Any _ _ side_law) (past_law Any _ _ inner_operand_law)))
     (λ x. refl) (λ x d. tt) (λ a d. (both a.field (both a.side a.operand), refl, both tt (both tt tt)))
 
 next_argument_law : Law Any spelled_next next_argument_at
 unfolding next_argument_at
-next_argument_law = led_law Any (breaks ∷ sign kinds.Comma ∷ []) spelled_argument _ _ (past_law Any _ _ (mark_expect_law kinds.Comma refl)) argument_law
+next_argument_law = led_law Any (breaks ∷ sign signs.Comma ∷ []) spelled_argument _ _ (past_law Any _ _ (mark_expect_law signs.Comma)) argument_law
 
 next_goes : (a : ArgumentText) (ts rest : List Token) → Spell (spelled_next a) ts rest → ends_arguments ts ≡ false
 unfolding ends_arguments
-next_goes a ts rest h = rw (front (is_kind kinds.Comma) (spelled_argument a) (skip_breaks ts) rest h) refl
+next_goes a ts rest h = rw (front (is_sign signs.Comma) (spelled_argument a) (skip_breaks ts) rest h) refl
 
 next_counts : (a : ArgumentText) → 0 < count (spelled_next a)
 next_counts a = omega arith
@@ -419,7 +444,7 @@ inside_law = told_law (λ xs. IsEmpty xs ⊎ IsSeveral xs) Any spelled_inside _
     begins_not [] ts rest d h = absurd d
     begins_not (a ∷ more) ts rest d h =
         let qs = breaks ∷ (spelled_side a.side ++ breaks ∷ spelled_inner_operand a.operand) ++ (flat_map spelled_next more ++ ahead ends_arguments ∷ []) in
-        kind_other kinds.Name kinds.Close (first (skip_breaks ts)) (front_this (is_kind kinds.Name) a.field qs (skip_breaks ts) rest h) refl
+        sign_not (is_class_of signs.Close) signs.Name (first (skip_breaks ts)) (front_this (is_sign signs.Name) a.field qs (skip_breaks ts) rest h) refl
 
     all : (xs : List ArgumentText) → Unit {0} → IsEmpty xs ⊎ IsSeveral xs
     all [] d = inl refl
@@ -428,26 +453,26 @@ inside_law = told_law (λ xs. IsEmpty xs ⊎ IsSeveral xs) Any spelled_inside _
 arguments_law : Law Any spelled_arguments arguments_at
 unfolding arguments_at
 arguments_law = told_law (λ o. IsSome o ⊎ (None ≡ o)) Any spelled_arguments _
-    (choice_law IsSome (λ o. None ≡ o) spelled_arguments (next_is kinds.Open) _ _
+    (choice_law IsSome (λ o. None ≡ o) spelled_arguments (next_is signs.Open) _ _
     (mapped_law Any IsSome _ spelled_arguments Some _
-    (led_law Any _ _ _ _ (mark_expect_law kinds.Open refl) (closed_law Any _ _ _ _ inside_law (past_law Any _ _ (mark_expect_law kinds.Close refl))))
+    (led_law Any _ _ _ _ (mark_expect_law signs.Open) (closed_law Any _ _ _ _ inside_law (past_law Any _ _ (mark_expect_law signs.Close))))
     (λ x. refl) (λ x d. tt) from_some)
     (stand_law spelled_arguments no_open None refl)
     begins begins_not)
     (λ x d. tt) (λ o d. some_or_none o)
   where
-    begins : (o : Option (List ArgumentText)) (ts rest : List Token) → IsSome o → Spell (spelled_arguments o) ts rest → next_is kinds.Open ts ≡ true
+    begins : (o : Option (List ArgumentText)) (ts rest : List Token) → IsSome o → Spell (spelled_arguments o) ts rest → next_is signs.Open ts ≡ true
     begins None ts rest d h = absurd d
-    begins (Some xs) ts rest d h = front (is_kind kinds.Open) (spelled_inside xs ++ breaks ∷ sign kinds.Close ∷ []) ts rest h
+    begins (Some xs) ts rest d h = front (is_sign signs.Open) (spelled_inside xs ++ breaks ∷ sign signs.Close ∷ []) ts rest h
 
-    begins_not : (o : Option (List ArgumentText)) (ts rest : List Token) → None ≡ o → Spell (spelled_arguments o) ts rest → next_is kinds.Open ts ≡ false
-    begins_not None ts rest d h = no_front (next_is kinds.Open ts) h.0
+    begins_not : (o : Option (List ArgumentText)) (ts rest : List Token) → None ≡ o → Spell (spelled_arguments o) ts rest → next_is signs.Open ts ≡ false
+    begins_not None ts rest d h = no_front (next_is signs.Open ts) h.0
     begins_not (Some xs) ts rest d h = absurd cc
 
 call_law : Law Any spelled_call call_at
 unfolding call_at
 call_law = mapped_law _ Any _ spelled_call a_call _
-    (pair_law Any Any _ _ _ _ (expect_law kinds.Name refl) arguments_law)
+    (pair_law Any Any _ _ _ _ (expect_law signs.Name) arguments_law)
     (λ x. refl) (λ x d. tt) (λ c d. (both c.instance c.written, refl, both tt tt))
 
 -- behind an operator
@@ -484,7 +509,7 @@ operand_behind = told_law (λ b. Accepted forms.Operand b × IsGiven b) (Accepte
     all (Called c) d = absurd cc
 
 opened_law : Law (λ b. Accepted forms.Either b × IsOpened b) spelled_behind (mapped Opened nested_at)
-opened_law = mapped_law Any (λ b. Accepted forms.Either b × IsOpened b) (λ o. sign kinds.Open ∷ spelled_optional o) spelled_behind Opened _ nested_law (λ x. refl) (λ x d. (refl, tt)) from
+opened_law = mapped_law Any (λ b. Accepted forms.Either b × IsOpened b) (λ o. sign signs.Open ∷ spelled_optional o) spelled_behind Opened _ nested_law (λ x. refl) (λ x d. (refl, tt)) from
   where
     from : (b : BehindText) → Accepted forms.Either b × IsOpened b → (x : Option OperandText) × (Opened x ≡ b) × Unit {0}
     from (Opened o) d = (o, refl, tt)
@@ -496,22 +521,22 @@ opened_law = mapped_law Any (λ b. Accepted forms.Either b × IsOpened b) (λ o.
 either_behind : Law (Accepted forms.Either) spelled_behind either_at
 unfolding either_at
 either_behind = told_law (λ b. (Accepted forms.Either b × IsOpened b) ⊎ (Accepted forms.Either b × IsGiven b)) (Accepted forms.Either) spelled_behind _
-    (choice_law (λ b. Accepted forms.Either b × IsOpened b) (λ b. Accepted forms.Either b × IsGiven b) spelled_behind (next_is kinds.Open) _ _ opened_law (given_law forms.Either (λ x. refl)) begins begins_not)
+    (choice_law (λ b. Accepted forms.Either b × IsOpened b) (λ b. Accepted forms.Either b × IsGiven b) spelled_behind (next_is signs.Open) _ _ opened_law (given_law forms.Either (λ x. refl)) begins begins_not)
     told all
   where
     told : (b : BehindText) → (Accepted forms.Either b × IsOpened b) ⊎ (Accepted forms.Either b × IsGiven b) → Accepted forms.Either b
     told b (inl d) = d.0
     told b (inr d) = d.0
 
-    begins : (b : BehindText) (ts rest : List Token) → Accepted forms.Either b × IsOpened b → Spell (spelled_behind b) ts rest → next_is kinds.Open ts ≡ true
-    begins (Opened o) ts rest d h = front (is_kind kinds.Open) (spelled_optional o) ts rest h
+    begins : (b : BehindText) (ts rest : List Token) → Accepted forms.Either b × IsOpened b → Spell (spelled_behind b) ts rest → next_is signs.Open ts ≡ true
+    begins (Opened o) ts rest d h = front (is_sign signs.Open) (spelled_optional o) ts rest h
     begins Nothing ts rest d h = absurd d.1
     begins (Target t) ts rest d h = absurd d.1
     begins (Given x) ts rest d h = absurd d.1
     begins (Called c) ts rest d h = absurd d.1
 
-    begins_not : (b : BehindText) (ts rest : List Token) → Accepted forms.Either b × IsGiven b → Spell (spelled_behind b) ts rest → next_is kinds.Open ts ≡ false
-    begins_not (Given x) ts rest d h = operand_kind kinds.Open x ts rest h refl refl refl
+    begins_not : (b : BehindText) (ts rest : List Token) → Accepted forms.Either b × IsGiven b → Spell (spelled_behind b) ts rest → next_is signs.Open ts ≡ false
+    begins_not (Given x) ts rest d h = operand_not (is_class_of signs.Open) x ts rest h refl refl refl
     begins_not Nothing ts rest d h = absurd d.1
     begins_not (Target t) ts rest d h = absurd d.1
     begins_not (Opened o) ts rest d h = absurd d.1
@@ -524,8 +549,8 @@ either_behind = told_law (λ b. (Accepted forms.Either b × IsOpened b) ⊎ (Acc
     all (Target t) d = absurd cc
     all (Called c) d = absurd cc
 
-label_behind : Law (Accepted forms.Label) spelled_behind (mapped Target (expect kinds.Name))
-label_behind = mapped_law Any (Accepted forms.Label) _ spelled_behind Target _ (expect_law kinds.Name refl) (λ x. refl) (λ x d. refl) from
+label_behind : Law (Accepted forms.Label) spelled_behind (mapped Target (expect signs.Name))
+label_behind = mapped_law Any (Accepted forms.Label) _ spelled_behind Target _ (expect_law signs.Name) (λ x. refl) (λ x d. refl) from
   where
     from : (b : BehindText) → Accepted forms.Label b → (x : Token) × (Target x ≡ b) × Unit {0}
     from (Target t) d = (t, refl, tt)
@@ -624,22 +649,17 @@ operation_law = record { takes = takes; again = again }
         rw (f, g) refl
 
 -- an operator is no end of a line
-operator_no_stop : (t : Token) (x : Operator) → operator_of t ≡ Some x → (is_kind kinds.Break t || is_kind kinds.End t) ≡ false
+operator_no_stop : (t : Token) (x : Operator) → operator_of t ≡ Some x → stops_line t.class ≡ false
 unfolding operator_of
-operator_no_stop t x e = either_false _ _ (other kinds.Break refl refl refl) (other kinds.End refl refl refl)
+operator_no_stop t x e = by_class t.class refl
   where
-    never : (k : Kind) → is_kind k t ≡ true → eqb (kind_code k) 2 ≡ false → eqb (kind_code k) 13 ≡ false → eqb (kind_code k) 11 ≡ false → ⊥
-    never k is two thirteen eleven =
-        let code = eqb-true (kind_code t.kind) (kind_code k) is in
-        let none : operator_of t ≡ None = rw (code, two, thirteen, eleven) refl in
-        let f : None ≡ some_operator x = sym none ∙ e in absurd cc
+    never : operator_of t ≡ None → ⊥
+    never none = let f : None ≡ some_operator x = sym none ∙ e in absurd cc
 
-    other : (k : Kind) → eqb (kind_code k) 2 ≡ false → eqb (kind_code k) 13 ≡ false → eqb (kind_code k) 11 ≡ false → is_kind k t ≡ false
-    other k two thirteen eleven = chosen (is_kind k t) refl
-      where
-        chosen : (b : Bool) → is_kind k t ≡ b → is_kind k t ≡ false
-        chosen false f = f
-        chosen true f = absurd (never k f two thirteen eleven)
+    by_class : (c : Class) → t.class ≡ c → stops_line c ≡ false
+    by_class classes.End is = absurd (never (rw is refl))
+    by_class (classes.Sign signs.Break) is = absurd (never (rw is refl))
+    by_class c is = refl
 
 operation_no_stop : (o : OperationText) (ts rest : List Token) → Spell (spelled_operation o) ts rest → is_line_stop ts ≡ false
 operation_no_stop o ts rest h = operator_no_stop (first ts) o.operator (first_operator o ts rest h)
@@ -677,7 +697,7 @@ IsPlain (Labelled t o) = ⊥
 
 labelled_law : Law IsLabelled spelled_content labelled_at
 unfolding labelled_at
-labelled_law = mapped_law _ IsLabelled _ spelled_content labelled _ (pair_law Any _ _ _ _ _ (expect_law kinds.Name refl) (led_law Any _ _ _ _ (mark_expect_law kinds.Colon refl) optional_operation_law)) (λ x. refl) (λ x d. tt) from
+labelled_law = mapped_law _ IsLabelled _ spelled_content labelled _ (pair_law Any _ _ _ _ _ (expect_law signs.Name) (led_law Any _ _ _ _ (mark_expect_law signs.Colon) optional_operation_law)) (λ x. refl) (λ x d. tt) from
   where
     from : (l : LineText) → IsLabelled l → (x : Token × Option OperationText) × (labelled x ≡ l) × (Unit {0} × Unit {0})
     from (Labelled t o) d = (both t o, refl, both tt tt)
@@ -695,10 +715,10 @@ plain_law = mapped_law Any IsPlain spelled_operation spelled_plain Plain _ opera
     from (Plain o) d = (o, refl, tt)
     from (Labelled t o) d = absurd d
 
-label_begins : (t : Token) (ps : List Part) (ts rest : List Token) → Spell (name t ∷ sign kinds.Colon ∷ ps) ts rest → is_label ts ≡ true
+label_begins : (t : Token) (ps : List Part) (ts rest : List Token) → Spell (name t ∷ sign signs.Colon ∷ ps) ts rest → is_label ts ≡ true
 unfolding is_label
 label_begins t ps [] rest h = absurd h
-label_begins t ps (u ∷ us) rest h = both_true _ _ h.0.0 (either_true _ _ (front (is_kind kinds.Colon) ps us rest h.1))
+label_begins t ps (u ∷ us) rest h = both_true _ _ h.0.0 (either_true _ _ (front (is_sign signs.Colon) ps us rest h.1))
 
 -- nothing is taken, where this stands next
 here_law : (p : List Token → Bool) → Law Any (λ (u : Unit {0}). ahead p ∷ []) (stand p tt)
@@ -738,11 +758,11 @@ keyword_law w = one_law (is_word_token w) refl
 
 name_law : Law Any spelled_name name_at
 unfolding name_at
-name_law = led_law Any (breaks ∷ sign kinds.Comma ∷ []) (λ t. breaks ∷ name t ∷ []) _ _ (past_law Any _ _ (mark_expect_law kinds.Comma refl)) (past_law Any _ _ (expect_law kinds.Name refl))
+name_law = led_law Any (breaks ∷ sign signs.Comma ∷ []) (λ t. breaks ∷ name t ∷ []) _ _ (past_law Any _ _ (mark_expect_law signs.Comma)) (past_law Any _ _ (expect_law signs.Name))
 
 name_goes : (t : Token) (ts rest : List Token) → Spell (spelled_name t) ts rest → ends_names ts ≡ false
 unfolding ends_names
-name_goes t ts rest h = rw (front (is_kind kinds.Comma) (breaks ∷ name t ∷ []) (skip_breaks ts) rest h) refl
+name_goes t ts rest h = rw (front (is_sign signs.Comma) (breaks ∷ name t ∷ []) (skip_breaks ts) rest h) refl
 
 name_counts : (t : Token) → 0 < count (spelled_name t)
 name_counts t = omega arith
@@ -763,7 +783,7 @@ names_law : Law Any spelled_names names_at
 unfolding names_at
 names_law = told_law (λ (x : NamesText). IsLocated x ⊎ IsMore x) Any spelled_names _
     (else_law IsLocated IsMore spelled_names spelled_more (next_is_word (codes "AT")) _ _
-    (mapped_law Any IsLocated _ spelled_names Located _ (led_law Any _ _ _ _ (keyword_law (codes "AT")) (past_law Any _ _ (expect_law kinds.Address refl))) (λ x. refl) (λ x d. tt) from_at)
+    (mapped_law Any IsLocated _ spelled_names Located _ (led_law Any _ _ _ _ (keyword_law (codes "AT")) (past_law Any _ _ (expect_law signs.Address))) (λ x. refl) (λ x d. tt) from_at)
     (mapped_law Any IsMore (λ ts. flat_map spelled_name ts ++ ahead ends_names ∷ []) spelled_more More _ (many_law spelled_name ends_names name_at name_law name_counts name_goes) (λ x. refl) (λ x d. tt) from_more)
     same begins)
     (λ x d. tt) all
@@ -781,7 +801,7 @@ names_law = told_law (λ (x : NamesText). IsLocated x ⊎ IsMore x) Any spelled_
     same (Located t) d = absurd d
 
     begins : (x : NamesText) (ts rest : List Token) → IsLocated x → Spell (spelled_names x) ts rest → next_is_word (codes "AT") ts ≡ true
-    begins (Located t) ts rest d h = front (is_word_token (codes "AT")) (breaks ∷ this (is_kind kinds.Address) t ∷ []) ts rest h
+    begins (Located t) ts rest d h = front (is_word_token (codes "AT")) (breaks ∷ this (is_sign signs.Address) t ∷ []) ts rest h
     begins (More us) ts rest d h = absurd d
 
     all : (x : NamesText) → Unit {0} → IsLocated x ⊎ IsMore x
@@ -791,27 +811,27 @@ names_law = told_law (λ (x : NamesText). IsLocated x ⊎ IsMore x) Any spelled_
 initial_law : Law Any spelled_initial initial_at
 unfolding initial_at
 initial_law = told_law (λ o. IsSome o ⊎ (None ≡ o)) Any spelled_initial _
-    (choice_law IsSome (λ o. None ≡ o) spelled_initial (next_is kinds.Assign) _ _
-    (mapped_law Any IsSome _ spelled_initial Some _ (led_law Any _ _ _ _ (mark_expect_law kinds.Assign refl) (past_law Any _ _ constant_law)) (λ x. refl) (λ x d. tt) from_some)
+    (choice_law IsSome (λ o. None ≡ o) spelled_initial (next_is signs.Assign) _ _
+    (mapped_law Any IsSome _ spelled_initial Some _ (led_law Any _ _ _ _ (mark_expect_law signs.Assign) (past_law Any _ _ constant_law)) (λ x. refl) (λ x d. tt) from_some)
     (stand_law spelled_initial no_value None refl)
     begins begins_not)
     (λ x d. tt) (λ o d. some_or_none o)
   where
-    begins : (o : Option Token) (ts rest : List Token) → IsSome o → Spell (spelled_initial o) ts rest → next_is kinds.Assign ts ≡ true
+    begins : (o : Option Token) (ts rest : List Token) → IsSome o → Spell (spelled_initial o) ts rest → next_is signs.Assign ts ≡ true
     begins None ts rest d h = absurd d
-    begins (Some f) ts rest d h = front (is_kind kinds.Assign) (breaks ∷ this is_constant f ∷ []) ts rest h
+    begins (Some f) ts rest d h = front (is_sign signs.Assign) (breaks ∷ this is_constant f ∷ []) ts rest h
 
-    begins_not : (o : Option Token) (ts rest : List Token) → None ≡ o → Spell (spelled_initial o) ts rest → next_is kinds.Assign ts ≡ false
-    begins_not None ts rest d h = no_front (next_is kinds.Assign ts) h.0
+    begins_not : (o : Option Token) (ts rest : List Token) → None ≡ o → Spell (spelled_initial o) ts rest → next_is signs.Assign ts ≡ false
+    begins_not None ts rest d h = no_front (next_is signs.Assign ts) h.0
     begins_not (Some f) ts rest d h = absurd cc
 
 declaration_law : Law Any spelled_declaration declaration_at
 unfolding declaration_at
 declaration_law = mapped_law _ Any _ spelled_declaration declared _
-    (pair_law Any _ _ _ _ _ (past_law Any _ _ (expect_law kinds.Name refl))
+    (pair_law Any _ _ _ _ _ (past_law Any _ _ (expect_law signs.Name))
     (pair_law Any _ _ _ _ _ (past_law Any _ _ names_law)
-    (led_law _ _ _ _ _ (past_law Any _ _ (mark_expect_law kinds.Colon refl))
-    (pair_law Any Any _ _ _ _ (past_law Any _ _ (expect_law kinds.Name refl)) (closed_law Any _ _ _ _ (past_law Any _ _ initial_law) (past_law Any _ _ (mark_expect_law kinds.Semicolon refl)))))))
+    (led_law _ _ _ _ _ (past_law Any _ _ (mark_expect_law signs.Colon))
+    (pair_law Any Any _ _ _ _ (past_law Any _ _ (expect_law signs.Name)) (closed_law Any _ _ _ _ (past_law Any _ _ initial_law) (past_law Any _ _ (mark_expect_law signs.Semicolon)))))))
     (λ x. refl) (λ x d. tt)
     (λ d fits. (both d.name (both d.names (both d.ty d.initial)), refl, both tt (both tt (both tt tt))))
 
@@ -869,11 +889,11 @@ abbrev spelled_titled : ProgramText → List Part
 spelled_titled s = spelled_by_title s.name s
 
 abbrev titled_at : Reading ProgramText
-titled_at ts = mapped named_program (pair (expect kinds.Name) (pair (many ends_blocks block_at) (closed (many ends_named line_at) finish_at))) ts
+titled_at ts = mapped named_program (pair (expect signs.Name) (pair (many ends_blocks block_at) (closed (many ends_named line_at) finish_at))) ts
 
 titled_law : Law IsNamedProgram spelled_titled titled_at
 titled_law = mapped_law _ IsNamedProgram _ spelled_titled named_program _
-    (pair_law Any _ _ _ _ _ (expect_law kinds.Name refl)
+    (pair_law Any _ _ _ _ _ (expect_law signs.Name)
     (pair_law Any Any _ _ _ _ (until_law spelled_block ends_blocks block_at block_law block_counts)
     (closed_law Any _ _ _ _ (until_law spelled_line ends_named line_at line_law line_counts) finish_law)))
     (λ x. refl) (λ x d. tt) from

@@ -1,13 +1,13 @@
 -- Where the fault of a text stands, and that it stands nowhere else.
-use Rattle.std.proofs.Common.{◌≡◌, ℕ, zero, suc, ◌-◌, ◌≤◌, length, true, false, List, [], ◌∷◌, ◌++◌, Result, Ok, Err, refl, sym, ap, subst, ◌∙◌, append_assoc, ◌⊎◌, inl, inr}
+use Rattle.std.proofs.Common.{◌≡◌, ℕ, zero, suc, ◌-◌, ◌≤◌, length, true, false, List, [], ◌∷◌, ◌++◌, Option, Some, None, Result, Ok, Err, refl, sym, ap, subst, ◌∙◌, append_assoc, ◌⊎◌, inl, inr}
 use Rattle.std.specs.Prelude.{◌↔◌, nat_lt}
 use Rattle.std.specs.List.{AllByRecursion}
 use Rattle.std.proofs.lemmas.List.{append-nil}
 use Rattle.std.proofs.lemmas.Bool.{le-ltb}
 use Rattle.il_reader.specs.declared.fault.Refusal.{Refusal}
 use Rattle.il_reader.specs.declared.fault.Fault.{Fault}
-use Rattle.il_reader.specs.declared.lexeme.Kind.{Kind}
-use Rattle.il_reader.specs.declared.lexeme.Kind.TheVariants as kinds
+use Rattle.il_reader.specs.declared.lexeme.Class.{Class}
+use Rattle.il_reader.specs.declared.lexeme.Class.TheVariants as classes
 use Rattle.il_reader.specs.Tokens.{Token, put, piece_of, tokens_behind, tokens_of}
 use Rattle.il_reader.specs.Reading.{◌>>=◌, first, others, fault_at}
 use Rattle.il_reader.specs.Grammar.{ProgramText, text_of, program_at}
@@ -24,17 +24,17 @@ false_true e = absurd cc
 
 -- behind the last token of a text nothing may follow
 
-put_ends : (j : Kind) (text : List ℕ) (left : ℕ) (ts : List Token) → (AllByRecursion GoesOn ts → ⊥) → AllByRecursion GoesOn (put j (record { kind = j; text = text; left = left }) ts) → ⊥
-put_ends kinds.Blank text left ts more h = more h
-put_ends kinds.End text left ts more h = false_true h.0
-put_ends (kinds.Broken f) text left ts more h = false_true h.0
-put_ends j text left ts more h = more h.1
+put_ends : (o : Option Class) (text : List ℕ) (left : ℕ) (ts : List Token) → (AllByRecursion GoesOn ts → ⊥) → AllByRecursion GoesOn (put o text left ts) → ⊥
+put_ends None text left ts more h = more h
+put_ends (Some classes.End) text left ts more h = false_true h.0
+put_ends (Some (classes.Broken f)) text left ts more h = false_true h.0
+put_ends (Some (classes.Sign s)) text left ts more h = more h.1
 
 text_ends : (k : ℕ) (bytes : List ℕ) → AllByRecursion GoesOn (tokens_behind k bytes) → ⊥
 unfolding tokens_behind
 text_ends k [] h = false_true h.0
 text_ends (suc k) (b ∷ bs) h = text_ends k bs h
-text_ends zero (b ∷ bs) h = put_ends (piece_of (b ∷ bs)).kind _ _ _ (text_ends ((piece_of (b ∷ bs)).len - 1) bs) h
+text_ends zero (b ∷ bs) h = put_ends (piece_of (b ∷ bs)).class _ _ _ (text_ends ((piece_of (b ∷ bs)).len - 1) bs) h
 
 -- so the fault of a text stands at one of its tokens
 at_a_token : (bytes : List ℕ) (f : Refusal) → Placed (tokens_of bytes) f → IsTextFault bytes f

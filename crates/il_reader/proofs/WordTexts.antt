@@ -1,32 +1,34 @@
 -- The names that a text says are spelled as names are.
-use Rattle.std.proofs.Common.{◌≡◌, ℕ, zero, suc, ◌+◌, ◌-◌, ◌<◌, Bool, true, false, cond, eqb, List, [], ◌∷◌, ◌++◌, length, take, drop, Option, Some, None, refl, sym, ap, subst, arith, ◌&&◌, ltb}
+use Rattle.std.proofs.Common.{◌≡◌, ℕ, zero, suc, ◌+◌, ◌-◌, ◌<◌, Bool, true, false, cond, eqb, List, [], ◌∷◌, ◌++◌, length, take, drop, Option, Some, None, refl, sym, ap, subst, arith, ◌&&◌, ltb, ◌∙◌}
 use Rattle.std.specs.List.{flat_map, AllByRecursion, prefix_len, list_all}
-use Rattle.std.proofs.lemmas.Bool.{eqb-true, ltb-false}
+use Rattle.std.proofs.lemmas.Bool.{ltb-false}
 use Rattle.std.proofs.lemmas.List.Concat.{flat_map-cons}
 use Rattle.std.proofs.Common.{append_assoc}
 use Rattle.std.specs.Prelude.{is_some}
 use Rattle.il_model.specs.Names.{is_well_spelled}
 use Rattle.il_model.specs.Literals.{literal_of}
 use Rattle.il_reader.specs.declared.lexeme.Piece.{Piece}
-use Rattle.il_reader.specs.declared.lexeme.Kind.{Kind}
-use Rattle.il_reader.specs.declared.lexeme.Kind.TheVariants as kinds
+use Rattle.il_reader.specs.declared.lexeme.Sign.TheVariants as signs
+use Rattle.il_reader.specs.declared.lexeme.Class.{Class}
+use Rattle.il_reader.specs.declared.lexeme.Class.TheVariants as classes
 use Rattle.il_reader.specs.declared.fault.FaultKind.TheVariants.{BadToken, TooLong}
-use Rattle.il_reader.specs.Tokens.{Token, is_letter_byte, is_word_byte, is_number_start, is_blank_byte, is_within, is_n, begins_with, name_of, literal_piece, word_piece, sign_of, solid_piece, comment_piece, comment_len, piece_of, put, tokens_behind, tokens_of}
-use Rattle.il_reader.specs.Reading.{kind_code, is_kind, skip_breaks}
+use Rattle.il_reader.specs.Tokens.{Token, is_letter_byte, is_word_byte, is_number_start, is_blank_byte, is_within, is_n, begins_with, sign, broken, name_of, literal_piece, word_piece, sign_of, solid_piece, comment_piece, comment_len, piece_of, put, tokens_behind, tokens_of}
+use Rattle.il_reader.specs.Reading.{is_class_of, is_sign, skip_breaks}
 use Rattle.il_reader.specs.Grammar.{LineText, Labelled, Plain, OperationText, is_line_stop, NamesText, Located, More, DeclarationText, ProgramText, ends_names, ends_block, ends_blocks, ends_lines, ends_named}
 use Rattle.il_reader.specs.Words.{begins_letter, IsWordText, IsWordName, AreWordNames, IsWordDeclaration, IsOptionalOperation, IsOperator, AreWords}
 use Rattle.il_reader.specs.Spelling.{Part, breaks, one, this, operator, ahead, Spell, Says, spelled_name, spelled_names, spelled_declaration, spelled_block, spelled_line, spelled_program, spelled_by, going, listed, spelled_optional_operation}
 
 -- ---- tokens
 
-record Good (bytes : List ℕ) (p : Piece) : Type 0 where
-  is_word : kind_code p.kind ≡ 2 → IsWordText (take p.len bytes)
+abbrev is_name : Option Class → Bool
+is_name None = false
+is_name (Some c) = is_class_of signs.Name c
 
-other : (bytes : List ℕ) (p : Piece) → eqb (kind_code p.kind) 2 ≡ false → Good bytes p
-other bytes p differs = record { is_word = λ e. absurd (never e) }
-  where
-    never : kind_code p.kind ≡ 2 → ⊥
-    never e = let n : eqb 2 2 ≡ false = rw e at differs in absurd cc
+record Good (bytes : List ℕ) (p : Piece) : Type 0 where
+  is_word : is_name p.class ≡ true → IsWordText (take p.len bytes)
+
+other : (bytes : List ℕ) (p : Piece) → is_name p.class ≡ false → Good bytes p
+other bytes p differs = record { is_word = λ e. let n : false ≡ true = sym differs ∙ e in absurd cc }
 
 either : (bytes : List ℕ) (c : Bool) (p q : Piece) → (c ≡ true → Good bytes p) → (c ≡ false → Good bytes q) → Good bytes (cond c p q)
 either bytes true p q a b = a refl
@@ -53,12 +55,12 @@ word_is b is = rw is refl
 
 name_good : (bytes : List ℕ) (n : ℕ) → begins_letter (take n bytes) ≡ true → list_all is_word_byte (take n bytes) ≡ true → 0 < length (take n bytes) → Good bytes (name_of (take n bytes))
 unfolding name_of
-name_good bytes n begins all some = either bytes (is_well_spelled (take n bytes)) (cond (ltb 32 (length (take n bytes))) (record { kind = kinds.Broken TooLong; len = 1 }) (record { kind = kinds.Name; len = length (take n bytes) })) (record { kind = kinds.Broken BadToken; len = 1 }) spelled (λ _. other bytes _ refl)
+name_good bytes n begins all some = either bytes (is_well_spelled (take n bytes)) (cond (ltb 32 (length (take n bytes))) (broken TooLong) (sign signs.Name (length (take n bytes)))) (broken BadToken) spelled (λ _. other bytes _ refl)
   where
-    fits : is_well_spelled (take n bytes) ≡ true → ltb 32 (length (take n bytes)) ≡ false → Good bytes (record { kind = kinds.Name; len = length (take n bytes) })
+    fits : is_well_spelled (take n bytes) ≡ true → ltb 32 (length (take n bytes)) ≡ false → Good bytes (sign signs.Name (length (take n bytes)))
     fits well short = record { is_word = λ e. subst (λ (w : List ℕ). IsWordText w) (sym (take-length bytes n)) (record { begins = begins; bytes = all; spelled = well; some = some; short = ltb-false 32 (length (take n bytes)) short }) }
 
-    spelled : is_well_spelled (take n bytes) ≡ true → Good bytes (cond (ltb 32 (length (take n bytes))) (record { kind = kinds.Broken TooLong; len = 1 }) (record { kind = kinds.Name; len = length (take n bytes) }))
+    spelled : is_well_spelled (take n bytes) ≡ true → Good bytes (cond (ltb 32 (length (take n bytes))) (broken TooLong) (sign signs.Name (length (take n bytes))))
     spelled well = either bytes (ltb 32 (length (take n bytes))) _ _ (λ long. other bytes _ refl) (λ short. fits well short)
 
 literal_good : (bytes text : List ℕ) → Good bytes (literal_piece text)
@@ -106,28 +108,28 @@ piece_good b bs =
     either (b ∷ bs) (eqb b 40 && begins_with 42 bs) _ _ (λ _. comment_good (b ∷ bs) (comment_len (drop 1 bs))) (λ _. solid_good b bs)))
 
 abbrev pub IsWordToken : Token → Type 0
-IsWordToken t = kind_code t.kind ≡ 2 → IsWordText t.text
+IsWordToken t = is_sign signs.Name t ≡ true → IsWordText t.text
 
-put_good : (k : Kind) (t : Token) (ts : List Token) → IsWordToken t → AllByRecursion IsWordToken ts → AllByRecursion IsWordToken (put k t ts)
-put_good kinds.Blank t ts here all = all
-put_good kinds.End t ts here all = (here, tt)
-put_good (kinds.Broken f) t ts here all = (here, tt)
-put_good k t ts here all = (here, all)
+put_good : (o : Option Class) (text : List ℕ) (left : ℕ) (ts : List Token) → (is_name o ≡ true → IsWordText text) → AllByRecursion IsWordToken ts → AllByRecursion IsWordToken (put o text left ts)
+put_good None text left ts here all = all
+put_good (Some classes.End) text left ts here all = (here, tt)
+put_good (Some (classes.Broken f)) text left ts here all = (here, tt)
+put_good (Some (classes.Sign s)) text left ts here all = (here, all)
 
 tokens_good : (k : ℕ) (bytes : List ℕ) → AllByRecursion IsWordToken (tokens_behind k bytes)
 unfolding tokens_behind
-tokens_good k [] = (λ e. absurd (omega (arith, e)), tt)
+tokens_good k [] = (λ e. absurd cc, tt)
 tokens_good (suc k) (b ∷ bs) = tokens_good k bs
 tokens_good zero (b ∷ bs) =
     let p = piece_of (b ∷ bs) in
-    put_good p.kind (record { kind = p.kind; text = take p.len (b ∷ bs); left = length (b ∷ bs) }) (tokens_behind (p.len - 1) bs) (piece_good b bs).is_word (tokens_good (p.len - 1) bs)
+    put_good p.class (take p.len (b ∷ bs)) (length (b ∷ bs)) (tokens_behind (p.len - 1) bs) (piece_good b bs).is_word (tokens_good (p.len - 1) bs)
 
 -- ---- parts
 
 skip_good : (ts : List Token) → AllByRecursion IsWordToken ts → AllByRecursion IsWordToken (skip_breaks ts)
 unfolding skip_breaks
 skip_good [] all = tt
-skip_good (t ∷ ts) all = chosen (is_kind kinds.Break t) (skip_good ts all.1)
+skip_good (t ∷ ts) all = chosen (is_sign signs.Break t) (skip_good ts all.1)
   where
     chosen : (b : Bool) → AllByRecursion IsWordToken (skip_breaks ts) → AllByRecursion IsWordToken (cond b (skip_breaks ts) (t ∷ ts))
     chosen true h = h
@@ -170,8 +172,8 @@ each_good F s qs good (x ∷ xs) all =
     let split = subst P e all in
     (good x (left_good (s x) (flat_map s xs ++ qs) split), each_good F s qs good xs (right_good (s x) (flat_map s xs ++ qs) split))
 
-a_name : (t : Token) → (is_kind kinds.Name t ≡ true) × IsWordToken t → IsWordText t.text
-a_name t h = h.1 (eqb-true (kind_code t.kind) 2 h.0)
+a_name : (t : Token) → (is_sign signs.Name t ≡ true) × IsWordToken t → IsWordText t.text
+a_name t h = h.1 h.0
 
 names_good : (x : NamesText) (qs : List Part) → AllByRecursion GoodPart (spelled_names x ++ qs) → AreWordNames x
 names_good (Located t) qs all = tt

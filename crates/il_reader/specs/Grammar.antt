@@ -5,7 +5,7 @@ use Rattle.il_model.specs.declared.op.Op.TheVariants as ops
 use Rattle.il_model.specs.declared.words.Mnemonic.{Mnemonic}
 use Rattle.il_model.specs.Words.{spells, mnemonic_of}
 use Rattle.il_reader.specs.declared.fault.Refusal.{Refusal}
-use Rattle.il_reader.specs.declared.lexeme.Kind.TheVariants as kinds
+use Rattle.il_reader.specs.declared.lexeme.Sign.TheVariants as signs
 use Rattle.il_reader.specs.declared.contents.Operator.{Operator}
 use Rattle.il_reader.specs.declared.contents.Operand.{Operand}
 use Rattle.il_reader.specs.declared.contents.Operand.TheVariants as operands
@@ -25,7 +25,7 @@ use Rattle.il_reader.specs.declared.contents.Names.TheVariants as names
 use Rattle.il_reader.specs.declared.contents.Declaration.{Declaration}
 use Rattle.il_reader.specs.declared.contents.Contents.{Contents}
 use Rattle.il_reader.specs.Tokens.{Token, token, tokens_of}
-use Rattle.il_reader.specs.Reading.{◌>>=◌, first, others, fault_at, is_kind, next_is, next_is_word, skip_breaks, expect, keyword, meaning, many, Reading, pair, led, closed, mapped, choice, past, mark, stand}
+use Rattle.il_reader.specs.Reading.{◌>>=◌, first, others, fault_at, is_sign, next_is, at_end, next_is_word, skip_breaks, expect, keyword, meaning, many, Reading, pair, led, closed, mapped, choice, past, mark, stand}
 
 -- ---- what a text says, without where it lies in memory
 
@@ -157,8 +157,8 @@ operator_from left (Some m) = Some (record { mnemonic = m; left = left })
 -- the operator that a token is
 unfoldable pub operator_of : Token → Option Operator
 operator_of t =
-    if is_kind kinds.Name t || is_kind kinds.Ampersand t then operator_from t.left (mnemonic_of t.text)
-    else if is_kind kinds.Close t then Some (record { mnemonic = closing; left = t.left })
+    if is_sign signs.Name t || is_sign signs.Ampersand t then operator_from t.left (mnemonic_of t.text)
+    else if is_sign signs.Close t then Some (record { mnemonic = closing; left = t.left })
     else None
 
 -- TRUE and FALSE are literals where an operand may stand
@@ -166,10 +166,10 @@ abbrev pub is_truth : Token → Bool
 is_truth t = spells (codes "TRUE") t.text || spells (codes "FALSE") t.text
 
 abbrev pub is_variable : Token → Bool
-is_variable t = is_kind kinds.Name t && not (is_truth t)
+is_variable t = is_sign signs.Name t && not (is_truth t)
 
 unfoldable pub is_constant : Token → Bool
-is_constant t = if is_kind kinds.Name t then is_truth t else is_kind kinds.Literal t
+is_constant t = if is_sign signs.Name t then is_truth t else is_sign signs.Literal t
 
 abbrev pub next_is_variable : List Token → Bool
 next_is_variable ts = is_variable (first ts)
@@ -184,21 +184,21 @@ unfoldable pub constant_at : Reading Token
 constant_at ts = if is_constant (first ts) then Ok (first ts, others ts) else Err (fault_at (first ts))
 
 abbrev pub no_dot : List Token → Bool
-no_dot ts = not (next_is kinds.Dot ts)
+no_dot ts = not (next_is signs.Dot ts)
 
 -- '.' field_selector of a structured_variable (B.1.4.2), where a dot stands
 unfoldable pub field_at : Reading (Option Token)
-field_at ts = choice (next_is kinds.Dot) (mapped Some (led (mark (expect kinds.Dot)) (expect kinds.Name))) (stand no_dot None) ts
+field_at ts = choice (next_is signs.Dot) (mapped Some (led (mark (expect signs.Dot)) (expect signs.Name))) (stand no_dot None) ts
 
 abbrev pub before_dot : List Token → Bool
-before_dot ts = next_is kinds.Dot (skip_breaks ts)
+before_dot ts = next_is signs.Dot (skip_breaks ts)
 
 abbrev pub before_no_dot : List Token → Bool
 before_no_dot ts = not (before_dot ts)
 
 -- the same between the parentheses of a call, where line ends are white space
 unfoldable pub inner_field_at : Reading (Option Token)
-inner_field_at ts = choice before_dot (mapped Some (led (past (mark (expect kinds.Dot))) (past (expect kinds.Name)))) (stand before_no_dot None) ts
+inner_field_at ts = choice before_dot (mapped Some (led (past (mark (expect signs.Dot))) (past (expect signs.Name)))) (stand before_no_dot None) ts
 
 abbrev pub named_by : Token → Option Token → OperandText
 named_by t None = Named t
@@ -209,7 +209,7 @@ named (name, field) = named_by name field
 
 -- constant (B.1.2) and direct_variable (B.1.4.1)
 unfoldable pub lone_at : Reading OperandText
-lone_at ts = choice (next_is kinds.Address) (mapped Direct (expect kinds.Address)) (mapped Constant constant_at) ts
+lone_at ts = choice (next_is signs.Address) (mapped Direct (expect signs.Address)) (mapped Constant constant_at) ts
 
 -- il_operand (B.2.1)
 unfoldable pub operand_at : Reading OperandText
@@ -221,18 +221,18 @@ inner_operand_at ts = choice next_is_variable (mapped named (pair variable_at in
 
 -- EOL (B.2.1), which is not taken, or the end of the text
 abbrev pub is_line_stop : List Token → Bool
-is_line_stop ts = next_is kinds.Break ts || next_is kinds.End ts
+is_line_stop ts = next_is signs.Break ts || at_end ts
 
 unfoldable pub optional_operand_at : Reading (Option OperandText)
 optional_operand_at ts = choice is_line_stop (stand is_line_stop None) (mapped Some operand_at) ts
 
 -- '(' [il_operand] of an il_expression (B.2.1)
 unfoldable pub nested_at : Reading (Option OperandText)
-nested_at ts = led (mark (expect kinds.Open)) optional_operand_at ts
+nested_at ts = led (mark (expect signs.Open)) optional_operand_at ts
 
 -- what stands behind an il_expr_operator, which is an il_simple_operator too (B.2.2)
 unfoldable pub either_at : Reading BehindText
-either_at ts = choice (next_is kinds.Open) (mapped Opened nested_at) (mapped Given operand_at) ts
+either_at ts = choice (next_is signs.Open) (mapped Opened nested_at) (mapped Given operand_at) ts
 
 -- ---- calls
 
@@ -244,24 +244,24 @@ an_input u = sides.Input
 
 -- the sign of an il_assign_out_operator or of an il_assign_operator (B.2.2)
 unfoldable pub side_at : Reading Side
-side_at ts = choice (next_is kinds.Arrow) (mapped an_output (mark (expect kinds.Arrow))) (mapped an_input (mark (expect kinds.Assign))) ts
+side_at ts = choice (next_is signs.Arrow) (mapped an_output (mark (expect signs.Arrow))) (mapped an_input (mark (expect signs.Assign))) ts
 
 abbrev pub an_argument : Token × (Side × OperandText) → ArgumentText
 an_argument (field, (side, operand)) = record { field = field; side = side; operand = operand }
 
 -- il_param_assignment and il_param_out_assignment (B.2.1), of an operand alone
 unfoldable pub argument_at : Reading ArgumentText
-argument_at ts = mapped an_argument (pair (past (expect kinds.Name)) (pair (past side_at) (past inner_operand_at))) ts
+argument_at ts = mapped an_argument (pair (past (expect signs.Name)) (pair (past side_at) (past inner_operand_at))) ts
 
 unfoldable pub ends_arguments : List Token → Bool
-ends_arguments ts = not (next_is kinds.Comma (skip_breaks ts))
+ends_arguments ts = not (next_is signs.Comma (skip_breaks ts))
 
 -- the next of an il_param_list (B.2.1)
 unfoldable pub next_argument_at : Reading ArgumentText
-next_argument_at ts = led (past (mark (expect kinds.Comma))) argument_at ts
+next_argument_at ts = led (past (mark (expect signs.Comma))) argument_at ts
 
 abbrev pub before_close : List Token → Bool
-before_close ts = next_is kinds.Close (skip_breaks ts)
+before_close ts = next_is signs.Close (skip_breaks ts)
 
 abbrev pub together : {X : Type 0} → X × List X → List X
 together (x, more) = x ∷ more
@@ -271,17 +271,17 @@ unfoldable pub inside_at : Reading (List ArgumentText)
 inside_at ts = choice before_close (stand before_close []) (mapped together (pair argument_at (many ends_arguments next_argument_at))) ts
 
 abbrev pub no_open : List Token → Bool
-no_open ts = not (next_is kinds.Open ts)
+no_open ts = not (next_is signs.Open ts)
 
 unfoldable pub arguments_at : Reading (Option (List ArgumentText))
-arguments_at ts = choice (next_is kinds.Open) (mapped Some (led (mark (expect kinds.Open)) (closed inside_at (past (mark (expect kinds.Close)))))) (stand no_open None) ts
+arguments_at ts = choice (next_is signs.Open) (mapped Some (led (mark (expect signs.Open)) (closed inside_at (past (mark (expect signs.Close)))))) (stand no_open None) ts
 
 abbrev pub a_call : Token × Option (List ArgumentText) → CallText
 a_call (instance, written) = record { instance = instance; written = written }
 
 -- fb_name and what follows it in an il_fb_call (B.2.1)
 unfoldable pub call_at : Reading CallText
-call_at ts = mapped a_call (pair (expect kinds.Name) arguments_at) ts
+call_at ts = mapped a_call (pair (expect signs.Name) arguments_at) ts
 
 -- ---- operations and lines
 
@@ -289,7 +289,7 @@ call_at ts = mapped a_call (pair (expect kinds.Name) arguments_at) ts
 unfoldable pub behind_at : Form → Reading BehindText
 behind_at forms.Operand ts = mapped Given operand_at ts
 behind_at forms.Nothing ts = Ok (Nothing, ts)
-behind_at forms.Label ts = mapped Target (expect kinds.Name) ts
+behind_at forms.Label ts = mapped Target (expect signs.Name) ts
 behind_at forms.Either ts = either_at ts
 behind_at forms.Call ts = mapped Called call_at ts
 
@@ -305,7 +305,7 @@ optional_operation_at ts = choice is_line_stop (stand is_line_stop None) (mapped
 
 -- label (B.2.1): a word before a colon, and also one that is no operator
 unfoldable pub is_label : List Token → Bool
-is_label ts = next_is kinds.Name ts && (next_is kinds.Colon (others ts) || is_none (mnemonic_of (first ts).text))
+is_label ts = next_is signs.Name ts && (next_is signs.Colon (others ts) || is_none (mnemonic_of (first ts).text))
 
 abbrev pub is_no_label : List Token → Bool
 is_no_label ts = not (is_label ts)
@@ -315,7 +315,7 @@ labelled (label, operation) = Labelled label operation
 
 -- label ':' and what may follow it in an il_instruction (B.2.1)
 unfoldable pub labelled_at : Reading LineText
-labelled_at ts = mapped labelled (pair (expect kinds.Name) (led (mark (expect kinds.Colon)) optional_operation_at)) ts
+labelled_at ts = mapped labelled (pair (expect signs.Name) (led (mark (expect signs.Colon)) optional_operation_at)) ts
 
 unfoldable pub plain_at : Reading LineText
 plain_at ts = mapped Plain operation_at ts
@@ -328,7 +328,7 @@ unfoldable pub line_at : Reading LineText
 line_at ts = closed (past either_line_at) (stand is_line_stop tt) ts
 
 unfoldable pub ends_lines : List Token → Bool
-ends_lines ts = next_is kinds.End (skip_breaks ts)
+ends_lines ts = at_end (skip_breaks ts)
 
 -- what the lines of a program with a name end by
 unfoldable pub ends_named : List Token → Bool
@@ -337,29 +337,29 @@ ends_named ts = next_is_word (codes "END_PROGRAM") (skip_breaks ts)
 -- ---- declarations
 
 unfoldable pub ends_names : List Token → Bool
-ends_names ts = not (next_is kinds.Comma (skip_breaks ts))
+ends_names ts = not (next_is signs.Comma (skip_breaks ts))
 
 -- the next variable_name of a var1_list (B.1.4.3)
 unfoldable pub name_at : Reading Token
-name_at ts = led (past (mark (expect kinds.Comma))) (past (expect kinds.Name)) ts
+name_at ts = led (past (mark (expect signs.Comma))) (past (expect signs.Name)) ts
 
 -- location of a located_var_decl, or what follows the first name of a var1_list (B.1.4.3)
 unfoldable pub names_at : Reading NamesText
-names_at ts = choice (next_is_word (codes "AT")) (mapped Located (led (keyword (codes "AT")) (past (expect kinds.Address)))) (mapped More (many ends_names name_at)) ts
+names_at ts = choice (next_is_word (codes "AT")) (mapped Located (led (keyword (codes "AT")) (past (expect signs.Address)))) (mapped More (many ends_names name_at)) ts
 
 abbrev pub no_value : List Token → Bool
-no_value ts = not (next_is kinds.Assign ts)
+no_value ts = not (next_is signs.Assign ts)
 
 -- ':=' constant of a simple_spec_init (B.1.3.3), where it stands
 unfoldable pub initial_at : Reading (Option Token)
-initial_at ts = choice (next_is kinds.Assign) (mapped Some (led (mark (expect kinds.Assign)) (past constant_at))) (stand no_value None) ts
+initial_at ts = choice (next_is signs.Assign) (mapped Some (led (mark (expect signs.Assign)) (past constant_at))) (stand no_value None) ts
 
 abbrev pub declared : Token × (NamesText × (Token × Option Token)) → DeclarationText
 declared (name, (names, (ty, initial))) = record { name = name; names = names; ty = ty; initial = initial }
 
 -- var1_init_decl, fb_name_decl or located_var_decl, and the semicolon behind it (B.1.4.3)
 unfoldable pub declaration_at : Reading DeclarationText
-declaration_at ts = mapped declared (pair (past (expect kinds.Name)) (pair (past names_at) (led (past (mark (expect kinds.Colon))) (pair (past (expect kinds.Name)) (closed (past initial_at) (past (mark (expect kinds.Semicolon)))))))) ts
+declaration_at ts = mapped declared (pair (past (expect signs.Name)) (pair (past names_at) (led (past (mark (expect signs.Colon))) (pair (past (expect signs.Name)) (closed (past initial_at) (past (mark (expect signs.Semicolon)))))))) ts
 
 unfoldable pub ends_block : List Token → Bool
 ends_block ts = next_is_word (codes "END_VAR") (skip_breaks ts)
@@ -379,9 +379,6 @@ named_program (name, (blocks, lines)) = record { name = Some name; blocks = bloc
 abbrev pub bare_program : List (List DeclarationText) × List LineText → ProgramText
 bare_program (blocks, lines) = record { name = None; blocks = blocks; lines = lines }
 
-abbrev pub at_end : List Token → Bool
-at_end ts = next_is kinds.End ts
-
 unfoldable pub end_at : Reading (Unit {0})
 end_at ts = stand at_end tt ts
 
@@ -391,7 +388,7 @@ finish_at ts = led (past (keyword (codes "END_PROGRAM"))) (past end_at) ts
 
 -- program_declaration (B.1.5.3)
 unfoldable pub named_at : Reading ProgramText
-named_at ts = led (past (keyword (codes "PROGRAM"))) (mapped named_program (pair (expect kinds.Name) (pair (many ends_blocks block_at) (closed (many ends_named line_at) finish_at)))) ts
+named_at ts = led (past (keyword (codes "PROGRAM"))) (mapped named_program (pair (expect signs.Name) (pair (many ends_blocks block_at) (closed (many ends_named line_at) finish_at)))) ts
 
 -- the same without the words around it: declarations and an instruction_list (B.2.1)
 unfoldable pub bare_at : Reading ProgramText

@@ -1,13 +1,15 @@
 -- Reading from left to right, with the first fault that is met.
-use Rattle.std.specs.Prelude.{◌≡◌, ℕ, zero, suc, List, [], ◌∷◌, length, Option, Some, None, Result, Ok, Err, Bool, ◌&&◌, ◌==◌, if◌then◌else◌}
+use Rattle.std.specs.Prelude.{◌≡◌, ℕ, zero, suc, List, [], ◌∷◌, length, Option, Some, None, Result, Ok, Err, Bool, true, false, ◌&&◌, if◌then◌else◌}
 use Rattle.il_model.specs.Words.{spells}
 use Rattle.il_reader.specs.declared.fault.Refusal.{Refusal}
 use Rattle.il_reader.specs.declared.fault.Failure.{Failure}
 use Rattle.il_reader.specs.declared.fault.Failure.TheVariants as failures
 use Rattle.il_reader.specs.declared.fault.FaultKind.{FaultKind}
 use Rattle.il_reader.specs.declared.fault.FaultKind.TheVariants.{Misplaced}
-use Rattle.il_reader.specs.declared.lexeme.Kind.{Kind}
-use Rattle.il_reader.specs.declared.lexeme.Kind.TheVariants as kinds
+use Rattle.il_reader.specs.declared.lexeme.Sign.{Sign}
+use Rattle.il_reader.specs.declared.lexeme.Sign.TheVariants as signs
+use Rattle.il_reader.specs.declared.lexeme.Class.{Class}
+use Rattle.il_reader.specs.declared.lexeme.Class.TheVariants as classes
 use Rattle.il_reader.specs.Tokens.{Token}
 
 infixl 10 ◌>>=◌
@@ -24,34 +26,32 @@ abbrev pub Gives : {X Y : Type 0} → (X → Y) → Result X Failure → Result 
 Gives view (Ok x) read = read ≡ Ok (view x)
 Gives view (Err e) read = Fails e read
 
-abbrev pub kind_code : Kind → ℕ
-kind_code kinds.Blank = 0
-kind_code kinds.Break = 1
-kind_code kinds.Name = 2
-kind_code kinds.Literal = 3
-kind_code kinds.Address = 4
-kind_code kinds.Colon = 5
-kind_code kinds.Assign = 6
-kind_code kinds.Arrow = 7
-kind_code kinds.Comma = 8
-kind_code kinds.Semicolon = 9
-kind_code kinds.Open = 10
-kind_code kinds.Close = 11
-kind_code kinds.Dot = 12
-kind_code kinds.Ampersand = 13
-kind_code kinds.End = 14
-kind_code (kinds.Broken f) = 15
+abbrev pub same_sign : Sign → Sign → Bool
+same_sign signs.Break signs.Break = true
+same_sign signs.Name signs.Name = true
+same_sign signs.Literal signs.Literal = true
+same_sign signs.Address signs.Address = true
+same_sign signs.Colon signs.Colon = true
+same_sign signs.Assign signs.Assign = true
+same_sign signs.Arrow signs.Arrow = true
+same_sign signs.Comma signs.Comma = true
+same_sign signs.Semicolon signs.Semicolon = true
+same_sign signs.Open signs.Open = true
+same_sign signs.Close signs.Close = true
+same_sign signs.Dot signs.Dot = true
+same_sign signs.Ampersand signs.Ampersand = true
+same_sign a b = false
 
 -- why a token is refused where no case allows it
-abbrev pub refusal : Kind → FaultKind
-refusal (kinds.Broken f) = f
-refusal k = Misplaced
+abbrev pub refusal : Class → FaultKind
+refusal (classes.Broken f) = f
+refusal c = Misplaced
 
 abbrev pub fault_at : Token → Refusal
-fault_at t = record { kind = refusal t.kind; left = t.left }
+fault_at t = record { kind = refusal t.class; left = t.left }
 
 abbrev pub no_token : Token
-no_token = record { kind = kinds.End; text = []; left = 0 }
+no_token = record { class = classes.End; text = []; left = 0 }
 
 abbrev pub first : List Token → Token
 first [] = no_token
@@ -61,16 +61,27 @@ abbrev pub others : List Token → List Token
 others [] = []
 others (t ∷ ts) = ts
 
-abbrev pub is_kind : Kind → Token → Bool
-is_kind k t = kind_code t.kind == kind_code k
+abbrev pub is_class_of : Sign → Class → Bool
+is_class_of s (classes.Sign u) = same_sign s u
+is_class_of s c = false
+
+abbrev pub is_sign : Sign → Token → Bool
+is_sign s t = is_class_of s t.class
+
+abbrev pub is_end_class : Class → Bool
+is_end_class classes.End = true
+is_end_class c = false
+
+abbrev pub is_end : Token → Bool
+is_end t = is_end_class t.class
 
 unfoldable pub skip_breaks : List Token → List Token
 skip_breaks [] = []
-skip_breaks (t ∷ ts) = if is_kind kinds.Break t then skip_breaks ts else t ∷ ts
+skip_breaks (t ∷ ts) = if is_sign signs.Break t then skip_breaks ts else t ∷ ts
 
--- a token of this kind, and what follows it
-unfoldable pub expect : Kind → List Token → Result (Token × List Token) Refusal
-expect k ts = if is_kind k (first ts) then Ok (first ts, others ts) else Err (fault_at (first ts))
+-- this sign, and what follows it
+unfoldable pub expect : Sign → List Token → Result (Token × List Token) Refusal
+expect s ts = if is_sign s (first ts) then Ok (first ts, others ts) else Err (fault_at (first ts))
 
 -- As many of them as there are before it stops, and so many at most.
 unfoldable pub many_within : {X : Type 0} → (List Token → Bool) → (List Token → Result (X × List Token) Refusal) → ℕ → List Token → Result (List X × List Token) Refusal
@@ -119,11 +130,14 @@ mark a ts = a ts >>= λ x. Ok (tt, x.1)
 abbrev pub stand : {X : Type 0} → (List Token → Bool) → X → Reading X
 stand p x ts = if p ts then Ok (x, ts) else Err (fault_at (first ts))
 
-abbrev pub next_is : Kind → List Token → Bool
-next_is k ts = is_kind k (first ts)
+abbrev pub next_is : Sign → List Token → Bool
+next_is s ts = is_sign s (first ts)
+
+abbrev pub at_end : List Token → Bool
+at_end ts = is_end (first ts)
 
 abbrev pub is_word_token : List ℕ → Token → Bool
-is_word_token w t = is_kind kinds.Name t && spells w t.text
+is_word_token w t = is_sign signs.Name t && spells w t.text
 
 abbrev pub next_is_word : List ℕ → List Token → Bool
 next_is_word w ts = is_word_token w (first ts)

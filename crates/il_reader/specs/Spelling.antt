@@ -6,11 +6,11 @@ use Rattle.il_model.specs.declared.program.Side.{Side}
 use Rattle.il_model.specs.declared.program.Side.TheVariants as sides
 use Rattle.il_reader.specs.declared.operations.Form.{Form}
 use Rattle.il_reader.specs.declared.operations.Form.TheVariants as forms
-use Rattle.il_reader.specs.declared.lexeme.Kind.{Kind}
-use Rattle.il_reader.specs.declared.lexeme.Kind.TheVariants as kinds
+use Rattle.il_reader.specs.declared.lexeme.Sign.{Sign}
+use Rattle.il_reader.specs.declared.lexeme.Sign.TheVariants as signs
 use Rattle.il_reader.specs.Tokens.{Token, tokens_of}
-use Rattle.il_reader.specs.Reading.{skip_breaks, is_kind, is_word_token, next_is_word}
-use Rattle.il_reader.specs.Grammar.{OperandText, Constant, Direct, Named, Field, ArgumentText, CallText, no_dot, before_no_dot, before_close, ends_arguments, no_open, BehindText, Nothing, Given, Target, Opened, Called, OperationText, LineText, Labelled, Plain, NamesText, Located, More, DeclarationText, ProgramText, is_constant, is_variable, form_of, operator_of, is_line_stop, is_no_label, no_value, ends_names, ends_block, ends_blocks, ends_lines, ends_named, begins_program, at_end}
+use Rattle.il_reader.specs.Reading.{skip_breaks, is_sign, is_word_token, next_is_word, at_end}
+use Rattle.il_reader.specs.Grammar.{OperandText, Constant, Direct, Named, Field, ArgumentText, CallText, no_dot, before_no_dot, before_close, ends_arguments, no_open, BehindText, Nothing, Given, Target, Opened, Called, OperationText, LineText, Labelled, Plain, NamesText, Located, More, DeclarationText, ProgramText, is_constant, is_variable, form_of, operator_of, is_line_stop, is_no_label, no_value, ends_names, ends_block, ends_blocks, ends_lines, ends_named, begins_program}
 
 -- what stands next: any number of line ends, a token of this sort, this token, a token that is this operator, or nothing where this comes next
 pub data Part : Type 0 where
@@ -33,13 +33,13 @@ Spell (operator f x ∷ ps) [] rest = ⊥
 Spell (operator f x ∷ ps) (t ∷ ts) rest = (f t ≡ Some x) × Spell ps ts rest
 
 abbrev pub name : Token → Part
-name t = this (is_kind kinds.Name) t
+name t = this (is_sign signs.Name) t
 
 abbrev pub address : Token → Part
-address t = this (is_kind kinds.Address) t
+address t = this (is_sign signs.Address) t
 
-abbrev pub sign : Kind → Part
-sign k = one (is_kind k)
+abbrev pub sign : Sign → Part
+sign s = one (is_sign s)
 
 abbrev pub word : List ℕ → Part
 word w = one (is_word_token w)
@@ -50,25 +50,25 @@ abbrev pub spelled_operand : OperandText → List Part
 spelled_operand (Constant t) = this is_constant t ∷ []
 spelled_operand (Direct t) = address t ∷ []
 spelled_operand (Named t) = this is_variable t ∷ ahead no_dot ∷ []
-spelled_operand (Field t f) = this is_variable t ∷ sign kinds.Dot ∷ name f ∷ []
+spelled_operand (Field t f) = this is_variable t ∷ sign signs.Dot ∷ name f ∷ []
 
 -- the same between the parentheses of a call, where line ends are white space
 abbrev pub spelled_inner_operand : OperandText → List Part
 spelled_inner_operand (Constant t) = this is_constant t ∷ []
 spelled_inner_operand (Direct t) = address t ∷ []
 spelled_inner_operand (Named t) = this is_variable t ∷ ahead before_no_dot ∷ []
-spelled_inner_operand (Field t f) = this is_variable t ∷ breaks ∷ sign kinds.Dot ∷ breaks ∷ name f ∷ []
+spelled_inner_operand (Field t f) = this is_variable t ∷ breaks ∷ sign signs.Dot ∷ breaks ∷ name f ∷ []
 
 abbrev pub spelled_side : Side → List Part
-spelled_side sides.Input = sign kinds.Assign ∷ []
-spelled_side sides.Output = sign kinds.Arrow ∷ []
+spelled_side sides.Input = sign signs.Assign ∷ []
+spelled_side sides.Output = sign signs.Arrow ∷ []
 
 abbrev pub spelled_argument : ArgumentText → List Part
 spelled_argument a = breaks ∷ name a.field ∷ breaks ∷ (spelled_side a.side ++ breaks ∷ spelled_inner_operand a.operand)
 
 -- another argument of the same call
 abbrev pub spelled_next : ArgumentText → List Part
-spelled_next a = breaks ∷ sign kinds.Comma ∷ spelled_argument a
+spelled_next a = breaks ∷ sign signs.Comma ∷ spelled_argument a
 
 abbrev pub spelled_inside : List ArgumentText → List Part
 spelled_inside [] = ahead before_close ∷ []
@@ -76,7 +76,7 @@ spelled_inside (a ∷ more) = spelled_argument a ++ (flat_map spelled_next more 
 
 abbrev pub spelled_arguments : Option (List ArgumentText) → List Part
 spelled_arguments None = ahead no_open ∷ []
-spelled_arguments (Some xs) = sign kinds.Open ∷ (spelled_inside xs ++ breaks ∷ sign kinds.Close ∷ [])
+spelled_arguments (Some xs) = sign signs.Open ∷ (spelled_inside xs ++ breaks ∷ sign signs.Close ∷ [])
 
 abbrev pub spelled_call : CallText → List Part
 spelled_call c = name c.instance ∷ spelled_arguments c.written
@@ -107,7 +107,7 @@ abbrev pub spelled_behind : BehindText → List Part
 spelled_behind Nothing = []
 spelled_behind (Given x) = spelled_operand x
 spelled_behind (Target t) = name t ∷ []
-spelled_behind (Opened o) = sign kinds.Open ∷ spelled_optional o
+spelled_behind (Opened o) = sign signs.Open ∷ spelled_optional o
 spelled_behind (Called c) = spelled_call c
 
 abbrev pub spelled_operation : OperationText → List Part
@@ -118,7 +118,7 @@ spelled_optional_operation None = ahead is_line_stop ∷ []
 spelled_optional_operation (Some o) = spelled_operation o
 
 abbrev pub spelled_content : LineText → List Part
-spelled_content (Labelled t o) = name t ∷ sign kinds.Colon ∷ spelled_optional_operation o
+spelled_content (Labelled t o) = name t ∷ sign signs.Colon ∷ spelled_optional_operation o
 spelled_content (Plain o) = ahead is_no_label ∷ spelled_operation o
 
 abbrev pub spelled_line : LineText → List Part
@@ -128,7 +128,7 @@ spelled_line l = breaks ∷ (spelled_content l ++ ahead is_line_stop ∷ [])
 
 -- another name of the same declaration
 abbrev pub spelled_name : Token → List Part
-spelled_name t = breaks ∷ sign kinds.Comma ∷ breaks ∷ name t ∷ []
+spelled_name t = breaks ∷ sign signs.Comma ∷ breaks ∷ name t ∷ []
 
 abbrev pub is_not_at : List Token → Bool
 is_not_at ts = not (next_is_word (codes "AT") ts)
@@ -139,10 +139,10 @@ spelled_names (More ts) = ahead is_not_at ∷ (flat_map spelled_name ts ++ ahead
 
 abbrev pub spelled_initial : Option Token → List Part
 spelled_initial None = ahead no_value ∷ []
-spelled_initial (Some t) = sign kinds.Assign ∷ breaks ∷ this is_constant t ∷ []
+spelled_initial (Some t) = sign signs.Assign ∷ breaks ∷ this is_constant t ∷ []
 
 abbrev pub spelled_declaration : DeclarationText → List Part
-spelled_declaration d = breaks ∷ name d.name ∷ breaks ∷ (spelled_names d.names ++ breaks ∷ sign kinds.Colon ∷ breaks ∷ name d.ty ∷ breaks ∷ (spelled_initial d.initial ++ breaks ∷ sign kinds.Semicolon ∷ []))
+spelled_declaration d = breaks ∷ name d.name ∷ breaks ∷ (spelled_names d.names ++ breaks ∷ sign signs.Colon ∷ breaks ∷ name d.ty ∷ breaks ∷ (spelled_initial d.initial ++ breaks ∷ sign signs.Semicolon ∷ []))
 
 -- a thing of a list, which does not begin where the list stops
 abbrev pub going : {X : Type 0} → (List Token → Bool) → (X → List Part) → X → List Part

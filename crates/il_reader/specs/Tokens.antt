@@ -6,8 +6,11 @@ use Rattle.il_model.specs.Literals.{literal_of}
 use Rattle.il_reader.specs.declared.fault.FaultKind.TheVariants.{BadByte, BadToken, BadLiteral, UnclosedComment, TooLong}
 use Rattle.il_reader.specs.declared.lexeme.Piece.{Piece}
 use Rattle.il_reader.specs.declared.lexeme.Lexeme.{Lexeme}
-use Rattle.il_reader.specs.declared.lexeme.Kind.{Kind}
-use Rattle.il_reader.specs.declared.lexeme.Kind.TheVariants as kinds
+use Rattle.il_reader.specs.declared.fault.FaultKind.{FaultKind}
+use Rattle.il_reader.specs.declared.lexeme.Sign.{Sign}
+use Rattle.il_reader.specs.declared.lexeme.Sign.TheVariants as signs
+use Rattle.il_reader.specs.declared.lexeme.Class.{Class}
+use Rattle.il_reader.specs.declared.lexeme.Class.TheVariants as classes
 
 abbrev pub is_within : ℕ → ℕ → ℕ → Bool
 is_within low high b = nat_le low b && nat_le b high
@@ -37,27 +40,37 @@ unfoldable pub comment_len : List ℕ → Option ℕ
 comment_len [] = None
 comment_len (b ∷ bs) = if b == 42 && begins_with 41 bs then Some 2 else add_len 1 (comment_len bs)
 
+-- white space, a sign, and bytes that are none
+abbrev pub blank : ℕ → Piece
+blank n = record { class = None; len = n }
+
+abbrev pub sign : Sign → ℕ → Piece
+sign s n = record { class = Some (classes.Sign s); len = n }
+
+abbrev pub broken : FaultKind → Piece
+broken f = record { class = Some (classes.Broken f); len = 1 }
+
+abbrev pub end : Piece
+end = record { class = Some classes.End; len = 0 }
+
 -- a name of at most 32 characters
 unfoldable pub name_of : List ℕ → Piece
 name_of name = if is_well_spelled name
-    then (if nat_lt 32 (length name) then record { kind = kinds.Broken TooLong; len = 1 } else record { kind = kinds.Name; len = length name })
-    else record { kind = kinds.Broken BadToken; len = 1 }
+    then (if nat_lt 32 (length name) then broken TooLong else sign signs.Name (length name))
+    else broken BadToken
 
 abbrev pub comment_piece : Option ℕ → Piece
-comment_piece None = record { kind = kinds.Broken UnclosedComment; len = 1 }
-comment_piece (Some n) = record { kind = kinds.Blank; len = 2 + n }
+comment_piece None = broken UnclosedComment
+comment_piece (Some n) = blank (2 + n)
 
 -- a literal, where the text is one
 unfoldable pub literal_piece : List ℕ → Piece
-literal_piece text = if is_some (literal_of text) then record { kind = kinds.Literal; len = length text } else record { kind = kinds.Broken BadLiteral; len = 1 }
+literal_piece text = if is_some (literal_of text) then sign signs.Literal (length text) else broken BadLiteral
 
 unfoldable pub word_piece : List ℕ → Piece
 word_piece bytes =
     let n = 1 + prefix_len is_word_byte (drop 1 bytes) in
     if begins_with 35 (drop n bytes) then literal_piece (take (1 + prefix_len is_literal_byte (drop 1 bytes)) bytes) else name_of (take n bytes)
-
-abbrev pub sign : Kind → ℕ → Piece
-sign k n = record { kind = k; len = n }
 
 -- the byte is in no word and begins no literal behind one
 abbrev pub is_word_end : List ℕ → Bool
@@ -71,16 +84,16 @@ is_n (b ∷ bs) = (b == 78 || b == 110) && is_word_end bs
 
 unfoldable pub sign_of : ℕ → List ℕ → Piece
 sign_of b bs =
-    if b == 58 then (if begins_with 61 bs then sign kinds.Assign 2 else sign kinds.Colon 1)
-    else if b == 61 then (if begins_with 62 bs then sign kinds.Arrow 2 else sign (kinds.Broken BadToken) 1)
-    else if b == 44 then sign kinds.Comma 1
-    else if b == 59 then sign kinds.Semicolon 1
-    else if b == 40 then sign kinds.Open 1
-    else if b == 41 then sign kinds.Close 1
-    else if b == 46 then sign kinds.Dot 1
-    else if b == 38 then (if is_n bs then sign kinds.Ampersand 2 else sign kinds.Ampersand 1)
-    else if is_within 32 126 b then sign (kinds.Broken BadToken) 1
-    else sign (kinds.Broken BadByte) 1
+    if b == 58 then (if begins_with 61 bs then sign signs.Assign 2 else sign signs.Colon 1)
+    else if b == 61 then (if begins_with 62 bs then sign signs.Arrow 2 else broken BadToken)
+    else if b == 44 then sign signs.Comma 1
+    else if b == 59 then sign signs.Semicolon 1
+    else if b == 40 then sign signs.Open 1
+    else if b == 41 then sign signs.Close 1
+    else if b == 46 then sign signs.Dot 1
+    else if b == 38 then (if is_n bs then sign signs.Ampersand 2 else sign signs.Ampersand 1)
+    else if is_within 32 126 b then broken BadToken
+    else broken BadByte
 
 abbrev pub is_number_start : ℕ → Bool
 is_number_start b = is_within 48 57 b || b == 43 || b == 45
@@ -89,53 +102,53 @@ abbrev pub is_blank_byte : ℕ → Bool
 is_blank_byte b = b == 32 || b == 9 || b == 13
 
 unfoldable pub solid_piece : List ℕ → Piece
-solid_piece [] = sign kinds.End 0
+solid_piece [] = end
 solid_piece (b ∷ bs) =
     if is_letter_byte b then word_piece (b ∷ bs)
     else if is_number_start b then literal_piece (take (1 + prefix_len is_literal_byte bs) (b ∷ bs))
-    else if b == 37 then sign kinds.Address (1 + prefix_len is_address_byte bs)
+    else if b == 37 then sign signs.Address (1 + prefix_len is_address_byte bs)
     else sign_of b bs
 
 unfoldable pub piece_of : List ℕ → Piece
-piece_of [] = sign kinds.End 0
+piece_of [] = end
 piece_of (b ∷ bs) =
-    if b == 10 then sign kinds.Break 1
-    else if is_blank_byte b then sign kinds.Blank 1
+    if b == 10 then sign signs.Break 1
+    else if is_blank_byte b then blank 1
     else if b == 40 && begins_with 42 bs then comment_piece (comment_len (drop 1 bs))
     else solid_piece (b ∷ bs)
 
--- a token: its bytes, and how many bytes the text has from its first one on
+-- a token: what it is, its bytes, and how many bytes the text has from its first one on
 pub record Token : Type 0 where
-  pub kind : Kind
+  pub class : Class
   pub text : List ℕ
   pub left : ℕ
 
 -- whether more may follow: nothing follows the end or a fault
-abbrev pub goes_on : Kind → Bool
-goes_on kinds.End = false
-goes_on (kinds.Broken f) = false
-goes_on k = true
+abbrev pub goes_on : Class → Bool
+goes_on (classes.Sign s) = true
+goes_on (classes.Broken f) = false
+goes_on classes.End = false
 
-abbrev pub after : Kind → List Token → List Token
-after kinds.End ts = []
-after (kinds.Broken f) ts = []
-after k ts = ts
+abbrev pub after : Class → List Token → List Token
+after (classes.Sign s) ts = ts
+after (classes.Broken f) ts = []
+after classes.End ts = []
 
 -- white space is no token
-abbrev pub put : Kind → Token → List Token → List Token
-put kinds.Blank t ts = ts
-put k t ts = t ∷ after k ts
+abbrev pub put : Option Class → List ℕ → ℕ → List Token → List Token
+put None text left ts = ts
+put (Some c) text left ts = record { class = c; text = text; left = left } ∷ after c ts
 
 -- The tokens of a text, of whose first bytes so many belong to a token that has been put already.
 unfoldable pub tokens_behind : ℕ → List ℕ → List Token
-tokens_behind k [] = record { kind = kinds.End; text = []; left = 0 } ∷ []
+tokens_behind k [] = record { class = classes.End; text = []; left = 0 } ∷ []
 tokens_behind (suc k) (b ∷ bs) = tokens_behind k bs
 tokens_behind zero (b ∷ bs) =
     let p = piece_of (b ∷ bs) in
-    put p.kind (record { kind = p.kind; text = take p.len (b ∷ bs); left = length (b ∷ bs) }) (tokens_behind (p.len - 1) bs)
+    put p.class (take p.len (b ∷ bs)) (length (b ∷ bs)) (tokens_behind (p.len - 1) bs)
 
 abbrev pub tokens_of : List ℕ → List Token
 tokens_of bytes = tokens_behind 0 bytes
 
 abbrev pub token : Lexeme → Token
-token t = record { kind = t.kind; text = t.text.now; left = t.left }
+token t = record { class = t.class; text = t.text.now; left = t.left }

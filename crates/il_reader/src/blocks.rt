@@ -7,7 +7,7 @@ ghost use Rattle.il_reader.specs.Grammar.{DeclarationText, names_of, declaration
 
 use crate::contents::{Declaration, Names};
 use crate::fault::Failure;
-use crate::lexeme::{Kind, Lexeme, next};
+use crate::lexeme::{Lexeme, Sign, next};
 use crate::lists::{Listed, many};
 use crate::operands::constant_read;
 use crate::reading::{expected, is, is_word, past_breaks, past_keyword};
@@ -17,8 +17,8 @@ use std::alloc::Global;
 fn name_read(bytes: &[u8]) -> Result<(Lexeme<'_>, &[u8]), Failure>
     ensures { Gives (λ x. (token x.0, tokens_of x.1.now)) result (name_at (tokens_of bytes.now)) }
 {
-    let (_, rest) = expected(Kind::Comma, past_breaks(bytes))?;
-    expected(Kind::Name, past_breaks(rest))
+    let (_, rest) = expected(Sign::Comma, past_breaks(bytes))?;
+    expected(Sign::Name, past_breaks(rest))
 }
 
 struct MoreNames;
@@ -39,7 +39,7 @@ impl<'a> Listed<'a> for MoreNames {
         ensures { result ≡ ends_names (tokens_of bytes.now) }
     {
         let (t, _) = next(past_breaks(bytes));
-        !is(Kind::Comma, t)
+        !is(Sign::Comma, t)
     }
 
     fn item(_alloc: Global, bytes: &'a [u8]) -> Result<(Lexeme<'a>, &'a [u8]), Failure> {
@@ -54,7 +54,7 @@ fn names(alloc: Global, bytes: &[u8]) -> Result<(Names<'_>, &[u8]), Failure>
     let (t, _) = next(bytes);
     if is_word(b"AT", t) {
         let rest = past_keyword(b"AT", bytes)?;
-        let (address, rest) = expected(Kind::Address, past_breaks(rest))?;
+        let (address, rest) = expected(Sign::Address, past_breaks(rest))?;
         Ok((Names::Located(address), rest))
     } else {
         let (more, rest) = many::<MoreNames>(alloc, bytes)?;
@@ -67,8 +67,8 @@ fn initial(bytes: &[u8]) -> Result<(Option<Lexeme<'_>>, &[u8]), Failure>
     ensures { Gives (λ x. (option_map token x.0, tokens_of x.1.now)) result (initial_at (tokens_of bytes.now)) }
 {
     let (t, _) = next(bytes);
-    if is(Kind::Assign, t) {
-        let (_, rest) = expected(Kind::Assign, bytes)?;
+    if is(Sign::Assign, t) {
+        let (_, rest) = expected(Sign::Assign, bytes)?;
         let (value, rest) = constant_read(past_breaks(rest))?;
         Ok((Some(value), rest))
     } else {
@@ -80,12 +80,12 @@ fn initial(bytes: &[u8]) -> Result<(Option<Lexeme<'_>>, &[u8]), Failure>
 fn declared(alloc: Global, bytes: &[u8]) -> Result<(Declaration<'_>, &[u8]), Failure>
     ensures { Gives (λ x. (declaration x.0, tokens_of x.1.now)) result (declaration_at (tokens_of bytes.now)) }
 {
-    let (name, rest) = expected(Kind::Name, past_breaks(bytes))?;
+    let (name, rest) = expected(Sign::Name, past_breaks(bytes))?;
     let (names, rest) = names(alloc, past_breaks(rest))?;
-    let (_, rest) = expected(Kind::Colon, past_breaks(rest))?;
-    let (ty, rest) = expected(Kind::Name, past_breaks(rest))?;
+    let (_, rest) = expected(Sign::Colon, past_breaks(rest))?;
+    let (ty, rest) = expected(Sign::Name, past_breaks(rest))?;
     let (initial, rest) = initial(past_breaks(rest))?;
-    let (_, rest) = expected(Kind::Semicolon, past_breaks(rest))?;
+    let (_, rest) = expected(Sign::Semicolon, past_breaks(rest))?;
     Ok((
         Declaration {
             name,

@@ -7,7 +7,7 @@ ghost use Rattle.il_reader.specs.Grammar.{ArgumentText, argument, call, side_at,
 
 use crate::contents::{Argument, Call};
 use crate::fault::Failure;
-use crate::lexeme::{Kind, next};
+use crate::lexeme::{Sign, next};
 use crate::lists::{Listed, many};
 use crate::operands::inner_operand_read;
 use crate::reading::{expected, is, past_breaks};
@@ -19,11 +19,11 @@ fn side_read(bytes: &[u8]) -> Result<(Side, &[u8]), Failure>
     ensures { Gives (λ x. (x.0, tokens_of x.1.now)) result (side_at (tokens_of bytes.now)) }
 {
     let (t, _) = next(bytes);
-    if is(Kind::Arrow, t) {
-        let (_, rest) = expected(Kind::Arrow, bytes)?;
+    if is(Sign::Arrow, t) {
+        let (_, rest) = expected(Sign::Arrow, bytes)?;
         Ok((Side::Output, rest))
     } else {
-        let (_, rest) = expected(Kind::Assign, bytes)?;
+        let (_, rest) = expected(Sign::Assign, bytes)?;
         Ok((Side::Input, rest))
     }
 }
@@ -32,7 +32,7 @@ fn side_read(bytes: &[u8]) -> Result<(Side, &[u8]), Failure>
 fn argument_read(bytes: &[u8]) -> Result<(Argument<'_>, &[u8]), Failure>
     ensures { Gives (λ x. (argument x.0, tokens_of x.1.now)) result (argument_at (tokens_of bytes.now)) }
 {
-    let (field, rest) = expected(Kind::Name, past_breaks(bytes))?;
+    let (field, rest) = expected(Sign::Name, past_breaks(bytes))?;
     let (side, rest) = side_read(past_breaks(rest))?;
     let (operand, rest) = inner_operand_read(past_breaks(rest))?;
     Ok((
@@ -49,7 +49,7 @@ fn argument_read(bytes: &[u8]) -> Result<(Argument<'_>, &[u8]), Failure>
 fn next_argument(bytes: &[u8]) -> Result<(Argument<'_>, &[u8]), Failure>
     ensures { Gives (λ x. (argument x.0, tokens_of x.1.now)) result (next_argument_at (tokens_of bytes.now)) }
 {
-    let (_, rest) = expected(Kind::Comma, past_breaks(bytes))?;
+    let (_, rest) = expected(Sign::Comma, past_breaks(bytes))?;
     argument_read(rest)
 }
 
@@ -71,7 +71,7 @@ impl<'a> Listed<'a> for MoreArguments {
         ensures { result ≡ ends_arguments (tokens_of bytes.now) }
     {
         let (t, _) = next(past_breaks(bytes));
-        !is(Kind::Comma, t)
+        !is(Sign::Comma, t)
     }
 
     fn item(_alloc: Global, bytes: &'a [u8]) -> Result<(Argument<'a>, &'a [u8]), Failure> {
@@ -84,7 +84,7 @@ fn inside(alloc: Global, bytes: &[u8]) -> Result<(Vec<Argument<'_>>, &[u8]), Fai
     ensures { Gives (λ x. (map argument x.0.items, tokens_of x.1.now)) result (inside_at (tokens_of bytes.now)) }
 {
     let (t, _) = next(past_breaks(bytes));
-    if is(Kind::Close, t) {
+    if is(Sign::Close, t) {
         Ok((Vec::new(alloc), bytes))
     } else {
         let (head, rest) = argument_read(bytes)?;
@@ -102,10 +102,10 @@ fn arguments_read(
     ensures { Gives (λ x. (option_map (λ xs. map argument xs.items) x.0, tokens_of x.1.now)) result (arguments_at (tokens_of bytes.now)) }
 {
     let (t, _) = next(bytes);
-    if is(Kind::Open, t) {
-        let (_, rest) = expected(Kind::Open, bytes)?;
+    if is(Sign::Open, t) {
+        let (_, rest) = expected(Sign::Open, bytes)?;
         let (found, rest) = inside(alloc, rest)?;
-        let (_, rest) = expected(Kind::Close, past_breaks(rest))?;
+        let (_, rest) = expected(Sign::Close, past_breaks(rest))?;
         Ok((Some(found), rest))
     } else {
         Ok((None, bytes))
@@ -117,7 +117,7 @@ fn arguments_read(
 pub fn call_read(alloc: Global, bytes: &[u8]) -> Result<(Call<'_>, &[u8]), Failure>
     ensures { Gives (λ x. (call x.0, tokens_of x.1.now)) result (call_at (tokens_of bytes.now)) }
 {
-    let (instance, rest) = expected(Kind::Name, bytes)?;
+    let (instance, rest) = expected(Sign::Name, bytes)?;
     let (written, rest) = arguments_read(alloc, rest)?;
     Ok((Call { instance, written }, rest))
 }

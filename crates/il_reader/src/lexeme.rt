@@ -8,10 +8,9 @@ use crate::fault::FaultKind;
 use il_model::name::is_well_spelled;
 use il_model::written::literal;
 
-/// What stands at a place of the text.
+/// What the grammar asks for: a line end, a name, a literal, an address, or one of the language's marks.
 #[derive(Clone, Copy, PartialEq, Eq)]
-pub enum Kind {
-    Blank,
+pub enum Sign {
     Break,
     Name,
     Literal,
@@ -25,21 +24,64 @@ pub enum Kind {
     Close,
     Dot,
     Ampersand,
-    End,
-    Broken(FaultKind),
 }
 
-/// A kind, and how many bytes it takes.
+/// What a token is: a sign, bytes that are none, or the end of the text.
+#[derive(Clone, Copy, PartialEq, Eq)]
+pub enum Class {
+    Sign(Sign),
+    Broken(FaultKind),
+    End,
+}
+
+/// What stands at the front of a text, and how many bytes it takes. White space is no token, and so of no class.
 #[derive(Clone, Copy, PartialEq, Eq)]
 pub struct Piece {
-    pub kind: Kind,
+    pub class: Option<Class>,
     pub len: usize,
 }
 
-/// A token: a slice of the text, and how many bytes the text has from its first one on.
+impl Piece {
+    ghost use Rattle.il_reader.specs.Tokens.{blank, sign, broken, end};
+
+    fn blank(len: usize) -> Piece
+        ensures { result ≡ blank len }
+    {
+        Piece { class: None, len }
+    }
+
+    fn sign(which: Sign, len: usize) -> Piece
+        ensures { result ≡ sign which len }
+    {
+        Piece {
+            class: Some(Class::Sign(which)),
+            len,
+        }
+    }
+
+    fn broken(kind: FaultKind) -> Piece
+        ensures { result ≡ broken kind }
+    {
+        Piece {
+            class: Some(Class::Broken(kind)),
+            len: 1,
+        }
+    }
+
+    fn end() -> Piece
+        ensures { result ≡ end }
+    {
+        Piece {
+            class: Some(Class::End),
+            len: 0,
+        }
+    }
+}
+
+/// A token: its class, a slice of the text, and how many bytes the text has from its first one on.
 #[derive(Clone, Copy)]
 pub struct Lexeme<'a> {
-    pub kind: Kind,
+    pub class: Class,
     pub text: &'a [u8],
     pub left: usize,
 }
@@ -123,20 +165,11 @@ fn name_piece(name: &[u8]) -> Piece
     ensures moves { 0 < result.len }
 {
     if !is_well_spelled(name) {
-        Piece {
-            kind: Kind::Broken(FaultKind::BadToken),
-            len: 1,
-        }
+        Piece::broken(FaultKind::BadToken)
     } else if name.len() > 32 {
-        Piece {
-            kind: Kind::Broken(FaultKind::TooLong),
-            len: 1,
-        }
+        Piece::broken(FaultKind::TooLong)
     } else {
-        Piece {
-            kind: Kind::Name,
-            len: name.len(),
-        }
+        Piece::sign(Sign::Name, name.len())
     }
 }
 
@@ -148,15 +181,9 @@ fn judged_literal(text: &[u8]) -> Piece
     ensures moves { 0 < result.len }
 {
     if literal(text).is_some() {
-        Piece {
-            kind: Kind::Literal,
-            len: text.len(),
-        }
+        Piece::sign(Sign::Literal, text.len())
     } else {
-        Piece {
-            kind: Kind::Broken(FaultKind::BadLiteral),
-            len: 1,
-        }
+        Piece::broken(FaultKind::BadLiteral)
     }
 }
 
@@ -200,21 +227,20 @@ fn sign_at(b: u8, others: &[u8]) -> Piece
     ensures fits { result.len ≤ 1 + length others.now }
     ensures moves { 0 < result.len }
 {
-    let (kind, len) = match b {
-        b':' if starts_with(others, b'=') => (Kind::Assign, 2),
-        b':' => (Kind::Colon, 1),
-        b'=' if starts_with(others, b'>') => (Kind::Arrow, 2),
-        b',' => (Kind::Comma, 1),
-        b';' => (Kind::Semicolon, 1),
-        b'(' => (Kind::Open, 1),
-        b')' => (Kind::Close, 1),
-        b'.' => (Kind::Dot, 1),
-        b'&' if starts_n(others) => (Kind::Ampersand, 2),
-        b'&' => (Kind::Ampersand, 1),
-        b' '..=b'~' => (Kind::Broken(FaultKind::BadToken), 1),
-        _ => (Kind::Broken(FaultKind::BadByte), 1),
-    };
-    Piece { kind, len }
+    match b {
+        b':' if starts_with(others, b'=') => Piece::sign(Sign::Assign, 2),
+        b':' => Piece::sign(Sign::Colon, 1),
+        b'=' if starts_with(others, b'>') => Piece::sign(Sign::Arrow, 2),
+        b',' => Piece::sign(Sign::Comma, 1),
+        b';' => Piece::sign(Sign::Semicolon, 1),
+        b'(' => Piece::sign(Sign::Open, 1),
+        b')' => Piece::sign(Sign::Close, 1),
+        b'.' => Piece::sign(Sign::Dot, 1),
+        b'&' if starts_n(others) => Piece::sign(Sign::Ampersand, 2),
+        b'&' => Piece::sign(Sign::Ampersand, 1),
+        b' '..=b'~' => Piece::broken(FaultKind::BadToken),
+        _ => Piece::broken(FaultKind::BadByte),
+    }
 }
 
 fn starts_number(b: u8) -> bool
@@ -236,20 +262,14 @@ fn solid_at(bytes: &[u8]) -> Piece
     ensures moves { 0 < length bytes.now → 0 < result.len }
 {
     match bytes {
-        [] => Piece {
-            kind: Kind::End,
-            len: 0,
-        },
+        [] => Piece::end(),
         [b, others @ ..] => {
             if is_letter(*b) {
                 word_at(bytes)
             } else if starts_number(*b) {
                 judged_literal(&bytes[..1 + literal_len(others)])
             } else if *b == b'%' {
-                Piece {
-                    kind: Kind::Address,
-                    len: 1 + address_len(others),
-                }
+                Piece::sign(Sign::Address, 1 + address_len(others))
             } else {
                 sign_at(*b, others)
             }
@@ -260,26 +280,17 @@ fn solid_at(bytes: &[u8]) -> Piece
 #[tactic(auto, unfolding(crate::specs::Tokens::piece_of))]
 fn piece_at(bytes: &[u8]) -> Piece
     ensures value { result ≡ piece_of bytes.now }
-    ensures end { length bytes.now ≡ 0 → result.kind ≡ Kind.End }
+    ensures end { length bytes.now ≡ 0 → result.class ≡ Some Class.End }
     ensures fits { result.len ≤ length bytes.now }
     ensures moves { 0 < length bytes.now → 0 < result.len }
 {
     match bytes {
-        [] => Piece {
-            kind: Kind::End,
-            len: 0,
-        },
+        [] => Piece::end(),
         [b, others @ ..] => {
             if *b == b'\n' {
-                Piece {
-                    kind: Kind::Break,
-                    len: 1,
-                }
+                Piece::sign(Sign::Break, 1)
             } else if is_blank(*b) {
-                Piece {
-                    kind: Kind::Blank,
-                    len: 1,
-                }
+                Piece::blank(1)
             } else if *b == b'(' && starts_with(others, b'*') {
                 comment_at(&others[1..])
             } else {
@@ -295,31 +306,25 @@ fn comment_at(inside: &[u8]) -> Piece
     ensures moves { 0 < result.len }
 {
     match comment_end(inside) {
-        None => Piece {
-            kind: Kind::Broken(FaultKind::UnclosedComment),
-            len: 1,
-        },
-        Some(n) => Piece {
-            kind: Kind::Blank,
-            len: 2 + n,
-        },
+        None => Piece::broken(FaultKind::UnclosedComment),
+        Some(n) => Piece::blank(2 + n),
     }
 }
 
 /// The first token, and what stands after it.
 pub fn next(bytes: &[u8]) -> (Lexeme<'_>, &[u8])
-    ensures value { tokens_of bytes.now ≡ token result.0 ∷ after result.0.kind (tokens_of result.1.now) }
-    ensures moves { result.0.kind ≢ Kind.End → length result.1.now < length bytes.now }
+    ensures value { tokens_of bytes.now ≡ token result.0 ∷ after result.0.class (tokens_of result.1.now) }
+    ensures moves { result.0.class ≢ Class.End → length result.1.now < length bytes.now }
 {
     let mut rest = bytes;
     loop {
         let piece = piece_at(rest);
         let (text, others) = rest.split_at(piece.len);
-        match piece.kind {
-            Kind::Blank => rest = others,
-            kind => {
+        match piece.class {
+            None => rest = others,
+            Some(class) => {
                 let left = rest.len();
-                return (Lexeme { kind, text, left }, others);
+                return (Lexeme { class, text, left }, others);
             }
         }
     }

@@ -22,6 +22,6 @@ pub use contents::{
 };
 pub use fault::{Fault, FaultKind, ReadError};
 pub use first_fault::{fault_stands_first, worked_faults};
-pub use lexeme::{Kind, Lexeme};
+pub use lexeme::{Class, Lexeme, Sign};
 pub use place::{Place, place_of};
 pub use source::{Source, read};

@@ -7,10 +7,10 @@ ghost use Rattle.il_reader.specs.Grammar.{LineText, line, is_line_stop, is_label
 
 use crate::contents::Line;
 use crate::fault::Failure;
-use crate::lexeme::{Kind, next};
+use crate::lexeme::{Sign, next};
 use crate::lists::Listed;
 use crate::operations::{at_line_stop, operation_read, optional_operation};
-use crate::reading::{expected, is, is_word, past_breaks, refused};
+use crate::reading::{expected, is, is_end, is_word, past_breaks, refused};
 use il_model::words::mnemonic_from;
 use std::alloc::Global;
 
@@ -19,9 +19,9 @@ fn at_label(bytes: &[u8]) -> bool
     ensures { result ≡ is_label (tokens_of bytes.now) }
 {
     let (t, rest) = next(bytes);
-    if is(Kind::Name, t) {
+    if is(Sign::Name, t) {
         let (u, _) = next(rest);
-        is(Kind::Colon, u) || mnemonic_from(t.text).is_none()
+        is(Sign::Colon, u) || mnemonic_from(t.text).is_none()
     } else {
         false
     }
@@ -31,8 +31,8 @@ fn at_label(bytes: &[u8]) -> bool
 fn labelled(alloc: Global, bytes: &[u8]) -> Result<(Line<'_>, &[u8]), Failure>
     ensures { Gives (λ x. (line x.0, tokens_of x.1.now)) result (labelled_at (tokens_of bytes.now)) }
 {
-    let (label, rest) = expected(Kind::Name, bytes)?;
-    let (_, rest) = expected(Kind::Colon, rest)?;
+    let (label, rest) = expected(Sign::Name, bytes)?;
+    let (_, rest) = expected(Sign::Colon, rest)?;
     let (x, rest) = optional_operation(alloc, rest)?;
     Ok((Line::Labelled(label, x), rest))
 }
@@ -87,7 +87,7 @@ impl<'a> Listed<'a> for Lines {
         ensures { result ≡ ends_lines (tokens_of bytes.now) }
     {
         let (t, _) = next(past_breaks(bytes));
-        is(Kind::End, t)
+        is_end(t)
     }
 
     fn item(alloc: Global, bytes: &'a [u8]) -> Result<(Line<'a>, &'a [u8]), Failure> {

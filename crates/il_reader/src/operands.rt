@@ -7,7 +7,7 @@ ghost use Rattle.il_reader.specs.Grammar.{operand, is_truth, is_variable, is_con
 
 use crate::contents::Operand;
 use crate::fault::Failure;
-use crate::lexeme::{Kind, Lexeme, next};
+use crate::lexeme::{Lexeme, Sign, next};
 use crate::reading::{expected, is, past_breaks, refused};
 use il_model::words::is_spelled;
 
@@ -19,20 +19,20 @@ fn truth(t: Lexeme) -> bool
 
 fn variable(t: Lexeme) -> bool
     ensures value { result ≡ is_variable (token t.entry) }
-    ensures inner { result ≡ true → goes_on t.entry.kind ≡ true }
+    ensures inner { result ≡ true → goes_on t.entry.class ≡ true }
 {
-    is(Kind::Name, t) && !truth(t)
+    is(Sign::Name, t) && !truth(t)
 }
 
 #[tactic(auto, unfolding(crate::specs::Grammar::is_constant))]
 fn constant(t: Lexeme) -> bool
     ensures value { result ≡ is_constant (token t.entry) }
-    ensures inner { result ≡ true → goes_on t.entry.kind ≡ true }
+    ensures inner { result ≡ true → goes_on t.entry.class ≡ true }
 {
-    if is(Kind::Name, t) {
+    if is(Sign::Name, t) {
         truth(t)
     } else {
-        is(Kind::Literal, t)
+        is(Sign::Literal, t)
     }
 }
 
@@ -66,9 +66,9 @@ fn field_read(bytes: &[u8]) -> Result<(Option<Lexeme<'_>>, &[u8]), Failure>
     ensures { Gives (λ x. (option_map token x.0, tokens_of x.1.now)) result (field_at (tokens_of bytes.now)) }
 {
     let (t, _) = next(bytes);
-    if is(Kind::Dot, t) {
-        let (_, rest) = expected(Kind::Dot, bytes)?;
-        let (field, rest) = expected(Kind::Name, rest)?;
+    if is(Sign::Dot, t) {
+        let (_, rest) = expected(Sign::Dot, bytes)?;
+        let (field, rest) = expected(Sign::Name, rest)?;
         Ok((Some(field), rest))
     } else {
         Ok((None, bytes))
@@ -80,9 +80,9 @@ fn inner_field_read(bytes: &[u8]) -> Result<(Option<Lexeme<'_>>, &[u8]), Failure
     ensures { Gives (λ x. (option_map token x.0, tokens_of x.1.now)) result (inner_field_at (tokens_of bytes.now)) }
 {
     let (t, _) = next(past_breaks(bytes));
-    if is(Kind::Dot, t) {
-        let (_, rest) = expected(Kind::Dot, past_breaks(bytes))?;
-        let (field, rest) = expected(Kind::Name, past_breaks(rest))?;
+    if is(Sign::Dot, t) {
+        let (_, rest) = expected(Sign::Dot, past_breaks(bytes))?;
+        let (field, rest) = expected(Sign::Name, past_breaks(rest))?;
         Ok((Some(field), rest))
     } else {
         Ok((None, bytes))
@@ -103,8 +103,8 @@ fn lone_read(bytes: &[u8]) -> Result<(Operand<'_>, &[u8]), Failure>
     ensures { Gives (λ x. (operand x.0, tokens_of x.1.now)) result (lone_at (tokens_of bytes.now)) }
 {
     let (t, _) = next(bytes);
-    if is(Kind::Address, t) {
-        let (t, rest) = expected(Kind::Address, bytes)?;
+    if is(Sign::Address, t) {
+        let (t, rest) = expected(Sign::Address, bytes)?;
         Ok((Operand::Direct(t), rest))
     } else {
         let (t, rest) = constant_read(bytes)?;

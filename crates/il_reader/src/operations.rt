@@ -8,9 +8,9 @@ ghost use Rattle.il_reader.specs.Grammar.{operand, behind, operation, form_of, o
 use crate::calls::call_read;
 use crate::contents::{Behind, Operand, Operation, Operator};
 use crate::fault::Failure;
-use crate::lexeme::{Kind, Lexeme, next};
+use crate::lexeme::{Lexeme, Sign, next};
 use crate::operands::operand_read;
-use crate::reading::{expected, is, refused};
+use crate::reading::{expected, is, is_end, refused};
 use il_model::op::{Modifier, Op};
 use il_model::words::{Mnemonic, mnemonic_from};
 use std::alloc::Global;
@@ -49,11 +49,11 @@ fn operator_with(left: usize, mnemonic: Option<Mnemonic>) -> Option<Operator>
 #[tactic(auto, unfolding(crate::specs::Grammar::operator_of))]
 fn operator(t: Lexeme) -> Option<Operator>
     ensures value { result ≡ operator_of (token t.entry) }
-    ensures inner { IfSome result (λ o. goes_on t.entry.kind ≡ true) }
+    ensures inner { IfSome result (λ o. goes_on t.entry.class ≡ true) }
 {
-    if is(Kind::Name, t) || is(Kind::Ampersand, t) {
+    if is(Sign::Name, t) || is(Sign::Ampersand, t) {
         operator_with(t.left, mnemonic_from(t.text))
-    } else if is(Kind::Close, t) {
+    } else if is(Sign::Close, t) {
         let modifier = Modifier {
             negated: false,
             conditional: false,
@@ -88,7 +88,7 @@ pub fn at_line_stop(bytes: &[u8]) -> bool
     ensures { result ≡ is_line_stop (tokens_of bytes.now) }
 {
     let (t, _) = next(bytes);
-    is(Kind::Break, t) || is(Kind::End, t)
+    is(Sign::Break, t) || is_end(t)
 }
 
 #[tactic(auto, unfolding(crate::specs::Grammar::optional_operand_at))]
@@ -107,7 +107,7 @@ fn optional_operand(bytes: &[u8]) -> Result<(Option<Operand<'_>>, &[u8]), Failur
 fn nested(bytes: &[u8]) -> Result<(Option<Operand<'_>>, &[u8]), Failure>
     ensures { Gives (λ x. (option_map operand x.0, tokens_of x.1.now)) result (nested_at (tokens_of bytes.now)) }
 {
-    let (_, rest) = expected(Kind::Open, bytes)?;
+    let (_, rest) = expected(Sign::Open, bytes)?;
     optional_operand(rest)
 }
 
@@ -116,7 +116,7 @@ fn either(bytes: &[u8]) -> Result<(Behind<'_>, &[u8]), Failure>
     ensures { Gives (λ x. (behind x.0, tokens_of x.1.now)) result (either_at (tokens_of bytes.now)) }
 {
     let (t, _) = next(bytes);
-    if is(Kind::Open, t) {
+    if is(Sign::Open, t) {
         let (x, rest) = nested(bytes)?;
         Ok((Behind::Opened(x), rest))
     } else {
@@ -136,7 +136,7 @@ fn behind_read(alloc: Global, form: Form, bytes: &[u8]) -> Result<(Behind<'_>, &
         }
         Form::Nothing => Ok((Behind::Nothing, bytes)),
         Form::Label => {
-            let (t, rest) = expected(Kind::Name, bytes)?;
+            let (t, rest) = expected(Sign::Name, bytes)?;
             Ok((Behind::Target(t), rest))
         }
         Form::Either => either(bytes),

@@ -9,10 +9,10 @@ ghost use Rattle.il_reader.specs.Grammar.{program_text, end_at, finish_at, named
 use crate::blocks::Blocks;
 use crate::contents::Contents;
 use crate::fault::Failure;
-use crate::lexeme::{Kind, next};
+use crate::lexeme::{Sign, next};
 use crate::lines::{Lines, NamedLines};
 use crate::lists::many;
-use crate::reading::{expected, is, is_word, past_breaks, past_keyword, refused};
+use crate::reading::{expected, is, is_end, is_word, past_breaks, past_keyword, refused};
 use std::alloc::Global;
 
 #[tactic(auto, unfolding(crate::specs::Grammar::begins_program))]
@@ -28,7 +28,7 @@ fn ended(bytes: &[u8]) -> Result<&[u8], Failure>
     ensures { Gives (λ x. (tt, tokens_of x.now)) result (end_at (tokens_of bytes.now)) }
 {
     let (t, _) = next(bytes);
-    if is(Kind::End, t) {
+    if is_end(t) {
         Ok(bytes)
     } else {
         Err(refused(t))
@@ -48,7 +48,7 @@ fn named(alloc: Global, bytes: &[u8]) -> Result<(Contents<'_>, &[u8]), Failure>
     ensures { Gives (λ x. (program_text x.0, tokens_of x.1.now)) result (named_at (tokens_of bytes.now)) }
 {
     let rest = past_keyword(b"PROGRAM", past_breaks(bytes))?;
-    let (name, rest) = expected(Kind::Name, rest)?;
+    let (name, rest) = expected(Sign::Name, rest)?;
     let (blocks, rest) = many::<Blocks>(alloc, rest)?;
     let (lines, rest) = many::<NamedLines>(alloc, rest)?;
     let rest = finished(rest)?;

@@ -24,6 +24,7 @@ use Rattle.il_model.specs.declared.program.Instr.{Instr}
 use Rattle.il_model.specs.Values.{number_of}
 use Rattle.il_model.specs.Operators.{is_zero}
 use Rattle.il_model.specs.Kinds.{kind_name}
+use Rattle.il_model.specs.Codes.{is_empty}
 use Rattle.il_model.specs.Text.{Text}
 
 -- ---- literals and locations
@@ -150,10 +151,6 @@ arguments_text (a ∷ more) = codes "(" ++ (argument_text a ++ (flat_map next_ar
 
 abbrev pub operation_text : Instr → List ℕ
 operation_text line = operator_text line.op line.modifier ++ (behind_text line.operand ++ arguments_text line.arguments)
-
-abbrev pub is_empty : Op → Bool
-is_empty ops.Empty = true
-is_empty op = false
 
 -- nothing but a line end follows the label of an empty instruction
 abbrev pub label_text : Op → Option (List ℕ) → List ℕ

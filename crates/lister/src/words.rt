@@ -2,7 +2,8 @@
 
 ghost use Rattle.std.specs.Prelude.{◌≡◌, codes, if◌then◌else◌};
 ghost use Rattle.il_model.specs.Kinds.{kind_name};
-ghost use Rattle.lister.specs.Listing.{truth_text, area_letter, type_name, op_name, side_text, letter, is_empty};
+ghost use Rattle.il_model.specs.Codes.{is_empty};
+ghost use Rattle.lister.specs.Listing.{truth_text, area_letter, type_name, op_name, side_text, letter};
 ghost use Rattle.lister.specs.Writing.{Writes};
 
 use crate::fault::ListFault;

@@ -1,9 +1,9 @@
 -- What is read is spelled so, and what is spelled so is read: fields and records.
 use Rattle.std.proofs.Common.{◌≡◌, ℕ, zero, suc, ◌+◌, ◌^◌, ◌<◌, ◌≤◌, Bool, true, false, cond, ltb, List, [], ◌∷◌, ◌++◌, length, get_or, take, drop, Option, Some, None, Result, Ok, Err, refl, sym, ap, ◌∙◌, append_assoc, arith, inl, inr}
-use Rattle.std.specs.Prelude.{ℤ, pos, negsuc, ◌&&◌, nat_eq, not}
+use Rattle.std.specs.Prelude.{ℤ, pos, negsuc, ◌&&◌, not}
 use Rattle.std.specs.Option.{option_and_then}
 use Rattle.std.specs.Int.{Width, w8, w16, w32, byte_len, from_be_bytes, to_be_bytes, cast_signed, cast_unsigned}
-use Rattle.std.proofs.lemmas.Bool.{cases_lt, ltb-false, le-ltb, ltb-true, eqb-true}
+use Rattle.std.proofs.lemmas.Bool.{cases_lt, ltb-false, le-ltb, ltb-true}
 use Rattle.std.proofs.lemmas.Int.{of_z-to_z}
 use Rattle.std.proofs.lemmas.List.{take_at, drop_at, take-append-drop, length-append, length-take, get_or-drop, get_or-take, get_or_past}
 use Rattle.std.proofs.lemmas.Nat.{be_bytes_2, be_bytes_4, from_be_bytes-to_be_bytes_2, from_be_bytes-to_be_bytes_4}
@@ -13,11 +13,15 @@ use Rattle.il_model.specs.declared.value.Value.{Value}
 use Rattle.il_model.specs.declared.value.Value.TheVariants as values
 use Rattle.il_model.specs.declared.program.Variable.{Variable}
 use Rattle.il_model.specs.declared.program.Loc.{Loc}
+use Rattle.il_model.specs.declared.coded_operand.CodedOperand.{CodedOperand}
+use Rattle.il_model.specs.declared.coded_operand.CodedOperand.TheVariants as coded
 use Rattle.il_model.specs.Values.{made, truth_made, ty_of, number_of, is_within}
-use Rattle.il_model.specs.Image.{type_code, loc_code, location_code}
+use Rattle.il_model.specs.CodedOperands.{code_of, with_code}
+use Rattle.il_model.specs.Image.{type_code, location_code}
+use Rattle.il_model.proofs.CodedOperands.{coded_back}
 use Rattle.loader.specs.declared.fault.LoadFault.{LoadFault}
 use Rattle.loader.specs.declared.fault.LoadFault.TheVariants.{Truncated}
-use Rattle.il_model.specs.Codes.{tested, length_of, type_of, any_loc, is_free, free_loc, location_of, may_start_with, initial_of, is_known, constant_of}
+use Rattle.il_model.specs.Codes.{tested, length_of, type_of, is_free, free_loc, location_of, may_start_with, initial_of, is_known, constant_of}
 use Rattle.loader.specs.Reading.{◌>>=◌, number_at, lawful, agrees}
 
 abbrev pub IsBytes : List ℕ → Type 0
@@ -45,7 +49,7 @@ pub guard_no : {A : Type 0} (b : Bool) (d : LoadFault) (r : Result A LoadFault) 
 guard_no true d r y e = absurd cc
 guard_no false d r y e = (refl, e)
 
-pub agrees_ok : (d : LoadFault) (b : Bool) (x : Bool) → agrees d b ≡ Ok x → b ≡ true
+pub agrees_ok : (d : LoadFault) (b : Bool) (x : Unit {0}) → agrees d b ≡ Ok x → b ≡ true
 agrees_ok d true x e = refl
 agrees_ok d false x e = absurd cc
 
@@ -139,18 +143,19 @@ type_small types.Int = omega arith
 type_small types.Dint = omega arith
 type_small types.Time = omega arith
 
-pub free_is : (seen : List Variable) (t : Ty) (n : ℕ) (o : Option Loc) (loc : Option Loc) → free_loc seen t n o ≡ Some loc → location_code loc ≡ n
-free_is seen t n None loc e = absurd cc
-free_is seen t n (Some l) loc e =
-    let y = some_yes (is_free seen t n l) (Some l) loc e in
-    sym (ap location_code y.1) ∙ eqb-true (loc_code l) n (and_left _ _ (and_left _ _ y.0))
+free_is : (seen : List Variable) (t : Ty) (x : CodedOperand) (loc : Option Loc) → free_loc seen t x ≡ Some loc → location_code loc ≡ code_of x
+free_is seen t (coded.Location l) loc e = let y = some_yes (is_free seen t l) (Some l) loc e in sym (ap location_code y.1)
+free_is seen t (coded.Variable i) loc e = absurd cc
+free_is seen t (coded.Field i n) loc e = absurd cc
+free_is seen t (coded.Constant k) loc e = absurd cc
+free_is seen t coded.Unused loc e = let is : None ≡ loc = cc in sym (ap location_code is)
 
-pub location_by : (b : Bool) (seen : List Variable) (t : Ty) (n : ℕ) (loc : Option Loc) → nat_eq n 65535 ≡ b → cond b (Some None) (free_loc seen t n (any_loc n)) ≡ Some loc → location_code loc ≡ n
-location_by true seen t n loc e h = let is : None ≡ loc = cc in sym (ap location_code is) ∙ sym (eqb-true n 65535 e)
-location_by false seen t n loc e h = free_is seen t n (any_loc n) loc h
+located_by : (seen : List Variable) (t : Ty) (n : ℕ) (o : Option CodedOperand) (loc : Option Loc) → with_code n ≡ o → option_and_then (free_loc seen t) o ≡ Some loc → location_code loc ≡ n
+located_by seen t n None loc is e = absurd cc
+located_by seen t n (Some x) loc is e = free_is seen t x loc e ∙ (coded_back n x is).code
 
 pub location_is : (seen : List Variable) (t : Ty) (n : ℕ) (loc : Option Loc) → location_of seen t n ≡ Some loc → location_code loc ≡ n
-location_is seen t n loc e = location_by (nat_eq n 65535) seen t n loc refl e
+location_is seen t n loc e = located_by seen t n (with_code n) loc refl e
 
 -- the number of a value that was made is the number that it was made of
 pub truth_by : (a b : Bool) (n : ℕ) (v : Value) → ltb n 1 ≡ a → ltb n 2 ≡ b → cond a (Some (values.Bool false)) (cond b (Some (values.Bool true)) None) ≡ Some v → number_of v ≡ pos n

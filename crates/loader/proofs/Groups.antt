@@ -173,13 +173,13 @@ within_by : (ws : List Word) (k : ℕ) (o : Option Word) → slice_get ws k ≡ 
 within_by ws k None e start = absurd cc
 within_by ws k (Some w) e start = slice_get_within ws k w e
 
-risen_by : (a b : Bool) (r : Result Bool LoadFault) (f : LoadFault) (x : Bool) → cond (a && b) r (Err f) ≡ Ok x → (a ≡ true) × (b ≡ true) × (r ≡ Ok x)
+risen_by : (a b : Bool) (r : Result (Unit {0}) LoadFault) (f : LoadFault) (x : Unit {0}) → cond (a && b) r (Err f) ≡ Ok x → (a ≡ true) × (b ≡ true) × (r ≡ Ok x)
 risen_by true true r f x e = (refl, refl, e)
 risen_by false b r f x e = absurd cc
 risen_by true false r f x e = absurd cc
 
 -- labels that rise, each at the beginning of an instruction
-pub risen_takes : (xs : List Instance) (end n : ℕ) (ws : List Word) (ms : List Mark) (x : Bool) → front ws ≡ 0 → risen end n ws ms ≡ Ok x → AreRising n (length ws) ms × AreStarts 0 (lines_of xs ws) ms
+pub risen_takes : (xs : List Instance) (end n : ℕ) (ws : List Word) (ms : List Mark) (x : Unit {0}) → front ws ≡ 0 → risen end n ws ms ≡ Ok x → AreRising n (length ws) ms × AreStarts 0 (lines_of xs ws) ms
 risen_takes xs end n ws [] x none e = (tt, tt)
 risen_takes xs end n ws (m ∷ ms) x none e =
     let r = risen_by (nat_le n m.at) (is_start (slice_get ws m.at)) (risen end (suc m.at) ws ms) (BadTarget (label_place end (m ∷ ms))) x e in
@@ -187,7 +187,7 @@ risen_takes xs end n ws (m ∷ ms) x none e =
     let here : starts_from 0 (lines_of xs ws) m.at ≡ true = moved (lines_of xs ws) (0 + front ws) 0 (0 + m.at) m.at (omega (arith, none)) (omega arith) (starts_at xs 0 ws m.at r.1) in
     ((leb-true n m.at r.0, within_by ws m.at (slice_get ws m.at) refl r.1, more.0), (here, more.1))
 
-pub risen_again : (xs : List Instance) (end n stop : ℕ) (ws : List Word) (ms : List Mark) → front ws ≡ 0 → AreRising n stop ms → AreStarts 0 (lines_of xs ws) ms → risen end n ws ms ≡ Ok true
+pub risen_again : (xs : List Instance) (end n stop : ℕ) (ws : List Word) (ms : List Mark) → front ws ≡ 0 → AreRising n stop ms → AreStarts 0 (lines_of xs ws) ms → risen end n ws ms ≡ Ok tt
 risen_again xs end n stop ws [] none rising starts = refl
 risen_again xs end n stop ws (m ∷ ms) none rising starts =
     let here : is_start (slice_get ws m.at) ≡ true = starts_back xs 0 ws m.at (moved (lines_of xs ws) 0 (0 + front ws) m.at (0 + m.at) (omega (arith, none)) (omega arith) starts.0) in

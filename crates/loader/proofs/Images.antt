@@ -25,7 +25,6 @@ use Rattle.loader.specs.Tables.{Tables, declared_in, lines_of}
 use Rattle.loader.specs.Reading.{◌>>=◌, Gives, tables_at}
 use Rattle.loader.specs.Judging.{constant_place, risen, used_from, earlier, sooner, stray_from, misspelled, at_word, words_fine, all_used, small, judged_tables, image_of}
 use Rattle.loader.proofs.Fields.{IsBytes, bind_ok, agrees_ok, ok_is}
-use Rattle.loader.proofs.Typed.{judged_typed}
 use Rattle.loader.proofs.Records.{read_word_bytes}
 use Rattle.loader.proofs.Spelled.{tables_bytes, AreTables, tables_take, tables_again}
 use Rattle.loader.proofs.Groups.{front, words_are, none_front, operands_are, word_operands, labels_read, risen_takes, risen_again}
@@ -46,25 +45,24 @@ program_by true b c P Q e = absurd cc
 program_by false true c P Q e = absurd cc
 program_by false false true P Q e = absurd cc
 
-record IsFine (o : Option ℕ) (j : Result Bool (TypeFault × ℕ)) : Type 0 where
+record IsFine (o : Option ℕ) (j : Result (Unit {0}) (TypeFault × ℕ)) : Type 0 where
   none : o ≡ None
-  answer : Bool
-  typed : j ≡ Ok answer
+  typed : j ≡ Ok tt
 
-later_not : (b : Bool) (f g : LoadFault) (x : Bool) → (let r : Result Bool LoadFault = cond b (Err f) (Err g) in r ≡ Ok x) → ⊥
+later_not : (b : Bool) (f g : LoadFault) (x : Unit {0}) → (let r : Result (Unit {0}) LoadFault = cond b (Err f) (Err g) in r ≡ Ok x) → ⊥
 later_not true f g x e = cc
 later_not false f g x e = cc
 
-fine_takes : (total count : ℕ) (o : Option ℕ) (j : Result Bool (TypeFault × ℕ)) (x : Bool) → words_fine total count o j ≡ Ok x → IsFine o j
-fine_takes total count None (Ok b) x e = record { none = refl; answer = b; typed = refl }
+fine_takes : (total count : ℕ) (o : Option ℕ) (j : Result (Unit {0}) (TypeFault × ℕ)) (x : Unit {0}) → words_fine total count o j ≡ Ok x → IsFine o j
+fine_takes total count None (Ok b) x e = record { none = refl; typed = refl }
 fine_takes total count None (Err f) x e = absurd cc
 fine_takes total count (Some n) (Ok b) x e = absurd cc
 fine_takes total count (Some n) (Err f) x e = absurd (later_not (nat_le n f.1) _ _ x e)
 
 -- where no fault is at a word there is none
-word_ok : (Q : Text) (r : Result Bool (TypeFault × ℕ)) (b : Bool) → at_word Q r ≡ Ok b → r ≡ Ok b
-word_ok Q (Ok x) b e = e
-word_ok Q (Err f) b e = absurd cc
+word_ok : (Q : Text) (r : Result (Unit {0}) (TypeFault × ℕ)) → at_word Q r ≡ Ok tt → r ≡ Ok tt
+word_ok Q (Ok x) e = e
+word_ok Q (Err f) e = absurd cc
 
 record IsUsed (o : Option ℕ) (used : Result ℕ ℕ) : Type 0 where
   none : o ≡ None
@@ -81,7 +79,7 @@ sooner_none None p e = (refl, e)
 sooner_none (Some m) None e = absurd cc
 sooner_none (Some m) (Some n) e = absurd cc
 
-all_takes : (total words count : ℕ) (used : Result ℕ ℕ) (u : ℕ) (x : Bool) → used ≡ Ok u → all_used total words count used ≡ Ok x → u ≡ count
+all_takes : (total words count : ℕ) (used : Result ℕ ℕ) (u : ℕ) (x : Unit {0}) → used ≡ Ok u → all_used total words count used ≡ Ok x → u ≡ count
 all_takes total words count used u x is e =
     let f : all_used total words count (Ok u) ≡ Ok x = ap (all_used total words count) (sym is) ∙ e in
     eqb-true u count (agrees_ok (BadWord (constant_place total words count u)) (nat_eq u count) x f)
@@ -98,7 +96,7 @@ record IsJudged (t : Tables) : Type 0 where
   stray : stray_from false t.words ≡ None
   typed : IsTyped (program_in t)
 
-judged_join : (total : ℕ) (t : Tables) (Q : Text) (x y z : Bool) → program_of t.variables t.instances (lines_of t.instances t.words) ≡ Some Q → risen (constant_place total (length t.words) (length t.constants) 0) 0 t.words t.labels ≡ Ok x
+judged_join : (total : ℕ) (t : Tables) (Q : Text) (x y z : Unit {0}) → program_of t.variables t.instances (lines_of t.instances t.words) ≡ Some Q → risen (constant_place total (length t.words) (length t.constants) 0) 0 t.words t.labels ≡ Ok x
     → words_fine total (length t.words) (misspelled t.words (used_from 0 0 t.words)) (at_word Q (judged Q)) ≡ Ok y → all_used total (length t.words) (length t.constants) (used_from 0 0 t.words) ≡ Ok z → IsJudged t × (program_in t ≡ Q)
 judged_join total t Q x y z small-is risen-is fine-is used-is =
     let p = program_by (ltb 512 (length t.variables)) (ltb 128 (length t.instances)) (ltb 4096 (length (lines_of t.instances t.words))) (program_in t) Q small-is in
@@ -114,7 +112,7 @@ judged_join total t Q x y z small-is risen-is fine-is used-is =
         used = used.is ∙ ap (λ (u : ℕ). let r : Result ℕ ℕ = Ok u in r) all;
         loud = both.0;
         stray = both.1;
-        typed = subst IsTyped (sym p.1) (judged_typed Q fine.answer (word_ok Q (judged Q) fine.answer fine.typed));
+        typed = subst IsTyped (sym p.1) (word_ok Q (judged Q) fine.typed);
       },
       p.1,
     )
@@ -149,7 +147,7 @@ tables_spelled t are judged =
     let marks = subst (AreItems IsMark []) (sym ms-is) are.labels in
     let constants = subst (AreItems IsConstant []) (sym cs-is) are.constants in
     let read2 = subst (λ (ms : List Mark). AllByRecursion (IsReadSomewhere ds ms (constants_of Q)) t.words) (sym ms-is) (subst (λ (cs : List Value). AllByRecursion (IsReadSomewhere ds t.labels cs) t.words) (sym cs-is) read) in
-    let known : AreKnown Q (marks_from 0 Q.code) (constants_of Q) = record { instances = are.instances; marks = marks; apart = are_apart (constants_of Q) constants; labels = table_labels Q.code } in
+    let known : AreKnown Q (marks_from 0 Q.code) (constants_of Q) = record { variables = are.variables; instances = are.instances; marks = marks; apart = are_apart (constants_of Q) constants; labels = table_labels Q.code } in
     let w = are_words Q t.words known read2 (typed_lines Q judged.typed) judged.loud judged.stray in
     let none : front t.words ≡ 0 = (none_front None t.words judged.stray).0 in
     let long : length t.words ≡ words_in Q.code = omega (arith, words_are t.instances t.words, none) in
@@ -215,9 +213,9 @@ tables_judged total Q is =
     let stray : stray_from false ws ≡ None = none_stray Q cs [] Q.code false is.text.words in
     let loud : position silent ws ≡ None = none_silent Q cs [] Q.code is.text.words in
     let all : cs ≡ constants_from same_value [] (word_operands ws) = ap (λ (code : List Instr). constants_from same_value [] (operands_of code)) (sym lines) ∙ ap (constants_from same_value []) (operands_are Q.instances ws stray) in
-    let used : used_from 0 0 ws ≡ Ok (length cs) = used_again_all Q cs [] ws 0 (words_coded Q cs Q.code) all in
+    let used : used_from 0 0 ws ≡ Ok (length cs) = used_again_all Q cs [] ws 0 is.text.constants_few (words_coded Q cs Q.code) all in
     let starts : AreStarts 0 (lines_of Q.instances ws) ms = subst (λ (code : List Instr). AreStarts 0 code ms) (sym lines) (table_starts Q.code 0) in
-    let rising : risen (constant_place total (length ws) (length cs) 0) 0 ws ms ≡ Ok true = risen_again Q.instances (constant_place total (length ws) (length cs) 0) 0 (0 + words_in Q.code) ws ms (none_front None ws stray).0 (table_rises Q.code 0) starts in
+    let rising : risen (constant_place total (length ws) (length cs) 0) 0 ws ms ≡ Ok tt = risen_again Q.instances (constant_place total (length ws) (length cs) 0) 0 (0 + words_in Q.code) ws ms (none_front None ws stray).0 (table_rises Q.code 0) starts in
     rw (
       lines,
       le-ltb 512 (length Q.variables) vs-le,

@@ -1,24 +1,15 @@
 -- A table of the names at addresses, and one label more.
-use Rattle.std.proofs.Common.{◌≡◌, ℕ, Bool, true, false, cond, eqb, ltb, List, [], ◌∷◌, ◌++◌, Option, Some, None, refl, sym, ap, ◌∙◌, arith}
+use Rattle.std.proofs.Common.{◌≡◌, ℕ, Bool, true, false, cond, List, [], ◌∷◌, ◌++◌, Option, Some, None, refl, sym, ap, ◌∙◌}
 use Rattle.std.specs.Prelude.{nat_eq, is_some, option_map}
 use Rattle.std.specs.Ordering.{nat_cmp, is_eq}
-use Rattle.std.specs.declared.cmp.Ordering.TheVariants.{Less, Equal, Greater}
 use Rattle.std.specs.BTreeMap as tree
 use Rattle.std.specs.BTreeMap.{BTreeMap}
-use Rattle.std.proofs.lemmas.Bool.{eqb-true, ltb-true}
+use Rattle.std.proofs.lemmas.Bool.{eqb-true}
 use denote.Ref.{Bor}
 use Rattle.il_model.specs.Marks.{Mark}
 use Rattle.il_model.specs.Codes.{label_there}
+use Rattle.il_model.proofs.LocationTables.{code_key}
 use Rattle.loader.specs.LabelTables.{AreNames}
-
-key_by : (a b : ℕ) (l e : Bool) → ltb a b ≡ l → eqb a b ≡ e → is_eq (cond l Less (cond e Equal Greater)) ≡ e
-key_by a b true true lt eq = let below = ltb-true a b lt in let same = eqb-true a b eq in absurd (omega arith)
-key_by a b true false lt eq = refl
-key_by a b false true lt eq = refl
-key_by a b false false lt eq = refl
-
-pub address_key : (a b : ℕ) → is_eq (nat_cmp a b) ≡ nat_eq a b
-address_key a b = key_by a b (ltb a b) (eqb a b) refl refl
 
 -- the first, or else the second
 abbrev or_else : Option (List ℕ) → Option (List ℕ) → Option (List ℕ)
@@ -62,7 +53,7 @@ put_there m new ms l k w table free at name updates n =
     let gone : is_some (label_there ms l.at) ≡ false = ap is_some (sym (table l.at)) ∙ some_name (tree.get nat_cmp m l.at) ∙ ap (λ (i : ℕ). is_some (tree.get nat_cmp m i)) (sym at) ∙ free in
     ap (option_map (λ (name : Bor (List ℕ)). name.now)) (updates.0 n)
     ∙ ap (λ (i : ℕ). option_map (λ (name : Bor (List ℕ)). name.now) (cond (is_eq (nat_cmp i n)) (Some w) (tree.get nat_cmp m n))) at
-    ∙ ap (λ (b : Bool). option_map (λ (name : Bor (List ℕ)). name.now) (cond b (Some w) (tree.get nat_cmp m n))) (address_key l.at n)
+    ∙ ap (λ (b : Bool). option_map (λ (name : Bor (List ℕ)). name.now) (cond b (Some w) (tree.get nat_cmp m n))) (code_key l.at n)
     ∙ put_by ms l n w (tree.get nat_cmp m n) (nat_eq l.at n) refl name gone (table n)
     ∙ sym (there_last ms l n)
 

@@ -1,10 +1,9 @@
 -- The arguments of calls, read from words and spelled in words.
-use Rattle.std.proofs.Common.{◌≡◌, ℕ, zero, suc, ◌<◌, ◌^◌, List, [], Option, Some, None, refl, sym, ap, subst, ◌∙◌}
+use Rattle.std.proofs.Common.{◌≡◌, ℕ, ◌<◌, ◌^◌, List, [], Option, Some, None, refl, sym, ap, subst, ◌∙◌}
 use Rattle.std.specs.Prelude.{slice_get}
 use Rattle.std.specs.List.{AllByRecursion}
 use Rattle.std.specs.Option.{option_map}
 use Rattle.il_model.specs.declared.kind.BlockKind.{BlockKind}
-use Rattle.il_model.specs.declared.kind.BlockKind.TheVariants as kinds
 use Rattle.il_model.specs.declared.kind.Field.{Field}
 use Rattle.il_model.specs.declared.program.Side.{Side}
 use Rattle.il_model.specs.declared.program.Operand.{Operand}
@@ -12,68 +11,15 @@ use Rattle.il_model.specs.declared.program.Argument.{Argument}
 use Rattle.il_model.specs.Kinds.{kind_fields, field_number}
 use Rattle.il_model.specs.Text.{Text, declared_by}
 use Rattle.il_model.specs.Typing.{arguments_fault}
-use Rattle.il_model.specs.Constants.{same_value, constants_of}
+use Rattle.il_model.specs.Marks.{marks_from}
+use Rattle.il_model.specs.Constants.{constants_of}
 use Rattle.il_model.specs.Image.{operand_code, side_code, field_number_code, coded_word, argument_bytes}
 use Rattle.il_model.specs.Codes.{argument_name, argument_operand}
 use Rattle.il_model.specs.Fits.{IsPassing}
-use Rattle.il_model.proofs.Constants.{AreApart}
 use Rattle.il_model.proofs.TypedLines.{IsArgumentOf, arguments_typed, no_arguments}
 use Rattle.loader.specs.declared.word.Content.TheVariants as contents
 use Rattle.loader.proofs.Records.{IsArgumentRead, content_bytes}
-use Rattle.loader.proofs.Words.{argument_again}
-
--- a field that a kind has is numbered by its name
-numbered_again : (kind : BlockKind) (n : ℕ) → field_number kind (argument_name (Some kind) n) ≡ option_map (λ (f : Field). n) (slice_get (kind_fields kind) n)
-numbered_again kinds.Sr zero = refl
-numbered_again kinds.Sr (suc zero) = refl
-numbered_again kinds.Sr (suc (suc zero)) = refl
-numbered_again kinds.Sr (suc (suc (suc n))) = refl
-numbered_again kinds.Rs zero = refl
-numbered_again kinds.Rs (suc zero) = refl
-numbered_again kinds.Rs (suc (suc zero)) = refl
-numbered_again kinds.Rs (suc (suc (suc n))) = refl
-numbered_again kinds.RTrig zero = refl
-numbered_again kinds.RTrig (suc zero) = refl
-numbered_again kinds.RTrig (suc (suc n)) = refl
-numbered_again kinds.FTrig zero = refl
-numbered_again kinds.FTrig (suc zero) = refl
-numbered_again kinds.FTrig (suc (suc n)) = refl
-numbered_again kinds.Ctu zero = refl
-numbered_again kinds.Ctu (suc zero) = refl
-numbered_again kinds.Ctu (suc (suc zero)) = refl
-numbered_again kinds.Ctu (suc (suc (suc zero))) = refl
-numbered_again kinds.Ctu (suc (suc (suc (suc zero)))) = refl
-numbered_again kinds.Ctu (suc (suc (suc (suc (suc n))))) = refl
-numbered_again kinds.Ctd zero = refl
-numbered_again kinds.Ctd (suc zero) = refl
-numbered_again kinds.Ctd (suc (suc zero)) = refl
-numbered_again kinds.Ctd (suc (suc (suc zero))) = refl
-numbered_again kinds.Ctd (suc (suc (suc (suc zero)))) = refl
-numbered_again kinds.Ctd (suc (suc (suc (suc (suc n))))) = refl
-numbered_again kinds.Ctud zero = refl
-numbered_again kinds.Ctud (suc zero) = refl
-numbered_again kinds.Ctud (suc (suc zero)) = refl
-numbered_again kinds.Ctud (suc (suc (suc zero))) = refl
-numbered_again kinds.Ctud (suc (suc (suc (suc zero)))) = refl
-numbered_again kinds.Ctud (suc (suc (suc (suc (suc zero))))) = refl
-numbered_again kinds.Ctud (suc (suc (suc (suc (suc (suc zero)))))) = refl
-numbered_again kinds.Ctud (suc (suc (suc (suc (suc (suc (suc zero))))))) = refl
-numbered_again kinds.Ctud (suc (suc (suc (suc (suc (suc (suc (suc n)))))))) = refl
-numbered_again kinds.Tp zero = refl
-numbered_again kinds.Tp (suc zero) = refl
-numbered_again kinds.Tp (suc (suc zero)) = refl
-numbered_again kinds.Tp (suc (suc (suc zero))) = refl
-numbered_again kinds.Tp (suc (suc (suc (suc n)))) = refl
-numbered_again kinds.Ton zero = refl
-numbered_again kinds.Ton (suc zero) = refl
-numbered_again kinds.Ton (suc (suc zero)) = refl
-numbered_again kinds.Ton (suc (suc (suc zero))) = refl
-numbered_again kinds.Ton (suc (suc (suc (suc n)))) = refl
-numbered_again kinds.Tof zero = refl
-numbered_again kinds.Tof (suc zero) = refl
-numbered_again kinds.Tof (suc (suc zero)) = refl
-numbered_again kinds.Tof (suc (suc (suc zero))) = refl
-numbered_again kinds.Tof (suc (suc (suc (suc n)))) = refl
+use Rattle.loader.proofs.Words.{AreKnown, numbered_again, argument_again}
 
 own_by : (n m : ℕ) (f : Option Field) → option_map (λ (f : Field). n) f ≡ Some m → option_map (λ (f : Field). n) f ≡ Some n
 own_by n m None e = absurd cc
@@ -88,12 +34,12 @@ abbrev pub passed_in : Option BlockKind → Side → ℕ → Operand → Argumen
 passed_in kind side number operand = record { field = argument_name kind number; side = side; operand = operand }
 
 -- an argument that was read, and has no fault, is spelled as it was read
-pub passing_is : (Q : Text) (k : BlockKind) (side : Side) (number : ℕ) (operand : Operand) (code : ℕ) → AreApart same_value (constants_of Q) → IsArgumentRead (declared_by Q) (constants_of Q) number operand code → IsArgumentOf Q k (passed_in (Some k) side number operand)
+pub passing_is : (Q : Text) (k : BlockKind) (side : Side) (number : ℕ) (operand : Operand) (code : ℕ) → AreKnown Q (marks_from 0 Q.code) (constants_of Q) → IsArgumentRead (declared_by Q) (constants_of Q) number operand code → IsArgumentOf Q k (passed_in (Some k) side number operand)
     → IsPassing Q (Some k) (passed_in (Some k) side number operand) × (argument_bytes Q (constants_of Q) (Some k) (passed_in (Some k) side number operand) ≡ content_bytes code (contents.Argument side number operand))
-passing_is Q k side number operand code apart read is =
+passing_is Q k side number operand code known read is =
     let cs = constants_of Q in
     let numbered = own_number k number is.number is.numbered in
-    let code-is : operand_code Q cs operand ≡ code = argument_again Q cs code operand apart read.operand_read in (
+    let code-is : operand_code Q cs operand ≡ code = argument_again Q (marks_from 0 Q.code) cs code operand known read.operand_read in (
       record {
         number = number;
         field = numbered;

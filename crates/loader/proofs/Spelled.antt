@@ -2,11 +2,11 @@
 use Rattle.std.proofs.Common.{◌≡◌, ℕ, ◌-◌, ◌^◌, ◌<◌, ◌≤◌, List, [], ◌++◌, length, Ok, refl, sym, ap, subst, ◌∙◌, append_assoc, arith}
 use Rattle.std.specs.Prelude.{nat_eq, nat_le}
 use Rattle.std.specs.List.{flat_map}
-use Rattle.std.specs.Int.{w16, w32, to_be_bytes}
+use Rattle.std.specs.Int.{w16, w32, from_be_bytes, to_be_bytes}
 use Rattle.std.proofs.lemmas.Bool.{eqb-true, leb-true, le-leb}
 use Rattle.std.proofs.lemmas.List.{append-nil, nil_from_length}
 use Rattle.il_model.specs.Text.{Declarations}
-use Rattle.il_model.specs.Image.{variable_bytes, instance_bytes, mark_bytes, constant_bytes, counts_bytes, header_bytes}
+use Rattle.il_model.specs.Image.{magic, variable_bytes, instance_bytes, mark_bytes, constant_bytes, counts_bytes, header_bytes}
 use Rattle.il_model.specs.Fits.{IsVariable, IsInstance, IsMark, IsConstant, AreItems}
 use Rattle.loader.specs.declared.counts.Counts.{Counts}
 use Rattle.loader.specs.declared.word.Word.{Word}
@@ -85,23 +85,26 @@ counts_again c rest few =
 abbrev pub header_of : Counts → List ℕ
 header_of c = header_bytes c.variables c.instances c.labels c.constants c.words
 
+abbrev magic_number : ℕ
+magic_number = from_be_bytes w32 magic
+
 header_takes : (bytes : List ℕ) (x : Counts × List ℕ) → IsBytes bytes → header_at bytes ≡ Ok x → Takes bytes (header_of x.0) x.1 × AreFew x.0
 unfolding header_at
 header_takes bytes x fits e =
-    let b_magic = bind_ok (number_at w32 bytes) (λ magic. agrees BadMagic (nat_eq magic.0 1229738051) >>= λ is. number_at w16 magic.1 >>= λ version. agrees BadVersion (nat_eq version.0 1) >>= λ one. counts_at version.1) x e in
-    let b_is = bind_ok (agrees BadMagic (nat_eq b_magic.0.0 1229738051)) (λ is. number_at w16 b_magic.0.1 >>= λ version. agrees BadVersion (nat_eq version.0 1) >>= λ one. counts_at version.1) x b_magic.2 in
+    let b_magic = bind_ok (number_at w32 bytes) (λ word. agrees BadMagic (nat_eq word.0 magic_number) >>= λ is. number_at w16 word.1 >>= λ version. agrees BadVersion (nat_eq version.0 1) >>= λ one. counts_at version.1) x e in
+    let b_is = bind_ok (agrees BadMagic (nat_eq b_magic.0.0 magic_number)) (λ is. number_at w16 b_magic.0.1 >>= λ version. agrees BadVersion (nat_eq version.0 1) >>= λ one. counts_at version.1) x b_magic.2 in
     let b_version = bind_ok (number_at w16 b_magic.0.1) (λ version. agrees BadVersion (nat_eq version.0 1) >>= λ one. counts_at version.1) x b_is.2 in
     let b_one = bind_ok (agrees BadVersion (nat_eq b_version.0.0 1)) (λ one. counts_at b_version.0.1) x b_version.2 in
     let t0 = number_takes w32 (2 ^ 32) wide32 bytes b_magic.0.0 b_magic.0.1 fits b_magic.1 in
     let t1 = number_takes w16 (2 ^ 16) wide16 b_magic.0.1 b_version.0.0 b_version.0.1 t0.0.rest_fits b_version.1 in
     let t2 = counts_take b_version.0.1 x t1.0.rest_fits b_one.2 in
-    let magic-is = eqb-true b_magic.0.0 1229738051 (agrees_ok BadMagic (nat_eq b_magic.0.0 1229738051) b_is.0 b_is.1) in
+    let magic-is = eqb-true b_magic.0.0 magic_number (agrees_ok BadMagic (nat_eq b_magic.0.0 magic_number) b_is.0 b_is.1) in
     let version-is = eqb-true b_version.0.0 1 (agrees_ok BadVersion (nat_eq b_version.0.0 1) b_one.0 b_one.1) in
     let s0 = subst (λ (k : ℕ). Takes bytes (to_be_bytes w32 k) b_magic.0.1) magic-is t0.0 in
     let s1 = subst (λ (k : ℕ). Takes b_magic.0.1 (to_be_bytes w16 k) b_version.0.1) version-is t1.0 in
     let counts = counts_of_header x.0 in
     let e12 = Takes-then b_magic.0.1 (to_be_bytes w16 1) b_version.0.1 counts x.1 s1 t2.0 in
-    (Takes-then bytes (to_be_bytes w32 1229738051) b_magic.0.1 (to_be_bytes w16 1 ++ counts) x.1 s0 e12, t2.1)
+    (Takes-then bytes (to_be_bytes w32 magic_number) b_magic.0.1 (to_be_bytes w16 1 ++ counts) x.1 s0 e12, t2.1)
 
 regrouped_3 : (a b c rest : List ℕ) → (a ++ (b ++ c)) ++ rest ≡ a ++ (b ++ (c ++ rest))
 regrouped_3 a b c rest = append_assoc a (b ++ c) rest ∙ ap (λ (x : List ℕ). a ++ x) (append_assoc b c rest)
@@ -110,7 +113,7 @@ header_again : (c : Counts) (rest : List ℕ) → AreFew c → header_at (header
 unfolding header_at
 header_again c rest few =
     let counts = counts_of_header c in
-    ap header_at (regrouped_3 (to_be_bytes w32 1229738051) (to_be_bytes w16 1) counts rest) ∙ rw (number_again w32 (2 ^ 32) wide32 1229738051 (to_be_bytes w16 1 ++ (counts ++ rest)) (omega arith), number_again w16 (2 ^ 16) wide16 1 (counts ++ rest) (omega arith)) (counts_again c rest few)
+    ap header_at (regrouped_3 (to_be_bytes w32 magic_number) (to_be_bytes w16 1) counts rest) ∙ rw (number_again w32 (2 ^ 32) wide32 magic_number (to_be_bytes w16 1 ++ (counts ++ rest)) (omega arith), number_again w16 (2 ^ 16) wide16 1 (counts ++ rest) (omega arith)) (counts_again c rest few)
 
 -- ---- the tables
 

@@ -1,27 +1,15 @@
 -- What a judgement tells, and where its fault stands.
-use Rattle.std.proofs.Common.{◌≡◌, ℕ, zero, suc, ◌+◌, ◌≤◌, Bool, true, false, cond, ltb, List, [], ◌∷◌, ◌++◌, length, Option, Some, None, Result, Ok, Err, refl, sym, ap, ◌∙◌, arith}
+use Rattle.std.proofs.Common.{◌≡◌, ℕ, zero, suc, ◌+◌, ◌≤◌, Bool, true, false, cond, List, [], ◌∷◌, ◌++◌, length, Option, Some, None, Result, Ok, Err, refl, arith}
 use Rattle.std.specs.Prelude.{slice_get, is_some, ◌&&◌}
 use Rattle.il_model.specs.declared.kind.BlockKind.{BlockKind}
 use Rattle.il_model.specs.declared.program.Argument.{Argument}
 use Rattle.il_model.specs.declared.program.Instr.{Instr}
 use Rattle.il_model.specs.declared.typing.TypeFault.{TypeFault}
-use Rattle.il_model.specs.declared.typing.TypeFault.TheVariants.{Unbalanced}
 use Rattle.il_model.specs.Text.{Text}
 use Rattle.il_model.specs.Resolved.{source_of, called_kind}
 use Rattle.il_model.specs.Marks.{word_count, words_in, address_of}
-use Rattle.il_model.specs.Typing.{◌>>=◌, Shape, shape_at, top_of, source_row, label_row, argument_fault, closed, judged, IsTyped}
+use Rattle.il_model.specs.Typing.{Shape, shape_at, top_of, source_row, label_row, argument_fault}
 use Rattle.il_model.specs.Faulty.{faulty_argument, is_ok, faulty_in, faulty_at, faulty_by, faulty_word}
-
-closed_by : {X E : Type 0} (b : Bool) (f : E) (t x : X) → let r : Result X E = cond b (Err f) (Ok t) in r ≡ Ok x → t ≡ x
-closed_by true f t x e = absurd cc
-closed_by false f t x e = cc
-
-judged_by : (Q : Text) (r : Result Shape (TypeFault × ℕ)) (b : Bool) → (r >>= closed Q) ≡ Ok b → true ≡ b
-judged_by Q (Ok sh) b e = closed_by (ltb 0 (length sh.kept)) (Unbalanced, length Q.code) true b e
-judged_by Q (Err f) b e = absurd cc
-
-pub judged_typed : (Q : Text) (b : Bool) → judged Q ≡ Ok b → IsTyped Q
-judged_typed Q b e = e ∙ ap (λ (x : Bool). Ok x) (sym (judged_by Q (shape_at Q (length Q.code)) b e))
 
 -- ---- the words of a program are enough for the address of its fault
 

@@ -97,7 +97,7 @@ word_spelled Q n code (contents.Instruction line) ws kind may known read typed p
 word_spelled Q n code (contents.Argument side number operand) ws None may known read typed passed stray pointed rest = absurd cc
 word_spelled Q n code (contents.Argument side number operand) ws (Some k) may known read typed passed stray pointed rest =
     let behind : stray_from true ws ≡ None = may_by (not may) (stray_from true ws) stray in
-    let p = passing_is Q k side number operand code known.apart read passed.0 in
+    let p = passing_is Q k side number operand code known read passed.0 in
     argument_spelled Q n code (contents.Argument side number operand) ws k (passed_in (Some k) side number operand) p.0 p.1 (rest (Some k) true typed passed.1 behind)
 
 no_first : (o : Option ℕ) → o ≡ Some 0 → o ≡ None → ⊥

@@ -4,6 +4,8 @@ use Rattle.std.specs.List.{position}
 use Rattle.std.specs.Option.{option_map}
 use Rattle.il_model.specs.declared.program.Operand.{Operand}
 use Rattle.il_model.specs.declared.program.Operand.TheVariants as operands
+use Rattle.il_model.specs.declared.coded_operand.CodedOperand.{CodedOperand}
+use Rattle.il_model.specs.declared.coded_operand.CodedOperand.TheVariants as coded
 use Rattle.il_model.specs.declared.typing.TypeFault.{TypeFault}
 use Rattle.il_model.specs.declared.typing.TypeFault.TheVariants.{UnknownLabel}
 use Rattle.il_model.specs.Text.{Text}
@@ -12,6 +14,7 @@ use Rattle.il_model.specs.Typing.{judged}
 use Rattle.il_model.specs.Marks.{Mark, address_of}
 use Rattle.il_model.specs.Faulty.{faulty_word}
 use Rattle.il_model.specs.Constants.{step_used}
+use Rattle.il_model.specs.CodedOperands.{with_code}
 use Rattle.il_model.specs.Codes.{is_pointless, is_call}
 use Rattle.loader.specs.declared.word.Word.{Word}
 use Rattle.loader.specs.declared.word.Content.{Content}
@@ -41,14 +44,19 @@ is_start None = false
 is_start (Some w) = not (is_argument w.content)
 
 -- the addresses of labels rise from n on, and at each an instruction begins
-abbrev pub risen : ℕ → ℕ → List Word → List Mark → Result Bool LoadFault
-risen end n words [] = Ok true
+abbrev pub risen : ℕ → ℕ → List Word → List Mark → Result (Unit {0}) LoadFault
+risen end n words [] = Ok tt
 risen end n words (m ∷ ms) = if nat_le n m.at && is_start (slice_get words m.at) then risen end (suc m.at) words ms else Err (BadTarget (label_place end (m ∷ ms)))
 
 -- ---- words
 
+abbrev pub constant_number : Option CodedOperand → Option ℕ
+constant_number (Some (coded.Constant k)) = Some k
+constant_number operand = None
+
+-- the number of the constant that a literal was read from
 abbrev pub constant_in : Operand → ℕ → Option ℕ
-constant_in (operands.Literal v) code = Some (code - 32768)
+constant_in (operands.Literal v) code = constant_number (with_code code)
 constant_in operand code = None
 
 abbrev pub with_used : ℕ → Option ℕ → (ℕ → Result ℕ ℕ) → Result ℕ ℕ
@@ -90,7 +98,7 @@ abbrev pub misspelled : List Word → Result ℕ ℕ → Option ℕ
 misspelled words used = earlier (sooner (position (λ (w : Word). says_nothing w.content) words) (stray_from false words)) used
 
 -- the first fault of typing, with the number of the word where it stands
-abbrev pub at_word : Text → Result Bool (TypeFault × ℕ) → Result Bool (TypeFault × ℕ)
+abbrev pub at_word : Text → Result (Unit {0}) (TypeFault × ℕ) → Result (Unit {0}) (TypeFault × ℕ)
 at_word Q (Ok x) = Ok x
 at_word Q (Err f) = Err (f.0, address_of Q.code f.1 + faulty_word Q f.1)
 
@@ -99,8 +107,8 @@ type_fault pos UnknownLabel = BadTarget pos
 type_fault pos fault = BadType pos
 
 -- at one word a fault of spelling comes before one of typing
-abbrev pub words_fine : ℕ → ℕ → Option ℕ → Result Bool (TypeFault × ℕ) → Result Bool LoadFault
-words_fine total count None (Ok x) = Ok true
+abbrev pub words_fine : ℕ → ℕ → Option ℕ → Result (Unit {0}) (TypeFault × ℕ) → Result (Unit {0}) LoadFault
+words_fine total count None (Ok x) = Ok tt
 words_fine total count None (Err f) = Err (type_fault (word_place total count f.1) f.0)
 words_fine total count (Some n) (Ok x) = Err (BadWord (word_place total count n))
 words_fine total count (Some n) (Err f) = if nat_le n f.1 then Err (BadWord (word_place total count n)) else Err (type_fault (word_place total count f.1) f.0)
@@ -108,9 +116,9 @@ words_fine total count (Some n) (Err f) = if nat_le n f.1 then Err (BadWord (wor
 -- ---- the whole
 
 -- all of the constants are used
-abbrev pub all_used : ℕ → ℕ → ℕ → Result ℕ ℕ → Result Bool LoadFault
+abbrev pub all_used : ℕ → ℕ → ℕ → Result ℕ ℕ → Result (Unit {0}) LoadFault
 all_used total words count (Ok used) = agrees (BadWord (constant_place total words count used)) (nat_eq used count)
-all_used total words count (Err n) = Ok true
+all_used total words count (Err n) = Ok tt
 
 abbrev pub small : Option Text → Result Text LoadFault
 small None = Err BadCount

@@ -5,6 +5,7 @@ use Rattle.il_model.specs.declared.program.Variable.{Variable}
 use Rattle.il_model.specs.declared.program.Instance.{Instance}
 use Rattle.il_model.specs.declared.program.Side.{Side}
 use Rattle.il_model.specs.Text.{Declarations}
+use Rattle.il_model.specs.Image.{magic}
 use Rattle.il_model.specs.Kinds.{kind_of_code}
 use Rattle.loader.specs.declared.word.Content.TheVariants as contents
 use Rattle.il_model.specs.declared.value.Value.{Value}
@@ -41,8 +42,8 @@ lawful pos None = Err (BadWord pos)
 lawful pos (Some x) = Ok x
 
 -- a test, and the fault where it fails
-abbrev pub agrees : LoadFault → Bool → Result Bool LoadFault
-agrees fault true = Ok true
+abbrev pub agrees : LoadFault → Bool → Result (Unit {0}) LoadFault
+agrees fault true = Ok tt
 agrees fault false = Err fault
 
 -- as many items as a number says, each read with those before it at hand
@@ -66,9 +67,9 @@ counts_at bytes = do
 
 unfoldable pub header_at : List ℕ → Result (Counts × List ℕ) LoadFault
 header_at bytes = do
-  magic ← number_at w32 bytes
-  is ← agrees BadMagic (nat_eq magic.0 1229738051)
-  version ← number_at w16 magic.1
+  word ← number_at w32 bytes
+  is ← agrees BadMagic (nat_eq word.0 (from_be_bytes w32 magic))
+  version ← number_at w16 word.1
   one ← agrees BadVersion (nat_eq version.0 1)
   counts_at version.1
 

@@ -2,14 +2,12 @@
 use Rattle.std.specs.Prelude.{◌≡◌, ℕ, Bool, List}
 use Rattle.std.specs.List.{position}
 use Rattle.std.specs.BTreeMap.{BTreeMap}
-use Rattle.std.specs.BTreeSet as sorted
 use Rattle.std.specs.BTreeSet.{BTreeSet}
-use Rattle.std.specs.Ordering.{nat_cmp}
 use denote.Ref.{Bor}
 use Rattle.il_model.specs.declared.program.Variable.{Variable}
 use Rattle.il_model.specs.Names.{same_name}
 use Rattle.il_model.specs.NameTables.{first_in}
-use Rattle.il_model.specs.Codes.{is_taken}
+use Rattle.il_model.specs.LocationTables.{AreCodes}
 
 -- the variables of an image
 abbrev pub VariableList : Type 0
@@ -20,9 +18,6 @@ is_named name v = same_name v.name name
 
 abbrev pub AreNumbered : List Variable → BTreeMap (Bor (List ℕ)) ℕ → Type 0
 AreNumbered seen m = (name : List ℕ) → first_in m name ≡ position (is_named name) seen
-
-abbrev pub AreCodes : List Variable → BTreeSet ℕ → Type 0
-AreCodes seen s = (n : ℕ) → sorted.contains nat_cmp s n ≡ is_taken seen n
 
 pub record AreVariableTables (seen : List Variable) (numbered : BTreeMap (Bor (List ℕ)) ℕ) (placed : BTreeSet ℕ) : Type 0 where
   pub numbers : AreNumbered seen numbered

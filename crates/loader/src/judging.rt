@@ -3,17 +3,16 @@
 ghost use Rattle.std.specs.Prelude.{◌≡◌, ◌+◌, ◌<◌, ◌^◌, false, Ok, Some, option_map};
 ghost use Rattle.std.specs.List.{position};
 ghost use Rattle.il_model.specs.Constants.{step_used};
-ghost use Rattle.il_model.specs.Checked.{told};
 ghost use Rattle.loader.specs.Tables.{operand_in, is_argument};
 ghost use Rattle.loader.specs.Reading.{Gives};
-ghost use Rattle.loader.specs.Judging.{word_place, constant_place, label_place, is_start, risen, constant_in, used_from, earlier, sooner, says_nothing, takes_argument, stray_from, misspelled, type_fault, words_fine, all_used};
+ghost use Rattle.loader.specs.Judging.{word_place, constant_place, label_place, is_start, risen, constant_in, used_from, sooner, says_nothing, takes_argument, stray_from, misspelled, type_fault, words_fine, all_used};
 
 use crate::fault::{LoadError, LoadFault};
 use crate::label::Label;
 use crate::reading::agrees;
 use crate::word::{Content, Word};
 use il_model::codes::is_pointless;
-use il_model::{Op, Operand, TypeFault};
+use il_model::{CodedOperand, Op, Operand, TypeFault};
 
 fn word_place(total: usize, count: usize, n: usize) -> usize
     ensures { result ≡ word_place total count n }
@@ -57,8 +56,8 @@ fn is_start(word: Option<&Word>) -> bool
 }
 
 /// Whether the addresses rise, and at each an instruction begins; the fault stands at the label.
-pub fn check_labels(end: usize, words: &[Word], labels: &[Label]) -> Result<bool, LoadError>
-    ensures { Gives (λ b. b) result (risen end 0 words.now labels.now) }
+pub fn check_labels(end: usize, words: &[Word], labels: &[Label]) -> Result<(), LoadError>
+    ensures { Gives (λ x. x) result (risen end 0 words.now labels.now) }
 {
     let mut least = 0;
     let mut rest = labels;
@@ -71,7 +70,7 @@ pub fn check_labels(end: usize, words: &[Word], labels: &[Label]) -> Result<bool
         least = at + 1;
         rest = others;
     }
-    Ok(true)
+    Ok(())
 }
 
 fn operand_in(content: &Content) -> &Operand
@@ -86,8 +85,8 @@ fn operand_in(content: &Content) -> &Operand
 fn constant_in(word: &Word) -> Option<usize>
     ensures { result ≡ constant_in (operand_in word.now.content) word.now.code }
 {
-    match operand_in(&word.content) {
-        Operand::Literal(_) => Some((word.code as usize).saturating_sub(32768)),
+    match (operand_in(&word.content), CodedOperand::of_code(word.code)) {
+        (Operand::Literal(_), Some(CodedOperand::Constant(k))) => Some(k as usize),
         _ => None,
     }
 }
@@ -204,8 +203,8 @@ pub fn check_words(
     count: usize,
     misspelled: Option<usize>,
     typed: Result<(), (TypeFault, usize)>,
-) -> Result<bool, LoadError>
-    ensures { Gives (λ b. b) result (words_fine total count misspelled (told typed)) }
+) -> Result<(), LoadError>
+    ensures { Gives (λ x. x) result (words_fine total count misspelled typed) }
 {
     if let Some(n) = misspelled {
         let before = match typed {
@@ -218,7 +217,7 @@ pub fn check_words(
         }
     }
     match typed {
-        Ok(_) => Ok(true),
+        Ok(_) => Ok(()),
         Err((fault, n)) => Err(LoadError::Fault(type_fault(word_place(total, count, n), fault))),
     }
 }
@@ -229,14 +228,14 @@ pub fn check_used(
     words: usize,
     count: usize,
     used: Result<usize, usize>,
-) -> Result<bool, LoadError>
-    ensures { Gives (λ b. b) result (all_used total words count used) }
+) -> Result<(), LoadError>
+    ensures { Gives (λ x. x) result (all_used total words count used) }
 {
     match used {
         Ok(k) => {
             let position = constant_place(total, words, count, k);
             agrees(LoadFault::BadWord { position }, k == count)
         }
-        Err(_) => Ok(true),
+        Err(_) => Ok(()),
     }
 }

@@ -13,13 +13,13 @@ use crate::label::{Label, Labels};
 use crate::operands::{argument_operand, label_there, word_operand};
 use crate::variable::Variables;
 use crate::word::{Content, Word};
-use il_model::codes::{
-    any_loc, initial_of, is_type, length_of, letters_of, location_code, op_of, side_of, type_of,
-};
+use il_model::codes::{MAGIC, initial_of, is_type, length_of, letters_of, op_of, side_of, type_of};
 use il_model::constant_table::Constants;
 use il_model::resolve::loc_type;
 use il_model::value::make;
-use il_model::{Arguments, BlockKind, Instance, Instr, Loc, Name, Side, Ty, Value, Variable};
+use il_model::{
+    Arguments, BlockKind, CodedOperand, Instance, Instr, Loc, Name, Side, Ty, Value, Variable,
+};
 use std::alloc::Global;
 
 fn u8_at(bytes: &[u8]) -> Result<(u8, &[u8]), LoadError>
@@ -66,11 +66,11 @@ fn lawful<T: Drop>(position: usize, value: Option<T>) -> Result<T, LoadError>
 }
 
 /// A test, and the fault where it fails.
-pub fn agrees(fault: LoadFault, test: bool) -> Result<bool, LoadError>
+pub fn agrees(fault: LoadFault, test: bool) -> Result<(), LoadError>
     ensures { Gives (λ x. x) result (agrees fault test) }
 {
     if test {
-        Ok(true)
+        Ok(())
     } else {
         Err(LoadError::Fault(fault))
     }
@@ -110,7 +110,7 @@ pub fn header_at(bytes: &[u8]) -> Result<(Counts, &[u8]), LoadError>
     ensures { Gives (λ x. (x.0, x.1.now)) result (header_at bytes.now) }
 {
     let (magic, rest) = u32_at(bytes)?;
-    agrees(LoadFault::BadMagic, magic == 1229738051)?;
+    agrees(LoadFault::BadMagic, magic == u32::from_be_bytes(MAGIC))?;
     let (version, rest) = u16_at(rest)?;
     agrees(LoadFault::BadVersion, version == 1)?;
     counts_at(rest)
@@ -181,26 +181,25 @@ fn label_name_at<'a>(
     Ok((name, rest))
 }
 
-fn is_free(seen: &Variables, ty: Ty, n: u16, loc: Loc) -> bool
-    ensures { result ≡ is_free seen.now ty n loc }
+/// Whether a location is of the type and no other variable has it.
+fn is_free(seen: &Variables, ty: Ty, loc: Loc) -> bool
+    ensures { result ≡ is_free seen.now ty loc }
 {
-    location_code(Some(loc)) == n as usize && is_type(ty, loc_type(loc)) && !seen.is_taken(n)
+    is_type(ty, loc_type(loc)) && !seen.is_taken(loc)
 }
 
-/// The location with a code, of the type, that no other variable has; none at the code for none.
+/// The location with a code, where it is free; none at the code for none.
 fn location_of(seen: &Variables, ty: Ty, n: u16) -> Option<Option<Loc>>
     ensures { result ≡ location_of seen.now ty n }
 {
-    if n == 65535 {
-        return Some(None);
-    }
-    match any_loc(n) {
-        Some(loc) => if is_free(seen, ty, n, loc) {
+    match CodedOperand::of_code(n)? {
+        CodedOperand::Unused => Some(None),
+        CodedOperand::Location(loc) => if is_free(seen, ty, loc) {
             Some(Some(loc))
         } else {
             None
         },
-        None => None,
+        _ => None,
     }
 }
 

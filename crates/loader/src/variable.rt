@@ -1,12 +1,11 @@
 //! Variables as they are read.
 
 ghost use Rattle.std.specs.Prelude.{◌≡◌, ◌++◌, [], ◌∷◌, OnOk};
-ghost use Rattle.il_model.specs.Image.{location_code};
-ghost use Rattle.loader.specs.VariableTables.{AreNumbered, AreCodes};
+ghost use Rattle.loader.specs.VariableTables.{AreNumbered};
 
-use il_model::Variable;
-use il_model::codes::location_code;
+use il_model::location_table::put_code;
 use il_model::name::is_lawful_name;
+use il_model::{Loc, Variable};
 use std::alloc::{AllocError, Global};
 use std::collections::{BTreeMap, BTreeSet};
 use std::marker::Model;
@@ -47,22 +46,9 @@ fn put_number<'a>(
     Ok(())
 }
 
-/// Puts the code of a variable's location, if it has one, to those of the others.
-fn put_code(codes: &mut BTreeSet<usize>, seen: &[Variable], v: &Variable) -> Result<(), AllocError>
-    requires { AreCodes seen.now codes.old }
-    ensures { OnOk result (AreCodes (seen.now ++ v.now ∷ []) codes.new) }
-{
-    match v.location {
-        Some(loc) => {
-            codes.insert(location_code(Some(loc)))?;
-            Ok(())
-        }
-        None => Ok(()),
-    }
-}
-
 impl<'a> Variables<'a> {
     ghost use Rattle.std.specs.Prelude.{◌≡◌, ◌<◌, ◌^◌, ◌++◌, IfOk, IfSome, [], ◌∷◌};
+    ghost use Rattle.il_model.specs.CodedOperands.{loc_code};
     ghost use Rattle.il_model.specs.Codes.{is_number, is_new_name, is_taken};
 
     /// No variables.
@@ -125,10 +111,10 @@ impl<'a> Variables<'a> {
         is_lawful_name(name) && !self.number_of(name).is_some()
     }
 
-    /// Whether a variable has the location of a code.
-    pub fn is_taken(&self, n: u16) -> bool
-        ensures { result ≡ is_taken self.now n }
+    /// Whether a variable has this location.
+    pub fn is_taken(&self, loc: Loc) -> bool
+        ensures { result ≡ is_taken self.now (loc_code loc) }
     {
-        self.codes.contains(&(n as usize))
+        self.codes.contains(&loc.code())
     }
 }

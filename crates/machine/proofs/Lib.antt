@@ -3,6 +3,7 @@ pub mod Reset
 pub mod Keeping
 pub mod Zipped
 pub mod Shapes
+pub mod Values
 pub mod Arrivals
 pub mod HeldBack
 pub mod Restoring

@@ -1,5 +1,6 @@
 -- Words that are no state, and what a machine of a snapshot's parts is.
 use Rattle.std.proofs.Common.{◌≡◌, ℕ, zero, suc, ◌<◌, ◌≤◌, true, List, [], ◌∷◌, length, map, reverse, get_or, Option, Some, None, refl, sym, ap, subst, ◌∙◌, arith}
+use Rattle.std.specs.Prelude.{IfSome}
 use Rattle.std.specs.Option.{option_map}
 use Rattle.std.proofs.lemmas.List.{reverse-reverse, length-reverse, length-map}
 use Rattle.il_model.specs.declared.program.Place.{Place}
@@ -9,15 +10,18 @@ use Rattle.il_model.specs.declared.fetched.Deferred.{Deferred}
 use Rattle.il_model.specs.declared.cells.Cells.{Cells}
 use Rattle.il_model.specs.Snapshots.{SavedBlock, SavedController}
 use Rattle.il_model.specs.Text.{Text}
+use Rattle.il_model.specs.Fits.{IsText}
 use Rattle.il_model.specs.Typing.{shape_at}
 use Rattle.il_model.specs.Values.{ty_of}
 use Rattle.controller_model.specs.State.{State}
 use Rattle.controller_model.specs.Slots.{places_of}
-use Rattle.controller_model.specs.Suits.{AreCells, AreInstances, HasValues, held_of, Suits}
+use Rattle.controller_model.specs.Suits.{AreCells, AreInstances, KeepFirsts, HasValues, held_of, Suits}
 use Rattle.controller_model.specs.Snapshots.{saved_instance, are_types, fit_instances, fits_types}
-use Rattle.controller_model.proofs.Fitting.{types_of, instances_of, typed_so, few_deferred}
+use Rattle.controller_model.proofs.ColdSuits.{firsts_typed}
+use Rattle.controller_model.proofs.Fitting.{instances_of, typed_so, few_deferred}
+use Rattle.machine.proofs.Values.{are_all}
 use Rattle.machine.specs.Kept.{Kept, IsMachineOf}
-use Rattle.machine.specs.Parts.{HasState, FitsMachine, RestoresState, HasNoBlock, HasNoState, Here, Later}
+use Rattle.machine.specs.Parts.{HasState, all_values, FitsMachine, RestoresState, HasNoBlock, HasNoState, Here, Later}
 
 pub lost_at : (xs : List SavedBlock) (i : ℕ) (x : SavedBlock) → i < length xs → x ≡ get_or xs i x → HasNoBlock x → HasNoState xs
 lost_at [] i x lt e none = absurd (omega (arith, lt))
@@ -31,12 +35,14 @@ deferred_few Q s fits =
     let same : length s.deferred ≡ length t.shape.kept = sym (length-map (reverse s.deferred) held_of ∙ length-reverse s.deferred) ∙ ap length t.kept in
     omega (arith, few, same)
 
-pub restored_suits : (Q : Text) (s : SavedController) (st : State) → FitsMachine Q s → HasState s st → AreCells s.input → AreCells s.output → AreCells s.memory → Suits Q st
-restored_suits Q s st fits has i o m =
+pub restored_suits : (Q : Text) (s : SavedController) (st : State) → IsText Q → FitsMachine Q s → HasState Q s st → st.own ≡ all_values Q.variables s.variables → AreCells s.input → AreCells s.output → AreCells s.memory → Suits Q st
+restored_suits Q s st is fits has own i o m =
     let t = typed_so Q s fits.types in
+    let all = are_all Q.variables s.variables fits.variables in
     record {
       values = record {
-        own = ap (map ty_of) (sym has.variables) ∙ types_of s.variables (map (λ (v : Variable). v.ty) Q.variables) fits.variables;
+        own = ap (map ty_of) own ∙ all.types (firsts_typed [] Q.variables is.variables);
+        firsts = subst (KeepFirsts Q.variables) (sym own) all.firsts;
         instances = instances_of Q.instances st.instances (ap (fit_instances Q.instances) (sym has.instances) ∙ fits.instances);
         input = subst AreCells has.input i;
         output = subst AreCells has.output o;
@@ -51,9 +57,10 @@ restored_suits Q s st fits has i o m =
     }
 
 pub restored_kept : (Q : Text) (s : SavedController) (o : Option State) (st : State) (places : List Place) (input output memory : Cells)
-    → FitsMachine Q s → RestoresState s o → o ≡ Some st → places ≡ places_of Q → AreCells input → input ≡ s.input → AreCells output → output ≡ s.output → AreCells memory → memory ≡ s.memory → IsMachineOf Q (record { state = st; places = places })
-restored_kept Q s None st places i o m fits r is lie a b d e f g = absurd cc
-restored_kept Q s (Some t) st places i o m fits r is lie a b d e f g =
+    → IsText Q → FitsMachine Q s → RestoresState Q s o → IfSome o (λ t. t.own ≡ all_values Q.variables s.variables) → o ≡ Some st → places ≡ places_of Q → AreCells input → input ≡ s.input → AreCells output → output ≡ s.output → AreCells memory → memory ≡ s.memory → IsMachineOf Q (record { state = st; places = places })
+restored_kept Q s None st places i o m text fits r own is lie a b d e f g = absurd cc
+restored_kept Q s (Some t) st places i o m text fits r own is lie a b d e f g =
     let same : t ≡ st = cc in
-    let has = subst (HasState s) same r.0 in
-    record { suits = restored_suits Q s st fits has (subst AreCells b a) (subst AreCells e d) (subst AreCells g f); places = lie }
+    let has = subst (HasState Q s) same r.0 in
+    let all = subst (λ (x : State). x.own ≡ all_values Q.variables s.variables) same own in
+    record { suits = restored_suits Q s st text fits has all (subst AreCells b a) (subst AreCells e d) (subst AreCells g f); places = lie }

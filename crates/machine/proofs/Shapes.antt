@@ -13,17 +13,8 @@ use Rattle.il_model.specs.Values.{ty_of}
 use Rattle.il_model.specs.Row.{same_type}
 use Rattle.il_model.specs.Snapshots.{SavedBlock}
 use Rattle.controller_model.specs.Suits.{held_of}
-use Rattle.controller_model.specs.Snapshots.{are_types, fits_instance, fit_instances, same_held, all_held}
+use Rattle.controller_model.specs.Snapshots.{own_types, are_types, fits_instance, fit_instances, same_held, all_held}
 use Rattle.machine.proofs.Zipped.{zipped, zipped_at, zipped_next}
-
-abbrev pub is_value_of : Value → Variable → Bool
-is_value_of v x = same_type (ty_of v) x.ty
-
-pub variables_zipped : (vs : List Value) (xs : List Variable) → are_types vs (map (λ (x : Variable). x.ty) xs) ≡ zipped is_value_of vs xs
-variables_zipped [] [] = refl
-variables_zipped [] (x ∷ xs) = refl
-variables_zipped (v ∷ vs) [] = refl
-variables_zipped (v ∷ vs) (x ∷ xs) = ap (λ b. same_type (ty_of v) x.ty && b) (variables_zipped vs xs)
 
 pub instances_zipped : (ds : List Instance) (xs : List SavedBlock) → fit_instances ds xs ≡ zipped fits_instance ds xs
 instances_zipped [] [] = refl
@@ -63,3 +54,7 @@ pub zipped_yes : (ds : List Instance) (xs : List SavedBlock) (i : ℕ) (d : Inst
 zipped_yes ds xs i d x lt same e f h so =
     let here = ap (λ (y : Instance). fits_instance y (get_or xs i x)) (sym e) ∙ ap (fits_instance d) (sym f) ∙ h in
     zipped_next fits_instance ds xs i d x lt same here so
+
+-- past the last variable no value may be left
+pub variables_end : (own : List Value) (vs : List Variable) (n : ℕ) → length vs ≤ n → are_types own (own_types (drop n vs)) ≡ (length own == 0)
+variables_end own vs n le = ap (λ ws. are_types own (own_types ws)) (drop_all vs n le) ∙ none_left own

@@ -11,9 +11,7 @@ use il_model::{Area, Cells, Loc, Value, Variable};
 pub fn area_of(loc: Loc) -> Area
     ensures { result ≡ area_of loc }
 {
-    match loc {
-        Loc::Bit(area, _) | Loc::Word(area, _) => area,
-    }
+    loc.area()
 }
 
 /// The value at a location of an area.
@@ -62,12 +60,7 @@ pub fn write_cells(cells: &mut Cells, loc: Loc, v: Value) -> Option<()>
 fn lies_in(loc: Loc, area: Area) -> bool
     ensures { result ≡ same_area (area_of loc) area }
 {
-    match (loc, area) {
-        (Loc::Bit(Area::Input, _) | Loc::Word(Area::Input, _), Area::Input) => true,
-        (Loc::Bit(Area::Output, _) | Loc::Word(Area::Output, _), Area::Output) => true,
-        (Loc::Bit(Area::Memory, _) | Loc::Word(Area::Memory, _), Area::Memory) => true,
-        _ => false,
-    }
+    loc.area() == area
 }
 
 /// The cells with a value written, or as they are where it can't be.

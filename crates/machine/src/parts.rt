@@ -1,15 +1,59 @@
-//! Function block instances in snapshots, and back.
+//! Variables and function block instances in snapshots, and back.
 
 ghost use Rattle.std.specs.Prelude.{◌≡◌, ◌≤◌, length, map, IfOk, option_map};
 ghost use Rattle.std.specs.List.{AllByRecursion};
 ghost use Rattle.il_model.specs.Snapshots.{SavedBlock};
-ghost use Rattle.controller_model.specs.Snapshots.{saved_instance};
-ghost use Rattle.machine.specs.Parts.{AreLawful, HasFewInputs, RestoresAll};
+ghost use Rattle.controller_model.specs.Snapshots.{own_values, saved_instance};
+ghost use Rattle.machine.specs.Parts.{all_values, AreLawful, HasFewInputs, RestoresAll};
 
 use crate::instance::InstanceState;
 use arrayvec::ArrayVec;
-use il_model::{Deferred, SavedInstance};
+use il_model::{Deferred, SavedInstance, Value, Variable};
 use std::alloc::{AllocError, Global};
+
+/// The values of the variables without a location, in order.
+#[tactic(auto, using(crate::proofs::Values::none_own))]
+pub fn own_values(
+    alloc: Global,
+    variables: &[Variable],
+    values: &[Value],
+) -> Result<Vec<Value>, AllocError>
+    ensures { IfOk result (λ v. v.items ≡ own_values variables.now values.now) }
+{
+    let mut own = Vec::new(alloc);
+    let mut rest = values;
+    for variable in variables {
+        let [value, more @ ..] = rest else {
+            return Ok(own);
+        };
+        if variable.location.is_none() {
+            own.push(*value)?;
+        }
+        rest = more;
+    }
+    Ok(own)
+}
+
+/// A value for each variable: its first one where it has a location, else the next of these.
+pub fn all_values(
+    alloc: Global,
+    variables: &[Variable],
+    own: &[Value],
+) -> Result<Vec<Value>, AllocError>
+    ensures { IfOk result (λ v. v.items ≡ all_values variables.now own.now) }
+{
+    let mut values = Vec::new(alloc);
+    let mut rest = own;
+    for variable in variables {
+        if variable.location.is_some() {
+            values.push(variable.initial)?;
+        } else if let [value, more @ ..] = rest {
+            values.push(*value)?;
+            rest = more;
+        }
+    }
+    Ok(values)
+}
 
 /// What a snapshot has of instances, in order.
 pub fn saved_instances(

@@ -1,29 +1,32 @@
 //! Whether a snapshot has what a machine of an image keeps: values and instances as declared, and the types on arrival.
 
-ghost use Rattle.std.specs.Prelude.{◌≡◌, ◌&&◌, length, map, nat_lt, MatchBool};
-ghost use Rattle.il_model.specs.declared.program.Variable.{Variable};
+ghost use Rattle.std.specs.Prelude.{◌≡◌, ◌&&◌, length, nat_lt, MatchBool};
 ghost use Rattle.controller_model.specs.Suits.{input_types};
-ghost use Rattle.controller_model.specs.Snapshots.{are_types, fits_instance, fit_instances, fits_run};
+ghost use Rattle.controller_model.specs.Snapshots.{own_types, are_types, fits_instance, fit_instances, fits_run};
 ghost use Rattle.machine.specs.Parts.{HasBlock, HaveBlocks, HasNoBlock, HasNoState};
 
-use crate::arrival::{Arrival, has_type};
+use crate::arrival::{are_of, has_type, types_at};
 use function_blocks::any::Block;
 use il_model::{BlockKind, Instance, SavedInstance, Snapshot, Value, Variable};
 use loader::Image;
 
-/// Whether there is a value of its type for each variable, in order.
+/// Whether there is a value of its type for each variable without a location, in order.
 fn fit_variables(values: &[Value], variables: &[Variable]) -> bool
-    ensures { result ≡ are_types values.now (map (λ (v : Variable). v.ty) variables.now) }
+    ensures { result ≡ are_types values.now (own_types variables.now) }
 {
-    if values.len() != variables.len() {
-        return false;
-    }
-    for i in 0..variables.len() {
-        if !has_type(values[i], variables[i].ty) {
-            return false;
+    let mut rest = values;
+    for variable in variables {
+        if variable.location.is_none() {
+            let [value, more @ ..] = rest else {
+                return false;
+            };
+            if !has_type(*value, variable.ty) {
+                return false;
+            }
+            rest = more;
         }
     }
-    true
+    rest.is_empty()
 }
 
 /// Whether there is a value of its type for each input of the kind, in order.
@@ -66,10 +69,10 @@ fn fit_instances(declared: &[Instance], saved: &[SavedInstance]) -> bool
     true
 }
 
-/// Whether a snapshot has a value of its type for each variable that the image declares, and an instance of its kind, with a
-/// value of its type for each input, for each instance.
+/// Whether a snapshot has a value of its type for each variable that the image declares without a location, and an instance of
+/// its kind, with a value of its type for each input, for each instance.
 pub fn fits_values(image: &Image, parts: &Snapshot) -> bool
-    ensures { result ≡ (are_types parts.now.variables (map (λ (v : Variable). v.ty) image.now.variables) && fit_instances image.now.instances parts.now.instances) }
+    ensures { result ≡ (are_types parts.now.variables (own_types image.now.variables) && fit_instances image.now.instances parts.now.instances) }
 {
     fit_variables(parts.variables.as_slice(), image.variables())
         && fit_instances(image.instances(), parts.instances.as_slice())
@@ -102,5 +105,6 @@ pub fn fits_run(image: &Image, parts: &Snapshot) -> bool
     if parts.position as usize >= image.len() {
         return false;
     }
-    Arrival::at(image, parts.position).are_of(parts.cr, parts.deferred.as_slice())
+    let types = types_at(image, parts.position);
+    are_of(&types, parts.cr, parts.deferred.as_slice())
 }

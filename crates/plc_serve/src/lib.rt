@@ -12,4 +12,5 @@ mod serving;
 mod sessions;
 
 pub use group::stores;
+pub use pace::worked_dues;
 pub use serving::{Settings, serve};

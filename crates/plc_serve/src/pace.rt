@@ -1,7 +1,9 @@
 //! The periods of the scans, by the machine's time.
 
-ghost use Rattle.std.specs.Prelude.{◌≡◌, IfErr};
+ghost use Rattle.std.specs.Prelude.{◌≡◌, ◌*◌, ◌-◌, ◌/◌, ◌^◌, min, IfErr, IfOk};
+ghost use Rattle.std.specs.Duration.{as_nanos};
 ghost use Rattle.plc_tool.specs.Status.{status_of};
+ghost use Rattle.plc_serve.specs.Pacing.{next_due, IsAwaited, WorkedDues};
 
 use plc_tool::Fault;
 use std::thread;
@@ -17,7 +19,10 @@ pub(crate) struct Pace {
 
 impl Pace {
     /// So many milliseconds to a period. The first scan is due at once.
-    pub(crate) fn new(begun: Instant, period: u32) -> Pace {
+    pub(crate) fn new(begun: Instant, period: u32) -> Pace
+        ensures period { as_nanos result.period ≡ period * 1_000_000 }
+        ensures due { as_nanos result.due ≡ 0 }
+    {
         Pace {
             begun,
             period: Duration::from_millis(u64::from(period)),
@@ -32,20 +37,16 @@ impl Pace {
         Ok(Instant::now(rt)?.saturating_duration_since(self.begun))
     }
 
-    /// Sleeps until the next scan is due, and gives its moment in milliseconds. The one behind it is due a period after it was due, or,
-    /// where it came a period late or more, a period from now: no scan is made up for.
+    /// Sleeps until the next scan is due, and gives its moment in milliseconds. By then the one behind it is due.
     pub(crate) fn await_scan<R: Clock>(&mut self, rt: &R) -> Result<u64, Fault>
-        ensures { IfErr result (λ e. status_of e ≡ 2) }
+        ensures awaited { IfOk result (IsAwaited (as_nanos self.old.period) (as_nanos self.old.due) (as_nanos self.new.due)) }
+        ensures period { self.new.period ≡ self.old.period }
+        ensures err { IfErr result (λ e. status_of e ≡ 2) }
     {
         thread::sleep(rt, self.due.saturating_sub(self.elapsed(rt)?));
         let now = self.elapsed(rt)?;
-        let next = self.due.saturating_add(self.period);
-        self.due = if next > now {
-            next
-        } else {
-            now.saturating_add(self.period)
-        };
-        Ok(u64::try_from(now.as_millis()).unwrap_or(u64::MAX))
+        self.due = next_due(self.due, now, self.period);
+        Ok(milliseconds(now))
     }
 
     /// Whether a period went by since then.
@@ -55,3 +56,28 @@ impl Pace {
         Ok(self.elapsed(rt)?.saturating_sub(since) >= self.period)
     }
 }
+
+/// When the scan behind one is due that was due then and came now: a period after that was due, or, where it came a period late or
+/// more, a period from now.
+fn next_due(due: Duration, now: Duration, period: Duration) -> Duration
+    ensures { as_nanos result ≡ next_due (as_nanos due) (as_nanos now) (as_nanos period) }
+{
+    let next = due.saturating_add(period);
+    if now.as_nanos() < next.as_nanos() {
+        next
+    } else {
+        now.saturating_add(period)
+    }
+}
+
+/// A time in whole milliseconds.
+fn milliseconds(time: Duration) -> u64
+    ensures { result ≡ min (as_nanos time / 1_000_000) (2 ^ 64 - 1) }
+{
+    u64::try_from(time.as_millis()).unwrap_or(u64::MAX)
+}
+
+/// What the definition gives for worked scans.
+pub fn worked_dues()
+    ensures { WorkedDues }
+{}

@@ -17,6 +17,8 @@ use Rattle.il_reader.specs.Faults as Read
 use Rattle.il_reader.specs.Texts.{SourceText, Reads, source_of}
 use Rattle.il_reader.specs.declared.fault.Fault as read_faults
 use Rattle.declarations.specs.Faults as Declared
+use Rattle.declarations.specs.Declaring as Declaring
+use Rattle.declarations.specs.FirstFault.{HasNoFault}
 use Rattle.declarations.specs.Resolution.{resolution_of}
 use Rattle.declarations.specs.declared.fault.Fault as declaration_faults
 use Rattle.loader.specs.declared.fault.LoadFault.{LoadFault}
@@ -29,11 +31,12 @@ use Rattle.plc_tool.specs.declared.fault.Fault.{Fault}
 use Rattle.plc_tool.specs.declared.fault.Fault.TheVariants as faults
 use Rattle.plc_tool.specs.Status.{status_of}
 
--- the text says this program
+-- the text declares this program, and has no fault
 pub record IsProgramOf (text : List ℕ) (program : Text) : Type 0 where
   pub source : SourceText
   pub read : Reads text source
-  pub resolved : resolution_of source ≡ Ok program
+  pub declared : Declaring.IsProgramOf source.says program
+  pub faultless : HasNoFault source.says
 
 -- the text says a program whose typed program, with a type for each bare number, is this one
 pub record IsTypedProgramOfText (text : List ℕ) (typed : Text) : Type 0 where

@@ -11,9 +11,9 @@ use Rattle.il_model.specs.Operators.{is_zero}
 use Rattle.il_model.specs.Words.{spells, look, mnemonic_of}
 use Rattle.il_model.specs.Names.{is_reserved, is_well_spelled}
 use Rattle.il_model.specs.Kinds.{kind_name}
-use Rattle.il_reader.specs.declared.lexeme.Kind.TheVariants as kinds
+use Rattle.il_reader.specs.declared.lexeme.Sign.TheVariants as signs
 use Rattle.il_reader.specs.Tokens.{Token, is_word_end, tokens_of}
-use Rattle.il_reader.specs.Reading.{is_kind, is_word_token, next_is}
+use Rattle.il_reader.specs.Reading.{is_sign, is_word_token, next_is}
 use Rattle.il_reader.specs.Grammar.{is_constant, no_value, ends_names, ends_block, DeclarationText}
 use Rattle.il_reader.specs.Spelling.{Part, breaks, ahead, this, sign, name, word, address, Spell, is_not_at, spelled_names, spelled_initial, spelled_declaration, going}
 use Rattle.il_reader.proofs.Laws.{Spell-append}
@@ -29,14 +29,14 @@ use Rattle.read_back.proofs.Arguments.{literal_constant, literal_solid}
 -- ---- behind the type
 
 abbrev semicolon : List Part
-semicolon = breaks ∷ sign kinds.Semicolon ∷ []
+semicolon = breaks ∷ sign signs.Semicolon ∷ []
 
 ends_so : (rest : List ℕ) → Spell semicolon (tokens_of (ending rest)) (tokens_of (10 ∷ rest))
 ends_so rest =
-    let t = token_at kinds.Semicolon (59 ∷ []) (10 ∷ rest) in
+    let t = token_at signs.Semicolon (59 ∷ []) (10 ∷ rest) in
     let e = semicolon_token (10 ∷ rest) in
-    spell_solid (sign kinds.Semicolon ∷ []) (tokens_of (ending rest)) t (tokens_of (10 ∷ rest)) (tokens_of (10 ∷ rest)) (record { is = e; solid = refl })
-    (spell_one (is_kind kinds.Semicolon) t [] (tokens_of (ending rest)) (tokens_of (10 ∷ rest)) (tokens_of (10 ∷ rest)) e refl refl)
+    spell_solid (sign signs.Semicolon ∷ []) (tokens_of (ending rest)) t (tokens_of (10 ∷ rest)) (tokens_of (10 ∷ rest)) (record { is = e; solid = refl })
+    (spell_one (is_sign signs.Semicolon) t [] (tokens_of (ending rest)) (tokens_of (10 ∷ rest)) (tokens_of (10 ∷ rest)) e refl refl)
 
 -- how a declaration ends behind its type
 record EndsType (initial : Option Token) (text rest : List ℕ) : Type 0 where
@@ -45,7 +45,7 @@ record EndsType (initial : Option Token) (text rest : List ℕ) : Type 0 where
 
 no_initial : (rest : List ℕ) → EndsType None [] rest
 no_initial rest =
-    let t = token_at kinds.Semicolon (59 ∷ []) (10 ∷ rest) in
+    let t = token_at signs.Semicolon (59 ∷ []) (10 ∷ rest) in
     let e = semicolon_token (10 ∷ rest) in
     record {
       word = refl;
@@ -56,15 +56,15 @@ no_initial rest =
 some_initial : (v : Value) (rest : List ℕ) → IsValue v → EndsType (Some (literal_at v (ending rest))) (codes " := " ++ literal_text v) rest
 some_initial v rest is =
     let u = literal_text v ++ ending rest in
-    let a = token_at kinds.Assign (58 ∷ 61 ∷ []) (32 ∷ u) in
+    let a = token_at signs.Assign (58 ∷ 61 ∷ []) (32 ∷ u) in
     let e = blank_skips (58 ∷ 61 ∷ 32 ∷ u) ∙ assign_token (32 ∷ u) ∙ ap (λ (ts : List Token). a ∷ ts) (blank_skips u) in
     let t = literal_at v (ending rest) in
     let f = literal_token v (ending rest) is (record { word = refl; literal = refl; address = refl }) in
     let ts = tokens_of (codes " := " ++ u) in
     record {
       word = refl;
-      spelled = spell_solid (sign kinds.Assign ∷ breaks ∷ this is_constant t ∷ semicolon) ts a (tokens_of u) (tokens_of (10 ∷ rest)) (record { is = e; solid = refl })
-          (spell_one (is_kind kinds.Assign) a (breaks ∷ this is_constant t ∷ semicolon) ts (tokens_of u) (tokens_of (10 ∷ rest)) e refl
+      spelled = spell_solid (sign signs.Assign ∷ breaks ∷ this is_constant t ∷ semicolon) ts a (tokens_of u) (tokens_of (10 ∷ rest)) (record { is = e; solid = refl })
+          (spell_one (is_sign signs.Assign) a (breaks ∷ this is_constant t ∷ semicolon) ts (tokens_of u) (tokens_of (10 ∷ rest)) e refl
           (spell_solid (this is_constant t ∷ semicolon) (tokens_of u) t (tokens_of (ending rest)) (tokens_of (10 ∷ rest)) (record { is = f; solid = literal_solid v (ending rest) })
           (spell_this is_constant t semicolon (tokens_of u) (tokens_of (ending rest)) (tokens_of (10 ∷ rest)) f (literal_constant v (ending rest)) (ends_so rest))));
     }
@@ -82,13 +82,13 @@ abbrev typed : List ℕ → List ℕ → List ℕ → List ℕ
 typed ty text rest = codes " : " ++ (ty ++ (text ++ ending rest))
 
 abbrev type_parts : Token → Option Token → List Part
-type_parts t initial = breaks ∷ sign kinds.Colon ∷ breaks ∷ name t ∷ breaks ∷ (spelled_initial initial ++ semicolon)
+type_parts t initial = breaks ∷ sign signs.Colon ∷ breaks ∷ name t ∷ breaks ∷ (spelled_initial initial ++ semicolon)
 
 abbrev type_token : List ℕ → List ℕ → List ℕ → Token
-type_token ty text rest = token_at kinds.Name ty (text ++ ending rest)
+type_token ty text rest = token_at signs.Name ty (text ++ ending rest)
 
 abbrev colon : List ℕ → List ℕ → List ℕ → Token
-colon ty text rest = token_at kinds.Colon (58 ∷ []) (32 ∷ (ty ++ (text ++ ending rest)))
+colon ty text rest = token_at signs.Colon (58 ∷ []) (32 ∷ (ty ++ (text ++ ending rest)))
 
 colon_is : (ty text rest : List ℕ) → tokens_of (typed ty text rest) ≡ colon ty text rest ∷ tokens_of (ty ++ (text ++ ending rest))
 colon_is ty text rest =
@@ -104,10 +104,10 @@ type_spelled ty initial text rest is ends =
     let t = type_token ty text rest in
     let f = name_token ty v is ends.word in
     let ps = breaks ∷ (spelled_initial initial ++ semicolon) in
-    spell_solid (sign kinds.Colon ∷ breaks ∷ name t ∷ ps) ts (colon ty text rest) (tokens_of u) (tokens_of (10 ∷ rest)) (record { is = e; solid = refl })
-    (spell_one (is_kind kinds.Colon) (colon ty text rest) (breaks ∷ name t ∷ ps) ts (tokens_of u) (tokens_of (10 ∷ rest)) e refl
+    spell_solid (sign signs.Colon ∷ breaks ∷ name t ∷ ps) ts (colon ty text rest) (tokens_of u) (tokens_of (10 ∷ rest)) (record { is = e; solid = refl })
+    (spell_one (is_sign signs.Colon) (colon ty text rest) (breaks ∷ name t ∷ ps) ts (tokens_of u) (tokens_of (10 ∷ rest)) e refl
     (spell_solid (name t ∷ ps) (tokens_of u) t (tokens_of v) (tokens_of (10 ∷ rest)) (record { is = f; solid = refl })
-    (spell_this (is_kind kinds.Name) t ps (tokens_of u) (tokens_of v) (tokens_of (10 ∷ rest)) f refl ends.spelled)))
+    (spell_this (is_sign signs.Name) t ps (tokens_of u) (tokens_of v) (tokens_of (10 ∷ rest)) f refl ends.spelled)))
 
 -- ---- the names
 
@@ -115,7 +115,7 @@ at_is : IsName (codes "AT")
 unfolding is_well_spelled
 at_is = name_by _ refl
 
-at_word : (rest : List ℕ) → is_word_token (codes "AT") (token_at kinds.Name (codes "AT") rest) ≡ true
+at_word : (rest : List ℕ) → is_word_token (codes "AT") (token_at signs.Name (codes "AT") rest) ≡ true
 unfolding spells
 at_word rest = refl
 
@@ -129,7 +129,7 @@ names_by None ty initial text rest is ends =
     let e = colon_is ty text rest in
     let ps = type_parts (type_token ty text rest) initial in
     let b : Begins ts c (tokens_of u) = record { is = e; solid = refl } in
-    let none : ends_names ts ≡ true = ap (λ (us : List Token). not (next_is kinds.Comma us)) (skip_none ts c (tokens_of u) b ∙ e) in
+    let none : ends_names ts ≡ true = ap (λ (us : List Token). not (next_is signs.Comma us)) (skip_none ts c (tokens_of u) b ∙ e) in
     spell_solid (ahead is_not_at ∷ ahead ends_names ∷ ps) ts c (tokens_of u) (tokens_of (10 ∷ rest)) b
     (spell_ahead is_not_at (ahead ends_names ∷ ps) ts (tokens_of (10 ∷ rest)) (ap is_not_at e)
     (spell_ahead ends_names ps ts (tokens_of (10 ∷ rest)) none (type_spelled ty initial text rest is ends)))
@@ -137,15 +137,15 @@ names_by (Some loc) ty initial text rest is ends =
     let v = typed ty text rest in
     let u = location_text loc ++ v in
     let ts = tokens_of (at_text (Some loc) ++ v) in
-    let a = token_at kinds.Name (codes "AT") (32 ∷ u) in
+    let a = token_at signs.Name (codes "AT") (32 ∷ u) in
     let e : ts ≡ a ∷ tokens_of u = blank_skips (codes "AT" ++ (32 ∷ u)) ∙ name_token (codes "AT") (32 ∷ u) at_is refl ∙ ap (λ (us : List Token). a ∷ us) (blank_skips u) in
-    let t = token_at kinds.Address (location_text loc) v in
+    let t = token_at signs.Address (location_text loc) v in
     let f = location_token loc v (record { word = refl; literal = refl; address = refl }) in
     let ps = type_parts (type_token ty text rest) initial in
     spell_solid (word (codes "AT") ∷ breaks ∷ address t ∷ ps) ts a (tokens_of u) (tokens_of (10 ∷ rest)) (record { is = e; solid = refl })
     (spell_one (is_word_token (codes "AT")) a (breaks ∷ address t ∷ ps) ts (tokens_of u) (tokens_of (10 ∷ rest)) e (at_word (32 ∷ u))
     (spell_solid (address t ∷ ps) (tokens_of u) t (tokens_of v) (tokens_of (10 ∷ rest)) (record { is = f; solid = refl })
-    (spell_this (is_kind kinds.Address) t ps (tokens_of u) (tokens_of v) (tokens_of (10 ∷ rest)) f refl (type_spelled ty initial text rest is ends))))
+    (spell_this (is_sign signs.Address) t ps (tokens_of u) (tokens_of v) (tokens_of (10 ∷ rest)) f refl (type_spelled ty initial text rest is ends))))
 
 -- ---- one declaration
 
@@ -155,7 +155,7 @@ end_reserved = refl
 
 abbrev declared : List ℕ → Option Loc → List ℕ → Option Token → List ℕ → List ℕ → DeclarationText
 declared w o ty initial text rest = record {
-  name = token_at kinds.Name w (at_text o ++ typed ty text rest);
+  name = token_at signs.Name w (at_text o ++ typed ty text rest);
   names = written_names o (typed ty text rest);
   ty = type_token ty text rest;
   initial = initial;
@@ -171,7 +171,7 @@ unfolding ends_block
 goes w behind is ends =
     let u = w ++ behind in
     let e = name_token w behind is.name ends in
-    rw (skip_one u (tokens_of (10 ∷ u)) (token_at kinds.Name w behind) (tokens_of behind) (break_token u) (record { is = e; solid = refl }), e, not_word (codes "END_VAR") w end_reserved is) refl
+    rw (skip_one u (tokens_of (10 ∷ u)) (token_at signs.Name w behind) (tokens_of behind) (break_token u) (record { is = e; solid = refl }), e, not_word (codes "END_VAR") w end_reserved is) refl
 
 declaration_spelled : (w : List ℕ) (o : Option Loc) (ty : List ℕ) (initial : Option Token) (text rest : List ℕ) → IsFreeName w → IsName ty → EndsType initial text rest
     → Spell (going ends_block spelled_declaration (declared w o ty initial text rest)) (tokens_of (10 ∷ (w ++ (at_text o ++ typed ty text rest)))) (tokens_of (10 ∷ rest))
@@ -179,13 +179,13 @@ declaration_spelled w o ty initial text rest free is ends =
     let behind = at_text o ++ typed ty text rest in
     let u = w ++ behind in
     let ts = tokens_of (10 ∷ u) in
-    let t = token_at kinds.Name w behind in
+    let t = token_at signs.Name w behind in
     let last = name_ends o (58 ∷ 32 ∷ (ty ++ (text ++ ending rest))) in
     let e = name_token w behind free.name last in
     let ps = breaks ∷ (spelled_names (written_names o (typed ty text rest)) ++ type_parts (type_token ty text rest) initial) in
     spell_ahead (λ us. not (ends_block us)) (breaks ∷ name t ∷ ps) ts (tokens_of (10 ∷ rest)) (goes w behind free last)
     (spell_break (name t ∷ ps) ts u t (tokens_of behind) (tokens_of (10 ∷ rest)) (break_token u) (record { is = e; solid = refl })
-    (spell_this (is_kind kinds.Name) t ps (tokens_of u) (tokens_of behind) (tokens_of (10 ∷ rest)) e refl (names_by o ty initial text rest is ends)))
+    (spell_this (is_sign signs.Name) t ps (tokens_of u) (tokens_of behind) (tokens_of (10 ∷ rest)) e refl (names_by o ty initial text rest is ends)))
 
 variable_joined : (v : Variable) (rest : List ℕ) → variable_text v ++ rest ≡ v.name ++ (at_text v.location ++ typed (type_name v.ty) (initial_text v.initial) rest)
 variable_joined v rest = simp append_assoc refl

@@ -1,6 +1,6 @@
 -- The listing's declarations are resolved to the program's own.
-use Rattle.std.proofs.Common.{◌≡◌, ℕ, ◌+◌, ◌<◌, ◌≤◌, Bool, true, false, cond, eqb, ltb, List, [], ◌∷◌, ◌++◌, length, Option, Some, None, Result, Ok, Err, refl, sym, ap, ◌∙◌, subst, arith, ◌&&◌, ◌||◌, not, append_assoc}
-use Rattle.std.specs.Prelude.{is_some, nat_eq, ℤ, pos, negsuc}
+use Rattle.std.proofs.Common.{◌≡◌, ℕ, ◌+◌, ◌<◌, ◌≤◌, Bool, true, false, cond, ltb, List, [], ◌∷◌, ◌++◌, length, Option, Some, None, Result, Ok, Err, refl, sym, ap, ◌∙◌, subst, arith, ◌||◌, not, append_assoc}
+use Rattle.std.specs.Prelude.{is_some, ℤ, pos, negsuc}
 use Rattle.std.specs.List.{AllByRecursion, flat_map}
 use Rattle.std.specs.Int.{w32, cast_signed, cast_unsigned}
 use Rattle.std.proofs.lemmas.List.{length-append, append-nil}
@@ -21,25 +21,29 @@ use Rattle.il_model.specs.Words.{spells}
 use Rattle.il_model.specs.Names.{is_lawful_name}
 use Rattle.il_model.specs.Kinds.{kind_name}
 use Rattle.il_model.specs.Areas.{area_of}
-use Rattle.il_model.specs.Image.{loc_code, location_code}
+use Rattle.std.specs.Option.{option_and_then}
+use Rattle.il_model.specs.declared.coded_operand.CodedOperand.{CodedOperand}
+use Rattle.il_model.specs.declared.coded_operand.CodedOperand.TheVariants as coded
+use Rattle.il_model.specs.CodedOperands.{loc_code, IsCell, HasOwnCode, with_code}
+use Rattle.il_model.proofs.CodedOperands.{coded_back}
+use Rattle.il_model.specs.Image.{location_code}
 use Rattle.il_model.specs.Typing.{loc_type, is_output}
 use Rattle.il_model.specs.Resolved.{instance_in}
-use Rattle.il_model.specs.Codes.{is_number, is_new_name, is_taken, is_type, any_loc, is_free, may_start_with}
+use Rattle.il_model.specs.Codes.{is_number, is_new_name, is_taken, is_type, is_free, may_start_with}
 use Rattle.il_model.specs.Codes as codes_of
 use Rattle.il_model.specs.Fits.{IsVariable, IsInstance, AreItems, IsImage}
-use Rattle.il_reader.specs.declared.lexeme.Kind.TheVariants as tokens
+use Rattle.il_reader.specs.declared.lexeme.Sign.TheVariants as signs
 use Rattle.declarations.specs.declared.fault.Refusal.{Refusal}
 use Rattle.declarations.specs.declared.variables.DeclaredType.{DeclaredType}
 use Rattle.declarations.specs.declared.variables.DeclaredType.TheVariants.{Elementary, Block}
 use Rattle.declarations.specs.Resolution.{◌>>=◌, each, declared_type, nothing, has_name, has_instance, is_full, new_name, free_location, same_type, is_input, written_value, elementary_value, planned_value, with_variable, with_instance, variable, declare_name, declare_located, declare_listed, declare, declare_block, program_at, told, resolution_of}
-use Rattle.declarations.proofs.Places.{IsPlace}
 use Rattle.lister.specs.Listing.{location_text, type_name, variable_text, instance_text}
 use Rattle.read_back.proofs.Fronts.{both_true, not_true}
 use Rattle.il_model.proofs.LiteralLaws.{IsValue}
 use Rattle.read_back.proofs.LiteralTexts.{literal_again}
 use Rattle.read_back.proofs.LocationTexts.{location_again}
 use Rattle.read_back.proofs.NameTexts.{IsFreeName, lawful_free, capital}
-use Rattle.read_back.proofs.Listable.{variable_free, items_all, some_is, if_some, tested_is, any_place, IsOfType, of_type, listable}
+use Rattle.read_back.proofs.Listable.{variable_free, items_all, some_is, if_some, tested_is, IsOfType, of_type, listable}
 use Rattle.read_back.proofs.Written.{token_at, literal_at, written_initial, written_variable, written_instance, written_variables, written_instances, written_block, end_text, written}
 use Rattle.read_back.proofs.Resolves.{lines_back}
 
@@ -113,7 +117,7 @@ planned_back type v rest first = by_test (is_zero (number_of v)) refl
 -- ---- names, types and locations
 
 new_back : (type : Option DeclaredType) (known : Declarations) (name rest : List ℕ) → IsFreeName name → has_name known name ≡ false → has_instance known name ≡ false → is_full type known ≡ false
-    → new_name type known (token_at tokens.Name name rest) ≡ Ok name
+    → new_name type known (token_at signs.Name name rest) ≡ Ok name
 unfolding new_name
 new_back type known name rest is a b c = rw (capital name is.name, a, b, is.free, c) refl
 
@@ -138,31 +142,30 @@ kind_back kinds.Ton = refl
 kind_back kinds.Tof = refl
 
 record IsLocated (seen : List Variable) (type : Ty) (loc : Loc) : Type 0 where
-  place : IsPlace loc
+  place : IsCell loc
   suits : is_type type (loc_type loc) ≡ true
   free : is_taken seen (loc_code loc) ≡ false
 
 located_is : (seen : List Variable) (type : Ty) (loc : Loc) → codes_of.location_of seen type (loc_code loc) ≡ Some (Some loc) → IsLocated seen type loc
-located_is seen type loc e = by_code (eqb (loc_code loc) 65535) e
+located_is seen type loc e = by_code (with_code (loc_code loc)) refl e
   where
-    by_place : (o : Option Loc) → any_loc (loc_code loc) ≡ o → codes_of.free_loc seen type (loc_code loc) o ≡ Some (Some loc) → IsLocated seen type loc
-    by_place None f h = absurd cc
-    by_place (Some l) f h =
-        let m = if_some (is_free seen type (loc_code loc) l) (Some l) (Some loc) h in
+    by_operand : (x : CodedOperand) → HasOwnCode x → codes_of.free_loc seen type x ≡ Some (Some loc) → IsLocated seen type loc
+    by_operand (coded.Location l) own h =
+        let m = if_some (is_free seen type l) (Some l) (Some loc) h in
         let same : l ≡ loc = some_is l loc m.1 in
-        let free : is_free seen type (loc_code loc) loc ≡ true = subst (λ (k : Loc). is_free seen type (loc_code loc) k ≡ true) same m.0 in
-        let a = both_true (nat_eq (loc_code loc) (loc_code loc) && is_type type (loc_type loc)) (not (is_taken seen (loc_code loc))) free in
-        record {
-          place = any_place (loc_code loc) loc (f ∙ ap (λ (k : Loc). Some k) same);
-          suits = (both_true (nat_eq (loc_code loc) (loc_code loc)) (is_type type (loc_type loc)) a.0).1;
-          free = not_true (is_taken seen (loc_code loc)) a.1;
-        }
+        let free : is_free seen type loc ≡ true = subst (λ (k : Loc). is_free seen type k ≡ true) same m.0 in
+        let a = both_true (is_type type (loc_type loc)) (not (is_taken seen (loc_code loc))) free in
+        record { place = subst IsCell same own; suits = a.0; free = not_true (is_taken seen (loc_code loc)) a.1 }
+    by_operand (coded.Variable i) own h = absurd cc
+    by_operand (coded.Field i n) own h = absurd cc
+    by_operand (coded.Constant k) own h = absurd cc
+    by_operand coded.Unused own h = absurd cc
 
-    by_code : (b : Bool) → cond b (Some None) (codes_of.free_loc seen type (loc_code loc) (any_loc (loc_code loc))) ≡ Some (Some loc) → IsLocated seen type loc
-    by_code true h = absurd cc
-    by_code false h = by_place (any_loc (loc_code loc)) refl h
+    by_code : (o : Option CodedOperand) → with_code (loc_code loc) ≡ o → option_and_then (codes_of.free_loc seen type) o ≡ Some (Some loc) → IsLocated seen type loc
+    by_code None f h = absurd cc
+    by_code (Some x) f h = by_operand x (coded_back (loc_code loc) x f).own h
 
-location_back : (known : Declarations) (type : Ty) (loc : Loc) (rest : List ℕ) → IsLocated known.variables type loc → free_location (Some (Elementary type)) known (token_at tokens.Address (location_text loc) rest) ≡ Ok loc
+location_back : (known : Declarations) (type : Ty) (loc : Loc) (rest : List ℕ) → IsLocated known.variables type loc → free_location (Some (Elementary type)) known (token_at signs.Address (location_text loc) rest) ≡ Ok loc
 location_back known type loc rest is = rw (location_again loc is.place, is.suits, is.free) refl
 
 -- ---- variables and instances
@@ -194,14 +197,14 @@ instance_back known x rest new few =
 pub record IsListedVariable (v : Variable) : Type 0 where
   pub name : IsFreeName v.name
   pub value : IsValue v.initial
-  pub place : (loc : Loc) → v.location ≡ Some loc → IsPlace loc
+  pub place : (loc : Loc) → v.location ≡ Some loc → IsCell loc
 
 variable_listed : (seen : List Variable) (v : Variable) → IsVariable seen v → IsListedVariable v
 variable_listed seen v is = record { name = variable_free seen v is; value = own_value v.initial v.ty (first_is v.ty v.location v.initial is.initial).of; place = by_location v.location is.location }
   where
-    by_location : (o : Option Loc) → codes_of.location_of seen v.ty (location_code o) ≡ Some o → (loc : Loc) → o ≡ Some loc → IsPlace loc
+    by_location : (o : Option Loc) → codes_of.location_of seen v.ty (location_code o) ≡ Some o → (loc : Loc) → o ≡ Some loc → IsCell loc
     by_location None e loc none = absurd cc
-    by_location (Some l) e loc some = subst IsPlace (some_is l loc some) (located_is seen v.ty l e).place
+    by_location (Some l) e loc some = subst IsCell (some_is l loc some) (located_is seen v.ty l e).place
 
 pub variables_listed : (Q : Text) → IsImage Q → AllByRecursion IsListedVariable Q.variables
 variables_listed Q is = items_all IsVariable IsListedVariable variable_listed [] Q.variables is.text.variables

@@ -3,19 +3,18 @@ use Rattle.std.proofs.Common.{◌≡◌, ℕ, Bool, true, false, List, [], ◌�
 use Rattle.std.specs.Prelude.{codes, is_none}
 use Rattle.std.specs.List.{AllByRecursion, flat_map}
 use Rattle.il_model.specs.declared.op.Op.{Op}
-use Rattle.il_model.specs.declared.op.Op.TheVariants as ops
 use Rattle.il_model.specs.declared.program.Instr.{Instr}
 use Rattle.il_model.specs.Text.{Declarations}
 use Rattle.il_model.specs.Words.{spells, look, mnemonic_of}
 use Rattle.il_model.specs.Names.{is_reserved}
-use Rattle.il_model.specs.Codes as codes_of
-use Rattle.il_reader.specs.declared.lexeme.Kind.TheVariants as kinds
+use Rattle.il_model.specs.Codes.{is_empty}
+use Rattle.il_reader.specs.declared.lexeme.Sign.TheVariants as signs
 use Rattle.il_reader.specs.Tokens.{Token, is_word_end, tokens_behind, piece_of, tokens_of}
-use Rattle.il_reader.specs.Reading.{is_kind, is_word_token, skip_breaks}
-use Rattle.il_reader.specs.Grammar.{is_line_stop, is_no_label, ends_lines, ends_blocks, at_end}
+use Rattle.il_reader.specs.Reading.{is_sign, is_end, at_end, is_word_token, skip_breaks}
+use Rattle.il_reader.specs.Grammar.{is_line_stop, is_no_label, ends_lines, ends_blocks}
 use Rattle.il_reader.specs.Spelling.{Part, breaks, ahead, sign, Spell, spelled_operation, spelled_optional_operation, spelled_content, spelled_line, going}
 use Rattle.il_reader.proofs.Laws.{Spell-append}
-use Rattle.lister.specs.Listing.{operation_text, is_empty, label_text, line_text}
+use Rattle.lister.specs.Listing.{operation_text, label_text, line_text}
 use Rattle.read_back.proofs.NameTexts.{not_word}
 use Rattle.read_back.proofs.Listable.{IsListedLabel, IsListedLine}
 use Rattle.read_back.proofs.Written.{token_at, written_operation, unless_empty, colon_text, labelled_line, written_line, written_lines}
@@ -34,17 +33,17 @@ empty_text : (ds : Declarations) (line : Instr) → IsListedLine ds line → is_
 empty_text ds line is e = sym (ap operation_text (empty_line line.label line.op line.modifier.negated line.modifier.conditional line.modifier.opens line.operand line.arguments e is.letters is.form is.called))
 
 colon_spelled : (ds : Declarations) (line : Instr) (rest : List ℕ) (b : Bool) → is_empty line.op ≡ b → IsListedLine ds line
-    → Spell (sign kinds.Colon ∷ (spelled_optional_operation (unless_empty b (written_operation line (10 ∷ rest))) ++ ahead is_line_stop ∷ [])) (tokens_of (colon_text b ++ operation_at line rest)) (tokens_of (10 ∷ rest))
+    → Spell (sign signs.Colon ∷ (spelled_optional_operation (unless_empty b (written_operation line (10 ∷ rest))) ++ ahead is_line_stop ∷ [])) (tokens_of (colon_text b ++ operation_at line rest)) (tokens_of (10 ∷ rest))
 colon_spelled ds line rest true e is =
     let same : colon_text true ++ operation_at line rest ≡ 58 ∷ 10 ∷ rest = ap (λ (u : List ℕ). 58 ∷ (u ++ (10 ∷ rest))) (empty_text ds line is e) in
-    let t = token_at kinds.Colon (58 ∷ []) (10 ∷ rest) in
-    spell_one (is_kind kinds.Colon) t (ahead is_line_stop ∷ ahead is_line_stop ∷ []) (tokens_of (colon_text true ++ operation_at line rest)) (tokens_of (10 ∷ rest)) (tokens_of (10 ∷ rest)) (ap tokens_of same ∙ colon_token (10 ∷ rest) refl) refl (stops rest, (stops rest, refl))
+    let t = token_at signs.Colon (58 ∷ []) (10 ∷ rest) in
+    spell_one (is_sign signs.Colon) t (ahead is_line_stop ∷ ahead is_line_stop ∷ []) (tokens_of (colon_text true ++ operation_at line rest)) (tokens_of (10 ∷ rest)) (tokens_of (10 ∷ rest)) (ap tokens_of same ∙ colon_token (10 ∷ rest) refl) refl (stops rest, (stops rest, refl))
 colon_spelled ds line rest false e is =
     let u = operation_at line rest in
-    let t = token_at kinds.Colon (58 ∷ []) (32 ∷ u) in
+    let t = token_at signs.Colon (58 ∷ []) (32 ∷ u) in
     let x = written_operation line (10 ∷ rest) in
     let s = operation_spelled ds line rest is e in
-    spell_one (is_kind kinds.Colon) t (spelled_operation x ++ ahead is_line_stop ∷ []) (tokens_of (58 ∷ 32 ∷ u)) (tokens_of u) (tokens_of (10 ∷ rest)) (colon_token (32 ∷ u) refl ∙ ap (λ (ts : List Token). t ∷ ts) (blank_skips u)) refl
+    spell_one (is_sign signs.Colon) t (spelled_operation x ++ ahead is_line_stop ∷ []) (tokens_of (58 ∷ 32 ∷ u)) (tokens_of u) (tokens_of (10 ∷ rest)) (colon_token (32 ∷ u) refl ∙ ap (λ (ts : List Token). t ∷ ts) (blank_skips u)) refl
     (Spell-append (spelled_operation x) (ahead is_line_stop ∷ []) (tokens_of u) (tokens_of (10 ∷ rest)) (tokens_of (10 ∷ rest)) s.spelled (stops rest, refl))
 
 -- ---- one line
@@ -53,16 +52,12 @@ record IsSpelledLine (label : Option (List ℕ)) (line : Instr) (rest : List ℕ
   first : Token
   more : List Token
   begins : Begins (tokens_of (label_text line.op label ++ operation_at line rest)) first more
-  no_end : is_kind kinds.End first ≡ false
+  no_end : is_end first ≡ false
   no_block : is_word_token (codes "VAR") first ≡ false
   spelled : Spell (spelled_content (labelled_line label line (10 ∷ rest)) ++ ahead is_line_stop ∷ []) (tokens_of (label_text line.op label ++ operation_at line rest)) (tokens_of (10 ∷ rest))
 
-same_empty : (op : Op) → is_empty op ≡ codes_of.is_empty op
-same_empty ops.Empty = refl
-same_empty op = refl
-
-full : (op : Op) (label : Option (List ℕ)) → label ≡ None → (codes_of.is_empty op && is_none label) ≡ false → is_empty op ≡ false
-full op label e h = same_empty op ∙ by_test (codes_of.is_empty op) (rw e at h)
+full : (op : Op) (label : Option (List ℕ)) → label ≡ None → (is_empty op && is_none label) ≡ false → is_empty op ≡ false
+full op label e h = by_test (is_empty op) (rw e at h)
   where
     by_test : (b : Bool) → (b && true) ≡ false → b ≡ false
     by_test true f = absurd cc
@@ -93,7 +88,7 @@ line_by ds None line rest e free is =
 line_by ds (Some w) line rest e free is =
     let b = is_empty line.op in
     let u = colon_text b ++ operation_at line rest in
-    let t = token_at kinds.Name w u in
+    let t = token_at signs.Name w u in
     let ts = tokens_of ((w ++ colon_text b) ++ operation_at line rest) in
     let same : ts ≡ t ∷ tokens_of u = ap tokens_of (append_assoc w (colon_text b) (operation_at line rest)) ∙ name_token w u free.name (colon_ends b (operation_at line rest)) in
     let ps = spelled_optional_operation (unless_empty b (written_operation line (10 ∷ rest))) ++ ahead is_line_stop ∷ [] in
@@ -103,14 +98,14 @@ line_by ds (Some w) line rest e free is =
       begins = record { is = same; solid = refl };
       no_end = refl;
       no_block = not_word (codes "VAR") w block_reserved free;
-      spelled = spell_this (is_kind kinds.Name) t (sign kinds.Colon ∷ ps) ts (tokens_of u) (tokens_of (10 ∷ rest)) same refl (colon_spelled ds line rest b refl is);
+      spelled = spell_this (is_sign signs.Name) t (sign signs.Colon ∷ ps) ts (tokens_of u) (tokens_of (10 ∷ rest)) same refl (colon_spelled ds line rest b refl is);
     }
 
 line_joined : (line : Instr) (rest : List ℕ) → line_text line ++ rest ≡ label_text line.op line.label ++ operation_at line rest
 line_joined line rest = append_assoc (label_text line.op line.label) (operation_text line ++ codes "\n") rest ∙ ap (λ (u : List ℕ). label_text line.op line.label ++ u) (append_assoc (operation_text line) (codes "\n") rest)
 
 -- a line goes on where it begins
-goes : (ts : List Token) (bytes : List ℕ) (x : Token) (more : List Token) → ts ≡ token_at kinds.Break (10 ∷ []) bytes ∷ tokens_of bytes → Begins (tokens_of bytes) x more → is_kind kinds.End x ≡ false → not (ends_lines ts) ≡ true
+goes : (ts : List Token) (bytes : List ℕ) (x : Token) (more : List Token) → ts ≡ token_at signs.Break (10 ∷ []) bytes ∷ tokens_of bytes → Begins (tokens_of bytes) x more → is_end x ≡ false → not (ends_lines ts) ≡ true
 unfolding ends_lines
 goes ts bytes x more e b other = rw (skip_one bytes ts x more e b, b.is, other) refl
 
@@ -119,7 +114,7 @@ line_spelled ds line rest is =
     let u = label_text line.op line.label ++ operation_at line rest in
     let s = line_by ds line.label line rest refl is.label is in
     let ts = tokens_of (10 ∷ (line_text line ++ rest)) in
-    let e : ts ≡ token_at kinds.Break (10 ∷ []) u ∷ tokens_of u = ap (λ (v : List ℕ). tokens_of (10 ∷ v)) (line_joined line rest) ∙ break_token u in
+    let e : ts ≡ token_at signs.Break (10 ∷ []) u ∷ tokens_of u = ap (λ (v : List ℕ). tokens_of (10 ∷ v)) (line_joined line rest) ∙ break_token u in
     let ps = spelled_content (written_line line (10 ∷ rest)) ++ ahead is_line_stop ∷ [] in
     spell_ahead (λ us. not (ends_lines us)) (breaks ∷ ps) ts (tokens_of (10 ∷ rest)) (goes ts u s.first s.more e s.begins s.no_end)
     (spell_break ps ts u s.first s.more (tokens_of (10 ∷ rest)) e s.begins s.spelled)
@@ -150,7 +145,7 @@ block_none : ends_blocks (tokens_of (10 ∷ [])) ≡ true
 unfolding ends_blocks skip_breaks tokens_behind piece_of
 block_none = refl
 
-block_not : (ts : List Token) (bytes : List ℕ) (x : Token) (more : List Token) → ts ≡ token_at kinds.Break (10 ∷ []) bytes ∷ tokens_of bytes → Begins (tokens_of bytes) x more → is_word_token (codes "VAR") x ≡ false → ends_blocks ts ≡ true
+block_not : (ts : List Token) (bytes : List ℕ) (x : Token) (more : List Token) → ts ≡ token_at signs.Break (10 ∷ []) bytes ∷ tokens_of bytes → Begins (tokens_of bytes) x more → is_word_token (codes "VAR") x ≡ false → ends_blocks ts ≡ true
 unfolding ends_blocks
 block_not ts bytes x more e b other = rw (skip_one bytes ts x more e b, b.is, other) refl
 

@@ -1,20 +1,15 @@
 -- What a program that has an image is made of, as far as its listing goes: names, values and places that are there, and operators that take what they are given.
-use Rattle.std.proofs.Common.{◌≡◌, ℕ, zero, suc, ◌+◌, ◌-◌, ◌/◌, ◌%◌, ◌<◌, Bool, true, false, cond, eqb, ltb, List, [], ◌∷◌, ◌++◌, length, Option, Some, None, refl, sym, ap, ◌∙◌, subst, arith, ◌||◌, not}
+use Rattle.std.proofs.Common.{◌≡◌, ℕ, zero, suc, ◌+◌, ◌-◌, Bool, true, false, cond, ltb, List, [], ◌∷◌, ◌++◌, length, Option, Some, None, refl, sym, ap, ◌∙◌, subst, ◌||◌, not}
 use Rattle.std.specs.Prelude.{is_some, slice_get, nat_eq, ◌^◌, ℤ, pos, negsuc}
 use Rattle.std.specs.List.{AllByRecursion, position}
 use Rattle.std.specs.Option.{option_map, option_and_then}
 use Rattle.std.specs.Int.{w32, cast_signed, cast_unsigned}
-use Rattle.std.proofs.lemmas.Bool.{ltb-true, ltb-false}
 use Rattle.std.proofs.lemmas.Slice.Eq.{bytes_eq-Decides}
 use Rattle.il_model.specs.declared.value.Ty.{Ty}
 use Rattle.il_model.specs.declared.value.Ty.TheVariants as types
 use Rattle.il_model.specs.declared.value.Value.{Value}
 use Rattle.il_model.specs.declared.value.Value.TheVariants as values
 use Rattle.il_model.specs.declared.op.Op.{Op}
-use Rattle.il_model.specs.declared.program.Area.{Area}
-use Rattle.il_model.specs.declared.program.Area.TheVariants as areas
-use Rattle.il_model.specs.declared.program.Loc.{Loc}
-use Rattle.il_model.specs.declared.program.Loc.TheVariants.{Bit, Word}
 use Rattle.il_model.specs.declared.program.Place.TheVariants as places
 use Rattle.il_model.specs.declared.program.Variable.{Variable}
 use Rattle.il_model.specs.declared.program.Instance.{Instance}
@@ -36,15 +31,17 @@ use Rattle.il_model.specs.Typing.{arguments_fault}
 use Rattle.il_model.specs.Marks.{Mark, with_mark, marks_from, word_count}
 use Rattle.il_model.specs.Constants.{constants_of}
 use Rattle.il_model.specs.Image.{modifier_code, operand_code}
-use Rattle.il_model.specs.Codes.{tested, is_new_name, is_number, area_loc, any_loc, usage_of, has_form, allowed_by, formed_by, is_jump, is_call, letters_of, modifier_of, variable_named, instance_named, field_named, raw_operand, value_operand, numbered_operand, word_operand, argument_operand, is_pointless, is_known, target_name, label_there}
-use Rattle.il_model.specs.Codes as codes_of
+use Rattle.il_model.specs.declared.coded_operand.CodedOperand.{CodedOperand}
+use Rattle.il_model.specs.declared.coded_operand.CodedOperand.TheVariants as coded
+use Rattle.il_model.specs.CodedOperands.{IsCell, HasOwnCode, with_code}
+use Rattle.il_model.proofs.CodedOperands.{coded_back}
+use Rattle.il_model.specs.Codes.{tested, is_new_name, is_number, usage_of, has_form, allowed_by, formed_by, is_jump, is_call, modifier_of, variable_named, instance_named, field_named, named_operand, value_operand, numbered_operand, is_pointless, is_known, target_name, label_there}
 use Rattle.il_model.specs.Fits.{IsVariable, IsInstance, IsMark, IsConstant, IsPassing, IsWord, AreItems, IsText, IsImage}
 use Rattle.il_model.proofs.Positions.{position_later}
 use Rattle.il_model.proofs.Declared.{field_so}
 use Rattle.il_model.proofs.TypedLines.{IsArgumentOf, arguments_typed, no_arguments}
 use Rattle.il_model.proofs.Calls.{IsTypedLine, typed_lines}
 use Rattle.declarations.specs.Resolution.{has_name, has_instance}
-use Rattle.declarations.proofs.Places.{IsPlace}
 use Rattle.read_back.proofs.Fronts.{both_true}
 use Rattle.il_model.proofs.LiteralLaws.{IsValue}
 use Rattle.read_back.proofs.NameTexts.{IsFreeName, IsFieldName, lawful_free, field_is}
@@ -55,7 +52,7 @@ use Rattle.read_back.proofs.NameTexts.{IsFreeName, IsFieldName, lawful_free, fie
 abbrev pub IsValueOperand : Declarations → Operand → Type 0
 IsValueOperand ds (operands.Literal v) = IsValue v
 IsValueOperand ds (operands.Variable name) = IsFreeName name × (has_name ds name ≡ true)
-IsValueOperand ds (operands.Direct loc) = IsPlace loc
+IsValueOperand ds (operands.Direct loc) = IsCell loc
 IsValueOperand ds (operands.Field name field) = IsFreeName name × IsFieldName field × (has_instance ds name ≡ true)
 IsValueOperand ds operand = ⊥
 
@@ -153,31 +150,10 @@ found_label (line ∷ code) name i e all = by_test (has_label name line) refl (�
 
 -- ---- places and values
 
-area_place : (area : Area) (n : ℕ) (loc : Loc) → area_loc area n ≡ Some loc → IsPlace loc
-area_place area n loc e = by_tests (ltb n 512) (ltb n 1024) (ltb n 1088) refl refl refl e
-  where
-    by_tests : (p q r : Bool) → ltb n 512 ≡ p → ltb n 1024 ≡ q → ltb n 1088 ≡ r → cond p (Some (Bit area n)) (cond q None (cond r (Some (Word area (n - 1024))) None)) ≡ Some loc → IsPlace loc
-    by_tests true q r f g h k = subst IsPlace (some_is (Bit area n) loc k) (ltb-true n 512 f)
-    by_tests false true r f g h k = absurd cc
-    by_tests false false true f g h k =
-        let l = ltb-true n 1088 h in
-        let m = ltb-false n 1024 g in
-        let small : n - 1024 < 64 = omega (arith, l, m) in
-        subst IsPlace (some_is (Word area (n - 1024)) loc k) small
-    by_tests false false false f g h k = absurd cc
-
-pub any_place : (n : ℕ) (loc : Loc) → any_loc n ≡ Some loc → IsPlace loc
-any_place n loc e = by_tests (ltb n 4096) (ltb n 8192) e
-  where
-    by_tests : (p q : Bool) → cond p (area_loc areas.Input n) (cond q (area_loc areas.Output (n - 4096)) (area_loc areas.Memory (n - 8192))) ≡ Some loc → IsPlace loc
-    by_tests true q h = area_place areas.Input n loc h
-    by_tests false true h = area_place areas.Output (n - 4096) loc h
-    by_tests false false h = area_place areas.Memory (n - 8192) loc h
-
 -- what is read from a number has a value of its range, or a place that is there
 abbrev IsRead : Operand → Type 0
 IsRead (operands.Literal v) = IsValue v
-IsRead (operands.Direct loc) = IsPlace loc
+IsRead (operands.Direct loc) = IsCell loc
 IsRead operand = Unit {0}
 
 variable_read : (x : Option Variable) (o : Operand) → variable_named x ≡ Some o → IsRead o
@@ -194,28 +170,24 @@ field_read (Some x) n o e =
     let m = map_is (slice_get (kind_fields x.kind) n) (λ (f : Field). operands.Field x.name (field_name f)) o e in
     subst IsRead m.2 tt
 
-direct_read : (n : ℕ) (o : Operand) → option_map operands.Direct (any_loc n) ≡ Some o → IsRead o
-direct_read n o e =
-    let m = map_is (any_loc n) operands.Direct o e in
-    subst IsRead m.2 (any_place n m.0 m.1)
+literal_read : (v : Option Value) (o : Operand) → ((w : Value) → v ≡ Some w → IsValue w) → option_map operands.Literal v ≡ Some o → IsRead o
+literal_read v o all e =
+    let m = map_is v operands.Literal o e in
+    subst IsRead m.2 (all m.0 m.1)
 
-raw_read : (ds : Declarations) (n : ℕ) (o : Operand) → raw_operand ds n ≡ Some o → IsRead o
-raw_read ds n o e = by_tests (ltb n 16384) (eqb n 65535) (ltb n 20480) e
-  where
-    by_tests : (p q r : Bool) → cond p (option_map operands.Direct (any_loc n)) (cond q (Some operands.Absent) (cond r (variable_named (slice_get ds.variables (n - 16384))) (field_named (slice_get ds.instances ((n - 20480) / 8)) ((n - 20480) % 8)))) ≡ Some o → IsRead o
-    by_tests true q r h = direct_read n o h
-    by_tests false true r h = subst IsRead (some_is operands.Absent o h) tt
-    by_tests false false true h = variable_read (slice_get ds.variables (n - 16384)) o h
-    by_tests false false false h = field_read (slice_get ds.instances ((n - 20480) / 8)) ((n - 20480) % 8) o h
+named_read : (ds : Declarations) (constants : List Value) (x : CodedOperand) (o : Operand) → AllByRecursion IsValue constants → HasOwnCode x → named_operand ds constants x ≡ Some o → IsRead o
+named_read ds constants (coded.Location loc) o all own e = subst IsRead (some_is (operands.Direct loc) o e) own
+named_read ds constants (coded.Variable i) o all own e = variable_read (slice_get ds.variables i) o e
+named_read ds constants (coded.Field i n) o all own e = field_read (slice_get ds.instances i) n o e
+named_read ds constants (coded.Constant k) o all own e = literal_read (slice_get constants k) o (λ w there. all_there IsValue constants k w there all) e
+named_read ds constants coded.Unused o all own e = subst IsRead (some_is operands.Absent o e) tt
 
 value_read : (ds : Declarations) (constants : List Value) (n : ℕ) (o : Operand) → AllByRecursion IsValue constants → value_operand ds constants n ≡ Some o → IsRead o
-value_read ds constants n o all e = by_test (ltb n 32768 || eqb n 65535) e
+value_read ds constants n o all e = by_code (with_code n) refl e
   where
-    by_test : (b : Bool) → cond b (codes_of.operand_of ds n) (option_map operands.Literal (slice_get constants (n - 32768))) ≡ Some o → IsRead o
-    by_test true h = raw_read ds n o (tested_is _ (raw_operand ds n) o h).0
-    by_test false h =
-        let m = map_is (slice_get constants (n - 32768)) operands.Literal o h in
-        subst IsRead m.2 (all_there IsValue constants (n - 32768) m.0 m.1 all)
+    by_code : (x : Option CodedOperand) → with_code n ≡ x → option_and_then (named_operand ds constants) x ≡ Some o → IsRead o
+    by_code None f h = absurd cc
+    by_code (Some x) f h = named_read ds constants x o all (coded_back n x f).own h
 
 word_read : (ds : Declarations) (marks : List Mark) (constants : List Value) (op : Op) (n : ℕ) (o : Operand) → AllByRecursion IsValue constants → numbered_operand ds marks constants op n ≡ Some o → IsRead o
 word_read ds marks constants op n o all e = by_tests (is_jump op) (is_call op) e

@@ -7,7 +7,7 @@ use Rattle.il_model.specs.declared.program.Area.TheVariants as areas
 use Rattle.il_model.specs.declared.program.Loc.{Loc}
 use Rattle.il_model.specs.declared.program.Loc.TheVariants.{Bit, Word}
 use Rattle.il_model.specs.Locations.{is_no_dot, dot_at, bit_of, bit_at, word_at, location_of}
-use Rattle.declarations.proofs.Places.{IsPlace}
+use Rattle.il_model.specs.CodedOperands.{IsCell}
 use Rattle.lister.specs.Listing.{decimal, location_text}
 use Rattle.read_back.proofs.Fronts.{prefix_whole, all_weaker}
 use Rattle.read_back.proofs.Numerals.{is_digit, IsNumeral, numeral}
@@ -36,7 +36,7 @@ bit_whole area n lt =
     bit_again area (n / 8) (n % 8) (decimal (n / 8)) (decimal (n % 8)) (numeral (n / 8)) (numeral (n % 8))
     ∙ rw (lt-ltb (n / 8) 64 (omega arith), lt-ltb (n % 8) 8 (omega arith), whole) refl
 
-pub location_again : (loc : Loc) → IsPlace loc → location_of (location_text loc) ≡ Some loc
+pub location_again : (loc : Loc) → IsCell loc → location_of (location_text loc) ≡ Some loc
 location_again (Bit areas.Input n) lt = bit_whole areas.Input n lt
 location_again (Bit areas.Output n) lt = bit_whole areas.Output n lt
 location_again (Bit areas.Memory n) lt = bit_whole areas.Memory n lt

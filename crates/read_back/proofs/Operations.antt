@@ -13,15 +13,15 @@ use Rattle.il_model.specs.declared.codes.Form.TheVariants as usages
 use Rattle.il_model.specs.declared.codes.LetterSet.TheVariants as sets
 use Rattle.il_model.specs.Text.{Declarations}
 use Rattle.il_model.specs.Words.{spells, look, mnemonic_of}
-use Rattle.il_model.specs.Codes.{usage_of, allows, has_form, allowed_by, formed_by}
+use Rattle.il_model.specs.Codes.{usage_of, allows, has_form, allowed_by, formed_by, is_empty}
 use Rattle.il_reader.specs.declared.operations.Form.TheVariants as forms
 use Rattle.il_reader.specs.declared.contents.Operator.{Operator}
-use Rattle.il_reader.specs.declared.lexeme.Kind.TheVariants as kinds
+use Rattle.il_reader.specs.declared.lexeme.Sign.TheVariants as signs
 use Rattle.il_reader.specs.Tokens.{Token, is_word_end, tokens_behind, piece_of, tokens_of}
-use Rattle.il_reader.specs.Reading.{is_kind, is_word_token, next_is}
+use Rattle.il_reader.specs.Reading.{is_sign, is_end, is_word_token, next_is}
 use Rattle.il_reader.specs.Grammar.{no_dot, no_open, is_line_stop, form_of, operator_of, is_label, is_no_label, BehindText}
 use Rattle.il_reader.specs.Spelling.{ahead, Spell, accepts, operator_before, spelled_operand, spelled_behind, spelled_operation}
-use Rattle.lister.specs.Listing.{letter, operand_text, behind_text, arguments_text, operation_text, is_empty}
+use Rattle.lister.specs.Listing.{letter, operand_text, behind_text, arguments_text, operation_text}
 use Rattle.read_back.proofs.Fronts.{both_true, not_true}
 use Rattle.read_back.proofs.NameTexts.{IsFreeName, capital, spelled_is}
 use Rattle.read_back.proofs.OperatorTexts.{letters, operator_word, is_word_op, mnemonic, IsOperatorWord, operator_again}
@@ -139,7 +139,7 @@ behind_at b o args rest = letter b (codes "(") ++ (behind_text o ++ (arguments_t
 
 record IsSpelledBehind (b : Bool) (o : Operand) (args : List Argument) (rest : List ℕ) : Type 0 where
   spelled : Spell (spelled_behind (written_behind b o args rest)) (tokens_of (behind_at b o args rest)) (tokens_of rest)
-  no_colon : next_is kinds.Colon (tokens_of (behind_at b o args rest)) ≡ false
+  no_colon : next_is signs.Colon (tokens_of (behind_at b o args rest)) ≡ false
   ends : is_word_end (behind_at b o args rest) ≡ true
 
 abbrev line_end : List ℕ → List ℕ
@@ -158,7 +158,7 @@ opens_none : (rest : List ℕ) → no_open (tokens_of (line_end rest)) ≡ true
 unfolding tokens_behind piece_of
 opens_none rest = refl
 
-colon_none : (rest : List ℕ) → next_is kinds.Colon (tokens_of (line_end rest)) ≡ false
+colon_none : (rest : List ℕ) → next_is signs.Colon (tokens_of (line_end rest)) ≡ false
 unfolding tokens_behind piece_of
 colon_none rest = refl
 
@@ -169,8 +169,8 @@ absent_behind : (b : Bool) (rest : List ℕ) → IsSpelledBehind b operands.Abse
 absent_behind true rest =
     let e = open_token (line_end rest) refl in
     record {
-      spelled = spell_one (is_kind kinds.Open) (token_at kinds.Open (40 ∷ []) (line_end rest)) (ahead is_line_stop ∷ []) (tokens_of (40 ∷ line_end rest)) (tokens_of (line_end rest)) (tokens_of (line_end rest)) e refl (stops rest, refl);
-      no_colon = ap (next_is kinds.Colon) e;
+      spelled = spell_one (is_sign signs.Open) (token_at signs.Open (40 ∷ []) (line_end rest)) (ahead is_line_stop ∷ []) (tokens_of (40 ∷ line_end rest)) (tokens_of (line_end rest)) (tokens_of (line_end rest)) e refl (stops rest, refl);
+      no_colon = ap (next_is signs.Colon) e;
       ends = refl;
     }
 absent_behind false rest = record { spelled = refl; no_colon = colon_none rest; ends = refl }
@@ -178,7 +178,7 @@ absent_behind false rest = record { spelled = refl; no_colon = colon_none rest; 
 -- a blank and an operand, in a parenthesis that is left open or not
 record IsSpelledGiven (b : Bool) (o : Operand) (rest : List ℕ) : Type 0 where
   spelled : Spell (spelled_behind (written_value b (written_operand o rest))) (tokens_of (letter b (codes "(") ++ (32 ∷ (operand_text o ++ rest)))) (tokens_of rest)
-  no_colon : next_is kinds.Colon (tokens_of (letter b (codes "(") ++ (32 ∷ (operand_text o ++ rest)))) ≡ false
+  no_colon : next_is signs.Colon (tokens_of (letter b (codes "(") ++ (32 ∷ (operand_text o ++ rest)))) ≡ false
   ends : is_word_end (letter b (codes "(") ++ (32 ∷ (operand_text o ++ rest))) ≡ true
 
 given_behind : (b : Bool) (o : Operand) (rest : List ℕ) → IsSpelledValue o (line_end rest) → IsSpelledGiven b o (line_end rest)
@@ -187,15 +187,15 @@ given_behind true o rest is =
     let e = open_token (32 ∷ u) refl in
     let s = spell_same (spelled_operand (written_operand o (line_end rest))) (tokens_of (32 ∷ u)) (tokens_of u) (tokens_of (line_end rest)) (blank_skips u) (is.plain (closes_word rest)) in
     record {
-      spelled = spell_one (is_kind kinds.Open) (token_at kinds.Open (40 ∷ []) (32 ∷ u)) (spelled_operand (written_operand o (line_end rest))) (tokens_of (40 ∷ 32 ∷ u)) (tokens_of (32 ∷ u)) (tokens_of (line_end rest)) e refl s;
-      no_colon = ap (next_is kinds.Colon) e;
+      spelled = spell_one (is_sign signs.Open) (token_at signs.Open (40 ∷ []) (32 ∷ u)) (spelled_operand (written_operand o (line_end rest))) (tokens_of (40 ∷ 32 ∷ u)) (tokens_of (32 ∷ u)) (tokens_of (line_end rest)) e refl s;
+      no_colon = ap (next_is signs.Colon) e;
       ends = refl;
     }
 given_behind false o rest is =
     let u = operand_text o ++ line_end rest in
     record {
       spelled = spell_same (spelled_operand (written_operand o (line_end rest))) (tokens_of (32 ∷ u)) (tokens_of u) (tokens_of (line_end rest)) (blank_skips u) (is.plain (closes_word rest));
-      no_colon = ap (next_is kinds.Colon) (blank_skips u ∙ is.begins.is) ∙ is.no_colon;
+      no_colon = ap (next_is signs.Colon) (blank_skips u ∙ is.begins.is) ∙ is.no_colon;
       ends = refl;
     }
 
@@ -204,8 +204,8 @@ label_behind w rest is =
     let u = w ++ line_end rest in
     let e = blank_skips u ∙ name_token w (line_end rest) is.name refl in
     record {
-      spelled = spell_this (is_kind kinds.Name) (token_at kinds.Name w (line_end rest)) [] (tokens_of (32 ∷ u)) (tokens_of (line_end rest)) (tokens_of (line_end rest)) e refl refl;
-      no_colon = ap (next_is kinds.Colon) e;
+      spelled = spell_this (is_sign signs.Name) (token_at signs.Name w (line_end rest)) [] (tokens_of (32 ∷ u)) (tokens_of (line_end rest)) (tokens_of (line_end rest)) e refl refl;
+      no_colon = ap (next_is signs.Colon) e;
       ends = refl;
     }
 
@@ -215,7 +215,7 @@ instance_behind ds w args rest is all =
     let e = blank_skips u ∙ name_token w (arguments_text args ++ line_end rest) is.name (arguments_end args (line_end rest) refl) in
     record {
       spelled = spell_same (spelled_behind (written_behind false (operands.Instance w) args (line_end rest))) (tokens_of (32 ∷ u)) (tokens_of u) (tokens_of (line_end rest)) (blank_skips u) (call_spelled ds w args (line_end rest) is all (opens_none rest) refl);
-      no_colon = ap (next_is kinds.Colon) e;
+      no_colon = ap (next_is signs.Colon) e;
       ends = refl;
     }
 
@@ -252,7 +252,7 @@ pub record IsSpelledOperation (line : Instr) (rest : List ℕ) : Type 0 where
   pub first : Token
   pub more : List Token
   pub begins : Begins (tokens_of (operation_text line ++ rest)) first more
-  pub no_end : is_kind kinds.End first ≡ false
+  pub no_end : is_end first ≡ false
   pub no_block : is_word_token (codes "VAR") first ≡ false
   pub no_label : is_no_label (tokens_of (operation_text line ++ rest)) ≡ true
   pub spelled : Spell (spelled_operation (written_operation line rest)) (tokens_of (operation_text line ++ rest)) (tokens_of rest)
@@ -264,11 +264,11 @@ abbrev operator_at : Op → Modifier → ℕ → Operator
 operator_at op m left = record { mnemonic = mnemonic op m; left = left }
 
 word_operator : (op : Op) (m : Modifier) (b : BehindText) (rest : List ℕ) → IsOperatorWord op m → accepts (form_of op) b ≡ true
-    → operator_before b (token_at kinds.Name (operator_word op m) rest) ≡ Some (operator_at op m (length (operator_word op m ++ rest)))
+    → operator_before b (token_at signs.Name (operator_word op m) rest) ≡ Some (operator_at op m (length (operator_word op m ++ rest)))
 unfolding operator_of
 word_operator op m b rest is fits = rw (is.means, fits) refl
 
-no_label_word : (ts : List Token) (w rest : List ℕ) (us : List Token) → ts ≡ token_at kinds.Name w rest ∷ us → next_is kinds.Colon us ≡ false → is_none (mnemonic_of w) ≡ false → is_no_label ts ≡ true
+no_label_word : (ts : List Token) (w rest : List ℕ) (us : List Token) → ts ≡ token_at signs.Name w rest ∷ us → next_is signs.Colon us ≡ false → is_none (mnemonic_of w) ≡ false → is_no_label ts ≡ true
 unfolding is_label
 no_label_word ts w rest us e colon known = ap is_no_label e ∙ rw (colon, known) refl
 
@@ -294,7 +294,7 @@ word_spelled ds line rest is word =
     let u = behind_at m.opens line.operand line.arguments (line_end rest) in
     let o = operator_again op m word is.letters in
     let b = behind_spelled ds op m line.operand line.arguments rest is.operand (lone_args ds line is) is.arguments is.form is.letters in
-    let t = token_at kinds.Name (operator_word op m) u in
+    let t = token_at signs.Name (operator_word op m) u in
     let ts = tokens_of (operation_text line ++ line_end rest) in
     let joined = operation_joined line (line_end rest) in
     let e : ts ≡ t ∷ tokens_of u = ap tokens_of joined ∙ name_token (operator_word op m) u o.name b.ends in
@@ -315,7 +315,7 @@ close_lone : (label : Option (List ℕ)) (rest : List ℕ) → IsSpelledOperatio
 unfolding operator_of is_label
 close_lone label rest =
     let line = instr label ops.Close (letters false false false) operands.Absent [] in
-    let t = token_at kinds.Close (41 ∷ []) (line_end rest) in
+    let t = token_at signs.Close (41 ∷ []) (line_end rest) in
     let ts = tokens_of (operation_text line ++ line_end rest) in
     let e : ts ≡ t ∷ tokens_of (line_end rest) = close_token (line_end rest) in
     record {

@@ -12,12 +12,12 @@ use Rattle.il_model.specs.declared.program.Operand.{Operand}
 use Rattle.il_model.specs.declared.program.Operand.TheVariants as operands
 use Rattle.il_model.specs.declared.program.Instr.{Instr}
 use Rattle.il_model.specs.Text.{Declarations}
-use Rattle.il_model.specs.Codes.{usage_of, allowed_by, formed_by, is_call}
-use Rattle.il_reader.specs.declared.lexeme.Kind.TheVariants as tokens
+use Rattle.il_model.specs.Codes.{usage_of, allowed_by, formed_by, is_call, is_empty}
+use Rattle.il_reader.specs.declared.lexeme.Sign.TheVariants as signs
 use Rattle.il_reader.specs.Grammar.{BehindText}
 use Rattle.declarations.specs.declared.fault.Refusal.{Refusal}
 use Rattle.declarations.specs.Resolution.{each, operand_of, behind_of, behind_arguments, argument_of, pushed_argument, opens, plain, instruction_of, room, label_of, instruct_labelled, instruct_plain, instruct}
-use Rattle.lister.specs.Listing.{next_argument_text, operation_text, line_text, is_empty}
+use Rattle.lister.specs.Listing.{next_argument_text, operation_text, line_text}
 use Rattle.read_back.proofs.Fronts.{both_true}
 use Rattle.read_back.proofs.LiteralTexts.{literal_again}
 use Rattle.read_back.proofs.LocationTexts.{location_again}
@@ -171,7 +171,7 @@ empty_line label op n c b o args w a f k = absurd cc
 room_back : (code : List Instr) (left : ℕ) → length code < 4096 → room code left ≡ Ok tt
 room_back code left lt = rw (lt-leb 4096 (length code) lt) refl
 
-label_back : (name rest : List ℕ) → IsFreeName name → label_of (token_at tokens.Name name rest) ≡ Ok name
+label_back : (name rest : List ℕ) → IsFreeName name → label_of (token_at signs.Name name rest) ≡ Ok name
 label_back name rest is = rw (capital name is.name, is.free) refl
 
 abbrev pushed : List Instr → Instr → Result (List Instr) Refusal
@@ -190,7 +190,7 @@ line_by ds code None line rest e free is lt =
     rw (room_back code (written_operation line rest).operator.left lt, instruction_back ds None line rest is) (ap (λ (l : Option (List ℕ)). pushed code (record line { label = l })) (sym e))
 line_by ds code (Some name) line rest e free is lt =
     let behind = colon_text (is_empty line.op) ++ (operation_text line ++ rest) in
-    rw (label_back name behind free, room_back code (token_at tokens.Name name behind).left lt, optional_back ds name line rest (is_empty line.op) refl is) (ap (λ (l : Option (List ℕ)). pushed code (record line { label = l })) (sym e))
+    rw (label_back name behind free, room_back code (token_at signs.Name name behind).left lt, optional_back ds name line rest (is_empty line.op) refl is) (ap (λ (l : Option (List ℕ)). pushed code (record line { label = l })) (sym e))
 
 pub lines_back : (ds : Declarations) (seen code : List Instr) → AllByRecursion (IsListedLine ds) code → length seen + length code ≤ 4096 → each (instruct ds) seen (written_lines code) ≡ Ok (seen ++ code)
 unfolding each

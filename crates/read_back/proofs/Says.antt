@@ -6,10 +6,10 @@ use Rattle.il_model.specs.Text.{Text, declared_by}
 use Rattle.il_model.specs.Words.{spells}
 use Rattle.il_model.specs.Names.{is_well_spelled}
 use Rattle.il_model.specs.Fits.{IsImage}
-use Rattle.il_reader.specs.declared.lexeme.Kind.TheVariants as kinds
+use Rattle.il_reader.specs.declared.lexeme.Sign.TheVariants as signs
 use Rattle.il_reader.specs.Tokens.{Token, tokens_of}
-use Rattle.il_reader.specs.Reading.{is_word_token}
-use Rattle.il_reader.specs.Grammar.{ends_block, ends_blocks, ends_lines, begins_program, at_end}
+use Rattle.il_reader.specs.Reading.{at_end, is_word_token}
+use Rattle.il_reader.specs.Grammar.{ends_block, ends_blocks, ends_lines, begins_program}
 use Rattle.il_reader.specs.Spelling.{Part, breaks, ahead, word, Spell, Says, is_bare, going, listed, spelled_block, spelled_line, spelled_bare}
 use Rattle.il_reader.proofs.Laws.{Spell-append}
 use Rattle.lister.specs.Listing.{variable_text, instance_text, line_text, listing}
@@ -32,15 +32,15 @@ end_is : IsName (codes "END_VAR")
 unfolding is_well_spelled
 end_is = name_by _ refl
 
-var_word : (rest : List ℕ) → is_word_token (codes "VAR") (token_at kinds.Name (codes "VAR") rest) ≡ true
+var_word : (rest : List ℕ) → is_word_token (codes "VAR") (token_at signs.Name (codes "VAR") rest) ≡ true
 unfolding spells
 var_word rest = refl
 
-end_word : (rest : List ℕ) → is_word_token (codes "END_VAR") (token_at kinds.Name (codes "END_VAR") rest) ≡ true
+end_word : (rest : List ℕ) → is_word_token (codes "END_VAR") (token_at signs.Name (codes "END_VAR") rest) ≡ true
 unfolding spells
 end_word rest = refl
 
-no_program : (rest : List ℕ) → is_word_token (codes "PROGRAM") (token_at kinds.Name (codes "VAR") rest) ≡ false
+no_program : (rest : List ℕ) → is_word_token (codes "PROGRAM") (token_at signs.Name (codes "VAR") rest) ≡ false
 unfolding spells
 no_program rest = refl
 
@@ -50,7 +50,7 @@ abbrev lines_at : Text → List ℕ
 lines_at Q = 10 ∷ flat_map line_text Q.code
 
 abbrev end_token : Text → Token
-end_token Q = token_at kinds.Name (codes "END_VAR") (lines_at Q)
+end_token Q = token_at signs.Name (codes "END_VAR") (lines_at Q)
 
 end_begins : (Q : Text) → Begins (tokens_of (end_text Q)) (end_token Q) (tokens_of (lines_at Q))
 end_begins Q = record { is = name_token (codes "END_VAR") (lines_at Q) end_is refl; solid = refl }
@@ -78,7 +78,7 @@ declarations_spelled Q is =
     subst (λ (ps : List Part). Spell ps (tokens_of (10 ∷ declared_at Q)) (tokens_of (10 ∷ end_text Q))) (sym (parts_both vs xs)) h
 
 abbrev var_token : Text → Token
-var_token Q = token_at kinds.Name (codes "VAR") (10 ∷ declared_at Q)
+var_token Q = token_at signs.Name (codes "VAR") (10 ∷ declared_at Q)
 
 var_begins : (Q : Text) → Begins (tokens_of (listing Q)) (var_token Q) (tokens_of (10 ∷ declared_at Q))
 var_begins Q = record { is = name_token (codes "VAR") (10 ∷ declared_at Q) var_is refl; solid = refl }

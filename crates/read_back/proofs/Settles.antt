@@ -7,4 +7,4 @@ use Rattle.il_model.specs.Settled.{settled}
 use Rattle.il_model.proofs.Settling.{typed_plain, settled_plain}
 
 pub typed_settles : (Q : Text) → IsTyped Q → settled Q ≡ Ok Q
-typed_settles Q typed = settled_plain Q (typed_plain Q typed) ∙ ap (λ (r : Result Bool (TypeFault × ℕ)). r >>= λ _. Ok Q) typed
+typed_settles Q typed = settled_plain Q (typed_plain Q typed) ∙ ap (λ (r : Result (Unit {0}) (TypeFault × ℕ)). r >>= λ _. Ok Q) typed

@@ -31,8 +31,9 @@ use Rattle.il_model.specs.Operators.{is_zero}
 use Rattle.il_model.specs.Kinds.{kind_name}
 use Rattle.il_model.specs.Marks.{word_count, words_in}
 use Rattle.il_model.specs.Fits.{IsImage}
-use Rattle.declarations.proofs.Places.{IsPlace}
-use Rattle.lister.specs.Listing.{decimal, number_text, literal_text, area_letter, location_text, type_name, at_text, initial_text, variable_text, instance_text, op_name, letter, operator_text, operand_text, behind_text, side_text, argument_text, next_argument_text, arguments_text, is_empty, label_text, line_text, listing}
+use Rattle.il_model.specs.CodedOperands.{IsCell}
+use Rattle.il_model.specs.Codes.{is_empty}
+use Rattle.lister.specs.Listing.{decimal, number_text, literal_text, area_letter, location_text, type_name, at_text, initial_text, variable_text, instance_text, op_name, letter, operator_text, operand_text, behind_text, side_text, argument_text, next_argument_text, arguments_text, label_text, line_text, listing}
 use Rattle.read_back.proofs.Numerals.{decimal_length}
 use Rattle.il_model.proofs.LiteralLaws.{IsValue}
 use Rattle.read_back.proofs.NameTexts.{IsFreeName}
@@ -101,7 +102,7 @@ fixed xs = record { le = omega arith }
 decimal_most : (k n : ℕ) → 0 < k → n < 10 ^ k → AtMost k (decimal n)
 decimal_most k n some lt = record { le = decimal_length k n some lt }
 
-location_most : (loc : Loc) → IsPlace loc → AtMost 7 (location_text loc)
+location_most : (loc : Loc) → IsCell loc → AtMost 7 (location_text loc)
 location_most (Bit area n) lt =
     let whole : n / 8 < 100 = omega (arith, lt) in
     let rest : n % 8 < 10 = omega (arith, lt) in
@@ -133,7 +134,7 @@ kind_most kinds.Tof = record { le = omega arith }
 name_most : (w : List ℕ) → IsFreeName w → AtMost 32 w
 name_most w is = record { le = is.name.short }
 
-at_most : (o : Option Loc) → ((loc : Loc) → o ≡ Some loc → IsPlace loc) → AtMost 11 (at_text o)
+at_most : (o : Option Loc) → ((loc : Loc) → o ≡ Some loc → IsCell loc) → AtMost 11 (at_text o)
 at_most None place = record { le = omega arith }
 at_most (Some loc) place = join (fixed (codes " AT ")) (location_most loc (place loc refl))
 

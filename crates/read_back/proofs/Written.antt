@@ -15,38 +15,40 @@ use Rattle.il_model.specs.Text.{Text}
 use Rattle.il_model.specs.Values.{number_of}
 use Rattle.il_model.specs.Operators.{is_zero}
 use Rattle.il_model.specs.Kinds.{kind_name}
-use Rattle.il_reader.specs.declared.lexeme.Kind.{Kind}
-use Rattle.il_reader.specs.declared.lexeme.Kind.TheVariants as kinds
+use Rattle.il_model.specs.Codes.{is_empty}
+use Rattle.il_reader.specs.declared.lexeme.Sign.{Sign}
+use Rattle.il_reader.specs.declared.lexeme.Sign.TheVariants as signs
+use Rattle.il_reader.specs.declared.lexeme.Class.TheVariants as classes
 use Rattle.il_reader.specs.Tokens.{Token}
 use Rattle.il_reader.specs.Grammar.{OperandText, Constant, Direct, Named, Field, ArgumentText, CallText, BehindText, Nothing, Given, Target, Opened, Called, OperationText, LineText, Labelled, Plain, NamesText, Located, More, DeclarationText, ProgramText}
-use Rattle.lister.specs.Listing.{literal_text, location_text, type_name, at_text, initial_text, variable_text, instance_text, operand_text, side_text, next_argument_text, arguments_text, operation_text, is_empty, line_text}
+use Rattle.lister.specs.Listing.{literal_text, location_text, type_name, at_text, initial_text, variable_text, instance_text, operand_text, side_text, next_argument_text, arguments_text, operation_text, line_text}
 use Rattle.read_back.proofs.OperatorTexts.{mnemonic}
 
 -- a token with the bytes behind it
-abbrev pub token_at : Kind → List ℕ → List ℕ → Token
-token_at kind text rest = record { kind = kind; text = text; left = length (text ++ rest) }
+abbrev pub token_at : Sign → List ℕ → List ℕ → Token
+token_at sign text rest = record { class = classes.Sign sign; text = text; left = length (text ++ rest) }
 
 -- ---- operands, each with the bytes behind it
 
 -- TRUE and FALSE are names
-abbrev pub literal_kind : Value → Kind
-literal_kind (values.Bool b) = kinds.Name
-literal_kind v = kinds.Literal
+abbrev pub literal_sign : Value → Sign
+literal_sign (values.Bool b) = signs.Name
+literal_sign v = signs.Literal
 
 abbrev pub literal_at : Value → List ℕ → Token
-literal_at v rest = token_at (literal_kind v) (literal_text v) rest
+literal_at v rest = token_at (literal_sign v) (literal_text v) rest
 
 abbrev pub written_operand : Operand → List ℕ → OperandText
 written_operand (operands.Literal v) rest = Constant (literal_at v rest)
-written_operand (operands.Variable name) rest = Named (token_at kinds.Name name rest)
-written_operand (operands.Direct loc) rest = Direct (token_at kinds.Address (location_text loc) rest)
-written_operand (operands.Field name field) rest = Field (token_at kinds.Name name (46 ∷ (field ++ rest))) (token_at kinds.Name field rest)
-written_operand operand rest = Named (token_at kinds.Name [] rest)
+written_operand (operands.Variable name) rest = Named (token_at signs.Name name rest)
+written_operand (operands.Direct loc) rest = Direct (token_at signs.Address (location_text loc) rest)
+written_operand (operands.Field name field) rest = Field (token_at signs.Name name (46 ∷ (field ++ rest))) (token_at signs.Name field rest)
+written_operand operand rest = Named (token_at signs.Name [] rest)
 
 -- ---- arguments
 
 abbrev pub written_argument : Argument → List ℕ → ArgumentText
-written_argument a rest = record { field = token_at kinds.Name a.field (side_text a.side ++ (operand_text a.operand ++ rest)); side = a.side; operand = written_operand a.operand rest }
+written_argument a rest = record { field = token_at signs.Name a.field (side_text a.side ++ (operand_text a.operand ++ rest)); side = a.side; operand = written_operand a.operand rest }
 
 -- those and the ones behind them
 abbrev pub written_all : List Argument → List ℕ → List ArgumentText
@@ -59,7 +61,7 @@ written_arguments [] rest = None
 written_arguments (a ∷ more) rest = Some (written_all (a ∷ more) (41 ∷ rest))
 
 abbrev pub written_call : List ℕ → List Argument → List ℕ → CallText
-written_call name arguments rest = record { instance = token_at kinds.Name name (arguments_text arguments ++ rest); written = written_arguments arguments rest }
+written_call name arguments rest = record { instance = token_at signs.Name name (arguments_text arguments ++ rest); written = written_arguments arguments rest }
 
 -- ---- operations
 
@@ -73,7 +75,7 @@ written_absent false = Nothing
 
 abbrev pub written_behind : Bool → Operand → List Argument → List ℕ → BehindText
 written_behind opens operands.Absent arguments rest = written_absent opens
-written_behind opens (operands.Label name) arguments rest = Target (token_at kinds.Name name rest)
+written_behind opens (operands.Label name) arguments rest = Target (token_at signs.Name name rest)
 written_behind opens (operands.Instance name) arguments rest = Called (written_call name arguments rest)
 written_behind opens operand arguments rest = written_value opens (written_operand operand rest)
 
@@ -94,7 +96,7 @@ colon_text empty = if empty then codes ":" else codes ": "
 
 abbrev pub labelled_line : Option (List ℕ) → Instr → List ℕ → LineText
 labelled_line None line rest = Plain (written_operation line rest)
-labelled_line (Some name) line rest = Labelled (token_at kinds.Name name (colon_text (is_empty line.op) ++ (operation_text line ++ rest))) (unless_empty (is_empty line.op) (written_operation line rest))
+labelled_line (Some name) line rest = Labelled (token_at signs.Name name (colon_text (is_empty line.op) ++ (operation_text line ++ rest))) (unless_empty (is_empty line.op) (written_operation line rest))
 
 abbrev pub written_line : Instr → List ℕ → LineText
 written_line line rest = labelled_line line.label line rest
@@ -107,7 +109,7 @@ written_lines (line ∷ code) = written_line line (10 ∷ flat_map line_text cod
 
 abbrev pub written_names : Option Loc → List ℕ → NamesText
 written_names None rest = More []
-written_names (Some loc) rest = Located (token_at kinds.Address (location_text loc) rest)
+written_names (Some loc) rest = Located (token_at signs.Address (location_text loc) rest)
 
 abbrev pub written_initial : Value → List ℕ → Option Token
 written_initial v rest = if is_zero (number_of v) then None else Some (literal_at v rest)
@@ -124,17 +126,17 @@ behind_names v rest = codes " : " ++ (type_name v.ty ++ behind_type v rest)
 
 abbrev pub written_variable : Variable → List ℕ → DeclarationText
 written_variable v rest = record {
-  name = token_at kinds.Name v.name (at_text v.location ++ behind_names v rest);
+  name = token_at signs.Name v.name (at_text v.location ++ behind_names v rest);
   names = written_names v.location (behind_names v rest);
-  ty = token_at kinds.Name (type_name v.ty) (behind_type v rest);
+  ty = token_at signs.Name (type_name v.ty) (behind_type v rest);
   initial = written_initial v.initial (ending rest);
 }
 
 abbrev pub written_instance : Instance → List ℕ → DeclarationText
 written_instance x rest = record {
-  name = token_at kinds.Name x.name (codes " : " ++ (kind_name x.kind ++ ending rest));
+  name = token_at signs.Name x.name (codes " : " ++ (kind_name x.kind ++ ending rest));
   names = More [];
-  ty = token_at kinds.Name (kind_name x.kind) (ending rest);
+  ty = token_at signs.Name (kind_name x.kind) (ending rest);
   initial = None;
 }
 

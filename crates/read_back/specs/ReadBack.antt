@@ -3,12 +3,14 @@ use Rattle.std.specs.Prelude.{◌≡◌, Ok}
 use Rattle.il_model.specs.Text.{Text}
 use Rattle.il_model.specs.Settled.{settled}
 use Rattle.il_reader.specs.Texts.{SourceText, Reads}
-use Rattle.declarations.specs.Resolution.{resolution_of}
+use Rattle.declarations.specs.Declaring.{IsProgramOf}
+use Rattle.declarations.specs.FirstFault.{HasNoFault}
 use Rattle.lister.specs.Listing.{listing}
 
--- the listing is a text, which is resolved to the program and typed as it
+-- the listing is a text that declares the program and has no fault, and the program is typed as it stands
 pub record ReadsBack (Q : Text) : Type 0 where
   pub source : SourceText
   pub read : Reads (listing Q) source
-  pub resolved : resolution_of source ≡ Ok Q
+  pub declared : IsProgramOf source.says Q
+  pub faultless : HasNoFault source.says
   pub settled : settled Q ≡ Ok Q

@@ -8,7 +8,7 @@ use Rattle.il_model.specs.declared.value.Value.{Value}
 use Rattle.il_model.specs.declared.value.Value.TheVariants as values
 use Rattle.il_model.specs.declared.program.Loc.{Loc}
 use Rattle.il_model.specs.declared.snapshot.ForcedSlot.{ForcedSlot}
-use Rattle.il_model.specs.Codes.{any_loc}
+use Rattle.il_model.specs.CodedOperands.{any_loc}
 use Rattle.il_model.proofs.RowTypes.{and_yes}
 use Rattle.controller_model.specs.declared.forces.Forces.{Forces}
 use Rattle.controller_model.specs.Forces.{forced, no_forces}

@@ -7,14 +7,15 @@ use Rattle.il_model.specs.declared.snapshot.ForcedSlot.{ForcedSlot}
 use Rattle.il_model.specs.declared.snapshot.SavedPhase.{SavedPhase}
 use Rattle.il_model.specs.declared.snapshot.SavedPhase.TheVariants as saved_phases
 use Rattle.il_model.specs.Snapshots.{SavedController}
+use Rattle.il_model.specs.Text.{Text}
 use Rattle.controller_model.specs.declared.forces.Mask.{Mask}
 use Rattle.controller_model.specs.declared.forces.Forces.{Forces}
 use Rattle.controller_model.specs.Scan.{Cycle}
 use Rattle.controller_model.specs.Snapshots.{forced_slots}
 pub use Rattle.machine.specs.Parts.{HasState, FitsMachine, AreLawful, HasBlock, HaveBlocks, HasNoBlock, HasNoState, Here, Later}
 
-pub record HasCycle (s : SavedController) (c : Cycle) : Type 0 where
-  pub state : HasState s c.state
+pub record HasCycle (Q : Text) (s : SavedController) (c : Cycle) : Type 0 where
+  pub state : HasState Q s c.state
   pub count : s.count ≡ c.count
   pub moment : s.moment ≡ c.moment
   pub forces : s.forces ≡ forced_slots c.forces
@@ -26,9 +27,9 @@ performed_in (saved_phases.Held performed) = performed
 performed_in (saved_phases.Stopped stop) = 0
 
 -- a scan cycle with all that, or none where some words are no state
-abbrev pub RestoresCycle : SavedController → Option Cycle → Type 0
-RestoresCycle s (Some c) = HasCycle s c × (c.performed ≡ performed_in s.phase) × AreLawful c.state.instances
-RestoresCycle s None = HasNoState s.instances
+abbrev pub RestoresCycle : Text → SavedController → Option Cycle → Type 0
+RestoresCycle Q s (Some c) = HasCycle Q s c × (c.performed ≡ performed_in s.phase) × AreLawful c.state.instances
+RestoresCycle Q s None = HasNoState s.instances
 
 -- the slot of a word, where it is forced
 abbrev pub forced_word : ℕ → Option ℤ → Option ForcedSlot

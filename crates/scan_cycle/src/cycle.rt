@@ -64,12 +64,12 @@ impl ScanCycle {
         })
     }
 
-    /// What a snapshot has of it: all but the breakpoints and whether a scan is open. It fails only where memory runs out.
-    pub fn parts(&self, alloc: Global) -> Result<Snapshot, AllocError>
-        ensures has { IfOk result (λ s. HasCycle s self.now.cycle) }
+    /// What a snapshot of a scan cycle for this image has of it: all but the breakpoints and whether a scan is open. It fails only where memory runs out.
+    pub fn parts(&self, alloc: Global, image: &Image) -> Result<Snapshot, AllocError>
+        ensures has { IfOk result (λ s. HasCycle image.now s self.now.cycle) }
         ensures lawful { IfOk result (λ s. AreLawful self.now.cycle.state.instances) }
     {
-        let mut parts = self.machine.parts(alloc)?;
+        let mut parts = self.machine.parts(alloc, image)?;
         parts.forces = self.forces.saved(alloc)?;
         parts.count = self.count;
         parts.moment = self.moment;
@@ -85,7 +85,7 @@ impl ScanCycle {
     ) -> Result<Option<ScanCycle>, AllocError>
         requires machine { FitsMachine image.now parts.now }
         requires forces { fit_forces 0 parts.now.forces ≡ true }
-        ensures cycle { IfOk result (λ o. RestoresCycle parts.now (option_map (λ c. c.cycle) o)) }
+        ensures cycle { IfOk result (λ o. RestoresCycle image.now parts.now (option_map (λ c. c.cycle) o)) }
         ensures kept { IfOk result (λ o. IfSome o (IsCycleOf image.now)) }
     {
         let Some(machine) = Machine::from_parts(alloc, image, parts)? else {

@@ -1,13 +1,11 @@
 //! Values forced in place of the cells of an area.
 
 ghost use Rattle.std.specs.Prelude.{◌≡◌, ◌≤◌, ◌+◌, ◌++◌, true, length, is_some, unwrap_or, nat_lt, slice_set, OnOk, IfOk};
-ghost use Rattle.il_model.specs.Areas.{area_of};
-ghost use Rattle.controller_model.specs.Forces.{laid, with_forces, no_mask, no_forces, with_bit, with_word, masked, unmasked, forced, unforced};
-ghost use Rattle.controller_model.specs.Snapshots.{forced_bits, forced_words, forced_from, forced_slots, fit_forces};
+ghost use Rattle.controller_model.specs.Forces.{laid, with_forces, no_mask, no_forces, masked, unmasked, forced, unforced};
+ghost use Rattle.controller_model.specs.Snapshots.{forced_bits, forced_words, forced_in, forced_slots, fit_forces};
 ghost use Rattle.scan_cycle.specs.Parts.{forced_word, IsMask, AreMasks};
 
 use controller_model::{Forces, Mask};
-use il_model::codes::any_loc;
 use il_model::{Area, Cells, ForcedSlot, Loc, Slot, Value};
 use std::alloc::{AllocError, Global};
 
@@ -57,7 +55,7 @@ pub fn force(forces: &mut Forces, loc: Loc, v: Value) -> bool
     ensures told { result ≡ is_some (forced forces.old loc v) }
     ensures forced { forces.new ≡ unwrap_or (forced forces.old loc v) forces.old }
 {
-    match area(loc) {
+    match loc.area() {
         Area::Input => force_in(&mut forces.input, loc, v),
         Area::Output => force_in(&mut forces.output, loc, v),
         Area::Memory => false,
@@ -69,18 +67,10 @@ pub fn unforce(forces: &mut Forces, loc: Loc) -> bool
     ensures told { result ≡ is_some (unforced forces.old loc) }
     ensures unforced { forces.new ≡ unwrap_or (unforced forces.old loc) forces.old }
 {
-    match area(loc) {
+    match loc.area() {
         Area::Input => unforce_in(&mut forces.input, loc),
         Area::Output => unforce_in(&mut forces.output, loc),
         Area::Memory => false,
-    }
-}
-
-fn area(loc: Loc) -> Area
-    ensures { result ≡ area_of loc }
-{
-    match loc {
-        Loc::Bit(area, _) | Loc::Word(area, _) => area,
     }
 }
 
@@ -167,13 +157,15 @@ fn save_words(
     Ok(())
 }
 
-/// Appends the slots of an area's forces; the area's codes begin at `base`.
-fn save_mask(slots: &mut Vec<ForcedSlot>, base: u16, mask: &Mask) -> Result<(), AllocError>
-    requires { base ≤ 4096 }
-    ensures { OnOk result (slots.new.items ≡ slots.old.items ++ forced_from base mask.now) }
+/// Appends the slots of an area's forces.
+#[tactic(auto, using(il_model::proofs::CodedOperands::loc_small))]
+fn save_mask(slots: &mut Vec<ForcedSlot>, area: Area, mask: &Mask) -> Result<(), AllocError>
+    ensures { OnOk result (slots.new.items ≡ slots.old.items ++ forced_in area mask.now) }
 {
-    save_bits(slots, base, &mask.bits)?;
-    save_words(slots, base + 1024, &mask.words)
+    let first_bit = Loc::Bit(area, 0).code();
+    let first_word = Loc::Word(area, 0).code();
+    save_bits(slots, first_bit as u16, &mask.bits)?;
+    save_words(slots, first_word as u16, &mask.words)
 }
 
 /// What is forced, rising by slot.
@@ -181,8 +173,8 @@ pub fn saved_forces(alloc: Global, forces: &Forces) -> Result<Vec<ForcedSlot>, A
     ensures { IfOk result (λ v. v.items ≡ forced_slots forces.now) }
 {
     let mut slots = Vec::new(alloc);
-    save_mask(&mut slots, 0, &forces.input)?;
-    save_mask(&mut slots, 4096, &forces.output)?;
+    save_mask(&mut slots, Area::Input, &forces.input)?;
+    save_mask(&mut slots, Area::Output, &forces.output)?;
     Ok(slots)
 }
 
@@ -209,7 +201,7 @@ pub fn restored_forces(slots: &[ForcedSlot]) -> Forces
 {
     let mut forces = no_forces();
     for forced in slots {
-        if let Some(loc) = any_loc(forced.slot.0) {
+        if let Some(loc) = Loc::of_code(forced.slot.0) {
             let _is_set = force(&mut forces, loc, forced.value);
         }
     }

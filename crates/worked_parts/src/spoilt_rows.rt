@@ -29,7 +29,7 @@ enum Change<'a> {
     Variables(&'a [Value]),
     NoInstances,
     Instance(Instance<'a>),
-    Breaks(&'a [bool]),
+    Breaks(&'a [u16]),
     Forces(&'a [ForcedSlot]),
     Position(u16),
     CurrentResult(Option<Value>),
@@ -54,7 +54,7 @@ fn apply(alloc: Global, snapshot: &mut Snapshot, change: Change) -> Result<(), A
         Change::Variables(values) => snapshot.variables = Vec::from_slice(alloc, values)?,
         Change::NoInstances => snapshot.instances = Vec::new(alloc),
         Change::Instance(instance) => snapshot.instances = instances(alloc, instance)?,
-        Change::Breaks(flags) => snapshot.breaks = Vec::from_slice(alloc, flags)?,
+        Change::Breaks(positions) => snapshot.breaks = Vec::from_slice(alloc, positions)?,
         Change::Forces(forces) => snapshot.forces = Vec::from_slice(alloc, forces)?,
         Change::Position(position) => snapshot.position = position,
         Change::CurrentResult(cr) => snapshot.cr = cr,
@@ -107,13 +107,15 @@ fn cold(bytes: &[u8]) -> Saved<'_> {
 }
 
 #[test]
-fn values_are_of_the_variables(rt: HostRuntime) -> Result<(), Fail> {
+fn values_are_of_the_variables_without_a_location(rt: HostRuntime) -> Result<(), Fail> {
     let (bit, word) = (Value::Bool(true), Value::Int(0));
-    let rows: [Row; 4] = [
-        (Change::Variables(&[bit, bit]), None),
-        (Change::Variables(&[bit, word]), BAD_SHAPE),
-        (Change::Variables(&[bit]), BAD_SHAPE),
-        (Change::Variables(&[bit, bit, bit]), BAD_SHAPE),
+    let rows: [Row; 5] = [
+        (Change::Nothing, None),
+        (Change::Variables(&[bit]), None),
+        (Change::Variables(&[word]), BAD_SHAPE),
+        (Change::Variables(&[]), BAD_SHAPE),
+        // B has a location, and a snapshot no value for it.
+        (Change::Variables(&[bit, bit]), BAD_SHAPE),
     ];
     refuses(&rt, rt.alloc(), cold(THREE_STORES), &rows)
 }
@@ -179,14 +181,19 @@ fn words_that_are_no_state_are_a_bad_block(rt: HostRuntime) -> Result<(), Fail> 
 }
 
 #[test]
-fn a_flag_stands_for_each_instruction(rt: HostRuntime) -> Result<(), Fail> {
-    let rows: [Row; 4] = [
+fn breakpoints_are_at_instructions_in_order(rt: HostRuntime) -> Result<(), Fail> {
+    let rows: [Row; 8] = [
         (Change::Nothing, None),
-        (Change::Breaks(&[]), BAD_SHAPE),
-        (Change::Breaks(&[true, true]), BAD_SHAPE),
-        (Change::Breaks(&[false]), None),
+        (Change::Breaks(&[]), None),
+        (Change::Breaks(&[0, 2, 4]), None),
+        // Past the last instruction, out of order, and twice.
+        (Change::Breaks(&[5]), BAD_SHAPE),
+        (Change::Breaks(&[0, 5]), BAD_SHAPE),
+        (Change::Breaks(&[u16::MAX]), BAD_SHAPE),
+        (Change::Breaks(&[3, 1]), BAD_SHAPE),
+        (Change::Breaks(&[3, 3]), BAD_SHAPE),
     ];
-    refuses(&rt, rt.alloc(), timing(&idle()), &rows)
+    refuses(&rt, rt.alloc(), parentheses(&held()), &rows)
 }
 
 /// Two forces, each with its slot and its value, and why a snapshot with them is refused.

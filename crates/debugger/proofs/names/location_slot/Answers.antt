@@ -1,6 +1,7 @@
-use Rattle.std.proofs.Common.{arith}
-use Rattle.debugger.proofs.LocationCodes.{code_small}
+use Rattle.std.proofs.Common.{arith, sym}
+use Rattle.il_model.proofs.CodedOperands.{loc_small}
+use Rattle.il_model.proofs.WrittenLocations.{location_cell}
 use Rattle.debugger.proofs.names.location_slot.Goals as goal
 
 pub overflow_cast-result : goal.overflow_cast-result
-overflow_cast-result c = omega (arith, code_small c.args.name.now c.in_ok-found.found c.in_ok-found.ensures, c.location_code.ensures)
+overflow_cast-result c = omega (arith, loc_small c.in_ok-found.found (location_cell c.args.name.now c.in_ok-found.found (sym c.in_ok-found.ensures)), c.code.ensures)

@@ -1,7 +1,6 @@
-use Rattle.std.proofs.Common.{◌≡◌, take, true}
-use Rattle.machine.proofs.Zipped.{zipped}
-use Rattle.machine.proofs.Shapes.{is_value_of}
+use Rattle.std.proofs.Common.{◌≡◌, drop}
+use Rattle.controller_model.specs.Snapshots.{own_types, are_types}
 use Rattle.machine.proofs.shape.fit_variables.Given as goal
 
-abbrev pub invariant-loop-i : goal.invariant-loop-i
-invariant-loop-i l = zipped is_value_of (take l.i l.values) (take l.i l.variables) ≡ true
+abbrev pub invariant-loop-variable : goal.invariant-loop-variable
+invariant-loop-variable l = are_types l.rest (own_types (drop l.variable-index l.variables)) ≡ are_types l.values (own_types l.variables)

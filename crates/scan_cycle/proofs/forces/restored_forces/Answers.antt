@@ -13,9 +13,9 @@ loop-forced-init c = record {
 }
 
 pub loop-forced-preserved : goal.loop-forced-preserved
-loop-forced-preserved c = elim c.match-any_loc.branch [
+loop-forced-preserved c = elim c.match-of_code.branch [
   | in-Some w ↦
-      let step = goes_on c.loop-forced.forces c.match-any_loc.forces c.args.slots.now c.loop-forced.forced-index _ _ w.in-Some.loc c.loop-forced-test.true refl c.loop-forced.invariant.slots c.loop-forced.invariant.next (sym c.any_loc.ensures ∙ w.in-Some.is) (w.forces-is ∙ w.force-is_set.ensures.forced) in
+      let step = goes_on c.loop-forced.forces c.match-of_code.forces c.args.slots.now c.loop-forced.forced-index _ _ w.in-Some.loc c.loop-forced-test.true refl c.loop-forced.invariant.slots c.loop-forced.invariant.next (sym c.of_code.ensures ∙ w.in-Some.is) (w.forces-is ∙ w.force-is_set.ensures.forced) in
       record { slots = step.slots; next = step.next }
-  | in_default w ↦ absurd (never_none c.loop-forced.forces c.args.slots.now c.loop-forced.forced-index _ _ c.loop-forced-test.true refl c.loop-forced.invariant.next (sym c.any_loc.ensures ∙ w.in_default.is))
+  | in_default w ↦ absurd (never_none c.loop-forced.forces c.args.slots.now c.loop-forced.forced-index _ _ c.loop-forced-test.true refl c.loop-forced.invariant.next (sym c.of_code.ensures ∙ w.in_default.is))
 ]

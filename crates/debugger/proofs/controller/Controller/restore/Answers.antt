@@ -1,9 +1,9 @@
-use Rattle.std.proofs.Common.{◌≡◌, ap, sym, subst, ◌∙◌, arith}
+use Rattle.std.proofs.Common.{◌≡◌, ℕ, ap, sym, subst, ◌∙◌, arith}
 use Rattle.il_model.specs.declared.snapshot.SavedPhase.{SavedPhase}
 use Rattle.il_model.specs.Snapshots.{SavedController}
-use Rattle.controller_model.specs.Snapshots.{saved_phase}
+use Rattle.controller_model.specs.Snapshots.{saved_phase, fit_breaks}
 use Rattle.scan_cycle.specs.Parts.{performed_in}
-use Rattle.debugger.proofs.Making.{IsMade, fits_machine, made_of}
+use Rattle.debugger.proofs.Making.{IsMade, fits_machine, fits_breaks, made_of}
 use Rattle.debugger.proofs.controller.Controller.restore.Goals as goal
 
 pub from_parts-requires-clause-machine : goal.from_parts-requires-clause-machine
@@ -13,7 +13,7 @@ made_so : (c : goal.After-restored_phase) → IsMade c.args.image c.args.budget.
 made_so c =
     made_of c.args.image c.args.budget.instructions c.args.snapshot.now c.in_ok-cycle.field-0 c.in-Some.cycle c.in_ok-breaks.breaks.items c.restored_phase.result
     (omega (arith, c.args.budget.at_least_one)) (sym c.fits.ensures ∙ c.if-not-fits.false) c.in-Some.is c.in_ok-cycle.ensures.kept c.in_ok-cycle.ensures.cycle c.whole.ensures
-    (c.in_ok-breaks.ensures.items ∙ c.as_slice-2.ensures.value ∙ ap (λ (s : SavedController). s.breaks) c.snapshot.view_is)
+    (c.in_ok-breaks.ensures.each ∙ c.len.ensures.len) (c.in_ok-breaks.ensures.listed ∙ c.as_slice-2.ensures.value ∙ ap (λ (s : SavedController). s.breaks) c.snapshot.view_is)
     (subst (λ (p : SavedPhase). saved_phase c.restored_phase.result (performed_in p) ≡ p) (ap (λ (s : SavedController). s.phase) c.snapshot.view_is) c.restored_phase.ensures)
 
 pub invariant_of-result : goal.invariant_of-result
@@ -21,3 +21,9 @@ invariant_of-result c = (made_so c).kept
 
 pub returns : goal.returns
 returns c = (made_so c).restored
+
+pub break_flags-requires : goal.break_flags-requires
+break_flags-requires c =
+    ap (fit_breaks 0 c.len.result) (c.as_slice-2.ensures.value ∙ ap (λ (s : SavedController). s.breaks) c.snapshot.view_is)
+    ∙ ap (λ (n : ℕ). fit_breaks 0 n c.args.snapshot.now.breaks) c.len.ensures.len
+    ∙ fits_breaks c.args.image c.args.budget.instructions c.args.snapshot.now (sym c.fits.ensures ∙ c.if-not-fits.false)

@@ -1,0 +1,45 @@
+-- The first fault of a text: the one that stands first, and of two at one place the one with the least number.
+use Rattle.std.specs.Prelude.{◌≡◌, ◌⊎◌, ◌<◌, ◌≤◌, Result, Ok, Err}
+use Rattle.il_model.specs.Text.{Text}
+use Rattle.il_reader.specs.Grammar.{ProgramText}
+use Rattle.il_reader.specs.Place.{place_at}
+use Rattle.il_reader.specs.Texts.{SourceText}
+use Rattle.declarations.specs.declared.fault.Refusal.{Refusal}
+use Rattle.declarations.specs.declared.fault.Fault.{Fault}
+use Rattle.declarations.specs.declared.fault.DeclError.{DeclError}
+use Rattle.declarations.specs.declared.fault.DeclError.TheVariants as errors
+use Rattle.declarations.specs.Faults.{kind_number}
+use Rattle.declarations.specs.Resolution.{Answers}
+use Rattle.declarations.specs.Declaring.{IsProgramOf}
+use Rattle.declarations.specs.TextFaults.{HasFault}
+
+abbrev pub HasNoFault : ProgramText → Type 0
+HasNoFault p = (f : Refusal) → HasFault p f → ⊥
+
+-- one fault is told no later than another: more of the text is left where it stands, or it stands there too and its number is no greater
+abbrev pub IsNoLater : Refusal → Refusal → Type 0
+IsNoLater f g = (g.left < f.left) ⊎ ((f.left ≡ g.left) × (kind_number f.kind ≤ kind_number g.kind))
+
+pub record IsFirstFault (p : ProgramText) (f : Refusal) : Type 0 where
+  pub has : HasFault p f
+  pub first : (g : Refusal) → HasFault p g → IsNoLater f g
+
+-- the first fault of a text that was read, with its line and column
+pub record IsRefused (s : SourceText) (told : Fault) : Type 0 where
+  pub fault : Refusal
+  pub first : IsFirstFault s.says fault
+  pub kind : told.kind ≡ fault.kind
+  pub place : told.place ≡ place_at s.text fault.left
+
+-- a fault that is told is the first of the text
+abbrev pub TellsFirst : {X : Type 0} → SourceText → Result X DeclError → Type 0
+TellsFirst s (Err (errors.Fault told)) = IsRefused s told
+TellsFirst s r = Unit {0}
+
+-- the first fault of the text is told, unless memory ran out
+abbrev pub IsTold : SourceText → Result Text DeclError → Type 0
+IsTold s r = (first : Fault) → IsRefused s first → Answers (λ p. p) r (Err first)
+
+-- the program of a text without a fault is given, unless memory ran out
+abbrev pub IsGiven : SourceText → Result Text DeclError → Type 0
+IsGiven s r = (P : Text) → IsProgramOf s.says P → HasNoFault s.says → Answers (λ p. p) r (Ok P)

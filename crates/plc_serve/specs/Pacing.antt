@@ -1,0 +1,23 @@
+-- When scans are due, in nanoseconds since a beginning.
+use Rattle.std.specs.Prelude.{◌≡◌, ℕ, ◌+◌, ◌-◌, ◌/◌, ◌^◌, min, if◌then◌else◌, nat_lt}
+use Rattle.std.specs.Duration.{max_nanos}
+
+-- Behind a scan that was due then and came now: a period after that was due; or, where it came a period late or more, a period from now, so that
+-- none is made up for.
+abbrev pub due_behind : ℕ → ℕ → ℕ → ℕ
+due_behind due now period = if nat_lt now (due + period) then due + period else now + period
+
+-- the same, but no later than the longest time that is told
+abbrev pub next_due : ℕ → ℕ → ℕ → ℕ
+next_due due now period = min (due_behind due now period) max_nanos
+
+-- a scan that was due then came at this moment, in milliseconds, and the next one is due after it
+abbrev pub IsAwaited : ℕ → ℕ → ℕ → ℕ → Type 0
+IsAwaited period due due_after moment = (now : ℕ) × (moment ≡ min (now / 1_000_000) (2 ^ 64 - 1)) × (due_after ≡ next_due due now period)
+
+-- scans that were due at 3 s, each 100 ms, by when they came
+pub record WorkedDues : Type 0 where
+  pub at_once : next_due 3_000_000_000 3_000_000_000 100_000_000 ≡ 3_100_000_000
+  pub late : next_due 3_000_000_000 3_099_999_999 100_000_000 ≡ 3_100_000_000
+  pub a_period_late : next_due 3_000_000_000 3_100_000_000 100_000_000 ≡ 3_200_000_000
+  pub much_later : next_due 3_000_000_000 9_950_000_000 100_000_000 ≡ 10_050_000_000
