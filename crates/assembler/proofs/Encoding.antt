@@ -17,10 +17,10 @@ use Rattle.il_model.specs.Text.{Text, Declarations, declared_by}
 use Rattle.il_model.specs.Kinds.{field_number}
 use Rattle.il_model.specs.Resolved.{target_of, instance_in, kind_in, called_kind}
 use Rattle.il_model.specs.Marks.{Mark, marks_from, words_in, address_of}
-use Rattle.il_model.specs.Constants.{same_value, literal_of, joined_constants, constants_from, operands_in, operands_of}
+use Rattle.il_model.specs.Constants.{same_value, operand_literal, joined_constants, constants_from, operands_in, operands_of}
 use Rattle.il_model.specs.CodedOperands.{code_of}
 use Rattle.il_model.specs.Image.{number_or_unused, coded_operand, operand_code, coded_word, op_code, modifier_code, side_code, field_number_code, word_bytes, argument_bytes, instruction_bytes, header_bytes, variable_bytes, instance_bytes, mark_bytes, constant_bytes, spelling}
-use Rattle.il_model.specs.Settled.{settled_argument, settled_line, settled}
+use Rattle.il_model.specs.Settled.{settled_argument, settled_line, typed_program_of}
 use Rattle.il_model.proofs.ArgumentFaults.{settled_argument_none}
 use Rattle.il_model.proofs.Settling.{Alike, literal_is, settled_none, called_settled, settling_alike, target_alike, typed_program}
 use Rattle.assembler.specs.Encoded.{literals_of, constants_in, literals_in, all_literals, settled_code, settled_passing_word, settled_instruction, settled_words, settled_bytes}
@@ -29,28 +29,28 @@ use Rattle.assembler.proofs.SettledLines.{AreSettledLines, settled_lines, same_w
 
 -- ---- constants
 
-settled_literals : (args : List Argument) → passing_literals args ≡ map literal_of (map (λ (a : Argument). a.operand) (map settled_argument args))
+settled_literals : (args : List Argument) → passing_literals args ≡ map operand_literal (map (λ (a : Argument). a.operand) (map settled_argument args))
 settled_literals [] = refl
-settled_literals (a ∷ args) = ap (λ (ls : List (Option Value)). literal_of (settled_argument a).operand ∷ ls) (settled_literals args)
+settled_literals (a ∷ args) = ap (λ (ls : List (Option Value)). operand_literal (settled_argument a).operand ∷ ls) (settled_literals args)
 
-line_literals : (cr : Option Ty) (p q : Instr) → q ≡ settled_line cr p → literals_in p (literal_of q.operand) ≡ map literal_of (operands_in q)
+line_literals : (cr : Option Ty) (p q : Instr) → q ≡ settled_line cr p → literals_in p (operand_literal q.operand) ≡ map operand_literal (operands_in q)
 line_literals cr p q e =
-    ap (λ (x : Instr). literals_in p (literal_of x.operand)) e
-    ∙ ap (λ (ls : List (Option Value)). literal_of (settled_line cr p).operand ∷ ls) (settled_literals p.arguments)
-    ∙ ap (λ (x : Instr). map literal_of (operands_in x)) (sym e)
+    ap (λ (x : Instr). literals_in p (operand_literal x.operand)) e
+    ∙ ap (λ (ls : List (Option Value)). operand_literal (settled_line cr p).operand ∷ ls) (settled_literals p.arguments)
+    ∙ ap (λ (x : Instr). map operand_literal (operands_in x)) (sym e)
 
-same_literals : (ps qs : List Instr) → AreSettledLines ps qs → all_literals ps (literals_of qs) ≡ map literal_of (operands_of qs)
+same_literals : (ps qs : List Instr) → AreSettledLines ps qs → all_literals ps (literals_of qs) ≡ map operand_literal (operands_of qs)
 same_literals [] [] are = refl
 same_literals [] (q ∷ qs) are = absurd are
 same_literals (p ∷ ps) [] are = absurd are
 same_literals (p ∷ ps) (q ∷ qs) are =
     ap (λ (ls : List (Option Value)). ls ++ all_literals ps (literals_of qs)) (line_literals are.0.0 p q are.0.1)
-    ∙ ap (λ (ls : List (Option Value)). map literal_of (operands_in q) ++ ls) (same_literals ps qs are.1)
-    ∙ sym (map-append literal_of (operands_in q) (operands_of qs))
+    ∙ ap (λ (ls : List (Option Value)). map operand_literal (operands_in q) ++ ls) (same_literals ps qs are.1)
+    ∙ sym (map-append operand_literal (operands_in q) (operands_of qs))
 
-gathered : (seen : List Value) (os : List Operand) → constants_in seen (map literal_of os) ≡ constants_from same_value seen os
+gathered : (seen : List Value) (os : List Operand) → constants_in seen (map operand_literal os) ≡ constants_from same_value seen os
 gathered seen [] = refl
-gathered seen (o ∷ os) = gathered (joined_constants same_value seen (literal_of o)) os
+gathered seen (o ∷ os) = gathered (joined_constants same_value seen (operand_literal o)) os
 
 same_constants : (ps qs : List Instr) → AreSettledLines ps qs → constants_in [] (all_literals ps (literals_of qs)) ≡ constants_from same_value [] (operands_of qs)
 same_constants ps qs are = ap (constants_in []) (same_literals ps qs are) ∙ gathered [] (operands_of qs)
@@ -86,12 +86,12 @@ code_alike P Q constants (operands.Field name field) a = coded_alike P Q constan
 code_alike P Q constants (operands.Instance name) a = ap (λ (xs : List Instance). number_or_unused (instance_in xs name)) (sym a.alike.instances)
 
 -- an operand that is no literal now stands in the program as it is
-code_by : (P Q : Text) (constants : List Value) (p q : Operand) (literal : Option Value) → AreAlike P Q → literal_of q ≡ literal → (literal_of q ≡ None → q ≡ p) → settled_code P constants p literal ≡ operand_code Q constants q
+code_by : (P Q : Text) (constants : List Value) (p q : Operand) (literal : Option Value) → AreAlike P Q → operand_literal q ≡ literal → (operand_literal q ≡ None → q ≡ p) → settled_code P constants p literal ≡ operand_code Q constants q
 code_by P Q constants p q (Some v) a e same = sym (ap (operand_code Q constants) (literal_is q v e))
 code_by P Q constants p q None a e same = code_alike P Q constants p a ∙ sym (ap (operand_code Q constants) (same e))
 
-same_code : (P Q : Text) (constants : List Value) (p q : Operand) → AreAlike P Q → (literal_of q ≡ None → q ≡ p) → settled_code P constants p (literal_of q) ≡ operand_code Q constants q
-same_code P Q constants p q a same = code_by P Q constants p q (literal_of q) a refl same
+same_code : (P Q : Text) (constants : List Value) (p q : Operand) → AreAlike P Q → (operand_literal q ≡ None → q ≡ p) → settled_code P constants p (operand_literal q) ≡ operand_code Q constants q
+same_code P Q constants p q a same = code_by P Q constants p q (operand_literal q) a refl same
 
 same_passing : (P Q : Text) (constants : List Value) (kind : Option BlockKind) (args : List Argument) → AreAlike P Q → flat_map (settled_passing_word P constants kind) args ≡ flat_map (argument_bytes Q constants kind) (map settled_argument args)
 same_passing P Q constants kind [] a = refl
@@ -103,10 +103,10 @@ same_passing P Q constants kind (x ∷ args) a =
 same_kind : (P Q : Text) (cr : Option Ty) (p : Instr) → Alike P Q → called_kind P p.operand ≡ called_kind Q (settled_line cr p).operand
 same_kind P Q cr p a = sym (called_settled Q cr p.op p.modifier p.operand ∙ ap (λ (xs : List Instance). kind_in xs p.operand) a.instances)
 
-same_instruction : (P Q : Text) (constants : List Value) (cr : Option Ty) (p q : Instr) → AreAlike P Q → q ≡ settled_line cr p → settled_instruction P constants p (literal_of q.operand) ≡ instruction_bytes Q constants q
+same_instruction : (P Q : Text) (constants : List Value) (cr : Option Ty) (p q : Instr) → AreAlike P Q → q ≡ settled_line cr p → settled_instruction P constants p (operand_literal q.operand) ≡ instruction_bytes Q constants q
 same_instruction P Q constants cr p q a e =
     let line = settled_line cr p in
-    ap (λ (x : Instr). settled_instruction P constants p (literal_of x.operand)) e
+    ap (λ (x : Instr). settled_instruction P constants p (operand_literal x.operand)) e
     ∙ ap (λ (k : ℕ). coded_word (op_code p.op) (modifier_code p.modifier) k ++ flat_map (settled_passing_word P constants (called_kind P p.operand)) p.arguments) (same_code P Q constants p.operand line.operand a (settled_none cr p.op p.modifier p.operand))
     ∙ ap (λ (kind : Option BlockKind). word_bytes Q constants line ++ flat_map (settled_passing_word P constants kind) p.arguments) (same_kind P Q cr p a.alike)
     ∙ ap (λ (bytes : List ℕ). word_bytes Q constants line ++ bytes) (same_passing P Q constants (called_kind Q line.operand) p.arguments a)
@@ -139,7 +139,7 @@ spelled P Q a are =
     ∙ ap (λ (ks : List Value). parts Q.variables Q.instances (marks_from 0 Q.code) ks (words_in Q.code) (flat_map (instruction_bytes Q ks) Q.code)) (same_constants P.code Q.code are)
 
 -- the literals of a typed program tell its spelling
-pub settled_spelling : (P Q : Text) (literals : List (Option Value)) → settled P ≡ Ok Q → literals ≡ literals_of Q.code → settled_bytes P (constants_in [] (all_literals P.code literals)) literals ≡ spelling Q
+pub settled_spelling : (P Q : Text) (literals : List (Option Value)) → typed_program_of P ≡ Ok Q → literals ≡ literals_of Q.code → settled_bytes P (constants_in [] (all_literals P.code literals)) literals ≡ spelling Q
 settled_spelling P Q literals e is =
     ap (λ (ls : List (Option Value)). settled_bytes P (constants_in [] (all_literals P.code ls)) ls) is
     ∙ spelled P Q (settling_alike P Q (typed_program P Q e).same) (settled_lines P Q e)

@@ -5,13 +5,13 @@ use Rattle.il_model.specs.declared.value.Value.{Value}
 use Rattle.il_model.specs.declared.program.Argument.{Argument}
 use Rattle.il_model.specs.declared.program.Instr.{Instr}
 use Rattle.il_model.specs.Settled.{settled_argument}
-use Rattle.il_model.specs.Constants.{same_value, literal_of, joined_constants}
+use Rattle.il_model.specs.Constants.{same_value, operand_literal, joined_constants}
 use Rattle.assembler.specs.Encoded.{constants_in, literals_in, all_literals}
 use Rattle.assembler.proofs.Addresses.{here_drop}
 
 -- the literals that arguments are
 abbrev pub passing_literals : List Argument → List (Option Value)
-passing_literals args = map (λ (a : Argument). literal_of (settled_argument a).operand) args
+passing_literals args = map (λ (a : Argument). operand_literal (settled_argument a).operand) args
 
 pub constants_then : (seen : List Value) (xs ys : List (Option Value)) → constants_in seen (xs ++ ys) ≡ constants_in (constants_in seen xs) ys
 constants_then seen [] ys = refl

@@ -6,20 +6,20 @@ use Rattle.il_model.specs.declared.value.Value.{Value}
 use Rattle.il_model.specs.declared.program.Instr.{Instr}
 use Rattle.il_model.specs.declared.typing.TypeFault.{TypeFault}
 use Rattle.il_model.specs.Text.{Text}
-use Rattle.il_model.specs.Constants.{literal_of}
+use Rattle.il_model.specs.Constants.{operand_literal}
 use Rattle.il_model.specs.Typing.{Shape, shape_at}
-use Rattle.il_model.specs.Settled.{settled_operand, settled_line, settled_text, settled}
+use Rattle.il_model.specs.Settled.{settled_operand, settled_line, settled_text, typed_program_of}
 use Rattle.il_model.proofs.Settling.{here_settled, text_count, stays_open, ends_settled, typed_program}
 use Rattle.assembler.specs.Encoded.{literals_of}
 
-more : (code : List Instr) (n : ℕ) (line : Instr) → slice_get code n ≡ Some line → literals_of (take n code) ++ literal_of line.operand ∷ [] ≡ literals_of (take (suc n) code)
+more : (code : List Instr) (n : ℕ) (line : Instr) → slice_get code n ≡ Some line → literals_of (take n code) ++ operand_literal line.operand ∷ [] ≡ literals_of (take (suc n) code)
 more [] n line e = absurd cc
-more (l ∷ code) zero line e = let is : l ≡ line = cc in ap (λ (x : Instr). literal_of x.operand ∷ []) (sym is)
-more (l ∷ code) (suc n) line e = ap (λ (ls : List (Option Value)). literal_of l.operand ∷ ls) (more code n line e)
+more (l ∷ code) zero line e = let is : l ≡ line = cc in ap (λ (x : Instr). operand_literal x.operand ∷ []) (sym is)
+more (l ∷ code) (suc n) line e = ap (λ (ls : List (Option Value)). operand_literal l.operand ∷ ls) (more code n line e)
 
 pub one_more : (P : Text) (n : ℕ) (sh : Shape) (line : Instr) (found new : List (Option Value)) (literal : Option Value)
     → shape_at (settled_text P) n ≡ Ok sh → slice_get P.code n ≡ Some line → found ≡ literals_of (take n (settled_text P).code)
-    → literal ≡ literal_of (settled_operand sh.cr line.op line.modifier line.operand) → new ≡ found ++ literal ∷ [] → new ≡ literals_of (take (n + 1) (settled_text P).code)
+    → literal ≡ operand_literal (settled_operand sh.cr line.op line.modifier line.operand) → new ≡ found ++ literal ∷ [] → new ≡ literals_of (take (n + 1) (settled_text P).code)
 one_more P n sh line found new literal at here is literal-is e =
     let next : suc n ≡ n + 1 = omega arith in
     e ∙ ap (λ (ls : List (Option Value)). ls ++ literal ∷ []) is
@@ -36,12 +36,12 @@ whole (line ∷ code) (suc n) le = ap (λ (ls : List Instr). line ∷ ls) (whole
 pub all_found : (P : Text) (n count : ℕ) (found : List (Option Value)) → n ≡ count → count ≡ length P.code → found ≡ literals_of (take n (settled_text P).code) → found ≡ literals_of (settled_text P).code
 all_found P n count found is len e = e ∙ ap literals_of (whole (settled_text P).code n (omega (arith, is, len, text_count P)))
 
-pub open_at_end : (P : Text) (n count : ℕ) (sh : Shape) → n ≡ count → count ≡ length P.code → shape_at (settled_text P) n ≡ Ok sh → 0 < length sh.kept → settled P ≡ Err (TypeFault.Unbalanced, count)
+pub open_at_end : (P : Text) (n count : ℕ) (sh : Shape) → n ≡ count → count ≡ length P.code → shape_at (settled_text P) n ≡ Ok sh → 0 < length sh.kept → typed_program_of P ≡ Err (TypeFault.Unbalanced, count)
 open_at_end P n count sh is len at lt =
     stays_open P sh (ap (shape_at (settled_text P)) (sym (is ∙ len)) ∙ at) lt ∙ ap (λ (k : ℕ). Err (TypeFault.Unbalanced, k)) (sym len)
 
-pub closed_at_end : (P : Text) (n count : ℕ) (sh : Shape) → n ≡ count → count ≡ length P.code → shape_at (settled_text P) n ≡ Ok sh → length sh.kept ≤ 0 → settled P ≡ Ok (settled_text P)
+pub closed_at_end : (P : Text) (n count : ℕ) (sh : Shape) → n ≡ count → count ≡ length P.code → shape_at (settled_text P) n ≡ Ok sh → length sh.kept ≤ 0 → typed_program_of P ≡ Ok (settled_text P)
 closed_at_end P n count sh is len at le = ends_settled P sh (ap (shape_at (settled_text P)) (sym (is ∙ len)) ∙ at) le
 
-pub literals_count : (P Q : Text) (literals : List (Option Value)) → settled P ≡ Ok Q → literals ≡ literals_of Q.code → length literals ≡ length P.code
-literals_count P Q literals e is = ap length is ∙ length-map Q.code (λ (line : Instr). literal_of line.operand) ∙ (typed_program P Q e).same.count
+pub literals_count : (P Q : Text) (literals : List (Option Value)) → typed_program_of P ≡ Ok Q → literals ≡ literals_of Q.code → length literals ≡ length P.code
+literals_count P Q literals e is = ap length is ∙ length-map Q.code (λ (line : Instr). operand_literal line.operand) ∙ (typed_program P Q e).same.count

@@ -1,5 +1,5 @@
 -- The instructions of a program and of its typed program, side by side.
-use Rattle.std.proofs.Common.{◌≡◌, ℕ, zero, suc, ◌+◌, ◌≤◌, true, List, [], ◌∷◌, length, Option, Some, Ok, refl, sym, ap, ◌∙◌, arith}
+use Rattle.std.proofs.Common.{◌≡◌, ℕ, zero, suc, ◌+◌, ◌≤◌, List, [], ◌∷◌, length, Option, Some, Ok, refl, sym, ap, ◌∙◌, arith}
 use Rattle.std.specs.Prelude.{slice_get}
 use Rattle.std.specs.List.{AllByRecursion}
 use Rattle.std.specs.Option.{option_map}
@@ -8,9 +8,9 @@ use Rattle.std.proofs.lemmas.Option.{slice_get_within}
 use Rattle.il_model.specs.declared.value.Ty.{Ty}
 use Rattle.il_model.specs.declared.program.Instr.{Instr}
 use Rattle.il_model.specs.Text.{Text}
-use Rattle.il_model.specs.Typing.{shape_at, closed}
+use Rattle.il_model.specs.Typing.{shape_at, typing_end}
 use Rattle.il_model.specs.Marks.{with_mark, marks_from, word_count, words_in, address_of}
-use Rattle.il_model.specs.Settled.{settled_argument, settled_line, settled, IsTypedProgramOf}
+use Rattle.il_model.specs.Settled.{settled_argument, settled_line, typed_program_of, IsTypedProgramOf}
 use Rattle.il_model.proofs.Settling.{some_is, typed_program}
 use Rattle.il_model.proofs.TypedLines.{bind_ok, ok_before}
 use Rattle.il_model.proofs.Calls.{IsTypedLine, typed_lines, words_few}
@@ -33,11 +33,11 @@ lines_by (p ∷ ps) (q ∷ qs) len at = let here = at zero p refl in ((here.0, s
 
 settled_at : (P Q : Text) → IsTypedProgramOf P Q → IsSettledAt P.code Q.code
 settled_at P Q is n p here =
-    let all = bind_ok (shape_at Q (length Q.code)) (closed Q) tt is.typed in
+    let all = bind_ok (shape_at Q (length Q.code)) (typing_end Q) tt is.typed in
     let sh = ok_before Q (length Q.code) all.0 all.1 n (omega (arith, slice_get_within P.code n p here, is.same.count)) in
     (sh.0.cr, is.placed n sh.0 sh.1 ∙ ap (option_map (settled_line sh.0.cr)) here)
 
-pub settled_lines : (P Q : Text) → settled P ≡ Ok Q → AreSettledLines P.code Q.code
+pub settled_lines : (P Q : Text) → typed_program_of P ≡ Ok Q → AreSettledLines P.code Q.code
 settled_lines P Q e = let is = typed_program P Q e in lines_by P.code Q.code is.same.count (settled_at P Q is)
 
 -- ---- the same labels at the same addresses
@@ -83,5 +83,5 @@ few_lines Q (p ∷ ps) (q ∷ qs) are all =
     (few, few_lines Q ps qs are.1 all.1)
 
 -- a typed program's instructions have few arguments, and so have those of the program
-pub few_arguments : (P Q : Text) → settled P ≡ Ok Q → AllByRecursion HasFewArguments P.code
+pub few_arguments : (P Q : Text) → typed_program_of P ≡ Ok Q → AllByRecursion HasFewArguments P.code
 few_arguments P Q e = few_lines Q P.code Q.code (settled_lines P Q e) (typed_lines Q (typed_program P Q e).typed)

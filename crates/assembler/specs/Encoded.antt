@@ -11,8 +11,8 @@ use Rattle.il_model.specs.Kinds.{field_number}
 use Rattle.il_model.specs.Resolved.{called_kind}
 use Rattle.il_model.specs.Text.{Text}
 use Rattle.il_model.specs.Marks.{marks_from, words_in, word_count}
-use Rattle.il_model.specs.Settled.{settled, settled_argument}
-use Rattle.il_model.specs.Constants.{same_value, literal_of, joined_constants}
+use Rattle.il_model.specs.Settled.{typed_program_of, settled_argument}
+use Rattle.il_model.specs.Constants.{same_value, operand_literal, joined_constants}
 use Rattle.il_model.specs.CodedOperands.{code_of}
 use Rattle.il_model.specs.Image.{coded_literal, operand_code, coded_word, op_code, modifier_code, side_code, field_number_code, header_bytes, variable_bytes, instance_bytes, mark_bytes, constant_bytes}
 use Rattle.assembler.specs.declared.fault.AsmError.{AsmError}
@@ -20,11 +20,11 @@ use Rattle.assembler.specs.Assembled.{Refuses}
 
 -- for each instruction the literal that its operand is, if it is one
 abbrev pub literals_of : List Instr → List (Option Value)
-literals_of code = map (λ (line : Instr). literal_of line.operand) code
+literals_of code = map (λ (line : Instr). operand_literal line.operand) code
 
 -- the literals of a program's typed program, or the program's first fault
 abbrev pub GivesLiterals : {X : Type 0} → Text → (X → List (Option Value)) → Result X AsmError → Type 0
-GivesLiterals P view (Ok x) = (Q : Text) × (settled P ≡ Ok Q) × (view x ≡ literals_of Q.code)
+GivesLiterals P view (Ok x) = (Q : Text) × (typed_program_of P ≡ Ok Q) × (view x ≡ literals_of Q.code)
 GivesLiterals P view (Err e) = Refuses P e
 
 -- the constants of the literals, in the order of their first use
@@ -34,7 +34,7 @@ constants_in seen (literal ∷ literals) = constants_in (joined_constants same_v
 
 -- the literals that the operands of an instruction and of its arguments are, once bare numbers have their types
 abbrev pub literals_in : Instr → Option Value → List (Option Value)
-literals_in line literal = literal ∷ map (λ (a : Argument). literal_of (settled_argument a).operand) line.arguments
+literals_in line literal = literal ∷ map (λ (a : Argument). operand_literal (settled_argument a).operand) line.arguments
 
 -- those of all operands, in order
 abbrev pub all_literals : List Instr → List (Option Value) → List (Option Value)
@@ -52,7 +52,7 @@ settled_word P constants line literal = coded_word (op_code line.op) (modifier_c
 
 abbrev pub settled_passing_word : Text → List Value → Option BlockKind → Argument → List ℕ
 settled_passing_word P constants kind a =
-    coded_word (side_code a.side) (field_number_code (option_and_then (λ k. field_number k a.field) kind)) (settled_code P constants a.operand (literal_of (settled_argument a).operand))
+    coded_word (side_code a.side) (field_number_code (option_and_then (λ k. field_number k a.field) kind)) (settled_code P constants a.operand (operand_literal (settled_argument a).operand))
 
 -- an instruction's word and those of its arguments
 abbrev pub settled_instruction : Text → List Value → Instr → Option Value → List ℕ

@@ -14,15 +14,15 @@ use Rattle.il_model.specs.declared.program.Loc.TheVariants.{Bit, Word}
 use Rattle.il_model.specs.declared.program.Variable.{Variable}
 use Rattle.il_model.specs.declared.cells.Cells.{Cells}
 use Rattle.il_model.specs.Text.{Text}
-use Rattle.il_model.specs.Values.{ty_of, number_of, is_within, truth_made, made}
-use Rattle.il_model.specs.Codes.{tested, may_start_with}
+use Rattle.il_model.specs.Values.{ty_of, number_of, is_within, truth_made, typed_value}
+use Rattle.il_model.specs.Codes.{if_passes, may_start_with}
 use Rattle.il_model.specs.Fits.{IsVariable, AreItems, IsText}
-use Rattle.controller_model.specs.State.{State, written_in}
+use Rattle.controller_model.specs.State.{State, with_value_in}
 use Rattle.il_model.specs.Areas.{area_of}
 use Rattle.il_model.specs.Cells.{clear_cells}
-use Rattle.controller_model.specs.Cold.{same_area, with_first, with_firsts, first_cells, cold, started, rested}
+use Rattle.controller_model.specs.Cold.{same_area, with_first, with_firsts, first_cells, cold, scan_start_state, at_rest}
 use Rattle.il_model.specs.Resolved.{is_labelled}
-use Rattle.il_model.specs.Typing.{Shape, shape_at, arrived}
+use Rattle.il_model.specs.Typing.{Shape, shape_at, shape_on_arrival}
 use Rattle.controller_model.specs.Suits.{AreCells, HasValues, HasShape, Suits}
 use Rattle.controller_model.proofs.Instances.{all_cold}
 use Rattle.controller_model.proofs.FirstValues.{firsts_first}
@@ -40,20 +40,20 @@ truth_ty : (z : ℤ) (v : Value) → truth_made z ≡ Some v → ty_of v ≡ typ
 truth_ty (pos n) v e = truth_of (ltb n 1) (ltb n 2) v e
 truth_ty (negsuc n) v e = absurd cc
 
-made_ty : (t : Ty) (z : ℤ) (v : Value) → made t z ≡ Some v → ty_of v ≡ t
+made_ty : (t : Ty) (z : ℤ) (v : Value) → typed_value t z ≡ Some v → ty_of v ≡ t
 made_ty types.Bool z v e = truth_ty z v e
 made_ty types.Int z v e = ap ty_of (sym (some_of (is_within 32768 z) (values.Int z) v e))
 made_ty types.Dint z v e = ap ty_of (sym (some_of (is_within 2147483648 z) (values.Dint z) v e))
 made_ty types.Time z v e = ap ty_of (sym (some_of (is_within 2147483648 z) (values.Time z) v e))
 
-first_ty : (loc : Option Loc) (t : Ty) (o : Option Value) (v : Value) → ((x : Value) → o ≡ Some x → ty_of x ≡ t) → option_and_then (tested (may_start_with loc)) o ≡ Some v → ty_of v ≡ t
+first_ty : (loc : Option Loc) (t : Ty) (o : Option Value) (v : Value) → ((x : Value) → o ≡ Some x → ty_of x ≡ t) → option_and_then (if_passes (may_start_with loc)) o ≡ Some v → ty_of v ≡ t
 first_ty loc t None v typed e = absurd cc
 first_ty loc t (Some x) v typed e = ap ty_of (sym (some_of (may_start_with loc x) x v e)) ∙ typed x refl
 
 variable_ty : (seen : List Variable) (v : Variable) → IsVariable seen v → ty_of v.initial ≡ v.ty
 variable_ty seen v is =
     let z = cast_signed w32 (cast_unsigned w32 (number_of v.initial)) in
-    first_ty v.location v.ty (made v.ty z) v.initial (λ x e. made_ty v.ty z x e) is.initial
+    first_ty v.location v.ty (typed_value v.ty z) v.initial (λ x e. made_ty v.ty z x e) is.initial
 
 pub firsts_typed : (seen vs : List Variable) → AreItems IsVariable seen vs → map ty_of (map (λ (v : Variable). v.initial) vs) ≡ map (λ (v : Variable). v.ty) vs
 firsts_typed seen [] are = refl
@@ -65,7 +65,7 @@ set_by : (b : Bool) (c d : Cells) → AreCells c → AreCells d → AreCells (un
 set_by true c d is at = at
 set_by false c d is at = is
 
-written_are : (c : Cells) (loc : Loc) (v : Value) → AreCells c → AreCells (unwrap_or (written_in c loc v) c)
+written_are : (c : Cells) (loc : Loc) (v : Value) → AreCells c → AreCells (unwrap_or (with_value_in c loc v) c)
 written_are c (Bit a n) (values.Bool b) is = set_by (ltb n (length c.bits)) c (record c { bits = slice_set c.bits n b }) is (record { bits = length-set c.bits n b ∙ is.bits; words = is.words })
 written_are c (Bit a n) (values.Int z) is = is
 written_are c (Bit a n) (values.Dint z) is = is
@@ -81,7 +81,7 @@ chosen_are false c d is at = is
 
 with_first_are : (area : Area) (c : Cells) (loc : Option Loc) (v : Value) → AreCells c → AreCells (with_first area c loc v)
 with_first_are area c None v is = is
-with_first_are area c (Some loc) v is = chosen_are (same_area (area_of loc) area) c (unwrap_or (written_in c loc v) c) is (written_are c loc v is)
+with_first_are area c (Some loc) v is = chosen_are (same_area (area_of loc) area) c (unwrap_or (with_value_in c loc v) c) is (written_are c loc v is)
 
 with_firsts_are : (area : Area) (c : Cells) (vs : List Variable) → AreCells c → AreCells (with_firsts area c vs)
 with_firsts_are area c [] is = is
@@ -99,15 +99,15 @@ start_by false sh s a b c d = record { cr = rw (c, a) refl; kept = rw (d, b) ref
 at_start : (Q : Text) (s : State) → HasValues Q s → s.position ≡ 0 → s.cr ≡ None → s.kept ≡ [] → Suits Q s
 at_start Q s vals here no_cr none =
     let sh : Shape = record { cr = None; kept = [] } in
-    record { values = vals; shape = arrived Q 0 sh; types = ap (shape_at Q) here; has = start_by (is_labelled Q 0) sh s refl refl no_cr none }
+    record { values = vals; shape = shape_on_arrival Q 0 sh; types = ap (shape_at Q) here; has = start_by (is_labelled Q 0) sh s refl refl no_cr none }
 
 pub cold_suits : (Q : Text) → IsText Q → Suits Q (cold Q)
 cold_suits Q is =
     at_start Q (cold Q) (record { own = firsts_typed [] Q.variables is.variables; firsts = firsts_first Q.variables; instances = all_cold Q.instances; input = first_cells_are Area.Input Q.variables; output = first_cells_are Area.Output Q.variables; memory = first_cells_are Area.Memory Q.variables }) refl refl refl
 
-pub started_suits : (Q : Text) (s : State) (inputs : Cells) → Suits Q s → AreCells inputs → Suits Q (started s inputs)
+pub started_suits : (Q : Text) (s : State) (inputs : Cells) → Suits Q s → AreCells inputs → Suits Q (scan_start_state s inputs)
 started_suits Q s inputs suits are =
-    at_start Q (started s inputs) (record { own = suits.values.own; firsts = suits.values.firsts; instances = suits.values.instances; input = are; output = suits.values.output; memory = suits.values.memory }) refl refl refl
+    at_start Q (scan_start_state s inputs) (record { own = suits.values.own; firsts = suits.values.firsts; instances = suits.values.instances; input = are; output = suits.values.output; memory = suits.values.memory }) refl refl refl
 
-pub rested_suits : (Q : Text) (s : State) → Suits Q s → Suits Q (rested s)
-rested_suits Q s suits = at_start Q (rested s) (record { own = suits.values.own; firsts = suits.values.firsts; instances = suits.values.instances; input = suits.values.input; output = suits.values.output; memory = suits.values.memory }) refl refl refl
+pub rested_suits : (Q : Text) (s : State) → Suits Q s → Suits Q (at_rest s)
+rested_suits Q s suits = at_start Q (at_rest s) (record { own = suits.values.own; firsts = suits.values.firsts; instances = suits.values.instances; input = suits.values.input; output = suits.values.output; memory = suits.values.memory }) refl refl refl

@@ -1,5 +1,5 @@
 -- A variable with a location keeps its first value: no operand names its own place.
-use Rattle.std.proofs.Common.{◌≡◌, ℕ, zero, suc, Bool, true, false, List, [], ◌∷◌, Option, Some, None, refl, sym, ap, subst, ◌∙◌, map}
+use Rattle.std.proofs.Common.{◌≡◌, ℕ, zero, suc, true, false, List, [], ◌∷◌, Option, Some, None, refl, sym, ap, subst, ◌∙◌, map}
 use Rattle.std.specs.Prelude.{slice_get, slice_set, is_none}
 use Rattle.std.specs.Option.{option_map, option_and_then}
 use Rattle.std.proofs.lemmas.Option.{slice_get-map}
@@ -15,7 +15,7 @@ use Rattle.il_model.specs.declared.fetched.Source.{Source}
 use Rattle.il_model.specs.declared.fetched.Source.TheVariants as sources
 use Rattle.il_model.specs.Text.{Text}
 use Rattle.il_model.specs.Kinds.{field_number}
-use Rattle.il_model.specs.Resolved.{placed, place_of, variable_number, instance_in, instance_number, numbered_field, field_in, field_of, target_of, source_of}
+use Rattle.il_model.specs.Resolved.{variable_place, place_of, variable_number, instance_in, instance_number, numbered_field, field_of, target_of, source_of}
 use Rattle.controller_model.specs.State.{has_own}
 use Rattle.controller_model.specs.Suits.{KeepFirsts}
 
@@ -40,11 +40,11 @@ abbrev IsOf : Text → Option Place → Type 0
 IsOf Q None = Unit {0}
 IsOf Q (Some p) = IsNamed Q p
 
-variable_named : (Q : Text) (i : ℕ) (o : Option Variable) → slice_get Q.variables i ≡ o → IsOf Q (option_map (placed i) o)
+variable_named : (Q : Text) (i : ℕ) (o : Option Variable) → slice_get Q.variables i ≡ o → IsOf Q (option_map (variable_place i) o)
 variable_named Q i None at = tt
 variable_named Q i (Some v) at = placed_by Q i v v.location at refl
 
-numbered_named : (Q : Text) (o : Option ℕ) → IsOf Q (option_and_then (λ i. option_map (placed i) (slice_get Q.variables i)) o)
+numbered_named : (Q : Text) (o : Option ℕ) → IsOf Q (option_and_then (λ i. option_map (variable_place i) (slice_get Q.variables i)) o)
 numbered_named Q None = tt
 numbered_named Q (Some i) = variable_named Q i (slice_get Q.variables i) refl
 

@@ -1,5 +1,5 @@
 -- A snapshot fits a program where the state that it has suits the program.
-use Rattle.std.proofs.Common.{◌≡◌, cond, ℕ, zero, suc, ◌+◌, ◌<◌, ◌≤◌, Bool, true, false, List, [], ◌∷◌, length, map, reverse, Option, Some, None, Result, Ok, Err, refl, sym, ap, subst, ◌∙◌, arith}
+use Rattle.std.proofs.Common.{◌≡◌, cond, ℕ, zero, suc, ◌+◌, ◌≤◌, Bool, true, false, List, [], ◌∷◌, length, map, reverse, Option, Some, None, Result, Ok, Err, refl, sym, ap, subst, ◌∙◌, arith}
 use Rattle.std.specs.Prelude.{◌&&◌, nat_eq, slice_get, drop}
 use Rattle.std.specs.Option.{option_map}
 use Rattle.std.specs.List.{AllByRecursion}
@@ -13,7 +13,6 @@ use Rattle.il_model.specs.declared.op.Op.{Op}
 use Rattle.il_model.specs.declared.op.Op.TheVariants as ops
 use Rattle.il_model.specs.declared.program.Instance.{Instance}
 use Rattle.il_model.specs.declared.program.Instr.{Instr}
-use Rattle.il_model.specs.declared.fetched.Deferred.{Deferred}
 use Rattle.il_model.specs.declared.typing.Held.{Held}
 use Rattle.il_model.specs.declared.typing.Effect.{Effect}
 use Rattle.il_model.specs.declared.typing.Effect.TheVariants.{Sets, Opens, Closes}
@@ -26,7 +25,7 @@ use Rattle.il_model.specs.Image.{op_code}
 use Rattle.il_model.specs.Codes.{op_of}
 use Rattle.il_model.specs.Text.{Text}
 use Rattle.il_model.specs.Resolved.{is_labelled}
-use Rattle.il_model.specs.Typing.{Shape, shape_at, after_at, after_line, label_row, line_row, numbered, applied, arrived, ◌>>=◌, top_of}
+use Rattle.il_model.specs.Typing.{Shape, shape_at, after_at, after_line, label_row, line_row, shape_after, shape_on_arrival, ◌>>=◌, top_of}
 use Rattle.il_model.proofs.RowTypes.{and_yes, same_type_is}
 use Rattle.il_model.proofs.BlockKinds.{kind_of_code-kind_code}
 use Rattle.il_model.proofs.TypedLines.{bind_ok, numbered_ok}
@@ -246,18 +245,18 @@ drop_few : (hs : List Held) → length hs ≤ 16 → length (drop 1 hs) ≤ 16
 drop_few [] le = le
 drop_few (h ∷ hs) le = omega (arith, le)
 
-applied_few : (sh : Shape) (e : Effect) → length sh.kept ≤ 16 → HasRoom (length sh.kept) e → length (applied sh e).kept ≤ 16
+applied_few : (sh : Shape) (e : Effect) → length sh.kept ≤ 16 → HasRoom (length sh.kept) e → length (shape_after sh e).kept ≤ 16
 applied_few sh (Sets cr) le room = le
 applied_few sh (Opens held cr) le room = omega (arith, room)
 applied_few sh (Closes t) le room = drop_few sh.kept le
 
 line_few : (Q : Text) (n : ℕ) (sh after : Shape) (line : Instr) → length sh.kept ≤ 16 → after_line Q n sh line ≡ Ok after → length after.kept ≤ 16
 line_few Q n sh after line le h =
-    let label = bind_ok (label_row Q n (length sh.kept) line.label) (λ _. line_row Q sh line >>= λ e. Ok (arrived Q (n + 1) (applied sh e))) after h in
-    let row = bind_ok (line_row Q sh line) (λ e. Ok (arrived Q (n + 1) (applied sh e))) after label.2 in
+    let label = bind_ok (label_row Q n (length sh.kept) line.label) (λ _. line_row Q sh line >>= λ e. Ok (shape_on_arrival Q (n + 1) (shape_after sh e))) after h in
+    let row = bind_ok (line_row Q sh line) (λ e. Ok (shape_on_arrival Q (n + 1) (shape_after sh e))) after label.2 in
     let room = line_room Q sh.cr (top_of sh.kept) (length sh.kept) line row.0 row.1 in
-    let is : arrived Q (n + 1) (applied sh row.0) ≡ after = ok_same _ after row.2 in
-    subst (λ (s : Shape). length s.kept ≤ 16) is (arrived_few (is_labelled Q (n + 1)) (applied sh row.0) (applied_few sh row.0 le room))
+    let is : shape_on_arrival Q (n + 1) (shape_after sh row.0) ≡ after = ok_same _ after row.2 in
+    subst (λ (s : Shape). length s.kept ≤ 16) is (arrived_few (is_labelled Q (n + 1)) (shape_after sh row.0) (applied_few sh row.0 le room))
 
 at_few : (Q : Text) (n : ℕ) (sh after : Shape) (o : Option Instr) → length sh.kept ≤ 16 → after_at Q n sh o ≡ Ok after → length after.kept ≤ 16
 at_few Q n sh after (Some line) le h = line_few Q n sh after line le (numbered_ok n (after_line Q n sh line) after h)

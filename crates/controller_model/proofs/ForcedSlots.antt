@@ -1,10 +1,9 @@
 -- The list of what is forced, and the forces that it stands for.
 use Rattle.std.proofs.Common.{◌≡◌, cond, ℕ, zero, suc, ◌+◌, ◌-◌, ◌<◌, ◌≤◌, Bool, true, false, List, [], ◌∷◌, ◌++◌, length, set, Option, Some, None, refl, sym, ap, subst, ◌∙◌, arith, append_assoc}
-use Rattle.std.specs.Prelude.{◌&&◌, ℤ, nat_lt, nat_le, replicate, slice_set}
+use Rattle.std.specs.Prelude.{ℤ, nat_lt, replicate}
 use Rattle.std.specs.Option.{option_map, option_and_then}
 use Rattle.std.proofs.lemmas.Bool.{ltb-true, ltb-false, lt-ltb}
 use Rattle.std.proofs.lemmas.List.{append-nil}
-use Rattle.il_model.specs.declared.value.Ty.{Ty}
 use Rattle.il_model.specs.declared.value.Ty.TheVariants as types
 use Rattle.il_model.specs.declared.value.Value.{Value}
 use Rattle.il_model.specs.declared.value.Value.TheVariants as values
@@ -12,18 +11,16 @@ use Rattle.il_model.specs.declared.program.Area.{Area}
 use Rattle.il_model.specs.declared.program.Area.TheVariants as areas
 use Rattle.il_model.specs.declared.program.Loc.{Loc}
 use Rattle.il_model.specs.declared.program.Loc.TheVariants.{Bit, Word}
-use Rattle.il_model.specs.declared.slot.Slot.{Slot}
 use Rattle.il_model.specs.declared.snapshot.ForcedSlot.{ForcedSlot}
 use Rattle.il_model.specs.Values.{ty_of}
 use Rattle.il_model.specs.Row.{same_type}
 use Rattle.il_model.specs.CodedOperands.{area_loc, any_loc}
-use Rattle.il_model.specs.Typing.{loc_type}
-use Rattle.il_model.proofs.RowTypes.{and_yes, same_type_is}
+use Rattle.il_model.proofs.RowTypes.{same_type_is}
 use Rattle.controller_model.specs.declared.forces.Mask.{Mask}
 use Rattle.controller_model.specs.declared.forces.Forces.{Forces}
-use Rattle.controller_model.specs.Forces.{forced, no_forces}
+use Rattle.controller_model.specs.Forces.{put_force, no_forces}
 use Rattle.controller_model.specs.Commands.{forcible, forcible_at}
-use Rattle.controller_model.specs.Snapshots.{forced_bits, forced_words, forced_slots, fits_location, fit_forces}
+use Rattle.controller_model.specs.Snapshots.{forced_bits, forced_words, forced_slots, fits_location}
 use Rattle.controller_model.proofs.Safe.{truth_value}
 
 -- ---- one list of forces
@@ -265,7 +262,7 @@ none_two c d e f = rw (e, f) refl
 -- the slot is forced behind all others
 pub record IsForced (f : Forces) (n : ℕ) (v : Value) (loc : Loc) : Type 0 where
   pub next : Forces
-  pub is : forced f loc v ≡ Some next
+  pub is : put_force f loc v ≡ Some next
   pub slots : forced_slots next ≡ forced_slots f ++ slot_as n v ∷ []
   pub free : AreFree (suc n) next
 

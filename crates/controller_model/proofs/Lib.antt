@@ -9,8 +9,8 @@ pub mod ColdSuits
 pub mod Turns
 pub mod Agrees
 pub mod SameEnd
-pub mod Stepping
 pub mod WorkedRows
 pub mod Fitting
 pub mod ForcedSlots
+pub mod Rising
 pub mod SameBlocks

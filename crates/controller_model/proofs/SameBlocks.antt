@@ -2,7 +2,7 @@
 use Rattle.std.proofs.Common.{◌≡◌, true, List, [], ◌∷◌, map, refl, ap, ◌∙◌}
 use Rattle.il_model.specs.declared.value.Value.{Value}
 use Rattle.il_model.specs.Snapshots.{SavedBlock}
-use Rattle.function_blocks.specs.declared.any.Block.{Block}
+use Rattle.function_blocks.specs.declared.block.Block.{Block}
 use Rattle.function_blocks.specs.Blocks.{is_block, IsKnown}
 use Rattle.controller_model.specs.State.{BlockInstance}
 use Rattle.controller_model.specs.Snapshots.{saved_instance, AreKnown}

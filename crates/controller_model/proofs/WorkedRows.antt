@@ -1,7 +1,6 @@
 -- Worked rows of scans and of the debugger, by computing the command table.
-use Rattle.std.proofs.Common.{◌≡◌, ℕ, Bool, true, false, List, [], ◌∷◌, replicate, Option, Some, None, refl}
-use Rattle.std.specs.Prelude.{ℤ, pos, slice_set, codes}
-use Rattle.il_model.specs.declared.value.Value.{Value}
+use Rattle.std.proofs.Common.{◌≡◌, ℕ, Bool, true, false, List, [], ◌∷◌, replicate, None, refl}
+use Rattle.std.specs.Prelude.{pos, slice_set, codes}
 use Rattle.il_model.specs.declared.value.Value.TheVariants as values
 use Rattle.il_model.specs.declared.value.Stop.TheVariants as stops
 use Rattle.il_model.specs.declared.op.Op.{Op}
@@ -13,15 +12,13 @@ use Rattle.il_model.specs.declared.program.Area.TheVariants as areas
 use Rattle.il_model.specs.declared.program.Loc.TheVariants.{Bit, Word}
 use Rattle.il_model.specs.declared.program.Operand.{Operand}
 use Rattle.il_model.specs.declared.program.Operand.TheVariants as operands
-use Rattle.il_model.specs.declared.cells.OutImage.{OutImage}
-use Rattle.il_model.specs.declared.cells.InImage.{InImage}
 use Rattle.il_model.specs.declared.slot.Slot.{Slot}
 use Rattle.il_model.specs.declared.command.Command.{Command}
 use Rattle.il_model.specs.declared.command.Command.TheVariants as commands
 use Rattle.il_model.specs.declared.command.Answer.{Answer}
 use Rattle.il_model.specs.declared.command.Answer.TheVariants as answers
 use Rattle.il_model.specs.declared.command.Refusal.TheVariants as refusals
-use Rattle.il_model.specs.Cells.{clear_cells, clear_inputs, safe_image}
+use Rattle.il_model.specs.Cells.{clear_inputs, safe_image}
 use Rattle.il_model.specs.Text.{Text}
 use Rattle.controller_model.specs.Commands.{answers_of}
 use Rattle.controller_model.specs.Scan.{next_count}

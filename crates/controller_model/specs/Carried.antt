@@ -7,7 +7,7 @@ use Rattle.il_model.specs.declared.command.Answer.{Answer}
 use Rattle.il_model.specs.declared.command.Answer.TheVariants as answers
 use Rattle.il_model.specs.Text.{Text}
 use Rattle.controller_model.specs.declared.phase.Phase.TheVariants as phases
-use Rattle.controller_model.specs.Commands.{Control, no_breaks, applied}
+use Rattle.controller_model.specs.Commands.{Control, no_breaks, command_outcome}
 
 -- the commands that carry a held scan on
 pub data Onward : Type 0 where
@@ -19,13 +19,13 @@ command_of Step = commands.Step
 command_of Continue = commands.Continue
 
 -- a held scan goes on; what came to an end stays
-abbrev pub carried_by : Text → ℕ → Answer × Control → Onward → Answer → Answer × Control
-carried_by Q budget x g (answers.Held p) = applied Q budget x.1 (command_of g)
-carried_by Q budget x g a = x
+abbrev pub outcome_after : Text → ℕ → Answer × Control → Onward → Answer → Answer × Control
+outcome_after Q budget x g (answers.Held p) = command_outcome Q budget x.1 (command_of g)
+outcome_after Q budget x g a = x
 
-abbrev pub carried : Text → ℕ → Answer × Control → List Onward → Answer × Control
-carried Q budget x [] = x
-carried Q budget x (g ∷ gs) = carried Q budget (carried_by Q budget x g x.0) gs
+abbrev pub outcome_after_all : Text → ℕ → Answer × Control → List Onward → Answer × Control
+outcome_after_all Q budget x [] = x
+outcome_after_all Q budget x (g ∷ gs) = outcome_after_all Q budget (outcome_after Q budget x g x.0) gs
 
 abbrev pub is_held : Answer → Bool
 is_held (answers.Held p) = true
@@ -40,6 +40,6 @@ without_breaks Q s = record s { breaks = no_breaks Q }
 abbrev pub EndsTheSame : Text → ℕ → Control → InImage → ℕ → List Onward → Type 0
 EndsTheSame Q budget s inputs moment gs =
     s.phase ≡ phases.Idle →
-    is_held (carried Q budget (applied Q budget s (commands.Scan inputs moment)) gs).0 ≡ false →
-    ((carried Q budget (applied Q budget s (commands.Scan inputs moment)) gs).0 ≡ (applied Q budget (without_breaks Q s) (commands.Scan inputs moment)).0)
-    × (without_breaks Q (carried Q budget (applied Q budget s (commands.Scan inputs moment)) gs).1 ≡ (applied Q budget (without_breaks Q s) (commands.Scan inputs moment)).1)
+    is_held (outcome_after_all Q budget (command_outcome Q budget s (commands.Scan inputs moment)) gs).0 ≡ false →
+    ((outcome_after_all Q budget (command_outcome Q budget s (commands.Scan inputs moment)) gs).0 ≡ (command_outcome Q budget (without_breaks Q s) (commands.Scan inputs moment)).0)
+    × (without_breaks Q (outcome_after_all Q budget (command_outcome Q budget s (commands.Scan inputs moment)) gs).1 ≡ (command_outcome Q budget (without_breaks Q s) (commands.Scan inputs moment)).1)

@@ -13,14 +13,14 @@ use Rattle.controller_model.specs.declared.forces.Mask.{Mask}
 use Rattle.controller_model.specs.declared.forces.Forces.{Forces}
 
 -- each cell as it is, or as it is forced
-abbrev pub laid : {A : Type 0} → List (Option A) → List A → List A
-laid [] xs = xs
-laid (f ∷ fs) [] = []
-laid (f ∷ fs) (x ∷ xs) = unwrap_or f x ∷ laid fs xs
+abbrev pub overlay : {A : Type 0} → List (Option A) → List A → List A
+overlay [] xs = xs
+overlay (f ∷ fs) [] = []
+overlay (f ∷ fs) (x ∷ xs) = unwrap_or f x ∷ overlay fs xs
 
 -- the cells of an area with the forces laid over them
 abbrev pub with_forces : Mask → Cells → Cells
-with_forces m c = record { bits = laid m.bits c.bits; words = laid m.words c.words }
+with_forces m c = record { bits = overlay m.bits c.bits; words = overlay m.words c.words }
 
 abbrev pub no_mask : Mask
 no_mask = record { bits = replicate 512 None; words = replicate 64 None }
@@ -35,14 +35,14 @@ abbrev pub with_word : Mask → ℕ → Option ℤ → Option Mask
 with_word m n z = if nat_lt n (length m.words) then Some (record m { words = slice_set m.words n z }) else None
 
 -- a bit is forced to a BOOL, a word to an INT
-abbrev pub masked : Mask → Loc → Value → Option Mask
-masked m (Bit a n) (values.Bool b) = with_bit m n (Some b)
-masked m (Word a n) (values.Int z) = with_word m n (Some z)
-masked m loc v = None
+abbrev pub with_forced : Mask → Loc → Value → Option Mask
+with_forced m (Bit a n) (values.Bool b) = with_bit m n (Some b)
+with_forced m (Word a n) (values.Int z) = with_word m n (Some z)
+with_forced m loc v = None
 
-abbrev pub unmasked : Mask → Loc → Option Mask
-unmasked m (Bit a n) = with_bit m n None
-unmasked m (Word a n) = with_word m n None
+abbrev pub with_freed : Mask → Loc → Option Mask
+with_freed m (Bit a n) = with_bit m n None
+with_freed m (Word a n) = with_word m n None
 
 -- inputs and outputs can be forced, memory can't
 abbrev pub in_area : Forces → Area → (Mask → Option Mask) → Option Forces
@@ -51,8 +51,8 @@ in_area f areas.Output change = option_map (λ m. record f { output = m }) (chan
 in_area f areas.Memory change = None
 
 -- the forces with a location forced to a value, or freed; none where it can't be
-abbrev pub forced : Forces → Loc → Value → Option Forces
-forced f loc v = in_area f (area_of loc) (λ m. masked m loc v)
+abbrev pub put_force : Forces → Loc → Value → Option Forces
+put_force f loc v = in_area f (area_of loc) (λ m. with_forced m loc v)
 
-abbrev pub unforced : Forces → Loc → Option Forces
-unforced f loc = in_area f (area_of loc) (λ m. unmasked m loc)
+abbrev pub lift_force : Forces → Loc → Option Forces
+lift_force f loc = in_area f (area_of loc) (λ m. with_freed m loc)

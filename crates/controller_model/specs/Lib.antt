@@ -7,5 +7,4 @@ pub mod Forces
 pub mod Scan
 pub mod Commands
 pub mod Carried
-pub mod Stepping
 pub mod Snapshots

@@ -1,21 +1,17 @@
 -- What a snapshot has of a controller's state, and which snapshots are of a program's shape.
-use Rattle.std.specs.Prelude.{◌≡◌, ℕ, suc, ◌+◌, Bool, true, false, ◌&&◌, List, [], ◌∷◌, ◌++◌, length, map, filter, reverse, Option, Some, None, is_none, is_some, Result, Ok, Err, nat_lt, nat_le, nat_eq, ℤ}
+use Rattle.std.specs.Prelude.{◌≡◌, ℕ, suc, Bool, true, false, ◌&&◌, List, [], ◌∷◌, ◌++◌, length, map, filter, reverse, Option, Some, None, is_none, Result, Ok, Err, nat_lt, nat_eq, ℤ}
 use Rattle.std.specs.Option.{option_map}
 use Rattle.il_model.specs.declared.typing.TypeFault.{TypeFault}
 use Rattle.il_model.specs.declared.value.Ty.{Ty}
 use Rattle.il_model.specs.declared.value.Value.{Value}
 use Rattle.il_model.specs.declared.value.Value.TheVariants as values
-use Rattle.il_model.specs.declared.kind.BlockKind.{BlockKind}
 use Rattle.il_model.specs.declared.program.Instance.{Instance}
 use Rattle.il_model.specs.declared.program.Variable.{Variable}
 use Rattle.il_model.specs.declared.program.Area.{Area}
 use Rattle.il_model.specs.declared.program.Area.TheVariants as areas
 use Rattle.il_model.specs.declared.program.Loc.{Loc}
 use Rattle.il_model.specs.declared.program.Loc.TheVariants.{Bit, Word}
-use Rattle.il_model.specs.declared.fetched.Deferred.{Deferred}
 use Rattle.il_model.specs.declared.typing.Held.{Held}
-use Rattle.il_model.specs.declared.op.Op.{Op}
-use Rattle.il_model.specs.declared.slot.Slot.{Slot}
 use Rattle.il_model.specs.declared.snapshot.ForcedSlot.{ForcedSlot}
 use Rattle.il_model.specs.declared.snapshot.SavedPhase.{SavedPhase}
 use Rattle.il_model.specs.declared.snapshot.SavedPhase.TheVariants as saved_phases
@@ -29,12 +25,12 @@ use Rattle.il_model.specs.Image.{op_code}
 use Rattle.il_model.specs.Typing.{Shape, shape_at, loc_type}
 use Rattle.il_model.specs.Text.{Text}
 use Rattle.function_blocks.specs.Blocks.{kind_of, block_words, is_block}
-use Rattle.std.specs.List.{AllByRecursion, items_where_true, range_with_len}
+use Rattle.std.specs.List.{AllByRecursion, items_where_true, list_all, range_with_len}
 use Rattle.controller_model.specs.declared.forces.Mask.{Mask}
 use Rattle.controller_model.specs.declared.forces.Forces.{Forces}
 use Rattle.controller_model.specs.declared.phase.Phase.{Phase}
 use Rattle.controller_model.specs.declared.phase.Phase.TheVariants as phases
-use Rattle.controller_model.specs.State.{State, BlockInstance, has_own}
+use Rattle.controller_model.specs.State.{BlockInstance, has_own}
 use Rattle.controller_model.specs.Suits.{held_of, input_types}
 use Rattle.controller_model.specs.Scan.{is_break}
 use Rattle.controller_model.specs.Commands.{Control, forcible_at}
@@ -79,8 +75,8 @@ saved_phase phases.Idle performed = saved_phases.Idle
 saved_phase phases.Held performed = saved_phases.Held performed
 saved_phase (phases.Stopped stop) performed = saved_phases.Stopped stop
 
-abbrev pub saved : Text → Control → SavedController
-saved Q s = record {
+abbrev pub snapshot_of : Text → Control → SavedController
+snapshot_of Q s = record {
   variables = own_values Q.variables s.cycle.state.own;
   instances = map saved_instance s.cycle.state.instances;
   input = s.cycle.state.input;
@@ -116,20 +112,30 @@ fit_instances ds xs = false
 abbrev pub own_types : List Variable → List Ty
 own_types vs = map (λ (v : Variable). v.ty) (filter has_own vs)
 
--- each at an instruction, and above the one before it
-abbrev pub fit_breaks : ℕ → ℕ → List ℕ → Bool
-fit_breaks least end [] = true
-fit_breaks least end (p ∷ ps) = nat_le least p && (nat_lt p end && fit_breaks (suc p) end ps)
+-- each number is below the next one
+abbrev pub is_below : ℕ → List ℕ → Bool
+is_below m [] = true
+is_below m (n ∷ ns) = nat_lt m n
+
+abbrev pub are_rising : List ℕ → Bool
+are_rising [] = true
+are_rising (n ∷ ns) = is_below n ns && are_rising ns
+
+-- the positions rise, and each is an instruction's
+abbrev pub fit_breaks : ℕ → List ℕ → Bool
+fit_breaks end positions = are_rising positions && list_all (λ p. nat_lt p end) positions
 
 -- a location of %I or %Q by its slot, with a value of its type
 abbrev pub fits_location : Value → Option Loc → Bool
 fits_location v None = false
 fits_location v (Some loc) = elim (loc_type loc) [ Some t ↦ same_type (ty_of v) t | None ↦ false ]
 
--- each above the one before it
-abbrev pub fit_forces : ℕ → List ForcedSlot → Bool
-fit_forces least [] = true
-fit_forces least (f ∷ fs) = nat_le least f.slot.0 && (fits_location f.value (forcible_at f.slot.0) && fit_forces (suc f.slot.0) fs)
+abbrev pub fits_force : ForcedSlot → Bool
+fits_force f = fits_location f.value (forcible_at f.slot.0)
+
+-- the slots rise, and each is such a location
+abbrev pub fit_forces : List ForcedSlot → Bool
+fit_forces forces = are_rising (map (λ (f : ForcedSlot). f.slot.0) forces) && list_all fits_force forces
 
 -- ---- the open scan
 
@@ -170,5 +176,5 @@ abbrev pub fits : Text → ℕ → SavedController → Bool
 fits Q budget s =
     are_types s.variables (own_types Q.variables)
     && (fit_instances Q.instances s.instances
-    && (fit_breaks 0 (length Q.code) s.breaks
-    && (fit_forces 0 s.forces && fits_phase Q budget s s.phase)))
+    && (fit_breaks (length Q.code) s.breaks
+    && (fit_forces s.forces && fits_phase Q budget s s.phase)))

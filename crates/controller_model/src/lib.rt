@@ -1,7 +1,7 @@
 //! What a program does: the state of a run, one instruction, one scan, one command of a controller after another, and what slots
-//! and names of slots stand for. Definitions with the plain types that they speak of, and four laws: a typed program is never
-//! stuck, breakpoints change nothing but where a scan is held, a step is one instruction, and a snapshot tells its instances. It
-//! uses il_model, where programs and their types are defined, and function_blocks, where the blocks' equations are.
+//! and names of slots stand for. Definitions with the plain types that they speak of, and three laws: a typed program is never
+//! stuck, breakpoints change nothing but where a scan is held, and a snapshot tells its instances. It uses il_model, where programs
+//! and their types are defined, and function_blocks, where the blocks' equations are.
 #![tactic(auto)]
 
 ghost use Rattle.std.specs.Prelude.{ℕ, List};
@@ -10,13 +10,12 @@ ghost use Rattle.il_model.specs.Text.{Text};
 ghost use Rattle.il_model.specs.Typing.{IsTyped};
 ghost use Rattle.controller_model.specs.Commands.{Control};
 ghost use Rattle.controller_model.specs.Carried.{Onward, EndsTheSame};
-ghost use Rattle.controller_model.specs.Stepping.{StepsOnce};
 ghost use Rattle.controller_model.specs.State.{State, BlockInstance};
 ghost use Rattle.controller_model.specs.Step.{step};
 ghost use Rattle.controller_model.specs.Suits.{Suits, IsSafe};
 ghost use Rattle.controller_model.specs.Snapshots.{AreKnown};
 
-use function_blocks::any::words_tell_a_block;
+use function_blocks::block::words_tell_a_block;
 
 mod forces;
 mod phase;
@@ -34,11 +33,6 @@ pub fn a_typed_program_is_never_stuck()
 /// ends, has the answer, and leaves the state, that it has and leaves without breakpoints, the breakpoints aside.
 pub fn ends_the_same()
     ensures { (Q : Text) (budget : ℕ) (s : Control) (inputs : InImage) (moment : ℕ) (gs : List Onward) → EndsTheSame Q budget s inputs moment gs }
-{}
-
-/// A step of a held scan performs one instruction, wherever breakpoints are, and then the scan is at its end, stopped, or held.
-pub fn a_step_is_one_instruction()
-    ensures { (Q : Text) (budget : ℕ) (s : Control) → StepsOnce Q budget s }
 {}
 
 /// Instances are known by what a snapshot has of them.

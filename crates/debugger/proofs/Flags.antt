@@ -1,12 +1,13 @@
 -- The positions of breakpoints and the flags at them.
-use Rattle.std.proofs.Common.{◌≡◌, cond, ℕ, zero, suc, ◌+◌, ◌<◌, ◌≤◌, Bool, true, false, List, [], ◌∷◌, ◌++◌, length, replicate, take, drop, get_or, refl, sym, ap, subst, ◌∙◌, arith, append_assoc}
-use Rattle.std.specs.Prelude.{◌&&◌, nat_le, nat_lt, slice_set, filter}
+use Rattle.std.proofs.Common.{◌≡◌, cond, ℕ, zero, suc, ◌+◌, ◌<◌, ◌≤◌, Bool, true, false, List, [], ◌∷◌, ◌++◌, length, replicate, drop, get_or, refl, sym, ap, subst, ◌∙◌, arith, append_assoc}
+use Rattle.std.specs.Prelude.{nat_le, nat_lt, slice_set, filter}
 use Rattle.std.specs.List.{AllByRecursion, range_with_len}
 use Rattle.std.proofs.lemmas.Bool.{le-leb, leb-true, lt-ltb, ltb-true}
 use Rattle.std.proofs.lemmas.List.{append-nil, length-replicate, length-set}
 use Rattle.il_model.proofs.RowTypes.{and_yes}
 use Rattle.controller_model.specs.Scan.{is_break}
 use Rattle.controller_model.specs.Snapshots.{break_positions, fit_breaks}
+use Rattle.controller_model.proofs.Rising.{breaks_from, breaks_fit}
 use Rattle.controller_model.proofs.Fitting.{and_both}
 
 -- ---- one flag after the other
@@ -34,20 +35,23 @@ positions_flagged bs = listed (is_break bs) 0 bs (λ k. let e : 0 + k ≡ k = om
 
 -- ---- they fit
 
-flagged_fit : (least n : ℕ) (bs : List Bool) (end : ℕ) → least ≤ n → n + length bs ≤ end → fit_breaks least end (flagged n bs) ≡ true
+flagged_fit : (least n : ℕ) (bs : List Bool) (end : ℕ) → least ≤ n → n + length bs ≤ end → breaks_from least end (flagged n bs) ≡ true
 flagged_fit least n [] end le small = refl
 flagged_fit least n (true ∷ bs) end le small =
     and_both (nat_le least n) _ (le-leb least n le) (and_both (nat_lt n end) _ (lt-ltb n end (omega (arith, small))) (flagged_fit (suc n) (n + 1) bs end (omega arith) (omega (arith, small))))
 flagged_fit least n (false ∷ bs) end le small = flagged_fit least (n + 1) bs end (omega (arith, le)) (omega (arith, small))
 
-pub positions_fit : (bs : List Bool) (end : ℕ) → length bs ≡ end → fit_breaks 0 end (break_positions bs) ≡ true
-positions_fit bs end e = ap (fit_breaks 0 end) (positions_flagged bs) ∙ flagged_fit 0 0 bs end (omega arith) (omega (arith, e))
+pub positions_fit : (bs : List Bool) (end : ℕ) → length bs ≡ end → fit_breaks end (break_positions bs) ≡ true
+positions_fit bs end e = sym (breaks_fit end (break_positions bs)) ∙ ap (breaks_from 0 end) (positions_flagged bs) ∙ flagged_fit 0 0 bs end (omega arith) (omega (arith, e))
 
 -- each is below the end
-pub each_below : (least end : ℕ) (ps : List ℕ) (k d : ℕ) → fit_breaks least end ps ≡ true → k < length ps → get_or ps k d < end
-each_below least end [] k d h lt = absurd (omega (arith, lt))
-each_below least end (p ∷ ps) zero d h lt = ltb-true p end (and_yes (nat_lt p end) _ (and_yes (nat_le least p) _ h).1).0
-each_below least end (p ∷ ps) (suc k) d h lt = each_below (suc p) end ps k d (and_yes (nat_lt p end) _ (and_yes (nat_le least p) _ h).1).1 (omega (arith, lt))
+below_from : (least end : ℕ) (ps : List ℕ) (k d : ℕ) → breaks_from least end ps ≡ true → k < length ps → get_or ps k d < end
+below_from least end [] k d h lt = absurd (omega (arith, lt))
+below_from least end (p ∷ ps) zero d h lt = ltb-true p end (and_yes (nat_lt p end) _ (and_yes (nat_le least p) _ h).1).0
+below_from least end (p ∷ ps) (suc k) d h lt = below_from (suc p) end ps k d (and_yes (nat_lt p end) _ (and_yes (nat_le least p) _ h).1).1 (omega (arith, lt))
+
+pub each_below : (end : ℕ) (ps : List ℕ) (k d : ℕ) → fit_breaks end ps ≡ true → k < length ps → get_or ps k d < end
+each_below end ps k d h lt = below_from 0 end ps k d (breaks_fit end ps ∙ h) lt
 
 -- ---- no two lists of flags have the same
 
@@ -111,7 +115,7 @@ set_last n zero p (false ∷ bs) e lt h =
 set_last n (suc k) p (true ∷ bs) e lt h = ap (λ (xs : List ℕ). n ∷ xs) (set_last (n + 1) k p bs (omega (arith, e)) (omega (arith, lt)) h.1)
 set_last n (suc k) p (false ∷ bs) e lt h = set_last (n + 1) k p bs (omega (arith, e)) (omega (arith, lt)) h
 
-set_all : (least : ℕ) (bs : List Bool) (ps : List ℕ) → AreBelow least (flagged 0 bs) → fit_breaks least (length bs) ps ≡ true → flagged 0 (with_breaks bs ps) ≡ flagged 0 bs ++ ps
+set_all : (least : ℕ) (bs : List Bool) (ps : List ℕ) → AreBelow least (flagged 0 bs) → breaks_from least (length bs) ps ≡ true → flagged 0 (with_breaks bs ps) ≡ flagged 0 bs ++ ps
 set_all least bs [] below h = sym (append-nil (flagged 0 bs))
 set_all least bs (p ∷ ps) below h =
     let a = and_yes (nat_le least p) _ h in
@@ -119,7 +123,7 @@ set_all least bs (p ∷ ps) below h =
     let le : least ≤ p = leb-true least p a.0 in
     let one = set_last 0 p p bs (omega arith) (ltb-true p (length bs) b.0) (below_more least p (flagged 0 bs) le below) in
     let all = subst (AreBelow (suc p)) (sym one) (below_push (suc p) p (flagged 0 bs) (below_more least (suc p) (flagged 0 bs) (omega (arith, le)) below) (omega arith)) in
-    set_all (suc p) (slice_set bs p true) ps all (ap (λ (n : ℕ). fit_breaks (suc p) n ps) (length-set bs p true) ∙ b.1)
+    set_all (suc p) (slice_set bs p true) ps all (ap (λ (n : ℕ). breaks_from (suc p) n ps) (length-set bs p true) ∙ b.1)
     ∙ ap (λ (xs : List ℕ). xs ++ ps) one ∙ append_assoc (flagged 0 bs) (p ∷ []) ps
 
 none_flagged : (n m : ℕ) → flagged n (replicate m false) ≡ []
@@ -127,11 +131,11 @@ none_flagged n zero = refl
 none_flagged n (suc m) = none_flagged (n + 1) m
 
 -- flags that are set at positions that fit are at these positions
-pub breaks_set : (n : ℕ) (bs : List Bool) (ps : List ℕ) → bs ≡ with_breaks (replicate n false) ps → fit_breaks 0 n ps ≡ true → break_positions bs ≡ ps
+pub breaks_set : (n : ℕ) (bs : List Bool) (ps : List ℕ) → bs ≡ with_breaks (replicate n false) ps → fit_breaks n ps ≡ true → break_positions bs ≡ ps
 breaks_set n bs ps e h =
     let none = none_flagged 0 n in
     positions_flagged bs ∙ ap (flagged 0) e
-    ∙ set_all 0 (replicate n false) ps (subst (AreBelow 0) (sym none) tt) (ap (λ (m : ℕ). fit_breaks 0 m ps) (length-replicate n false) ∙ h)
+    ∙ set_all 0 (replicate n false) ps (subst (AreBelow 0) (sym none) tt) (ap (λ (m : ℕ). breaks_from 0 m ps) (length-replicate n false) ∙ breaks_fit n ps ∙ h)
     ∙ ap (λ (xs : List ℕ). xs ++ ps) none
 
 drop_all : {A : Type 0} (xs : List A) (n : ℕ) → length xs ≤ n → drop n xs ≡ []

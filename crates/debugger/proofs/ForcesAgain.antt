@@ -1,6 +1,6 @@
 -- The list of what is forced fits, and no two forces have one list.
-use Rattle.std.proofs.Common.{◌≡◌, cond, ℕ, zero, suc, ◌+◌, ◌-◌, ◌<◌, ◌≤◌, Bool, true, false, List, [], ◌∷◌, ◌++◌, length, Option, Some, None, refl, sym, ap, subst, ◌∙◌, arith, append_assoc}
-use Rattle.std.specs.Prelude.{◌&&◌, ℤ, nat_le}
+use Rattle.std.proofs.Common.{◌≡◌, cond, ℕ, suc, ◌+◌, ◌-◌, ◌<◌, ◌≤◌, Bool, true, false, List, [], ◌∷◌, ◌++◌, length, Option, Some, None, refl, sym, ap, ◌∙◌, arith, append_assoc}
+use Rattle.std.specs.Prelude.{ℤ, nat_le}
 use Rattle.std.specs.Option.{option_and_then}
 use Rattle.std.proofs.lemmas.Bool.{le-leb, lt-ltb}
 use Rattle.std.proofs.lemmas.List.{append-nil}
@@ -12,18 +12,18 @@ use Rattle.il_model.specs.declared.program.Area.TheVariants as areas
 use Rattle.il_model.specs.declared.program.Loc.TheVariants.{Bit, Word}
 use Rattle.il_model.specs.declared.snapshot.ForcedSlot.{ForcedSlot}
 use Rattle.il_model.specs.Row.{same_type}
-use Rattle.il_model.specs.CodedOperands.{any_loc, area_loc}
-use Rattle.controller_model.specs.declared.forces.Mask.{Mask}
+use Rattle.il_model.specs.CodedOperands.{any_loc}
 use Rattle.controller_model.specs.declared.forces.Forces.{Forces}
 use Rattle.controller_model.specs.Commands.{forcible, forcible_at}
 use Rattle.controller_model.specs.Snapshots.{forced_bits, forced_words, forced_slots, fits_location, fit_forces}
+use Rattle.controller_model.proofs.Rising.{forces_from, forces_fit}
 use Rattle.controller_model.proofs.Fitting.{and_both}
 use Rattle.controller_model.proofs.ForcedSlots.{slot_as, listed, bits_listed, words_listed, bit_there, word_there, input_there, output_there}
 use Rattle.scan_cycle.specs.Parts.{AreMasks}
 
 -- ---- it fits
 
-list_fits : {A : Type 0} (g : A → Value) (least n : ℕ) (ms : List (Option A)) (rest : List ForcedSlot) → least ≤ n → ((p : ℕ) → n ≤ p → p < n + length ms → (x : A) → fits_location (g x) (forcible_at p) ≡ true) → ((more : ℕ) → more ≤ n + length ms → fit_forces more rest ≡ true) → fit_forces least (listed g n ms ++ rest) ≡ true
+list_fits : {A : Type 0} (g : A → Value) (least n : ℕ) (ms : List (Option A)) (rest : List ForcedSlot) → least ≤ n → ((p : ℕ) → n ≤ p → p < n + length ms → (x : A) → fits_location (g x) (forcible_at p) ≡ true) → ((more : ℕ) → more ≤ n + length ms → forces_from more rest ≡ true) → forces_from least (listed g n ms ++ rest) ≡ true
 list_fits g least n [] rest le h r = r least (omega (arith, le))
 list_fits g least n (None ∷ ms) rest le h r = list_fits g least (suc n) ms rest (omega (arith, le)) (λ p a b x. h p (omega (arith, a)) (omega (arith, b)) x) (λ more a. r more (omega (arith, a)))
 list_fits g least n (Some x ∷ ms) rest le h r =
@@ -68,9 +68,9 @@ slots_chain f =
     ∙ ap (λ d. (listed values.Bool 0 f.input.bits ++ listed values.Int 1024 f.input.words) ++ (listed values.Bool 4096 f.output.bits ++ d)) (words_listed 5120 f.output.words ∙ sym (append-nil (listed values.Int 5120 f.output.words)))
     ∙ append_assoc (listed values.Bool 0 f.input.bits) (listed values.Int 1024 f.input.words) (listed values.Bool 4096 f.output.bits ++ (listed values.Int 5120 f.output.words ++ []))
 
-pub slots_fit : (f : Forces) → AreMasks f → fit_forces 0 (forced_slots f) ≡ true
+pub slots_fit : (f : Forces) → AreMasks f → fit_forces (forced_slots f) ≡ true
 slots_fit f m =
-    ap (fit_forces 0) (slots_chain f)
+    sym (forces_fit (forced_slots f)) ∙ ap (forces_from 0) (slots_chain f)
     ∙ list_fits values.Bool 0 0 f.input.bits _ (omega arith) (λ p a b x. input_bit_fits p x (omega (arith, b, m.input.bits)))
     (λ more a. list_fits values.Int more 1024 f.input.words _ (omega (arith, a, m.input.bits)) (λ p a b x. input_word_fits p x a (omega (arith, b, m.input.words)))
     (λ more a. list_fits values.Bool more 4096 f.output.bits _ (omega (arith, a, m.input.words)) (λ p a b x. output_bit_fits p x a (omega (arith, b, m.output.bits)))

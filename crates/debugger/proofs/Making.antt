@@ -1,15 +1,12 @@
 -- The controller that a snapshot that fits is of.
-use Rattle.std.proofs.Common.{◌≡◌, cond, ℕ, zero, ◌<◌, ◌≤◌, Bool, true, false, List, [], ◌∷◌, length, map, reverse, Option, Some, None, Ok, refl, sym, ap, subst, ◌∙◌, arith}
+use Rattle.std.proofs.Common.{◌≡◌, cond, ℕ, ◌<◌, Bool, true, false, List, [], ◌∷◌, length, map, reverse, Option, Some, None, refl, sym, ap, subst, ◌∙◌, arith}
 use Rattle.std.specs.Prelude.{◌&&◌, nat_eq, nat_lt, is_none, IfSome}
 use Rattle.std.specs.Option.{option_map}
 use Rattle.std.proofs.lemmas.Bool.{eqb-true, ltb-true}
 use Rattle.std.proofs.lemmas.List.{reverse-reverse}
-use Rattle.il_model.specs.declared.value.Ty.{Ty}
 use Rattle.il_model.specs.declared.value.Value.{Value}
-use Rattle.il_model.specs.declared.program.Place.{Place}
 use Rattle.il_model.specs.declared.cells.Cells.{Cells}
 use Rattle.il_model.specs.declared.fetched.Deferred.{Deferred}
-use Rattle.il_model.specs.declared.typing.Held.{Held}
 use Rattle.il_model.specs.declared.snapshot.ForcedSlot.{ForcedSlot}
 use Rattle.il_model.specs.declared.snapshot.SavedPhase.{SavedPhase}
 use Rattle.il_model.specs.declared.snapshot.SavedPhase.TheVariants as saved_phases
@@ -17,37 +14,36 @@ use Rattle.il_model.specs.Snapshots.{SavedBlock, SavedController}
 use Rattle.il_model.specs.Text.{Text}
 use Rattle.il_model.specs.Values.{ty_of}
 use Rattle.il_model.specs.Resolved.{is_labelled}
-use Rattle.il_model.specs.Typing.{Shape, shape_at, arrived}
+use Rattle.il_model.specs.Typing.{Shape, shape_at, shape_on_arrival}
 use Rattle.il_model.proofs.RowTypes.{and_yes}
 use Rattle.controller_model.specs.declared.phase.Phase.{Phase}
 use Rattle.controller_model.specs.declared.phase.Phase.TheVariants as phases
 use Rattle.controller_model.specs.State.{State}
-use Rattle.controller_model.specs.Cold.{rested}
+use Rattle.controller_model.specs.Cold.{at_rest}
 use Rattle.controller_model.specs.Scan.{Cycle}
-use Rattle.controller_model.specs.Suits.{Suits, held_of}
-use Rattle.controller_model.specs.Commands.{Control}
-use Rattle.controller_model.specs.Snapshots.{break_positions, saved_phase, saved, own_types, are_types, fit_instances, fit_breaks, fit_forces, fits_types, fits_run, is_at_rest, fits_phase, fits}
-use Rattle.controller_model.proofs.Fitting.{IsTypedSo, types_fit}
-use Rattle.scan_cycle.specs.Parts.{FitsMachine, AreLawful, HasState}
+use Rattle.controller_model.specs.Suits.{held_of}
+use Rattle.controller_model.specs.Snapshots.{break_positions, saved_phase, snapshot_of, own_types, are_types, fit_instances, fit_breaks, fit_forces, fits_types, fits_run, is_at_rest, fits_phase, fits}
+use Rattle.controller_model.proofs.Fitting.{types_fit}
+use Rattle.scan_cycle.specs.Parts.{FitsMachine, AreLawful}
 use Rattle.scan_cycle.specs.Kept.{KeptCycle, IsCycleOf}
 use Rattle.scan_cycle.specs.Parts.{HasCycle, performed_in, RestoresCycle, AreMasks}
-use Rattle.debugger.specs.Owned.{Owned, IsOpen, IsKept, IsController}
+use Rattle.debugger.specs.Owned.{IsOpen, IsKept}
 use Rattle.debugger.specs.Restored.{IsRestored}
 
 -- the parts of a shape that fits
 pub record AreFitting (Q : Text) (budget : ℕ) (s : SavedController) : Type 0 where
   pub variables : are_types s.variables (own_types Q.variables) ≡ true
   pub instances : fit_instances Q.instances s.instances ≡ true
-  pub breaks : fit_breaks 0 (length Q.code) s.breaks ≡ true
-  pub forces : fit_forces 0 s.forces ≡ true
+  pub breaks : fit_breaks (length Q.code) s.breaks ≡ true
+  pub forces : fit_forces s.forces ≡ true
   pub phase : fits_phase Q budget s s.phase ≡ true
 
 pub fitting : (Q : Text) (budget : ℕ) (s : SavedController) → fits Q budget s ≡ true → AreFitting Q budget s
 fitting Q budget s h =
     let a = and_yes (are_types s.variables (own_types Q.variables)) _ h in
     let b = and_yes (fit_instances Q.instances s.instances) _ a.1 in
-    let c = and_yes (fit_breaks 0 (length Q.code) s.breaks) _ b.1 in
-    let d = and_yes (fit_forces 0 s.forces) (fits_phase Q budget s s.phase) c.1 in
+    let c = and_yes (fit_breaks (length Q.code) s.breaks) _ b.1 in
+    let d = and_yes (fit_forces s.forces) (fits_phase Q budget s s.phase) c.1 in
     record { variables = a.0; instances = b.0; breaks = c.0; forces = d.0; phase = d.1 }
 
 -- ---- at rest
@@ -82,7 +78,7 @@ no_kept false = refl
 rest_typed : (Q : Text) (s : SavedController) → IsResting s → fits_types s (shape_at Q s.position) ≡ true
 rest_typed Q s r =
     types_fit Q s (record {
-      shape = arrived Q 0 (record { cr = None; kept = [] });
+      shape = shape_on_arrival Q 0 (record { cr = None; kept = [] });
       types = ap (shape_at Q) r.position;
       cr = ap (option_map ty_of) r.cr ∙ no_cr (is_labelled Q 0);
       kept = ap (λ (ds : List Deferred). map held_of (reverse ds)) r.deferred ∙ no_kept (is_labelled Q 0);
@@ -105,10 +101,10 @@ fits_machine Q budget s h =
     let f = fitting Q budget s h in
     record { variables = f.variables; instances = f.instances; types = phase_typed Q budget s s.phase f.phase }
 
-pub fits_slots : (Q : Text) (budget : ℕ) (s : SavedController) → fits Q budget s ≡ true → fit_forces 0 s.forces ≡ true
+pub fits_slots : (Q : Text) (budget : ℕ) (s : SavedController) → fits Q budget s ≡ true → fit_forces s.forces ≡ true
 fits_slots Q budget s h = (fitting Q budget s h).forces
 
-pub fits_breaks : (Q : Text) (budget : ℕ) (s : SavedController) → fits Q budget s ≡ true → fit_breaks 0 (length Q.code) s.breaks ≡ true
+pub fits_breaks : (Q : Text) (budget : ℕ) (s : SavedController) → fits Q budget s ≡ true → fit_breaks (length Q.code) s.breaks ≡ true
 fits_breaks Q budget s h = (fitting Q budget s h).breaks
 
 performed_less : (Q : Text) (budget : ℕ) (s : SavedController) (p : SavedPhase) → 0 < budget → fits_phase Q budget s p ≡ true → performed_in p < budget
@@ -119,7 +115,7 @@ performed_less Q budget s (saved_phases.Stopped stop) some h = some
 nil_kept : (kept : List Deferred) → reverse kept ≡ [] → kept ≡ []
 nil_kept kept e = sym (reverse-reverse kept) ∙ ap reverse e
 
-rested_is : (st : State) → st.cr ≡ None → st.kept ≡ [] → st.position ≡ 0 → st ≡ rested st
+rested_is : (st : State) → st.cr ≡ None → st.kept ≡ [] → st.position ≡ 0 → st ≡ at_rest st
 rested_is st a b c =
     ap (λ (o : Option Value). let t : State = record st { cr = o } in t) a
     ∙ ap (λ (ds : List Deferred). let t : State = record st { cr = None; kept = ds } in t) b
@@ -156,7 +152,7 @@ saved_by : (a a2 : List Value) (b b2 : List SavedBlock) (i i2 o o2 m m2 : Cells)
     ≡ record { variables = a2; instances = b2; input = i2; output = o2; memory = m2; cr = cr2; deferred = d2; position = n2; count = t2; moment = u2; forces = f2; breaks = br2; phase = p2 }
 saved_by a a2 b b2 i i2 o o2 m m2 cr cr2 d d2 n n2 t t2 u u2 f f2 br br2 p p2 e1 e2 e3 e4 e5 e6 e7 e8 e9 e10 e11 e12 e13 = rw (e1, e2, e3, e4, e5, e6, e7, e8, e9, e10, e11, e12, e13) refl
 
-pub saved_is : (Q : Text) (s : SavedController) (c : Cycle) (flags : List Bool) (phase : Phase) → HasCycle Q s c → break_positions flags ≡ s.breaks → saved_phase phase c.performed ≡ s.phase → saved Q (record { cycle = c; breaks = flags; phase = phase }) ≡ s
+pub saved_is : (Q : Text) (s : SavedController) (c : Cycle) (flags : List Bool) (phase : Phase) → HasCycle Q s c → break_positions flags ≡ s.breaks → saved_phase phase c.performed ≡ s.phase → snapshot_of Q (record { cycle = c; breaks = flags; phase = phase }) ≡ s
 saved_is Q s c flags phase has breaks p =
     saved_by _ _ _ _ _ _ _ _ _ _ _ _ _ _ _ _ _ _ _ _ _ _ _ _ _ _ (sym has.state.variables) (sym has.state.instances) (sym has.state.input) (sym has.state.output) (sym has.state.memory) (sym has.state.cr) (sym has.state.deferred) (sym has.state.position) (sym has.count) (sym has.moment) (sym has.forces) breaks p
 

@@ -1,26 +1,27 @@
 -- What a scan leaves open.
-use Rattle.std.proofs.Common.{◌≡◌, ◌-◌, ℕ, ◌<◌, List, Bool, length, refl, ap, subst, sym, ◌∙◌}
+use Rattle.std.proofs.Common.{◌≡◌, ℕ, ◌<◌, List, Bool, length, refl, subst, sym}
 use Rattle.il_model.specs.Text.{Text}
 use Rattle.il_model.specs.Typing.{IsTyped}
 use Rattle.controller_model.specs.declared.phase.ScanOut.{ScanOut}
-use Rattle.controller_model.specs.declared.phase.Phase.{Phase}
-use Rattle.controller_model.specs.State.{State}
 use Rattle.controller_model.specs.Suits.{Suits}
-use Rattle.controller_model.specs.Scan.{Cycle, Ran, Ended, Paused, Halted, ran, ran_over, told_by, left_by, seen, ran_to, stepped_over}
+use Rattle.controller_model.specs.Scan.{Cycle, RunEnd, Done, Held, Stopped, run_from, run_from_break, one_step_run, scan_out, cycle_after, scan_result, scan_run, scan_run_over, scan_step}
 use Rattle.controller_model.specs.Commands.{phase_of}
 use Rattle.debugger.specs.Owned.{IsOpen}
-use Rattle.debugger.proofs.Opens.{IsBefore, run_before, over_before}
+use Rattle.debugger.proofs.Opens.{IsBefore, run_before, over_before, one_before}
 
-opened : (Q : Text) (budget : ℕ) (c : Cycle) (r : Ran) → IsBefore Q r → IsOpen Q (phase_of (told_by c r)) (left_by budget c r)
-opened Q budget c (Ended s) h = (refl, refl)
-opened Q budget c (Paused left s) h = h
-opened Q budget c (Halted stop s) h = (h, refl)
+opened : (Q : Text) (c : Cycle) (r : RunEnd) → IsBefore Q r → IsOpen Q (phase_of (scan_out c r)) (cycle_after c r)
+opened Q c (Done s) h = (refl, refl)
+opened Q c (Held performed s) h = h
+opened Q c (Stopped stop s) h = (h, refl)
 
-opened_so : (Q : Text) (budget : ℕ) (c : Cycle) (r : Ran) (x : ScanOut × Cycle) → x ≡ seen budget c r → IsBefore Q r → IsOpen Q (phase_of x.0) x.1
-opened_so Q budget c r x e h = subst (λ (y : ScanOut × Cycle). IsOpen Q (phase_of y.0) y.1) (sym e) (opened Q budget c r h)
+opened_so : (Q : Text) (c : Cycle) (r : RunEnd) (x : ScanOut × Cycle) → x ≡ scan_result c r → IsBefore Q r → IsOpen Q (phase_of x.0) x.1
+opened_so Q c r x e h = subst (λ (y : ScanOut × Cycle). IsOpen Q (phase_of y.0) y.1) (sym e) (opened Q c r h)
 
-pub run_opens : (Q : Text) (br : List Bool) (budget : ℕ) (c new : Cycle) (out : ScanOut) → IsTyped Q → Suits Q c.state → (out, new) ≡ ran_to Q br budget c → IsOpen Q (phase_of out) new
-run_opens Q br budget c new out typed suits e = opened_so Q budget c (ran Q c.moment br (budget - c.performed) c.state) (out, new) e (run_before Q c.moment br typed (budget - c.performed) c.state suits)
+pub run_opens : (Q : Text) (br : List Bool) (budget : ℕ) (c new : Cycle) (out : ScanOut) → IsTyped Q → Suits Q c.state → (out, new) ≡ scan_run Q br budget c → IsOpen Q (phase_of out) new
+run_opens Q br budget c new out typed suits e = opened_so Q c (run_from Q c.moment br budget c.performed c.state) (out, new) e (run_before Q c.moment br typed budget c.performed c.state suits)
 
-pub step_opens : (Q : Text) (br : List Bool) (budget : ℕ) (c new : Cycle) (out : ScanOut) → IsTyped Q → Suits Q c.state → c.state.position < length Q.code → (out, new) ≡ stepped_over Q br budget c → IsOpen Q (phase_of out) new
-step_opens Q br budget c new out typed suits here e = opened_so Q budget c (ran_over Q c.moment br (budget - c.performed) c.state) (out, new) e (over_before Q c.moment br typed (budget - c.performed) c.state suits here)
+pub over_opens : (Q : Text) (br : List Bool) (budget : ℕ) (c new : Cycle) (out : ScanOut) → IsTyped Q → Suits Q c.state → c.state.position < length Q.code → (out, new) ≡ scan_run_over Q br budget c → IsOpen Q (phase_of out) new
+over_opens Q br budget c new out typed suits here e = opened_so Q c (run_from_break Q c.moment br budget c.performed c.state) (out, new) e (over_before Q c.moment br typed budget c.performed c.state suits here)
+
+pub step_opens : (Q : Text) (budget : ℕ) (c new : Cycle) (out : ScanOut) → IsTyped Q → Suits Q c.state → c.state.position < length Q.code → (out, new) ≡ scan_step Q budget c → IsOpen Q (phase_of out) new
+step_opens Q budget c new out typed suits here e = opened_so Q c (one_step_run Q c.moment budget c.performed c.state) (out, new) e (one_before Q c.moment typed budget c.performed c.state suits here)

@@ -1,5 +1,5 @@
 -- What is saved of a controller fits, and no two controllers of one program and one budget are saved as the same.
-use Rattle.std.proofs.Common.{◌≡◌, ℕ, zero, suc, ◌<◌, ◌≤◌, Bool, true, false, List, [], ◌∷◌, length, map, reverse, Option, None, Result, Ok, Err, refl, sym, ap, subst, ◌∙◌, arith}
+use Rattle.std.proofs.Common.{◌≡◌, ℕ, ◌<◌, Bool, true, false, List, length, map, reverse, Option, Result, Ok, Err, refl, sym, ap, subst, ◌∙◌}
 use Rattle.std.specs.Prelude.{◌&&◌, nat_eq, nat_lt, is_none}
 use Rattle.std.proofs.lemmas.Bool.{lt-ltb}
 use Rattle.std.proofs.lemmas.List.{reverse-reverse}
@@ -7,11 +7,9 @@ use Rattle.il_model.specs.declared.value.Value.{Value}
 use Rattle.il_model.specs.declared.value.Stop.{Stop}
 use Rattle.il_model.specs.declared.cells.Cells.{Cells}
 use Rattle.il_model.specs.declared.fetched.Deferred.{Deferred}
-use Rattle.il_model.specs.declared.snapshot.SavedPhase.{SavedPhase}
 use Rattle.il_model.specs.Snapshots.{SavedController}
 use Rattle.il_model.specs.Text.{Text}
 use Rattle.il_model.specs.Typing.{shape_at}
-use Rattle.il_model.specs.Values.{ty_of}
 use Rattle.controller_model.specs.declared.forces.Forces.{Forces}
 use Rattle.controller_model.specs.declared.phase.Phase.{Phase}
 use Rattle.controller_model.specs.declared.phase.Phase.TheVariants as phases
@@ -19,13 +17,12 @@ use Rattle.controller_model.specs.State.{State, BlockInstance}
 use Rattle.controller_model.specs.Scan.{Cycle}
 use Rattle.controller_model.specs.Suits.{Suits, held_of}
 use Rattle.controller_model.specs.Commands.{Control}
-use Rattle.controller_model.specs.Snapshots.{own_values, saved_instance, break_positions, saved_phase, saved, own_types, are_types, fit_instances, fit_breaks, fit_forces, fits_types, fits_run, is_at_rest, fits_phase, fits}
-use Rattle.controller_model.proofs.Fitting.{and_both, of_types, instances_fit, IsTypedSo, types_fit}
-use Rattle.scan_cycle.specs.Parts.{AreLawful}
+use Rattle.controller_model.specs.Snapshots.{own_values, saved_instance, break_positions, saved_phase, snapshot_of, own_types, are_types, fit_instances, fit_breaks, fit_forces, fits_types, fits_run, fits_phase, fits}
+use Rattle.controller_model.proofs.Fitting.{and_both, of_types, instances_fit, types_fit}
 use Rattle.debugger.specs.declared.snap_error.SnapError.{SnapError}
 use Rattle.debugger.specs.declared.snap_error.SnapError.TheVariants.{BadBlock, BadShape, Memory}
 use Rattle.debugger.specs.Owned.{Owned, IsOpen, IsController}
-use Rattle.debugger.specs.Restored.{IsRestored, Restores, IsSame, RestoresTheSame}
+use Rattle.debugger.specs.Restored.{RestoresTheSame}
 use Rattle.controller_model.specs.State.{BlockInstance}
 use Rattle.controller_model.specs.Snapshots.{AreKnown}
 use Rattle.debugger.proofs.States.{states}
@@ -38,24 +35,24 @@ use Rattle.debugger.proofs.ForcesAgain.{slots_fit, forces_same}
 abbrev rests : State → Bool
 rests st = is_none st.cr && (nat_eq (length (reverse st.kept)) 0 && nat_eq st.position 0)
 
-run_fits : (Q : Text) (s : Control) → Suits Q s.cycle.state → s.cycle.state.position < length Q.code → fits_run Q (saved Q s) ≡ true
+run_fits : (Q : Text) (s : Control) → Suits Q s.cycle.state → s.cycle.state.position < length Q.code → fits_run Q (snapshot_of Q s) ≡ true
 run_fits Q s suits lt =
-    and_both (nat_lt s.cycle.state.position (length Q.code)) (fits_types (saved Q s) (shape_at Q s.cycle.state.position)) (lt-ltb s.cycle.state.position (length Q.code) lt)
-    (types_fit Q (saved Q s) (record { shape = suits.shape; types = suits.types; cr = suits.has.cr; kept = ap (map held_of) (reverse-reverse s.cycle.state.kept) ∙ suits.has.kept }))
+    and_both (nat_lt s.cycle.state.position (length Q.code)) (fits_types (snapshot_of Q s) (shape_at Q s.cycle.state.position)) (lt-ltb s.cycle.state.position (length Q.code) lt)
+    (types_fit Q (snapshot_of Q s) (record { shape = suits.shape; types = suits.types; cr = suits.has.cr; kept = ap (map held_of) (reverse-reverse s.cycle.state.kept) ∙ suits.has.kept }))
 
-phase_fits : (Q : Text) (budget : ℕ) (s : Control) (phase : Phase) → Suits Q s.cycle.state → IsOpen Q phase s.cycle → s.cycle.performed < budget → fits_phase Q budget (saved Q s) (saved_phase phase s.cycle.performed) ≡ true
+phase_fits : (Q : Text) (budget : ℕ) (s : Control) (phase : Phase) → Suits Q s.cycle.state → IsOpen Q phase s.cycle → s.cycle.performed < budget → fits_phase Q budget (snapshot_of Q s) (saved_phase phase s.cycle.performed) ≡ true
 phase_fits Q budget s phases.Idle suits is_open some = ap rests is_open.0
-phase_fits Q budget s phases.Held suits is_open some = and_both (fits_run Q (saved Q s)) (nat_lt s.cycle.performed budget) (run_fits Q s suits is_open) (lt-ltb s.cycle.performed budget some)
+phase_fits Q budget s phases.Held suits is_open some = and_both (fits_run Q (snapshot_of Q s)) (nat_lt s.cycle.performed budget) (run_fits Q s suits is_open) (lt-ltb s.cycle.performed budget some)
 phase_fits Q budget s (phases.Stopped stop) suits is_open some = run_fits Q s suits is_open.0
 
-pub saved_fits : (o : Owned) → IsController o → fits o.program o.budget (saved o.program o.control) ≡ true
+pub saved_fits : (o : Owned) → IsController o → fits o.program o.budget (snapshot_of o.program o.control) ≡ true
 saved_fits o is =
     let st = o.control.cycle.state in
     let own : List Value = own_values o.program.variables st.own in
     and_both (are_types own (own_types o.program.variables)) _ (ap (are_types own) (sym (own_typed o.program.variables st.own is.suits.values.own)) ∙ of_types own)
     (and_both (fit_instances o.program.instances (map saved_instance st.instances)) _ (instances_fit o.program.instances st.instances is.suits.values.instances)
-    (and_both (fit_breaks 0 (length o.program.code) (break_positions o.control.breaks)) _ (positions_fit o.control.breaks (length o.program.code) is.breaks)
-    (and_both (fit_forces 0 (saved o.program o.control).forces) _ (slots_fit o.control.cycle.forces is.forces)
+    (and_both (fit_breaks (length o.program.code) (break_positions o.control.breaks)) _ (positions_fit o.control.breaks (length o.program.code) is.breaks)
+    (and_both (fit_forces (snapshot_of o.program o.control).forces) _ (slots_fit o.control.cycle.forces is.forces)
     (phase_fits o.program o.budget o.control o.control.phase is.suits is.scan is.performed))))
 
 -- ---- it is one's own
@@ -89,7 +86,7 @@ owned_same o p a b c =
     ∙ ap (λ (n : ℕ). let x : Owned = record { program = p.program; budget = n; control = o.control } in x) b
     ∙ ap (λ (k : Control). let x : Owned = record { program = p.program; budget = p.budget; control = k } in x) c
 
-pub one_saved : ((xs ys : List BlockInstance) → AreKnown xs ys) → (o p : Owned) → IsController o → IsController p → o.program ≡ p.program → o.budget ≡ p.budget → saved o.program o.control ≡ saved p.program p.control → o ≡ p
+pub one_saved : ((xs ys : List BlockInstance) → AreKnown xs ys) → (o p : Owned) → IsController o → IsController p → o.program ≡ p.program → o.budget ≡ p.budget → snapshot_of o.program o.control ≡ snapshot_of p.program p.control → o ≡ p
 one_saved known o p a b is-program is-budget e =
     let xs = known o.control.cycle.state.instances p.control.cycle.state.instances a.blocks b.blocks (ap (λ (s : SavedController). s.instances) e) in
     let kept : o.control.cycle.state.kept ≡ p.control.cycle.state.kept =
@@ -112,7 +109,7 @@ true_false : (b : Bool) → b ≡ true → b ≡ false → ⊥
 true_false b e f = cc
 
 pub restored_same : ((xs ys : List BlockInstance) → AreKnown xs ys) → (o : Owned) (r : Result Owned SnapError) → RestoresTheSame o r
-restored_same known o (Ok c) = λ is h. one_saved known c o h.lawful is h.program h.budget_is (ap (λ (Q : Text). saved Q c.control) h.program ∙ h.saved)
-restored_same known o (Err BadShape) = λ is h. absurd (true_false (fits o.program o.budget (saved o.program o.control)) (saved_fits o is) h)
+restored_same known o (Ok c) = λ is h. one_saved known c o h.lawful is h.program h.budget_is (ap (λ (Q : Text). snapshot_of Q c.control) h.program ∙ h.saved)
+restored_same known o (Err BadShape) = λ is h. absurd (true_false (fits o.program o.budget (snapshot_of o.program o.control)) (saved_fits o is) h)
 restored_same known o (Err BadBlock) = λ is h. absurd (states o.control.cycle.state.instances (map saved_instance o.control.cycle.state.instances) refl is.blocks h.1)
 restored_same known o (Err Memory) = λ is h. refl

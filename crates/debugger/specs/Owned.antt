@@ -1,9 +1,10 @@
 -- What a controller owns, and what always holds of it.
 use Rattle.std.specs.Prelude.{◌≡◌, ◌<◌, ℕ, Bool, List, length}
+use Rattle.il_model.specs.declared.command.Answer.{Answer}
 use Rattle.il_model.specs.Text.{Text}
 use Rattle.controller_model.specs.declared.phase.Phase.{Phase}
 use Rattle.controller_model.specs.declared.phase.Phase.TheVariants as phases
-use Rattle.controller_model.specs.Cold.{rested}
+use Rattle.controller_model.specs.Cold.{at_rest}
 use Rattle.controller_model.specs.Scan.{Cycle}
 use Rattle.controller_model.specs.Suits.{Suits}
 use Rattle.controller_model.specs.Commands.{Control, cold_control}
@@ -21,9 +22,13 @@ pub record Owned : Type 0 where
 abbrev pub cold_owned : Text → ℕ → Owned
 cold_owned Q budget = record { program = Q; budget = budget; control = cold_control Q }
 
+-- an answer, and what is owned with the control that is left
+abbrev pub with_control : Owned → Answer × Control → Answer × Owned
+with_control o x = (x.0, record o { control = x.1 })
+
 -- while no scan is open the machine is at rest; an open one is before an instruction; only a held one counts what it performed
 abbrev pub IsOpen : Text → Phase → Cycle → Type 0
-IsOpen Q phases.Idle c = (c.state ≡ rested c.state) × (c.performed ≡ 0)
+IsOpen Q phases.Idle c = (c.state ≡ at_rest c.state) × (c.performed ≡ 0)
 IsOpen Q phases.Held c = c.state.position < length Q.code
 IsOpen Q (phases.Stopped stop) c = (c.state.position < length Q.code) × (c.performed ≡ 0)
 

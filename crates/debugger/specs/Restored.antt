@@ -2,7 +2,7 @@
 use Rattle.std.specs.Prelude.{◌≡◌, ℕ, true, false, Result, Ok, Err}
 use Rattle.il_model.specs.Snapshots.{SavedController}
 use Rattle.il_model.specs.Text.{Text}
-use Rattle.controller_model.specs.Snapshots.{saved, fits}
+use Rattle.controller_model.specs.Snapshots.{snapshot_of, fits}
 use Rattle.scan_cycle.specs.Parts.{HaveBlocks, HasNoState}
 use Rattle.debugger.specs.declared.snap_error.SnapError.{SnapError}
 use Rattle.debugger.specs.declared.snap_error.SnapError.TheVariants.{BadBlock, BadShape, Memory}
@@ -17,7 +17,7 @@ error_number Memory = 3
 pub record IsRestored (Q : Text) (budget : ℕ) (s : SavedController) (c : Owned) : Type 0 where
   pub program : c.program ≡ Q
   pub budget_is : c.budget ≡ budget
-  pub saved : saved Q c.control ≡ s
+  pub saved : snapshot_of Q c.control ≡ s
   pub fits : fits Q budget s ≡ true
   pub lawful : IsController c
 
@@ -36,4 +36,4 @@ IsSame o (Err e) = e ≡ Memory
 
 -- what is saved of a controller is restored, with the same program and budget, to the same controller, unless memory runs out
 abbrev pub RestoresTheSame : Owned → Result Owned SnapError → Type 0
-RestoresTheSame o r = IsController o → Restores o.program o.budget (saved o.program o.control) r → IsSame o r
+RestoresTheSame o r = IsController o → Restores o.program o.budget (snapshot_of o.program o.control) r → IsSame o r

@@ -21,7 +21,7 @@ pub fn break_positions(alloc: Global, flags: &[bool]) -> Result<Vec<u16>, AllocE
 
 /// A flag for each instruction: whether its position is one of these, which rise.
 pub fn break_flags(alloc: Global, len: usize, positions: &[u16]) -> Result<Vec<bool>, AllocError>
-    requires { fit_breaks 0 len positions.now ≡ true }
+    requires { fit_breaks len positions.now ≡ true }
     ensures listed { IfOk result (λ v. break_positions v.items ≡ positions.now) }
     ensures each { IfOk result (λ v. length v.items ≡ len) }
 {

@@ -2,14 +2,14 @@
 
 ghost use Rattle.std.specs.Prelude.{◌≡◌, IfOk};
 ghost use Rattle.il_model.specs.declared.command.Refusal.TheVariants.{BadSlot};
-ghost use Rattle.il_model.specs.declared.command.Command.TheVariants.{Reset};
+ghost use Rattle.il_model.specs.declared.command.Command.TheVariants.{Step, Continue, Reset};
 ghost use Rattle.il_model.specs.declared.command.Answer.TheVariants.{Stopped};
 ghost use Rattle.il_model.specs.Cells.{safe_image};
-ghost use Rattle.controller_model.specs.Slots.{places_of, peeked};
-ghost use Rattle.controller_model.specs.Commands.{answer_of, phase_of, scanned, gone_on, every, flagged, forcible_at, forced_at, unforced_at, shown, result_read, applied};
-ghost use Rattle.controller_model.specs.Snapshots.{saved_phase, saved};
+ghost use Rattle.controller_model.specs.Slots.{places_of, slot_value};
+ghost use Rattle.controller_model.specs.Commands.{answer_of, phase_of, on_scan, on_break, forcible_at, on_force, on_unforce, value_answer, result_read, command_outcome};
+ghost use Rattle.controller_model.specs.Snapshots.{saved_phase, snapshot_of};
 ghost use Rattle.scan_cycle.specs.Parts.{performed_in};
-ghost use Rattle.debugger.specs.Owned.{cold_owned, IsController};
+ghost use Rattle.debugger.specs.Owned.{cold_owned, with_control, IsController};
 ghost use Rattle.debugger.specs.Restored.{Restores};
 
 use crate::breaks::{break_flags, break_positions};
@@ -76,6 +76,15 @@ fn phase_of(out: ScanOut) -> Phase
         ScanOut::Held(_) => Phase::Held,
         ScanOut::Stopped(stop, _) => Phase::Stopped(stop),
     }
+}
+
+/// What a scan tells, as an answer; the phase is then that which it left.
+fn tell(phase: &mut Phase, count: u64, out: ScanOut) -> Answer
+    ensures answer { result ≡ answer_of count out }
+    ensures phase { phase.new ≡ phase_of out }
+{
+    *phase = phase_of(out);
+    answer_of(count, out)
 }
 
 /// What a snapshot has of a phase; a held scan has performed so many instructions.
@@ -146,7 +155,7 @@ impl Controller {
     /// What a snapshot is to have of it: all that its answers depend on but its image and its budget. It fails only where memory
     /// runs out.
     pub fn save(&self, alloc: Global) -> Result<Snapshot, AllocError>
-        ensures saved { IfOk result (λ s. s ≡ saved self.now.program self.now.control) }
+        ensures saved { IfOk result (λ s. s ≡ snapshot_of self.now.program self.now.control) }
         ensures lawful { IfOk result (λ s. IsController self.now) }
     {
         self.cycle.whole();
@@ -196,71 +205,48 @@ impl Controller {
     }
 
     fn scan(&mut self, inputs: &InImage, moment: u64) -> Answer
-        ensures scanned { (result, self.new.control) ≡ scanned self.old.program self.old.budget self.old.control inputs.now moment self.old.control.phase }
-        ensures program { self.new.program ≡ self.old.program }
-        ensures budget { self.new.budget ≡ self.old.budget }
+        ensures { (result, self.new) ≡ with_control self.old (on_scan self.old.program self.old.budget self.old.control inputs.now moment self.old.control.phase) }
     {
         match self.phase {
             Phase::Idle => {
                 self.image.lawful();
                 self.cycle.begin(inputs, moment);
                 let out = self.cycle.run_to(&self.image, &self.breaks, self.budget);
-                self.phase = phase_of(out);
-                answer_of(self.cycle.count(), out)
+                tell(&mut self.phase, self.cycle.count(), out)
             }
             Phase::Held => Answer::Held(self.cycle.pos()),
             Phase::Stopped(stop) => stopped(stop, self.cycle.pos()),
         }
     }
 
-    /// A held scan goes on over its instruction, to the first of these breakpoints.
-    fn go_on(&mut self, breaks: &[bool; 4096]) -> Answer
-        ensures went { (result, self.new.control) ≡ gone_on self.old.program self.old.budget self.old.control breaks.now self.old.control.phase }
-        ensures program { self.new.program ≡ self.old.program }
-        ensures budget { self.new.budget ≡ self.old.budget }
+    fn step(&mut self) -> Answer
+        ensures { (result, self.new) ≡ with_control self.old (command_outcome self.old.program self.old.budget self.old.control Step) }
     {
         match self.phase {
             Phase::Held => {
                 self.image.lawful();
-                let out = self.cycle.step_over(&self.image, breaks, self.budget);
-                self.phase = phase_of(out);
-                answer_of(self.cycle.count(), out)
+                let out = self.cycle.step(&self.image, self.budget);
+                tell(&mut self.phase, self.cycle.count(), out)
             }
             Phase::Idle | Phase::Stopped(_) => Answer::Refused(Refusal::NotHeld),
         }
     }
 
-    /// It goes on with a breakpoint at every position, so to the next one.
-    fn step(&mut self) -> Answer
-        ensures went { (result, self.new.control) ≡ gone_on self.old.program self.old.budget self.old.control every self.old.control.phase }
-        ensures program { self.new.program ≡ self.old.program }
-        ensures budget { self.new.budget ≡ self.old.budget }
-    {
-        let every = [true; 4096];
-        self.go_on(&every)
-    }
-
-    /// It goes on to the first of its own breakpoints.
-    fn run_on(&mut self) -> Answer
-        ensures went { (result, self.new.control) ≡ gone_on self.old.program self.old.budget self.old.control self.old.control.breaks self.old.control.phase }
-        ensures program { self.new.program ≡ self.old.program }
-        ensures budget { self.new.budget ≡ self.old.budget }
+    fn go_on(&mut self) -> Answer
+        ensures { (result, self.new) ≡ with_control self.old (command_outcome self.old.program self.old.budget self.old.control Continue) }
     {
         match self.phase {
             Phase::Held => {
                 self.image.lawful();
                 let out = self.cycle.step_over(&self.image, &self.breaks, self.budget);
-                self.phase = phase_of(out);
-                answer_of(self.cycle.count(), out)
+                tell(&mut self.phase, self.cycle.count(), out)
             }
             Phase::Idle | Phase::Stopped(_) => Answer::Refused(Refusal::NotHeld),
         }
     }
 
     fn flag(&mut self, position: u16, set: bool) -> Answer
-        ensures flagged { (result, self.new.control) ≡ flagged self.old.program self.old.control position set }
-        ensures program { self.new.program ≡ self.old.program }
-        ensures budget { self.new.budget ≡ self.old.budget }
+        ensures { (result, self.new) ≡ with_control self.old (on_break self.old.program self.old.control position set) }
     {
         let position = position as usize;
         if position < self.image.len() {
@@ -272,9 +258,7 @@ impl Controller {
     }
 
     fn force(&mut self, slot: Slot, v: Value) -> Answer
-        ensures forced { (result, self.new.control) ≡ forced_at self.old.control v (forcible_at slot.0) }
-        ensures program { self.new.program ≡ self.old.program }
-        ensures budget { self.new.budget ≡ self.old.budget }
+        ensures { (result, self.new) ≡ with_control self.old (on_force self.old.control v (forcible_at slot.0)) }
     {
         match forcible_at(slot) {
             None => Answer::Refused(Refusal::BadSlot),
@@ -289,9 +273,7 @@ impl Controller {
     }
 
     fn unforce(&mut self, slot: Slot) -> Answer
-        ensures unforced { (result, self.new.control) ≡ unforced_at self.old.control (forcible_at slot.0) }
-        ensures program { self.new.program ≡ self.old.program }
-        ensures budget { self.new.budget ≡ self.old.budget }
+        ensures { (result, self.new) ≡ with_control self.old (on_unforce self.old.control (forcible_at slot.0)) }
     {
         match forcible_at(slot) {
             None => Answer::Refused(Refusal::BadSlot),
@@ -306,7 +288,7 @@ impl Controller {
     }
 
     fn read(&self, slot: Slot) -> Answer
-        ensures { (result, self.now.control) ≡ shown self.now.control (peeked (places_of self.now.program) self.now.control.cycle.state slot.0) BadSlot }
+        ensures { (result, self.now.control) ≡ value_answer self.now.control (slot_value (places_of self.now.program) self.now.control.cycle.state slot.0) BadSlot }
     {
         match self.cycle.peek(slot) {
             Some(v) => Answer::Value(v),
@@ -327,9 +309,7 @@ impl Controller {
     }
 
     fn reset(&mut self) -> Answer
-        ensures reset { (result, self.new.control) ≡ applied self.old.program self.old.budget self.old.control Reset }
-        ensures program { self.new.program ≡ self.old.program }
-        ensures budget { self.new.budget ≡ self.old.budget }
+        ensures { (result, self.new) ≡ with_control self.old (command_outcome self.old.program self.old.budget self.old.control Reset) }
     {
         self.cycle.reset(&self.image);
         self.phase = Phase::Idle;
@@ -357,7 +337,7 @@ impl Controller {
     /// `ReadVar` tells the value of any slot, or is refused as `BadSlot`. `Reset` is `Done`: all variables at their first values,
     /// the controller idle; forces, breakpoints, the moment and the count stay.
     pub fn apply(&mut self, command: &Command) -> Answer
-        ensures applied { (result, self.new.control) ≡ applied self.old.program self.old.budget self.old.control command.now }
+        ensures applied { (result, self.new.control) ≡ command_outcome self.old.program self.old.budget self.old.control command.now }
         ensures program { self.new.program ≡ self.old.program }
         ensures budget { self.new.budget ≡ self.old.budget }
     {
@@ -366,7 +346,7 @@ impl Controller {
             Command::SetBreak(position) => self.flag(position, true),
             Command::ClearBreak(position) => self.flag(position, false),
             Command::Step => self.step(),
-            Command::Continue => self.run_on(),
+            Command::Continue => self.go_on(),
             Command::Force(slot, v) => self.force(slot, v),
             Command::Unforce(slot) => self.unforce(slot),
             Command::ReadVar(slot) => self.read(slot),

@@ -25,7 +25,7 @@ fn fits_location(value: Value, slot: Slot) -> bool
 
 /// Whether the slots rise, and each is a location with a value of its type.
 fn fit_forces(forces: &[ForcedSlot]) -> bool
-    ensures { result ≡ fit_forces 0 forces.now }
+    ensures { result ≡ fit_forces forces.now }
 {
     let mut least = 0;
     for forced in forces {
@@ -39,7 +39,7 @@ fn fit_forces(forces: &[ForcedSlot]) -> bool
 
 /// Whether the positions rise, and each is an instruction's.
 fn fit_breaks(positions: &[u16], end: usize) -> bool
-    ensures { result ≡ fit_breaks 0 end positions.now }
+    ensures { result ≡ fit_breaks end positions.now }
 {
     let mut least = 0;
     for position in positions {

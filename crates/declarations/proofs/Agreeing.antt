@@ -4,7 +4,7 @@ use Rattle.std.specs.List.{flat_map}
 use Rattle.std.proofs.lemmas.List.{append-nil}
 use Rattle.declarations.specs.declared.fault.DeclKind.{DeclKind}
 use Rattle.declarations.specs.declared.fault.Refusal.{Refusal}
-use Rattle.declarations.specs.Resolution.{◌>>=◌, each}
+use Rattle.declarations.specs.Walk.{◌>>=◌, each}
 use Rattle.declarations.proofs.FaultList.{when, beside}
 
 -- it fails at the first fault, and not where there is none

@@ -22,7 +22,8 @@ use Rattle.declarations.specs.declared.variables.DeclaredType.{DeclaredType}
 use Rattle.declarations.specs.declared.variables.DeclaredType.TheVariants.{Elementary, Block}
 use Rattle.declarations.specs.declared.fault.DeclKind.TheVariants as kinds
 use Rattle.declarations.specs.declared.fault.Refusal.{Refusal}
-use Rattle.declarations.specs.Resolution.{◌>>=◌, each, refused, capitals, declared_type, nothing, has_name, has_instance, is_full, new_name, suits, free_loc, free_location, found_type, known_type, fitted, written_value, elementary_value, first_value, planned_value, with_declared, plan_of, declare_name, declare_located, declare_listed, declare_by, declare, declare_block}
+use Rattle.declarations.specs.Resolution.{capitals, declared_type, suits, written_value}
+use Rattle.declarations.specs.Walk.{◌>>=◌, each, refused, nothing, has_name, has_instance, is_full, new_name, free_loc, free_location, found_type, known_type, fitted, elementary_value, first_value, planned_value, with_declared, plan_of, declare_name, declare_located, declare_listed, declare_by, declare, declare_block}
 use Rattle.declarations.specs.Declaring.{DeclaredName, named_in, other_names, names_in, declarations_of, type_in, location_in, start_of, variable_by, variable_of, is_occupied}
 use Rattle.declarations.proofs.FaultList.{when, beside, name_faults, place_faults, location_faults, start_faults, declaration_faults, faults_of_declarations}
 use Rattle.declarations.proofs.Agreeing.{Agrees, ok_is, then_agrees, made_agrees, test_agrees, last_agrees, each_agrees, each_kept, each_flat, bind_ok, bind_assoc}

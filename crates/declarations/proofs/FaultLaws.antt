@@ -22,7 +22,8 @@ use Rattle.declarations.specs.declared.fault.Refusal.{Refusal}
 use Rattle.declarations.specs.declared.fault.Fault.{Fault}
 use Rattle.declarations.specs.declared.fault.DeclError.{DeclError}
 use Rattle.declarations.specs.declared.fault.DeclError.TheVariants as errors
-use Rattle.declarations.specs.Resolution.{program_at, told, resolution_of, Answers}
+use Rattle.declarations.specs.Resolution.{Answers}
+use Rattle.declarations.specs.Walk.{program_at, told, resolution_of}
 use Rattle.declarations.specs.Declaring.{arguments_behind, IsArgumentOf, IsOperationOf, IsBehindLabel, IsInstructionOf, IsProgramOf}
 use Rattle.declarations.proofs.FaultList.{faults_of, Among}
 use Rattle.declarations.proofs.FaultRules.{had, listed}
@@ -188,7 +189,7 @@ placed bytes kind left = record { kind = kind; place = place_at bytes left }
 abbrev fault : DeclKind → Place → Fault
 fault kind place = record { kind = kind; place = place }
 
-one_refused : (s : SourceText) (F G : Fault) → IsRefused s F → IsRefused s G → F ≡ G
+pub one_refused : (s : SourceText) (F G : Fault) → IsRefused s F → IsRefused s G → F ≡ G
 one_refused s F G a b =
     let same = both_told a.fault b.fault (a.first.first b.fault b.first.has) (b.first.first a.fault a.first.has) in
     ap (λ (k : DeclKind). fault k F.place) (a.kind ∙ same.kind ∙ sym b.kind) ∙ ap (λ (l : Place). fault G.kind l) (a.place ∙ ap (place_at s.text) same.left ∙ sym b.place)

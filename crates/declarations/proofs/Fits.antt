@@ -26,10 +26,10 @@ use Rattle.il_model.specs.declared.program.Operand.{Operand}
 use Rattle.il_model.specs.declared.program.Operand.TheVariants as operands
 use Rattle.il_model.specs.declared.program.Instr.{Instr}
 use Rattle.il_model.specs.declared.codes.Usage.{Usage}
-use Rattle.il_model.specs.declared.codes.Form as usage
-use Rattle.il_model.specs.declared.codes.Form.TheVariants as usages
+use Rattle.il_model.specs.declared.codes.OperandForm as usage
+use Rattle.il_model.specs.declared.codes.OperandForm.TheVariants as usages
 use Rattle.il_model.specs.Text.{Text, Declarations}
-use Rattle.il_model.specs.Values.{ty_of, number_of, made, zero_of}
+use Rattle.il_model.specs.Values.{ty_of, number_of, typed_value, zero_of}
 use Rattle.il_model.specs.Literals.{literal_of}
 use Rattle.il_model.specs.Names.{same_name, is_reserved, is_lawful_name}
 use Rattle.il_model.specs.Resolved.{instance_in}
@@ -37,7 +37,7 @@ use Rattle.il_model.specs.Words.{spells, look, mnemonic_of, mnemonic_table}
 use Rattle.il_model.specs.CodedOperands.{loc_code, IsCell}
 use Rattle.il_model.specs.Image.{type_code}
 use Rattle.il_model.specs.Areas.{area_of}
-use Rattle.il_model.specs.Typing.{is_output}
+use Rattle.il_model.specs.Typing.{is_writable_area}
 use Rattle.il_model.specs.Codes as codes_of
 use Rattle.il_model.specs.Codes.{is_new_name, is_taken, length_of, may_start_with, usage_of, has_form, allowed_by, formed_by, is_empty}
 use Rattle.il_model.specs.Fits.{IsVariable, IsInstance, AreItems}
@@ -60,8 +60,10 @@ use Rattle.declarations.specs.declared.variables.Plan.{Plan}
 use Rattle.declarations.specs.declared.variables.DeclaredType.{DeclaredType}
 use Rattle.declarations.specs.declared.variables.DeclaredType.TheVariants.{Elementary, Block}
 use Rattle.il_model.specs.Locations as written
-use Rattle.declarations.specs.Resolution.{◌>>=◌, each, refused, capitals, declared_type, nothing, has_name, has_instance, is_full, new_name, suits, free_loc, free_location, found_type, known_type, variable, same_type, fitting, fitted, is_input, written_value, elementary_value, first_value, planned_value, with_declared, declare_name, declare_located, declare_listed, declare_by, declare, declare_block, direct, constant, argument_of, pushed_argument, behind_arguments, behind_of, opens, with_opening, instruction_of, room, label_of, instruct_labelled, instruct_plain, instruct}
+use Rattle.declarations.specs.Resolution.{capitals, declared_type, suits, variable, same_type, fitting, is_input, written_value, opens, with_opening}
+use Rattle.declarations.specs.Walk.{◌>>=◌, each, refused, nothing, has_name, has_instance, is_full, new_name, free_loc, free_location, found_type, known_type, fitted, elementary_value, first_value, planned_value, with_declared, declare_name, declare_located, declare_listed, declare_by, declare, declare_block, direct, constant, argument_of, pushed_argument, behind_arguments, behind_of, instruction_of, room, label_of, instruct_labelled, instruct_plain, instruct}
 use Rattle.declarations.specs.Resolution as resolution
+use Rattle.declarations.specs.Walk as walk
 use Rattle.declarations.proofs.Capitals.{capitals_lawful, capitals_length}
 use Rattle.il_model.proofs.CodedOperands.{loc_small, located_again}
 use Rattle.il_model.proofs.WrittenLocations.{location_cell}
@@ -211,7 +213,7 @@ not_false : (b : Bool) → not b ≡ false → b ≡ true
 not_false true e = refl
 not_false false e = absurd cc
 
-zero_made : (type : Ty) → made type (pos 0) ≡ Some (zero_of type)
+zero_made : (type : Ty) → typed_value type (pos 0) ≡ Some (zero_of type)
 zero_made types.Bool = refl
 zero_made types.Int = refl
 zero_made types.Dint = refl
@@ -219,10 +221,10 @@ zero_made types.Time = refl
 
 zero_may : (type : Ty) (loc : Option Loc) → may_start_with loc (zero_of type) ≡ true
 zero_may type None = refl
-zero_may types.Bool (Some loc) = or_true (is_output (area_of loc))
-zero_may types.Int (Some loc) = or_true (is_output (area_of loc))
-zero_may types.Dint (Some loc) = or_true (is_output (area_of loc))
-zero_may types.Time (Some loc) = or_true (is_output (area_of loc))
+zero_may types.Bool (Some loc) = or_true (is_writable_area (area_of loc))
+zero_may types.Int (Some loc) = or_true (is_writable_area (area_of loc))
+zero_may types.Dint (Some loc) = or_true (is_writable_area (area_of loc))
+zero_may types.Time (Some loc) = or_true (is_writable_area (area_of loc))
 
 abbrev one_value : Value → Option Value
 one_value v = Some v
@@ -230,18 +232,18 @@ one_value v = Some v
 value_is : (x y : Value) → one_value x ≡ one_value y → x ≡ y
 value_is x y e = cc
 
-fitting_made : (type : Ty) (o : Option Literal) (v : Value) → fitting type o ≡ Some v → (z : ℤ) × (made type z ≡ Some v)
+fitting_made : (type : Ty) (o : Option Literal) (v : Value) → fitting type o ≡ Some v → (z : ℤ) × (typed_value type z ≡ Some v)
 fitting_made type None v e = absurd cc
 fitting_made type (Some (Bare z)) v e = (z, e)
 fitting_made type (Some (Typed w)) v e = chosen (same_type (ty_of w) type) e
   where
-    chosen : (b : Bool) → cond b (made type (number_of w)) None ≡ Some v → (z : ℤ) × (made type z ≡ Some v)
+    chosen : (b : Bool) → cond b (typed_value type (number_of w)) None ≡ Some v → (z : ℤ) × (typed_value type z ≡ Some v)
     chosen true h = (number_of w, h)
     chosen false h = absurd cc
 
 may_written : (loc : Option Loc) (v : Value) → is_input loc ≡ false → may_start_with loc v ≡ true
 may_written None v e = refl
-may_written (Some loc) v e = rw (not_false (is_output (area_of loc)) e) refl
+may_written (Some loc) v e = rw (not_false (is_writable_area (area_of loc)) e) refl
 
 written_start : (type : Ty) (loc : Option Loc) (t : Token) (v : Value) → written_value type loc t ≡ Some v → IsStart type loc v
 written_start type loc t v e = chosen (is_input loc) refl e
@@ -353,16 +355,16 @@ located_keeps known d at z fine word e =
 listed_keeps : (known : Declarations) (d : DeclarationText) (more : List Token) (z : Declarations) → Fine known → IsWordText d.name.text → AllByRecursion IsWordName more → declare_listed known d more ≡ Ok z → Fine z
 unfolding declare_listed
 listed_keeps known d more z fine word words e =
-    let made : Option DeclaredType → Plan = λ o. plan o (planned_value o d.initial) in
-    let a = bind_ok (declare_name (made (declared_type d.ty.text)) known d.name) (λ first. each (declare_name (made (declared_type d.ty.text))) first more >>= λ named. known_type d.ty >>= λ type. first_value type None d.initial >>= λ v. Ok named) z e in
-    let b = bind_ok (each (declare_name (made (declared_type d.ty.text))) a.0 more) (λ named. known_type d.ty >>= λ type. first_value type None d.initial >>= λ v. Ok named) z a.2 in
+    let typed_value : Option DeclaredType → Plan = λ o. plan o (planned_value o d.initial) in
+    let a = bind_ok (declare_name (typed_value (declared_type d.ty.text)) known d.name) (λ first. each (declare_name (typed_value (declared_type d.ty.text))) first more >>= λ named. known_type d.ty >>= λ type. first_value type None d.initial >>= λ v. Ok named) z e in
+    let b = bind_ok (each (declare_name (typed_value (declared_type d.ty.text))) a.0 more) (λ named. known_type d.ty >>= λ type. first_value type None d.initial >>= λ v. Ok named) z a.2 in
     let c = bind_ok (known_type d.ty) (λ type. first_value type None d.initial >>= λ v. Ok b.0) z b.2 in
     let f = bind_ok (first_value c.0 None d.initial) (λ v. Ok b.0) z c.2 in
     let type = type_is d.ty c.0 c.1 in
     let v = planned_value (Some c.0) d.initial in
     let start : Starts c.0 None v = planned_start c.0 d.initial f.0 f.1 in
-    let first : Fine a.0 = name_keeps c.0 v known d.name a.0 start fine word (subst (λ (o : Option DeclaredType). declare_name (made o) known d.name ≡ Ok a.0) type a.1) in
-    let rest : Fine b.0 = each_keeps Fine IsWordName (declare_name (made (Some c.0))) (λ y t w p q h. name_keeps c.0 v y t w start p q h) a.0 more b.0 first words (subst (λ (o : Option DeclaredType). each (declare_name (made o)) a.0 more ≡ Ok b.0) type b.1) in
+    let first : Fine a.0 = name_keeps c.0 v known d.name a.0 start fine word (subst (λ (o : Option DeclaredType). declare_name (typed_value o) known d.name ≡ Ok a.0) type a.1) in
+    let rest : Fine b.0 = each_keeps Fine IsWordName (declare_name (typed_value (Some c.0))) (λ y t w p q h. name_keeps c.0 v y t w start p q h) a.0 more b.0 first words (subst (λ (o : Option DeclaredType). each (declare_name (typed_value o)) a.0 more ≡ Ok b.0) type b.1) in
     subst Fine (ok_is b.0 z f.2) rest
 
 by_names : (known : Declarations) (d : DeclarationText) (x : NamesText) (z : Declarations) → Fine known → IsWordText d.name.text → AreWordNames x → declare_by known d x ≡ Ok z → Fine z
@@ -487,7 +489,7 @@ value_form o operands.Absent e = absurd cc
 value_form o (operands.Label name) e = absurd cc
 value_form o (operands.Instance name) e = absurd cc
 
-any_value : (f : usage.Form) (o : Bool) (x : Operand) → is_value x ≡ true → has_form f o value_operand ≡ true → has_form f o (as_value x) ≡ true
+any_value : (f : usage.OperandForm) (o : Bool) (x : Operand) → is_value x ≡ true → has_form f o value_operand ≡ true → has_form f o (as_value x) ≡ true
 any_value usages.Absent true x v e = absurd cc
 any_value usages.Absent false x v e = absurd cc
 any_value usages.Value o x v e = value_form o x v
@@ -496,7 +498,7 @@ any_value usages.Label false x v e = absurd cc
 any_value usages.Instance true x v e = absurd cc
 any_value usages.Instance false x v e = absurd cc
 
-any_label : (f : usage.Form) (o : Bool) (name : List ℕ) → has_form f o (operands.Label []) ≡ true → has_form f o (operands.Label name) ≡ true
+any_label : (f : usage.OperandForm) (o : Bool) (name : List ℕ) → has_form f o (operands.Label []) ≡ true → has_form f o (operands.Label name) ≡ true
 any_label usages.Absent true name e = absurd cc
 any_label usages.Absent false name e = absurd cc
 any_label usages.Value true name e = absurd cc
@@ -506,7 +508,7 @@ any_label usages.Label false name e = refl
 any_label usages.Instance true name e = absurd cc
 any_label usages.Instance false name e = absurd cc
 
-any_instance : (f : usage.Form) (o : Bool) (name : List ℕ) → has_form f o (operands.Instance []) ≡ true → has_form f o (operands.Instance name) ≡ true
+any_instance : (f : usage.OperandForm) (o : Bool) (name : List ℕ) → has_form f o (operands.Instance []) ≡ true → has_form f o (operands.Instance name) ≡ true
 any_instance usages.Absent true name e = absurd cc
 any_instance usages.Absent false name e = absurd cc
 any_instance usages.Value true name e = absurd cc
@@ -529,7 +531,7 @@ record IsGiven (ds : Declarations) (x : Operand) : Type 0 where
   value : is_value x ≡ true
   lawful : IsOperand ds x
 
-given_is : (ds : Declarations) (y : OperandText) (x : Operand) → resolution.operand_of ds y ≡ Ok x → IsGiven ds x
+given_is : (ds : Declarations) (y : OperandText) (x : Operand) → walk.operand_of ds y ≡ Ok x → IsGiven ds x
 given_is ds (Constant t) x e = by_literal (literal_of t.text) (literal_good t.text) e
   where
     by_literal : (o : Option Literal) → IsInRange o → constant t o ≡ Ok x → IsGiven ds x
@@ -613,7 +615,7 @@ argument a x = record { field = capitals a.field.text; side = a.side; operand = 
 argument_is : (ds : Declarations) (a : ArgumentText) (x : Argument) → argument_of ds a ≡ Ok x → IsArgument ds x
 unfolding argument_of
 argument_is ds a x e =
-    let m = bind_ok (resolution.operand_of ds a.operand) (λ o. Ok (argument a o)) x e in
+    let m = bind_ok (walk.operand_of ds a.operand) (λ o. Ok (argument a o)) x e in
     let g = given_is ds a.operand m.0 m.1 in
     subst (IsArgument ds) (ok_is (argument a m.0) x m.2) (record { operand = g.lawful; formed = value_form false m.0 g.value })
 

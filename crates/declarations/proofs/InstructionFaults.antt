@@ -20,7 +20,8 @@ use Rattle.il_reader.specs.Grammar.{OperandText, Constant, Direct, Named, Field,
 use Rattle.declarations.specs.declared.fault.DeclKind.{DeclKind}
 use Rattle.declarations.specs.declared.fault.DeclKind.TheVariants as kinds
 use Rattle.declarations.specs.declared.fault.Refusal.{Refusal}
-use Rattle.declarations.specs.Resolution.{◌>>=◌, each, refused, capitals, nothing, has_name, has_instance, declare_block, direct, constant, operand_of, behind_of, argument_of, pushed_argument, behind_arguments, opens, with_opening, plain, instruction_of, room, label_of, instruct_labelled, instruct_plain, instruct, program_at}
+use Rattle.declarations.specs.Resolution.{capitals, opens, with_opening, plain}
+use Rattle.declarations.specs.Walk.{◌>>=◌, each, refused, nothing, has_name, has_instance, declare_block, direct, constant, operand_of, behind_of, argument_of, pushed_argument, behind_arguments, instruction_of, room, label_of, instruct_labelled, instruct_plain, instruct, program_at}
 use Rattle.declarations.specs.Declaring.{DeclaredName, names_of, value_operand, operand_in, operand_behind, arguments_behind, IsArgumentOf, IsBehindLabel, IsInstructionOf, IsProgramOf}
 use Rattle.declarations.proofs.FaultList.{when, beside, operand_faults, behind_faults, operation_faults, line_faults, faults_of}
 use Rattle.declarations.proofs.Agreeing.{Agrees, done, ok_is, then_agrees, made_agrees, last_agrees, each_agrees, each_kept, bind_ok, each_by_itself}

@@ -19,7 +19,8 @@ use Rattle.il_model.proofs.Positions.{position_first, position_later}
 use Rattle.il_reader.specs.Tokens.{Token}
 use Rattle.declarations.specs.declared.variables.DeclaredType.{DeclaredType}
 use Rattle.declarations.specs.declared.variables.DeclaredType.TheVariants.{Elementary, Block}
-use Rattle.declarations.specs.Resolution.{capitals, variable, has_name, has_instance, is_full, planned_value, with_declared}
+use Rattle.declarations.specs.Resolution.{capitals, variable}
+use Rattle.declarations.specs.Walk.{has_name, has_instance, is_full, planned_value, with_declared}
 use Rattle.declarations.specs.Declaring.{DeclaredName, type_in, is_kind, is_instance, is_variable, location_in, start_of, variable_by, instance_by, instance_of, is_called, is_declared, names_variable, names_instance, is_occupied}
 use Rattle.declarations.specs.TextFaults.{has_no_room}
 

@@ -4,7 +4,7 @@ use Rattle.std.proofs.Math.ListN.{drop_of_length-le, length-map}
 use Rattle.declarations.specs.declared.fault.Refusal.{Refusal}
 use Rattle.declarations.specs.declared.fault.Failure.{Failure}
 use Rattle.declarations.specs.declared.fault.Failure.TheVariants as failures
-use Rattle.declarations.specs.Resolution.{Fails, each}
+use Rattle.declarations.specs.Walk.{Fails, each}
 
 drop_map : {A X : Type 0} (f : A → X) (xs : List A) (i : ℕ) (d : A) → i < length xs → drop i (map f xs) ≡ f (get_or xs i d) ∷ drop (suc i) (map f xs)
 drop_map f [] i d lt = absurd (omega arith)

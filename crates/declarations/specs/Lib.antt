@@ -4,3 +4,4 @@ pub mod Faults
 pub mod FirstFault
 pub mod Resolution
 pub mod TextFaults
+pub mod Walk

@@ -47,7 +47,7 @@ impl Declared {
     ghost use Rattle.std.specs.Prelude.{length, IfOk, OnErr};
     ghost use Rattle.il_model.specs.CodedOperands.{loc_code};
     ghost use Rattle.il_model.specs.Codes.{is_taken};
-    ghost use Rattle.declarations.specs.Resolution.{nothing, has_name, has_instance, with_variable, with_instance};
+    ghost use Rattle.declarations.specs.Walk.{nothing, has_name, has_instance, with_variable, with_instance};
 
     /// Nothing.
     pub fn new(alloc: Global) -> Declared

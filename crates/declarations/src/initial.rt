@@ -2,7 +2,8 @@
 
 ghost use Rattle.std.specs.Prelude.{◌≡◌, option_map};
 ghost use Rattle.il_reader.specs.Tokens.{token};
-ghost use Rattle.declarations.specs.Resolution.{Gives, fitting, is_input, written_value, elementary_value, first_value, planned_value};
+ghost use Rattle.declarations.specs.Resolution.{fitting, is_input, written_value};
+ghost use Rattle.declarations.specs.Walk.{Gives, elementary_value, first_value, planned_value};
 
 use crate::fault::{DeclKind, Failure};
 use crate::variables::{DeclaredType, refused};

@@ -3,7 +3,8 @@
 ghost use Rattle.std.specs.Prelude.{◌≡◌, [], map, option_map};
 ghost use Rattle.il_reader.specs.Tokens.{token};
 ghost use Rattle.il_reader.specs.Grammar.{Named, Field, Called, operand, argument, call, behind, operation, line};
-ghost use Rattle.declarations.specs.Resolution.{Gives, constant, operand_of, optional_operand_of, behind_of, argument_of, pushed_argument, behind_arguments, opens, with_opening, instruction_of, room, label_of, instruct_labelled, instruct_plain, instruct, each};
+ghost use Rattle.declarations.specs.Resolution.{opens, with_opening};
+ghost use Rattle.declarations.specs.Walk.{Gives, constant, operand_of, optional_operand_of, behind_of, argument_of, pushed_argument, behind_arguments, instruction_of, room, label_of, instruct_labelled, instruct_plain, instruct, each};
 
 use crate::declared::Declared;
 use crate::fault::{DeclKind, Failure, Refusal};
@@ -103,7 +104,7 @@ fn operand_behind(alloc: Global, known: &Declared, written: &Behind) -> Result<O
     }
 }
 
-#[tactic(auto, unfolding(crate::specs::Resolution::argument_of))]
+#[tactic(auto, unfolding(crate::specs::Walk::argument_of))]
 fn given_argument(
     alloc: Global,
     known: &Declared,
@@ -172,7 +173,7 @@ fn with_opening(opens: bool, m: Modifier) -> Modifier
     }
 }
 
-#[tactic(auto, unfolding(crate::specs::Resolution::instruction_of))]
+#[tactic(auto, unfolding(crate::specs::Walk::instruction_of))]
 fn instruction(
     alloc: Global,
     known: &Declared,
@@ -193,7 +194,7 @@ fn instruction(
     })
 }
 
-#[tactic(auto, unfolding(crate::specs::Resolution::instruction_of))]
+#[tactic(auto, unfolding(crate::specs::Walk::instruction_of))]
 fn labelled(
     alloc: Global,
     known: &Declared,
@@ -242,7 +243,7 @@ fn lawful_label(alloc: Global, t: Lexeme) -> Result<Name, Failure>
     }
 }
 
-#[tactic(auto, unfolding(crate::specs::Resolution::instruct_labelled))]
+#[tactic(auto, unfolding(crate::specs::Walk::instruct_labelled))]
 fn push_labelled(
     alloc: Global,
     known: &Declared,
@@ -258,7 +259,7 @@ fn push_labelled(
     Ok(())
 }
 
-#[tactic(auto, unfolding(crate::specs::Resolution::instruct_plain))]
+#[tactic(auto, unfolding(crate::specs::Walk::instruct_plain))]
 fn push_plain(
     alloc: Global,
     known: &Declared,

@@ -3,7 +3,8 @@
 ghost use Rattle.std.specs.Prelude.{map, IfOk};
 ghost use Rattle.il_model.specs.Declarable.{IsDeclared};
 ghost use Rattle.il_reader.specs.Grammar.{declarations};
-ghost use Rattle.declarations.specs.Resolution.{Gives, Answers, nothing, declare_block, program_at, resolution_of, each};
+ghost use Rattle.declarations.specs.Resolution.{Answers};
+ghost use Rattle.declarations.specs.Walk.{Gives, nothing, declare_block, program_at, resolution_of, each};
 ghost use Rattle.declarations.specs.Declaring.{IsProgramOf};
 ghost use Rattle.declarations.specs.FirstFault.{HasNoFault, IsGiven, TellsFirst, IsTold};
 
@@ -25,7 +26,7 @@ fn declared(alloc: Global, blocks: &[Vec<Declaration>]) -> Result<Declared, Fail
     Ok(known)
 }
 
-#[tactic(auto, unfolding(crate::specs::Resolution::program_at))]
+#[tactic(auto, unfolding(crate::specs::Walk::program_at))]
 fn program(alloc: Global, source: &Source) -> Result<Program, Failure>
     ensures text { IfOk result (λ p. IsDeclared p) }
     ensures exact { Gives (λ p. p) result (program_at source.now.says) }
@@ -40,6 +41,7 @@ fn program(alloc: Global, source: &Source) -> Result<Program, Failure>
     }
 }
 
+/// The program, or the fault at which the walk over the text ends.
 fn walked(alloc: Global, source: &Source) -> Result<Program, DeclError>
     ensures text { IfOk result (λ p. IsDeclared p) }
     ensures exact { Answers (λ p. p) result (resolution_of source.now) }
@@ -71,8 +73,6 @@ pub fn resolve(alloc: Global, source: Source<'_>) -> Result<Program, DeclError>
     ensures refused { TellsFirst source.entry result }
     // The first fault of the text is told, unless memory runs out.
     ensures told { IsTold source.entry result }
-    // The same by a walk over the text.
-    ensures exact { Answers (λ p. p) result (resolution_of source.entry) }
 {
     source.is_read();
     walked(alloc, &source)

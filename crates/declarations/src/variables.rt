@@ -3,7 +3,8 @@
 ghost use Rattle.std.specs.Prelude.{◌≡◌, IfOk, OnOk, map};
 ghost use Rattle.il_reader.specs.Tokens.{token};
 ghost use Rattle.il_reader.specs.Grammar.{declaration, declarations};
-ghost use Rattle.declarations.specs.Resolution.{Gives, capitals, type_of, declared_type, is_full, suits, new_name, free_location, found_type, variable, plan_of, with_declared, declare_name, declare_located, declare_listed, declare, declare_block, each};
+ghost use Rattle.declarations.specs.Resolution.{capitals, type_of, declared_type, suits, variable};
+ghost use Rattle.declarations.specs.Walk.{Gives, is_full, new_name, free_location, found_type, plan_of, with_declared, declare_name, declare_located, declare_listed, declare, declare_block, each};
 
 use crate::declared::Declared;
 use crate::fault::{DeclKind, Failure, Refusal};
@@ -87,7 +88,7 @@ fn has_no_room(ty: Option<DeclaredType>, known: &Declared) -> bool
     }
 }
 
-#[tactic(auto, unfolding(crate::specs::Resolution::new_name))]
+#[tactic(auto, unfolding(crate::specs::Walk::new_name))]
 fn lawful_name(
     alloc: Global,
     ty: Option<DeclaredType>,
@@ -181,7 +182,7 @@ fn push_declared(
     }
 }
 
-#[tactic(auto, unfolding(crate::specs::Resolution::declare_name))]
+#[tactic(auto, unfolding(crate::specs::Walk::declare_name))]
 fn push_name(alloc: Global, plan: Plan, known: &mut Declared, t: Lexeme) -> Result<(), Failure>
     ensures { Gives (λ u. known.new) result (declare_name plan known.old (token t.entry)) }
 {
@@ -204,7 +205,7 @@ fn push_names(
     Ok(())
 }
 
-#[tactic(auto, unfolding(crate::specs::Resolution::declare_located))]
+#[tactic(auto, unfolding(crate::specs::Walk::declare_located))]
 fn declare_at(
     alloc: Global,
     known: &mut Declared,
@@ -226,7 +227,7 @@ fn declare_at(
     Ok(())
 }
 
-#[tactic(auto, unfolding(crate::specs::Resolution::declare_listed))]
+#[tactic(auto, unfolding(crate::specs::Walk::declare_listed))]
 fn declare_names(
     alloc: Global,
     known: &mut Declared,

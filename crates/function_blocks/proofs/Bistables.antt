@@ -1,9 +1,13 @@
-use Rattle.std.proofs.Common.{◌≡◌, true, refl, ap}
+use Rattle.std.proofs.Common.{◌≡◌, ℕ, false, List, refl}
+use Rattle.std.specs.Prelude.{slice_index}
 use Rattle.function_blocks.specs.declared.bistable.BistableState.{BistableState}
-use Rattle.function_blocks.specs.SavedWords.{saved_in}
-use Rattle.function_blocks.specs.Bistables.{is_bistable, bistable_words, saved_bistable, bistable_of}
-use Rattle.function_blocks.proofs.SavedWords.{saved_back}
+use Rattle.function_blocks.specs.Words.{has_bit}
+use Rattle.function_blocks.specs.Bistables.{bistable_words}
+use Rattle.function_blocks.proofs.SavedWords.{bits_back}
 
--- a state is read back from its words
-pub bistable_back : (s : BistableState) → is_bistable s ≡ true → bistable_of (saved_in (bistable_words s)) ≡ s
-bistable_back s h = ap bistable_of (saved_back (saved_bistable s) refl)
+-- what stands in the words of a state
+abbrev pub bistable_in : List ℕ → BistableState
+bistable_in ws = record { called = has_bit (slice_index ws 0) 1; q1 = has_bit (slice_index ws 0) 2 }
+
+pub bistable_back : (s : BistableState) → bistable_in (bistable_words s) ≡ s
+bistable_back s = let f = bits_back s.called s.q1 false false false in rw (f.0, f.1) refl

@@ -4,8 +4,8 @@ use Rattle.std.specs.Prelude.{List}
 use Rattle.il_model.specs.declared.value.Value.{Value}
 use Rattle.il_model.specs.declared.kind.BlockKind.{BlockKind}
 use Rattle.il_model.specs.declared.kind.BlockKind.TheVariants as kinds
-use Rattle.function_blocks.specs.declared.any.Block.{Block}
-use Rattle.function_blocks.specs.declared.any.Block.TheVariants as blocks
+use Rattle.function_blocks.specs.declared.block.Block.{Block}
+use Rattle.function_blocks.specs.declared.block.Block.TheVariants as blocks
 use Rattle.function_blocks.specs.Blocks.{kind_of, cold_block, block_after}
 
 pub kind_of-cold : (kind : BlockKind) → kind_of (cold_block kind) ≡ kind

@@ -8,8 +8,8 @@ use Rattle.il_model.specs.declared.value.Value.{Value}
 use Rattle.il_model.specs.declared.kind.Field.{Field}
 use Rattle.il_model.specs.Kinds.{kind_fields, field_type}
 use Rattle.il_model.specs.Values.{ty_of}
-use Rattle.function_blocks.specs.declared.any.Block.{Block}
-use Rattle.function_blocks.specs.declared.any.Block.TheVariants as blocks
+use Rattle.function_blocks.specs.declared.block.Block.{Block}
+use Rattle.function_blocks.specs.declared.block.Block.TheVariants as blocks
 use Rattle.function_blocks.specs.Blocks.{kind_of, outputs_of, output_field, output_value}
 
 get_past : {X : Type 0} (k : ℕ) (xs : List X) (m : ℕ) → slice_get (drop k xs) m ≡ slice_get xs (k + m)

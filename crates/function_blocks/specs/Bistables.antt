@@ -1,7 +1,6 @@
 -- The bistable blocks SR and RS (IEC 61131-3:2003, 2.5.2.3.1).
 use Rattle.std.specs.Prelude.{ℕ, Bool, true, false, not, ◌&&◌, ◌||◌, List, [], ◌∷◌, pos}
 use Rattle.function_blocks.specs.Words.{saved_words}
-use Rattle.function_blocks.specs.declared.words.Saved.{Saved}
 use Rattle.function_blocks.specs.declared.bistable.BistableState.{BistableState}
 use Rattle.function_blocks.specs.declared.bistable.BistableOut.{BistableOut}
 use Rattle.function_blocks.specs.declared.bistable.SrIn.{SrIn}
@@ -27,10 +26,3 @@ is_bistable s = s.called || not s.q1
 
 abbrev pub bistable_words : BistableState → List ℕ
 bistable_words s = saved_words (s.called ∷ s.q1 ∷ []) (pos 0) (pos 0) 0
-
--- how the code writes and reads these words
-abbrev pub saved_bistable : BistableState → Saved
-saved_bistable s = record { called = s.called; first = s.q1; second = false; third = false; fourth = false; high = pos 0; low = pos 0; start = 0 }
-
-abbrev pub bistable_of : Saved → BistableState
-bistable_of w = record { called = w.called; q1 = w.first }

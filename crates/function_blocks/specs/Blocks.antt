@@ -1,17 +1,17 @@
 -- A block of any kind: called with the list of its inputs' values, and its fields by their numbers.
-use Rattle.std.specs.Prelude.{◌≡◌, ℕ, ◌-◌, Bool, true, false, nat_lt, List, [], ◌∷◌, Option, Some, None, ℤ, pos, slice_get, if◌then◌else◌}
+use Rattle.std.specs.Prelude.{◌≡◌, ℕ, ◌-◌, Bool, true, false, ◌&&◌, nat_lt, List, [], ◌∷◌, Option, Some, None, ℤ, pos, slice_get, if◌then◌else◌}
 use Rattle.il_model.specs.Kinds.{kind_fields, input_count}
 use Rattle.il_model.specs.declared.value.Value.{Value}
 use Rattle.il_model.specs.declared.value.Value.TheVariants as values
 use Rattle.il_model.specs.declared.kind.Field.{Field}
 use Rattle.il_model.specs.declared.kind.BlockKind.{BlockKind}
 use Rattle.il_model.specs.declared.kind.BlockKind.TheVariants as kinds
-use Rattle.function_blocks.specs.declared.any.Block.{Block}
-use Rattle.function_blocks.specs.declared.any.Block.TheVariants as blocks
+use Rattle.function_blocks.specs.declared.block.Block.{Block}
+use Rattle.function_blocks.specs.declared.block.Block.TheVariants as blocks
 use Rattle.function_blocks.specs.Bistables.{sr_after, rs_after, is_bistable, cold_bistable, bistable_words, bistable_outs}
 use Rattle.function_blocks.specs.Edges.{r_trig_after, f_trig_after, is_edge, cold_edge, edge_words, edge_outs}
-use Rattle.function_blocks.specs.Counters.{ctu_after, is_ctu, cold_counter, counter_words, counter_outs, ctd_after, is_ctd, ctud_after, is_ctud, cold_ctud, ctud_words, ctud_outs}
-use Rattle.function_blocks.specs.Timers.{tp_after, is_tp, cold_timer, timer_words, timer_outs, ton_after, is_ton, tof_after, is_tof}
+use Rattle.function_blocks.specs.Counters.{ctu_after, fits_counter, fits_ctud, ctu_holds, ctd_holds, ctud_holds, cold_counter, counter_words, counter_outs, ctd_after, ctud_after, cold_ctud, ctud_words, ctud_outs}
+use Rattle.function_blocks.specs.Timers.{tp_after, ton_after, tof_after, fits_timer, tp_holds, ton_holds, tof_holds, cold_timer, timer_words, timer_outs}
 use Rattle.function_blocks.specs.declared.bistable.SrIn.{SrIn}
 use Rattle.function_blocks.specs.declared.bistable.RsIn.{RsIn}
 use Rattle.function_blocks.specs.declared.edge.EdgeIn.{EdgeIn}
@@ -26,9 +26,9 @@ use Rattle.function_blocks.specs.declared.counter.CtudOut.{CtudOut}
 use Rattle.function_blocks.specs.declared.timer.TimerOut.{TimerOut}
 
 -- the value of an input; FALSE or 0 where none of its type was handed in
-abbrev pub truth_of : Option Value → Bool
-truth_of (Some (values.Bool b)) = b
-truth_of _ = false
+abbrev pub bool_of : Option Value → Bool
+bool_of (Some (values.Bool b)) = b
+bool_of _ = false
 
 abbrev pub int_of : Option Value → ℤ
 int_of (Some (values.Int z)) = z
@@ -40,25 +40,25 @@ time_of _ = pos 0
 
 -- the inputs of a kind from the list of their values, in the order of its fields
 abbrev pub sr_inputs : List Value → SrIn
-sr_inputs vs = record { s1 = truth_of (slice_get vs 0); r = truth_of (slice_get vs 1) }
+sr_inputs vs = record { s1 = bool_of (slice_get vs 0); r = bool_of (slice_get vs 1) }
 
 abbrev pub rs_inputs : List Value → RsIn
-rs_inputs vs = record { s = truth_of (slice_get vs 0); r1 = truth_of (slice_get vs 1) }
+rs_inputs vs = record { s = bool_of (slice_get vs 0); r1 = bool_of (slice_get vs 1) }
 
 abbrev pub edge_inputs : List Value → EdgeIn
-edge_inputs vs = record { clk = truth_of (slice_get vs 0) }
+edge_inputs vs = record { clk = bool_of (slice_get vs 0) }
 
 abbrev pub ctu_inputs : List Value → CtuIn
-ctu_inputs vs = record { cu = truth_of (slice_get vs 0); r = truth_of (slice_get vs 1); pv = int_of (slice_get vs 2) }
+ctu_inputs vs = record { cu = bool_of (slice_get vs 0); r = bool_of (slice_get vs 1); pv = int_of (slice_get vs 2) }
 
 abbrev pub ctd_inputs : List Value → CtdIn
-ctd_inputs vs = record { cd = truth_of (slice_get vs 0); ld = truth_of (slice_get vs 1); pv = int_of (slice_get vs 2) }
+ctd_inputs vs = record { cd = bool_of (slice_get vs 0); ld = bool_of (slice_get vs 1); pv = int_of (slice_get vs 2) }
 
 abbrev pub ctud_inputs : List Value → CtudIn
-ctud_inputs vs = record { cu = truth_of (slice_get vs 0); cd = truth_of (slice_get vs 1); r = truth_of (slice_get vs 2); ld = truth_of (slice_get vs 3); pv = int_of (slice_get vs 4) }
+ctud_inputs vs = record { cu = bool_of (slice_get vs 0); cd = bool_of (slice_get vs 1); r = bool_of (slice_get vs 2); ld = bool_of (slice_get vs 3); pv = int_of (slice_get vs 4) }
 
 abbrev pub timer_inputs : List Value → TimerIn
-timer_inputs vs = record { input = truth_of (slice_get vs 0); pt = time_of (slice_get vs 1) }
+timer_inputs vs = record { input = bool_of (slice_get vs 0); pt = time_of (slice_get vs 1) }
 
 -- the values of the outputs, in the order of the fields
 abbrev pub bistable_values : BistableOut → List Value
@@ -137,12 +137,12 @@ is_block (blocks.Sr s) = is_bistable s
 is_block (blocks.Rs s) = is_bistable s
 is_block (blocks.RTrig s) = is_edge s
 is_block (blocks.FTrig s) = is_edge s
-is_block (blocks.Ctu s) = is_ctu s
-is_block (blocks.Ctd s) = is_ctd s
-is_block (blocks.Ctud s) = is_ctud s
-is_block (blocks.Tp s) = is_tp s
-is_block (blocks.Ton s) = is_ton s
-is_block (blocks.Tof s) = is_tof s
+is_block (blocks.Ctu s) = fits_counter s && ctu_holds s
+is_block (blocks.Ctd s) = fits_counter s && ctd_holds s
+is_block (blocks.Ctud s) = fits_ctud s && ctud_holds s
+is_block (blocks.Tp s) = fits_timer s && tp_holds s
+is_block (blocks.Ton s) = fits_timer s && ton_holds s
+is_block (blocks.Tof s) = fits_timer s && tof_holds s
 
 abbrev pub block_words : Block → List ℕ
 block_words (blocks.Sr s) = bistable_words s

@@ -1,10 +1,10 @@
 -- The counters CTU, CTD and CTUD (IEC 61131-3:2003, 2.5.2.3.3). Numbers are whole numbers without bounds.
 -- An edge is an input that is TRUE and was FALSE at the last call; what it was is kept at each call, whatever wins.
-use Rattle.std.specs.Prelude.{ℕ, Bool, true, false, not, ◌&&◌, List, [], ◌∷◌, ℤ, pos, negsuc, ◌+ℤ◌, ◌-ℤ◌, if◌then◌else◌}
+use Rattle.std.specs.Prelude.{ℕ, Bool, true, false, not, ◌&&◌, List, [], ◌∷◌, ℤ, pos, negsuc, ◌+ℤ◌, ◌-ℤ◌, ◌^◌, if◌then◌else◌}
 use Rattle.std.specs.Int.Signed.{lt_z}
-use Rattle.function_blocks.specs.Words.{saved_words, fits_int, is_zero, same_bool}
-use Rattle.function_blocks.specs.SavedWords.{int_or_zero}
-use Rattle.function_blocks.specs.declared.words.Saved.{Saved}
+use Rattle.il_model.specs.Values.{is_within}
+use Rattle.il_model.specs.Operators.{same_truth}
+use Rattle.function_blocks.specs.Words.{saved_words, is_zero}
 use Rattle.function_blocks.specs.declared.counter.CounterState.{CounterState}
 use Rattle.function_blocks.specs.declared.counter.CounterOut.{CounterOut}
 use Rattle.function_blocks.specs.declared.counter.CtuIn.{CtuIn}
@@ -74,31 +74,25 @@ is_cold_counter s = not s.q && not s.last && is_zero s.cv && is_zero s.pv
 abbrev pub is_cold_ctud : CtudState → Bool
 is_cold_ctud s = not s.qu && not s.qd && not s.last_up && not s.last_down && is_zero s.cv && is_zero s.pv
 
+-- CV and PV are numbers of INT
+abbrev pub fits_counter : CounterState → Bool
+fits_counter s = is_within (2 ^ 15) s.cv && is_within (2 ^ 15) s.pv
+
+abbrev pub fits_ctud : CtudState → Bool
+fits_ctud s = is_within (2 ^ 15) s.cv && is_within (2 ^ 15) s.pv
+
 -- Once called, Q is what the counts give, and CTU never counts below 0; before that it is cold.
-abbrev pub is_ctu : CounterState → Bool
-is_ctu s = fits_int s.cv && fits_int s.pv && (if s.called then same_bool s.q (is_full s.cv s.pv) && not (lt_z s.cv (pos 0)) else is_cold_counter s)
+abbrev pub ctu_holds : CounterState → Bool
+ctu_holds s = if s.called then same_truth s.q (is_full s.cv s.pv) && not (lt_z s.cv (pos 0)) else is_cold_counter s
 
-abbrev pub is_ctd : CounterState → Bool
-is_ctd s = fits_int s.cv && fits_int s.pv && (if s.called then same_bool s.q (is_empty s.cv) else is_cold_counter s)
+abbrev pub ctd_holds : CounterState → Bool
+ctd_holds s = if s.called then same_truth s.q (is_empty s.cv) else is_cold_counter s
 
-abbrev pub is_ctud : CtudState → Bool
-is_ctud s = fits_int s.cv && fits_int s.pv && (if s.called then same_bool s.qu (is_full s.cv s.pv) && same_bool s.qd (is_empty s.cv) else is_cold_ctud s)
+abbrev pub ctud_holds : CtudState → Bool
+ctud_holds s = if s.called then same_truth s.qu (is_full s.cv s.pv) && same_truth s.qd (is_empty s.cv) else is_cold_ctud s
 
 abbrev pub counter_words : CounterState → List ℕ
 counter_words s = saved_words (s.called ∷ s.q ∷ s.last ∷ []) s.pv s.cv 0
 
 abbrev pub ctud_words : CtudState → List ℕ
 ctud_words s = saved_words (s.called ∷ s.qu ∷ s.qd ∷ s.last_up ∷ s.last_down ∷ []) s.pv s.cv 0
-
--- how the code writes and reads these words
-abbrev pub saved_counter : CounterState → Saved
-saved_counter s = record { called = s.called; first = s.q; second = s.last; third = false; fourth = false; high = s.pv; low = s.cv; start = 0 }
-
-abbrev pub counter_of : Saved → CounterState
-counter_of w = record { called = w.called; q = w.first; last = w.second; cv = int_or_zero w.low; pv = int_or_zero w.high }
-
-abbrev pub saved_ctud : CtudState → Saved
-saved_ctud s = record { called = s.called; first = s.qu; second = s.qd; third = s.last_up; fourth = s.last_down; high = s.pv; low = s.cv; start = 0 }
-
-abbrev pub ctud_of : Saved → CtudState
-ctud_of w = record { called = w.called; qu = w.first; qd = w.second; last_up = w.third; last_down = w.fourth; cv = int_or_zero w.low; pv = int_or_zero w.high }

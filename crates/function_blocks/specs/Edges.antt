@@ -2,7 +2,6 @@
 -- That a first call of F_TRIG with CLK FALSE is an edge is this project's own.
 use Rattle.std.specs.Prelude.{ℕ, Bool, true, false, not, ◌&&◌, ◌||◌, List, [], ◌∷◌, pos, if◌then◌else◌}
 use Rattle.function_blocks.specs.Words.{saved_words}
-use Rattle.function_blocks.specs.declared.words.Saved.{Saved}
 use Rattle.function_blocks.specs.declared.edge.EdgeState.{EdgeState}
 use Rattle.function_blocks.specs.declared.edge.EdgeIn.{EdgeIn}
 use Rattle.function_blocks.specs.declared.edge.EdgeOut.{EdgeOut}
@@ -27,10 +26,3 @@ is_edge s = if s.called then not s.q || s.m else not s.q && not s.m
 
 abbrev pub edge_words : EdgeState → List ℕ
 edge_words s = saved_words (s.called ∷ s.q ∷ s.m ∷ []) (pos 0) (pos 0) 0
-
--- how the code writes and reads these words
-abbrev pub saved_edge : EdgeState → Saved
-saved_edge s = record { called = s.called; first = s.q; second = s.m; third = false; fourth = false; high = pos 0; low = pos 0; start = 0 }
-
-abbrev pub edge_of : Saved → EdgeState
-edge_of w = record { called = w.called; q = w.first; m = w.second }

@@ -1,5 +1,4 @@
 pub mod Words
-pub mod SavedWords
 pub mod Bistables
 pub mod Edges
 pub mod Counters

@@ -2,8 +2,9 @@
 -- and a call knows the moment of its scan. That is this project's own. Moments and times are natural numbers of ms.
 -- An edge is IN that is TRUE and was FALSE at the last call, a fall is IN that is FALSE and was TRUE.
 use Rattle.std.specs.Prelude.{ℕ, ◌+◌, ◌-◌, ◌^◌, min, Bool, true, false, not, ◌&&◌, ◌||◌, List, [], ◌∷◌, ℤ, pos, negsuc, nat_le, nat_lt, nat_eq, if◌then◌else◌}
-use Rattle.function_blocks.specs.Words.{saved_words, fits_time, is_zero, same_bool}
-use Rattle.function_blocks.specs.declared.words.Saved.{Saved}
+use Rattle.il_model.specs.Values.{is_within}
+use Rattle.il_model.specs.Operators.{same_truth}
+use Rattle.function_blocks.specs.Words.{saved_words, is_zero}
 use Rattle.function_blocks.specs.declared.timer.TimerState.{TimerState}
 use Rattle.function_blocks.specs.declared.timer.TimerIn.{TimerIn}
 use Rattle.function_blocks.specs.declared.timer.TimerOut.{TimerOut}
@@ -56,50 +57,44 @@ tp_after s i now =
 abbrev pub timer_outs : TimerState → TimerOut
 timer_outs s = record { q = s.q; et = s.et }
 
--- 0 <= ET <= limit
-abbrev pub is_within : ℤ → ℕ → Bool
-is_within (pos n) limit = nat_le n limit
-is_within (negsuc n) limit = false
+-- ET and PT are numbers of TIME, and the start is a moment of 64 bits
+abbrev pub fits_timer : TimerState → Bool
+fits_timer s = is_within (2 ^ 31) s.et && is_within (2 ^ 31) s.pt && nat_lt s.start (2 ^ 64)
+
+-- 0 <= time <= limit
+abbrev pub is_up_to : ℕ → ℤ → Bool
+is_up_to limit (pos n) = nat_le n limit
+is_up_to limit (negsuc n) = false
 
 abbrev pub is_cold_timer : TimerState → Bool
 is_cold_timer s = not s.q && not s.last && not s.run && is_zero s.et && is_zero s.pt && nat_eq s.start 0
 
 -- with run: 0 <= ET <= PT, and start + ET is a moment of 64 bits
 abbrev pub is_running : TimerState → Bool
-is_running s = is_within s.et (milliseconds s.pt) && nat_lt (s.start + milliseconds s.et) (2 ^ 64)
+is_running s = is_up_to (milliseconds s.pt) s.et && nat_lt (s.start + milliseconds s.et) (2 ^ 64)
 
 -- without run: both are 0
 abbrev pub is_resting : TimerState → Bool
 is_resting s = is_zero s.et && nat_eq s.start 0
 
+-- before the first call a timer is cold
 abbrev pub ton_holds : TimerState → Bool
-ton_holds s = if s.run then is_running s && s.last && same_bool s.q (nat_le (milliseconds s.pt) (milliseconds s.et)) else is_resting s && not s.last && not s.q
+ton_holds s =
+    if not s.called then is_cold_timer s
+    else (if s.run then is_running s && s.last && same_truth s.q (nat_le (milliseconds s.pt) (milliseconds s.et))
+    else is_resting s && not s.last && not s.q)
 
 abbrev pub tof_holds : TimerState → Bool
-tof_holds s = if s.run then is_running s && not s.last && same_bool s.q (nat_lt (milliseconds s.et) (milliseconds s.pt)) else is_resting s && same_bool s.q s.last
+tof_holds s =
+    if not s.called then is_cold_timer s
+    else (if s.run then is_running s && not s.last && same_truth s.q (nat_lt (milliseconds s.et) (milliseconds s.pt))
+    else is_resting s && same_truth s.q s.last)
 
 abbrev pub tp_holds : TimerState → Bool
-tp_holds s = if s.run then is_running s && same_bool s.q (nat_lt (milliseconds s.et) (milliseconds s.pt)) && (not (nat_eq (milliseconds s.et) (milliseconds s.pt)) || s.last) else is_resting s && not s.last && not s.q
-
--- before the first call it is cold
-abbrev pub is_timer : (TimerState → Bool) → TimerState → Bool
-is_timer holds s = fits_time s.et && fits_time s.pt && (if s.called then holds s else is_cold_timer s)
-
-abbrev pub is_ton : TimerState → Bool
-is_ton s = is_timer ton_holds s
-
-abbrev pub is_tof : TimerState → Bool
-is_tof s = is_timer tof_holds s
-
-abbrev pub is_tp : TimerState → Bool
-is_tp s = is_timer tp_holds s
+tp_holds s =
+    if not s.called then is_cold_timer s
+    else (if s.run then is_running s && same_truth s.q (nat_lt (milliseconds s.et) (milliseconds s.pt)) && (not (nat_eq (milliseconds s.et) (milliseconds s.pt)) || s.last)
+    else is_resting s && not s.last && not s.q)
 
 abbrev pub timer_words : TimerState → List ℕ
 timer_words s = saved_words (s.called ∷ s.q ∷ s.last ∷ s.run ∷ []) s.pt s.et s.start
-
--- how the code writes and reads these words
-abbrev pub saved_timer : TimerState → Saved
-saved_timer s = record { called = s.called; first = s.q; second = s.last; third = s.run; fourth = false; high = s.pt; low = s.et; start = s.start }
-
-abbrev pub timer_of : Saved → TimerState
-timer_of w = record { called = w.called; q = w.first; last = w.second; run = w.third; et = w.low; pt = w.high; start = w.start }

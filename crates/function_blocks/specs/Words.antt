@@ -1,6 +1,7 @@
 -- The four words that a block's state is saved as. Their layout is this project's own.
-use Rattle.std.specs.Prelude.{ℕ, ◌+◌, ◌*◌, ◌^◌, Bool, true, false, not, List, [], ◌∷◌, ℤ, pos, negsuc, nat_eq, nat_lt}
-use Rattle.std.specs.Int.{cast_unsigned, w32}
+use Rattle.std.specs.Prelude.{ℕ, ◌+◌, ◌*◌, ◌%◌, ◌/◌, ◌^◌, Bool, true, false, List, [], ◌∷◌, ℤ, pos, negsuc, nat_eq, if◌then◌else◌}
+use Rattle.std.specs.Int.{cast_unsigned, cast_signed, w32}
+use Rattle.il_model.specs.Values.{is_within}
 
 abbrev pub bit : Bool → ℕ
 bit true = 1
@@ -19,20 +20,20 @@ joined_halves high low = cast_unsigned w32 high * 2 ^ 32 + cast_unsigned w32 low
 abbrev pub saved_words : List Bool → ℤ → ℤ → ℕ → List ℕ
 saved_words truths high low moment = bits_number truths ∷ joined_halves high low ∷ moment ∷ 0 ∷ []
 
--- whether a number is one of INT, 16 bits with a sign
-abbrev pub fits_int : ℤ → Bool
-fits_int (pos n) = nat_lt n (2 ^ 15)
-fits_int (negsuc n) = nat_lt n (2 ^ 15)
+-- whether the bit of that weight is set
+abbrev pub has_bit : ℕ → ℕ → Bool
+has_bit n weight = nat_eq ((n / weight) % 2) 1
 
--- whether a number is one of TIME, 32 bits with a sign
-abbrev pub fits_time : ℤ → Bool
-fits_time (pos n) = nat_lt n (2 ^ 31)
-fits_time (negsuc n) = nat_lt n (2 ^ 31)
+abbrev pub high_of : ℕ → ℤ
+high_of n = cast_signed w32 (n / 2 ^ 32)
+
+abbrev pub low_of : ℕ → ℤ
+low_of n = cast_signed w32 (n % 2 ^ 32)
+
+-- the number, or 0 where INT hasn't it
+abbrev pub int_or_zero : ℤ → ℤ
+int_or_zero z = if is_within (2 ^ 15) z then z else pos 0
 
 abbrev pub is_zero : ℤ → Bool
 is_zero (pos n) = nat_eq n 0
 is_zero (negsuc n) = false
-
-abbrev pub same_bool : Bool → Bool → Bool
-same_bool true b = b
-same_bool false b = not b

@@ -1,12 +1,14 @@
 //! The edge detectors (IEC 61131-3:2003, 2.5.2.3.2): R_TRIG for rising edges, F_TRIG for falling ones.
 
-ghost use Rattle.std.specs.Prelude.{◌≡◌, true, ℕ, List, Bool, Some, IfSome};
-ghost use Rattle.function_blocks.specs.Edges.{r_trig_after, f_trig_after, edge_outs, is_edge, edge_words, saved_edge, edge_of, cold_edge};
+ghost use Rattle.std.specs.Prelude.{◌≡◌, true, ℕ, List, Bool, refl};
+ghost use Rattle.il_model.specs.Kinds.{kind_code};
+ghost use Rattle.il_model.specs.declared.kind.BlockKind.TheVariants as kinds;
+ghost use Rattle.function_blocks.specs.Edges.{cold_edge, r_trig_after, f_trig_after, edge_outs, edge_words, is_edge};
 
-use crate::block::FunctionBlock;
-use crate::words::{Saved, saved_in, words_of};
+use crate::equations::{BlockState, Equations};
+use crate::standard_block::StandardBlock;
+use crate::words::{has_bit, saved_words};
 use il_model::kind::BlockKind;
-use std::marker::Model;
 
 /// The input of R_TRIG and F_TRIG.
 #[derive(Clone, Copy, PartialEq, Eq)]
@@ -30,40 +32,40 @@ pub struct EdgeState {
     pub m: bool,
 }
 
-fn cold_edge() -> EdgeState
-    ensures { result ≡ cold_edge }
-{
-    EdgeState {
-        called: false,
-        q: false,
-        m: false,
-    }
-}
+impl BlockState for EdgeState {
+    type Out = EdgeOut;
 
-fn r_trig_next(s: &EdgeState, i: &EdgeIn) -> EdgeState
-    ensures { result ≡ r_trig_after s.now i.now }
-{
-    EdgeState {
-        called: true,
-        q: i.clk && !s.m,
-        m: i.clk,
-    }
-}
+    ghost cold_state = { cold_edge };
 
-fn f_trig_next(s: &EdgeState, i: &EdgeIn) -> EdgeState
-    ensures { result ≡ f_trig_after s.now i.now }
-{
-    EdgeState {
-        called: true,
-        q: !i.clk && !s.m,
-        m: !i.clk,
-    }
-}
+    ghost outs_of = { edge_outs };
 
-fn edge_outs(s: &EdgeState) -> EdgeOut
-    ensures { result ≡ edge_outs s.now }
-{
-    EdgeOut { q: s.q }
+    ghost words_of = { edge_words };
+
+    ghost fits = { λ s. true };
+
+    fn cold() -> EdgeState {
+        EdgeState {
+            called: false,
+            q: false,
+            m: false,
+        }
+    }
+
+    fn outs(&self) -> EdgeOut {
+        EdgeOut { q: self.q }
+    }
+
+    fn words(&self) -> [u64; 4] {
+        saved_words(&[self.called, self.q, self.m], 0, 0, 0)
+    }
+
+    fn of_words(words: &[u64; 4]) -> EdgeState {
+        EdgeState {
+            called: has_bit(words[0], 1),
+            q: has_bit(words[0], 2),
+            m: has_bit(words[0], 4),
+        }
+    }
 }
 
 fn is_edge(s: &EdgeState) -> bool
@@ -72,173 +74,70 @@ fn is_edge(s: &EdgeState) -> bool
     if s.called { !s.q || s.m } else { !s.q && !s.m }
 }
 
-fn saved_edge(s: &EdgeState) -> Saved
-    ensures { result ≡ saved_edge s.now }
-{
-    Saved {
-        called: s.called,
-        first: s.q,
-        second: s.m,
-        third: false,
-        fourth: false,
-        high: 0,
-        low: 0,
-        start: 0,
-    }
-}
-
-fn edge_of(w: &Saved) -> EdgeState
-    ensures { result ≡ edge_of w.now }
-{
-    EdgeState {
-        called: w.called,
-        q: w.first,
-        m: w.second,
-    }
-}
-
-fn edge_words(s: &EdgeState) -> [u64; 4]
-    ensures { result ≡ edge_words s.now }
-{
-    words_of(&saved_edge(s))
-}
-
 /// R_TRIG: Q where CLK is TRUE and was FALSE at the last call.
-#[derive(Drop)]
-pub struct RTrig {
-    state: EdgeState,
-}
+pub type RTrig = StandardBlock<RisingEdge>;
 
-impl Model for RTrig {
-    ghost use Rattle.std.specs.Prelude.{◌≡◌, true};
-    ghost use Rattle.function_blocks.specs.declared.edge.EdgeState.{EdgeState};
-    ghost use Rattle.function_blocks.specs.Edges.{is_edge};
+/// The equations of R_TRIG.
+pub struct RisingEdge;
 
-    ghost Value = { EdgeState };
-
-    ghost view = { λ b. b.state };
-
-    ghost invariant = { λ b. is_edge b.state ≡ true };
-}
-
-impl FunctionBlock for RTrig {
-    ghost use Rattle.std.specs.Prelude.{◌≡◌, true, Bool, ℕ, List, Some, IfSome};
-    ghost use Rattle.il_model.specs.Kinds.{kind_code};
-    ghost use Rattle.il_model.specs.declared.kind.BlockKind.TheVariants as kinds;
-    ghost use Rattle.function_blocks.specs.Edges.{r_trig_after, edge_outs, is_edge, edge_words, cold_edge};
+impl Equations for RisingEdge {
+    type State = EdgeState;
 
     type In = EdgeIn;
-
-    type Out = EdgeOut;
 
     ghost CODE = { kind_code kinds.RTrig };
 
     ghost after = { λ s i now. r_trig_after s i };
 
-    ghost outs_of = { edge_outs };
-
-    ghost cold_state = { cold_edge };
-
-    ghost is_state = { is_edge };
-
-    ghost words_of = { edge_words };
+    ghost holds = { is_edge };
 
     const CODE: u8 = BlockKind::RTrig as u8;
 
-    fn cold() -> RTrig {
-        RTrig { state: cold_edge() }
-    }
-
-    fn call(&mut self, i: &EdgeIn, _now: u64) -> EdgeOut {
-        self.state = r_trig_next(&self.state, i);
-        edge_outs(&self.state)
-    }
-
-    fn outs(&self) -> EdgeOut {
-        edge_outs(&self.state)
-    }
-
-    fn save(&self) -> [u64; 4] {
-        edge_words(&self.state)
-    }
-
-    #[tactic(auto, using(crate::proofs::Edges::edge_back))]
-    fn restore(given: [u64; 4]) -> Option<RTrig> {
-        let state = edge_of(&saved_in(&given));
-        if is_edge(&state) && edge_words(&state) == given {
-            Some(RTrig { state })
-        } else {
-            None
+    fn next(s: &EdgeState, i: &EdgeIn, _now: u64) -> EdgeState {
+        EdgeState {
+            called: true,
+            q: i.clk && !s.m,
+            m: i.clk,
         }
     }
+
+    fn holds(s: &EdgeState) -> bool {
+        is_edge(s)
+    }
+
+    ghost cold_holds = { refl };
 }
 
 /// F_TRIG: Q where CLK is FALSE and was TRUE at the last call, or at a first call where CLK is FALSE.
-#[derive(Drop)]
-pub struct FTrig {
-    state: EdgeState,
-}
+pub type FTrig = StandardBlock<FallingEdge>;
 
-impl Model for FTrig {
-    ghost use Rattle.std.specs.Prelude.{◌≡◌, true};
-    ghost use Rattle.function_blocks.specs.declared.edge.EdgeState.{EdgeState};
-    ghost use Rattle.function_blocks.specs.Edges.{is_edge};
+/// The equations of F_TRIG.
+pub struct FallingEdge;
 
-    ghost Value = { EdgeState };
-
-    ghost view = { λ b. b.state };
-
-    ghost invariant = { λ b. is_edge b.state ≡ true };
-}
-
-impl FunctionBlock for FTrig {
-    ghost use Rattle.std.specs.Prelude.{◌≡◌, true, Bool, ℕ, List, Some, IfSome};
-    ghost use Rattle.il_model.specs.Kinds.{kind_code};
-    ghost use Rattle.il_model.specs.declared.kind.BlockKind.TheVariants as kinds;
-    ghost use Rattle.function_blocks.specs.Edges.{f_trig_after, edge_outs, is_edge, edge_words, cold_edge};
+impl Equations for FallingEdge {
+    type State = EdgeState;
 
     type In = EdgeIn;
-
-    type Out = EdgeOut;
 
     ghost CODE = { kind_code kinds.FTrig };
 
     ghost after = { λ s i now. f_trig_after s i };
 
-    ghost outs_of = { edge_outs };
-
-    ghost cold_state = { cold_edge };
-
-    ghost is_state = { is_edge };
-
-    ghost words_of = { edge_words };
+    ghost holds = { is_edge };
 
     const CODE: u8 = BlockKind::FTrig as u8;
 
-    fn cold() -> FTrig {
-        FTrig { state: cold_edge() }
-    }
-
-    fn call(&mut self, i: &EdgeIn, _now: u64) -> EdgeOut {
-        self.state = f_trig_next(&self.state, i);
-        edge_outs(&self.state)
-    }
-
-    fn outs(&self) -> EdgeOut {
-        edge_outs(&self.state)
-    }
-
-    fn save(&self) -> [u64; 4] {
-        edge_words(&self.state)
-    }
-
-    #[tactic(auto, using(crate::proofs::Edges::edge_back))]
-    fn restore(given: [u64; 4]) -> Option<FTrig> {
-        let state = edge_of(&saved_in(&given));
-        if is_edge(&state) && edge_words(&state) == given {
-            Some(FTrig { state })
-        } else {
-            None
+    fn next(s: &EdgeState, i: &EdgeIn, _now: u64) -> EdgeState {
+        EdgeState {
+            called: true,
+            q: !i.clk && !s.m,
+            m: !i.clk,
         }
     }
+
+    fn holds(s: &EdgeState) -> bool {
+        is_edge(s)
+    }
+
+    ghost cold_holds = { refl };
 }

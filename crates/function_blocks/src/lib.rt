@@ -2,10 +2,12 @@
 //! whole state. It may use `il_model` alone: values, and the table of kinds and their fields.
 #![tactic(auto)]
 
-pub mod any;
 pub mod bistable;
 pub mod block;
 pub mod counter;
 pub mod edge;
+pub mod equations;
+pub mod function_block;
+pub mod standard_block;
 pub mod timer;
 pub mod words;

@@ -1,14 +1,15 @@
 //! The timers (IEC 61131-3:2003, 2.5.2.3.4): TP gives a pulse, TON delays a rise, TOF delays a fall. Times and moments
 //! are in ms. A timer changes at its calls alone.
 
-ghost use Rattle.std.specs.Prelude.{◌≡◌, ◌<◌, ◌^◌, true, ℕ, List, Bool, Some, IfSome};
-ghost use Rattle.function_blocks.specs.Words.{fits_time};
-ghost use Rattle.function_blocks.specs.Timers.{cold_timer, milliseconds, elapsed_time, resting_timer, running_delay, running_pulse, pulse_after, ton_after, tof_after, tp_after, timer_outs, is_cold_timer, is_running, is_resting, ton_holds, tof_holds, tp_holds, is_ton, is_tof, is_tp, timer_words, saved_timer, timer_of};
+ghost use Rattle.std.specs.Prelude.{◌≡◌, ◌<◌, ◌^◌, true, ℕ, List, Bool, refl};
+ghost use Rattle.il_model.specs.Kinds.{kind_code};
+ghost use Rattle.il_model.specs.declared.kind.BlockKind.TheVariants as kinds;
+ghost use Rattle.function_blocks.specs.Timers.{cold_timer, milliseconds, elapsed_time, resting_timer, running_delay, running_pulse, pulse_after, ton_after, tof_after, tp_after, timer_outs, timer_words, fits_timer, is_cold_timer, is_running, is_resting, ton_holds, tof_holds, tp_holds};
 
-use crate::block::FunctionBlock;
-use crate::words::{Saved, saved_in, time_range, words_of};
+use crate::equations::{BlockState, Equations};
+use crate::standard_block::StandardBlock;
+use crate::words::{has_bit, high_half, low_half, saved_words};
 use il_model::kind::BlockKind;
-use std::marker::Model;
 
 /// The inputs of a timer.
 #[derive(Clone, Copy, PartialEq, Eq)]
@@ -41,6 +42,58 @@ pub struct TimerState {
     pub pt: i32,
     /// The moment at which it began to run; 0 where it doesn't.
     pub start: u64,
+}
+
+impl BlockState for TimerState {
+    type Out = TimerOut;
+
+    ghost cold_state = { cold_timer };
+
+    ghost outs_of = { timer_outs };
+
+    ghost words_of = { timer_words };
+
+    ghost fits = { fits_timer };
+
+    fn cold() -> TimerState {
+        TimerState {
+            called: false,
+            q: false,
+            last: false,
+            run: false,
+            et: 0,
+            pt: 0,
+            start: 0,
+        }
+    }
+
+    fn outs(&self) -> TimerOut {
+        TimerOut {
+            q: self.q,
+            et: self.et,
+        }
+    }
+
+    fn words(&self) -> [u64; 4] {
+        saved_words(
+            &[self.called, self.q, self.last, self.run],
+            self.pt,
+            self.et,
+            self.start,
+        )
+    }
+
+    fn of_words(words: &[u64; 4]) -> TimerState {
+        TimerState {
+            called: has_bit(words[0], 1),
+            q: has_bit(words[0], 2),
+            last: has_bit(words[0], 4),
+            run: has_bit(words[0], 8),
+            et: low_half(words[1]),
+            pt: high_half(words[1]),
+            start: words[2],
+        }
+    }
 }
 
 fn milliseconds(pt: i32) -> u32
@@ -112,42 +165,6 @@ fn pulse_after(input: bool, pt: i32, start: u64, now: u64) -> TimerState
     }
 }
 
-fn tp_next(s: &TimerState, i: &TimerIn, now: u64) -> TimerState
-    ensures { result ≡ tp_after s.now i.now now }
-{
-    if s.run {
-        pulse_after(i.input, i.pt, s.start, now)
-    } else if i.input && !s.last {
-        pulse_after(true, i.pt, now, now)
-    } else {
-        resting_timer(false, i.input, i.pt)
-    }
-}
-
-fn ton_next(s: &TimerState, i: &TimerIn, now: u64) -> TimerState
-    ensures { result ≡ ton_after s.now i.now now }
-{
-    if i.input {
-        running_delay(i.pt, if s.last { s.start } else { now }, now)
-    } else {
-        resting_timer(false, false, i.pt)
-    }
-}
-
-fn tof_next(s: &TimerState, i: &TimerIn, now: u64) -> TimerState
-    ensures { result ≡ tof_after s.now i.now now }
-{
-    if i.input {
-        resting_timer(true, true, i.pt)
-    } else if s.last {
-        running_pulse(false, i.pt, now, now)
-    } else if s.run {
-        running_pulse(false, i.pt, s.start, now)
-    } else {
-        resting_timer(false, false, i.pt)
-    }
-}
-
 fn is_cold_timer(s: &TimerState) -> bool
     ensures { result ≡ is_cold_timer s.now }
 {
@@ -168,344 +185,130 @@ fn is_resting(s: &TimerState) -> bool
     s.et == 0 && s.start == 0
 }
 
-fn ton_holds(s: &TimerState) -> bool
-    ensures { result ≡ ton_holds s.now }
-{
-    if s.run {
-        is_running(s) && s.last && s.q == (milliseconds(s.pt) <= milliseconds(s.et))
-    } else {
-        is_resting(s) && !s.last && !s.q
-    }
-}
-
-fn tof_holds(s: &TimerState) -> bool
-    ensures { result ≡ tof_holds s.now }
-{
-    if s.run {
-        is_running(s) && !s.last && s.q == (milliseconds(s.et) < milliseconds(s.pt))
-    } else {
-        is_resting(s) && s.q == s.last
-    }
-}
-
-fn tp_holds(s: &TimerState) -> bool
-    ensures { result ≡ tp_holds s.now }
-{
-    if s.run {
-        is_running(s)
-            && s.q == (milliseconds(s.et) < milliseconds(s.pt))
-            && (milliseconds(s.et) != milliseconds(s.pt) || s.last)
-    } else {
-        is_resting(s) && !s.last && !s.q
-    }
-}
-
-fn is_ton(s: &TimerState) -> bool
-    ensures { result ≡ is_ton s.now }
-{
-    time_range(&s.et);
-    time_range(&s.pt);
-    if s.called {
-        ton_holds(s)
-    } else {
-        is_cold_timer(s)
-    }
-}
-
-fn is_tof(s: &TimerState) -> bool
-    ensures { result ≡ is_tof s.now }
-{
-    time_range(&s.et);
-    time_range(&s.pt);
-    if s.called {
-        tof_holds(s)
-    } else {
-        is_cold_timer(s)
-    }
-}
-
-fn is_tp(s: &TimerState) -> bool
-    ensures { result ≡ is_tp s.now }
-{
-    time_range(&s.et);
-    time_range(&s.pt);
-    if s.called {
-        tp_holds(s)
-    } else {
-        is_cold_timer(s)
-    }
-}
-
-fn saved_timer(s: &TimerState) -> Saved
-    ensures { result ≡ saved_timer s.now }
-{
-    Saved {
-        called: s.called,
-        first: s.q,
-        second: s.last,
-        third: s.run,
-        fourth: false,
-        high: s.pt,
-        low: s.et,
-        start: s.start,
-    }
-}
-
-fn timer_of(w: &Saved) -> TimerState
-    ensures { result ≡ timer_of w.now }
-{
-    TimerState {
-        called: w.called,
-        q: w.first,
-        last: w.second,
-        run: w.third,
-        et: w.low,
-        pt: w.high,
-        start: w.start,
-    }
-}
-
-fn timer_words(s: &TimerState) -> [u64; 4]
-    ensures { result ≡ timer_words s.now }
-{
-    words_of(&saved_timer(s))
-}
-
-fn timer_outs(s: &TimerState) -> TimerOut
-    ensures { result ≡ timer_outs s.now }
-{
-    TimerOut { q: s.q, et: s.et }
-}
-
-fn cold_timer() -> TimerState
-    ensures { result ≡ cold_timer }
-{
-    TimerState {
-        called: false,
-        q: false,
-        last: false,
-        run: false,
-        et: 0,
-        pt: 0,
-        start: 0,
-    }
-}
-
 /// TP: an edge of IN starts a pulse of PT, which nothing prolongs; Q is TRUE in it, and ET stays at PT until IN is FALSE.
-#[derive(Drop)]
-pub struct Tp {
-    state: TimerState,
-}
+pub type Tp = StandardBlock<Pulse>;
 
-impl Model for Tp {
-    ghost use Rattle.std.specs.Prelude.{◌≡◌, true};
-    ghost use Rattle.function_blocks.specs.declared.timer.TimerState.{TimerState};
-    ghost use Rattle.function_blocks.specs.Timers.{is_tp};
+/// The equations of TP.
+pub struct Pulse;
 
-    ghost Value = { TimerState };
-
-    ghost view = { λ t. t.state };
-
-    ghost invariant = { λ t. is_tp t.state ≡ true };
-}
-
-impl FunctionBlock for Tp {
-    ghost use Rattle.std.specs.Prelude.{◌≡◌, true, Bool, ℕ, List, Some, IfSome};
-    ghost use Rattle.il_model.specs.Kinds.{kind_code};
-    ghost use Rattle.il_model.specs.declared.kind.BlockKind.TheVariants as kinds;
-    ghost use Rattle.function_blocks.specs.Timers.{tp_after, timer_outs, is_tp, timer_words, cold_timer};
+impl Equations for Pulse {
+    type State = TimerState;
 
     type In = TimerIn;
-
-    type Out = TimerOut;
 
     ghost CODE = { kind_code kinds.Tp };
 
     ghost after = { tp_after };
 
-    ghost outs_of = { timer_outs };
-
-    ghost cold_state = { cold_timer };
-
-    ghost is_state = { is_tp };
-
-    ghost words_of = { timer_words };
+    ghost holds = { tp_holds };
 
     const CODE: u8 = BlockKind::Tp as u8;
 
-    fn cold() -> Tp {
-        Tp {
-            state: cold_timer(),
-        }
-    }
-
-    fn call(&mut self, i: &TimerIn, now: u64) -> TimerOut {
-        time_range(&i.pt);
-        self.state = tp_next(&self.state, i, now);
-        timer_outs(&self.state)
-    }
-
-    fn outs(&self) -> TimerOut {
-        timer_outs(&self.state)
-    }
-
-    fn save(&self) -> [u64; 4] {
-        timer_words(&self.state)
-    }
-
-    #[tactic(auto, using(crate::proofs::Timers::tp_back))]
-    fn restore(given: [u64; 4]) -> Option<Tp> {
-        let state = timer_of(&saved_in(&given));
-        if is_tp(&state) && timer_words(&state) == given {
-            Some(Tp { state })
+    fn next(s: &TimerState, i: &TimerIn, now: u64) -> TimerState {
+        if s.run {
+            pulse_after(i.input, i.pt, s.start, now)
+        } else if i.input && !s.last {
+            pulse_after(true, i.pt, now, now)
         } else {
-            None
+            resting_timer(false, i.input, i.pt)
         }
     }
+
+    fn holds(s: &TimerState) -> bool {
+        if !s.called {
+            is_cold_timer(s)
+        } else if s.run {
+            is_running(s)
+                && s.q == (milliseconds(s.et) < milliseconds(s.pt))
+                && (milliseconds(s.et) != milliseconds(s.pt) || s.last)
+        } else {
+            is_resting(s) && !s.last && !s.q
+        }
+    }
+
+    ghost cold_holds = { refl };
 }
 
 /// TON: Q is TRUE once IN has been TRUE for PT.
-#[derive(Drop)]
-pub struct Ton {
-    state: TimerState,
-}
+pub type Ton = StandardBlock<OnDelay>;
 
-impl Model for Ton {
-    ghost use Rattle.std.specs.Prelude.{◌≡◌, true};
-    ghost use Rattle.function_blocks.specs.declared.timer.TimerState.{TimerState};
-    ghost use Rattle.function_blocks.specs.Timers.{is_ton};
+/// The equations of TON.
+pub struct OnDelay;
 
-    ghost Value = { TimerState };
-
-    ghost view = { λ t. t.state };
-
-    ghost invariant = { λ t. is_ton t.state ≡ true };
-}
-
-impl FunctionBlock for Ton {
-    ghost use Rattle.std.specs.Prelude.{◌≡◌, true, Bool, ℕ, List, Some, IfSome};
-    ghost use Rattle.il_model.specs.Kinds.{kind_code};
-    ghost use Rattle.il_model.specs.declared.kind.BlockKind.TheVariants as kinds;
-    ghost use Rattle.function_blocks.specs.Timers.{ton_after, timer_outs, is_ton, timer_words, cold_timer};
+impl Equations for OnDelay {
+    type State = TimerState;
 
     type In = TimerIn;
-
-    type Out = TimerOut;
 
     ghost CODE = { kind_code kinds.Ton };
 
     ghost after = { ton_after };
 
-    ghost outs_of = { timer_outs };
-
-    ghost cold_state = { cold_timer };
-
-    ghost is_state = { is_ton };
-
-    ghost words_of = { timer_words };
+    ghost holds = { ton_holds };
 
     const CODE: u8 = BlockKind::Ton as u8;
 
-    fn cold() -> Ton {
-        Ton {
-            state: cold_timer(),
-        }
-    }
-
-    fn call(&mut self, i: &TimerIn, now: u64) -> TimerOut {
-        time_range(&i.pt);
-        self.state = ton_next(&self.state, i, now);
-        timer_outs(&self.state)
-    }
-
-    fn outs(&self) -> TimerOut {
-        timer_outs(&self.state)
-    }
-
-    fn save(&self) -> [u64; 4] {
-        timer_words(&self.state)
-    }
-
-    #[tactic(auto, using(crate::proofs::Timers::ton_back))]
-    fn restore(given: [u64; 4]) -> Option<Ton> {
-        let state = timer_of(&saved_in(&given));
-        if is_ton(&state) && timer_words(&state) == given {
-            Some(Ton { state })
+    fn next(s: &TimerState, i: &TimerIn, now: u64) -> TimerState {
+        if i.input {
+            running_delay(i.pt, if s.last { s.start } else { now }, now)
         } else {
-            None
+            resting_timer(false, false, i.pt)
         }
     }
+
+    fn holds(s: &TimerState) -> bool {
+        if !s.called {
+            is_cold_timer(s)
+        } else if s.run {
+            is_running(s) && s.last && s.q == (milliseconds(s.pt) <= milliseconds(s.et))
+        } else {
+            is_resting(s) && !s.last && !s.q
+        }
+    }
+
+    ghost cold_holds = { refl };
 }
 
 /// TOF: Q is TRUE while IN is TRUE and for PT after it.
-#[derive(Drop)]
-pub struct Tof {
-    state: TimerState,
-}
+pub type Tof = StandardBlock<OffDelay>;
 
-impl Model for Tof {
-    ghost use Rattle.std.specs.Prelude.{◌≡◌, true};
-    ghost use Rattle.function_blocks.specs.declared.timer.TimerState.{TimerState};
-    ghost use Rattle.function_blocks.specs.Timers.{is_tof};
+/// The equations of TOF.
+pub struct OffDelay;
 
-    ghost Value = { TimerState };
-
-    ghost view = { λ t. t.state };
-
-    ghost invariant = { λ t. is_tof t.state ≡ true };
-}
-
-impl FunctionBlock for Tof {
-    ghost use Rattle.std.specs.Prelude.{◌≡◌, true, Bool, ℕ, List, Some, IfSome};
-    ghost use Rattle.il_model.specs.Kinds.{kind_code};
-    ghost use Rattle.il_model.specs.declared.kind.BlockKind.TheVariants as kinds;
-    ghost use Rattle.function_blocks.specs.Timers.{tof_after, timer_outs, is_tof, timer_words, cold_timer};
+impl Equations for OffDelay {
+    type State = TimerState;
 
     type In = TimerIn;
-
-    type Out = TimerOut;
 
     ghost CODE = { kind_code kinds.Tof };
 
     ghost after = { tof_after };
 
-    ghost outs_of = { timer_outs };
-
-    ghost cold_state = { cold_timer };
-
-    ghost is_state = { is_tof };
-
-    ghost words_of = { timer_words };
+    ghost holds = { tof_holds };
 
     const CODE: u8 = BlockKind::Tof as u8;
 
-    fn cold() -> Tof {
-        Tof {
-            state: cold_timer(),
-        }
-    }
-
-    fn call(&mut self, i: &TimerIn, now: u64) -> TimerOut {
-        time_range(&i.pt);
-        self.state = tof_next(&self.state, i, now);
-        timer_outs(&self.state)
-    }
-
-    fn outs(&self) -> TimerOut {
-        timer_outs(&self.state)
-    }
-
-    fn save(&self) -> [u64; 4] {
-        timer_words(&self.state)
-    }
-
-    #[tactic(auto, using(crate::proofs::Timers::tof_back))]
-    fn restore(given: [u64; 4]) -> Option<Tof> {
-        let state = timer_of(&saved_in(&given));
-        if is_tof(&state) && timer_words(&state) == given {
-            Some(Tof { state })
+    fn next(s: &TimerState, i: &TimerIn, now: u64) -> TimerState {
+        if i.input {
+            resting_timer(true, true, i.pt)
+        } else if s.last {
+            running_pulse(false, i.pt, now, now)
+        } else if s.run {
+            running_pulse(false, i.pt, s.start, now)
         } else {
-            None
+            resting_timer(false, false, i.pt)
         }
     }
+
+    fn holds(s: &TimerState) -> bool {
+        if !s.called {
+            is_cold_timer(s)
+        } else if s.run {
+            is_running(s) && !s.last && s.q == (milliseconds(s.et) < milliseconds(s.pt))
+        } else {
+            is_resting(s) && s.q == s.last
+        }
+    }
+
+    ghost cold_holds = { refl };
 }

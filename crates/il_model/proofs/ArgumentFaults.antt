@@ -15,15 +15,15 @@ use Rattle.il_model.specs.declared.program.Side.{Side}
 use Rattle.il_model.specs.declared.program.Side.TheVariants as sides
 use Rattle.il_model.specs.declared.typing.TypeFault.{TypeFault}
 use Rattle.il_model.specs.declared.typing.TypeFault.TheVariants.{TypeMismatch, NoCurrentResult, UnknownLabel, DuplicateLabel, Unbalanced, TooDeep, NotWritable, BadField}
-use Rattle.il_model.specs.declared.typing.Kind.{Kind}
-use Rattle.il_model.specs.declared.typing.Kind.TheVariants as kinds
+use Rattle.il_model.specs.declared.typing.OperandKind.{OperandKind}
+use Rattle.il_model.specs.declared.typing.OperandKind.TheVariants as kinds
 use Rattle.il_model.specs.Text.{Text}
 use Rattle.il_model.specs.Names.{same_name}
 use Rattle.il_model.specs.Kinds.{field_type, any_field}
-use Rattle.il_model.specs.Values.{made}
+use Rattle.il_model.specs.Values.{typed_value}
 use Rattle.il_model.specs.Row.{same_type}
-use Rattle.il_model.specs.Constants.{literal_of}
-use Rattle.il_model.specs.Typing.{fault_rank, tried_first, first_fault, operand_kind, passing_fault, goes_so, field_fault, field_named, argument_fault, arguments_fault}
+use Rattle.il_model.specs.Constants.{operand_literal}
+use Rattle.il_model.specs.Typing.{fault_rank, tried_first, first_fault, operand_kind, passing_fault, goes_so, field_fault, kind_field, argument_fault, arguments_fault}
 use Rattle.il_model.specs.Settled.{settled_as, settled_passing, settled_argument, as_settled}
 use Rattle.il_model.proofs.TypedLines.{is_among}
 
@@ -65,7 +65,7 @@ unless_late : (b : Bool) → IsLate (cond b None (Some TypeMismatch))
 unless_late true = tt
 unless_late false = omega arith
 
-passing_late : (side : Side) (t : Ty) (kind : Kind) → IsLate (passing_fault side t kind)
+passing_late : (side : Side) (t : Ty) (kind : OperandKind) → IsLate (passing_fault side t kind)
 passing_late sides.Input t kinds.Absent = omega arith
 passing_late sides.Input t (kinds.Typed u w) = unless_late (same_type t u)
 passing_late sides.Input t kinds.Misfit = omega arith
@@ -95,7 +95,7 @@ field_late Q a (Some field) = chosen_late (goes_so a.side field) (passing_fault 
 
 pub argument_late : (Q : Text) (kind : Option BlockKind) (seen : List Argument) (a : Argument) → IsLate (argument_fault Q kind seen a)
 argument_late Q None seen a = bad_late
-argument_late Q (Some k) seen a = chosen_late (is_among seen a) (Some BadField) (field_fault Q a (field_named k a.field)) bad_late (field_late Q a (field_named k a.field))
+argument_late Q (Some k) seen a = chosen_late (is_among seen a) (Some BadField) (field_fault Q a (kind_field k a.field)) bad_late (field_late Q a (kind_field k a.field))
 
 tried_late : (b : Bool) (f g : TypeFault) → IsLate (Some f) → IsLate (Some g) → IsLate (Some (cond b g f))
 tried_late true f g a b = b
@@ -128,16 +128,16 @@ bad_behind (Some TypeMismatch) late = refl
 -- ---- settled arguments
 
 -- the literal that a bare number is, or else the number
-pub literal_by : (z : ℤ) (o : Option Value) → literal_of (settled_as z o) ≡ None → settled_as z o ≡ operands.Bare z
+pub literal_by : (z : ℤ) (o : Option Value) → operand_literal (settled_as z o) ≡ None → settled_as z o ≡ operands.Bare z
 literal_by z (Some v) e = absurd cc
 literal_by z None e = refl
 
-passing_none : (side : Side) (field : Option Field) (o : Operand) → literal_of (settled_passing side field o) ≡ None → settled_passing side field o ≡ o
+passing_none : (side : Side) (field : Option Field) (o : Operand) → operand_literal (settled_passing side field o) ≡ None → settled_passing side field o ≡ o
 passing_none sides.Output field o e = refl
 passing_none sides.Input None o e = refl
 passing_none sides.Input (Some field) operands.Absent e = refl
 passing_none sides.Input (Some field) (operands.Literal v) e = refl
-passing_none sides.Input (Some field) (operands.Bare z) e = literal_by z (made (field_type field) z) e
+passing_none sides.Input (Some field) (operands.Bare z) e = literal_by z (typed_value (field_type field) z) e
 passing_none sides.Input (Some field) (operands.Variable name) e = refl
 passing_none sides.Input (Some field) (operands.Direct loc) e = refl
 passing_none sides.Input (Some field) (operands.Label name) e = refl
@@ -145,7 +145,7 @@ passing_none sides.Input (Some field) (operands.Field name other) e = refl
 passing_none sides.Input (Some field) (operands.Instance name) e = refl
 
 -- an argument's operand that is no literal once it is settled is as it was
-pub settled_argument_none : (a : Argument) → literal_of (settled_argument a).operand ≡ None → (settled_argument a).operand ≡ a.operand
+pub settled_argument_none : (a : Argument) → operand_literal (settled_argument a).operand ≡ None → (settled_argument a).operand ≡ a.operand
 settled_argument_none a e = passing_none a.side (any_field a.field) a.operand e
 
 pub none_settled : (args : List Argument) → map (as_settled false) args ≡ args
@@ -176,18 +176,18 @@ among_settled s (b ∷ seen) a =
 -- settling those before an argument doesn't change its fault
 seen_settled : (Q : Text) (kind : Option BlockKind) (s : Bool) (seen : List Argument) (a : Argument) → argument_fault Q kind (map (as_settled s) seen) a ≡ argument_fault Q kind seen a
 seen_settled Q None s seen a = refl
-seen_settled Q (Some k) s seen a = ap (λ (b : Bool). cond b (Some BadField) (field_fault Q a (field_named k a.field))) (among_settled s seen a)
+seen_settled Q (Some k) s seen a = ap (λ (b : Bool). cond b (Some BadField) (field_fault Q a (kind_field k a.field))) (among_settled s seen a)
 
 pub is_seen : (Q : Text) (kind : Option BlockKind) (k : BlockKind) (seen : List Argument) (s : Bool) (a : Argument) → kind ≡ Some k → is_among seen a ≡ true → argument_fault Q kind seen (as_settled s a) ≡ Some BadField
 is_seen Q kind k seen s a is among =
     ap (λ (o : Option BlockKind). argument_fault Q o seen (as_settled s a)) is
-    ∙ ap (λ (b : Bool). cond b (Some BadField) (field_fault Q (as_settled s a) (field_named k (as_settled s a).field))) (among_same seen s a ∙ among)
+    ∙ ap (λ (b : Bool). cond b (Some BadField) (field_fault Q (as_settled s a) (kind_field k (as_settled s a).field))) (among_same seen s a ∙ among)
 
-pub is_new : (Q : Text) (kind : Option BlockKind) (k : BlockKind) (seen : List Argument) (s : Bool) (a : Argument) → kind ≡ Some k → is_among seen a ≡ false → argument_fault Q kind seen (as_settled s a) ≡ field_fault Q (as_settled s a) (field_named k a.field)
+pub is_new : (Q : Text) (kind : Option BlockKind) (k : BlockKind) (seen : List Argument) (s : Bool) (a : Argument) → kind ≡ Some k → is_among seen a ≡ false → argument_fault Q kind seen (as_settled s a) ≡ field_fault Q (as_settled s a) (kind_field k a.field)
 is_new Q kind k seen s a is among =
     ap (λ (o : Option BlockKind). argument_fault Q o seen (as_settled s a)) is
-    ∙ ap (λ (b : Bool). cond b (Some BadField) (field_fault Q (as_settled s a) (field_named k (as_settled s a).field))) (among_same seen s a ∙ among)
-    ∙ ap (λ (name : List ℕ). field_fault Q (as_settled s a) (field_named k name)) (same_field s a)
+    ∙ ap (λ (b : Bool). cond b (Some BadField) (field_fault Q (as_settled s a) (kind_field k (as_settled s a).field))) (among_same seen s a ∙ among)
+    ∙ ap (λ (name : List ℕ). field_fault Q (as_settled s a) (kind_field k name)) (same_field s a)
 
 -- ---- going over the arguments
 

@@ -23,9 +23,9 @@ use Rattle.il_model.specs.Names.{same_name}
 use Rattle.il_model.specs.Kinds.{kind_fields, field_name, field_number, field_type, is_input}
 use Rattle.il_model.specs.Text.{Text}
 use Rattle.il_model.specs.Resolved.{source_of, called_kind}
-use Rattle.il_model.specs.Typing.{shape_at, closed, top_of, source_row, source_kind, passing_fault, goes_so, argument_fault, arguments_fault, IsTyped}
+use Rattle.il_model.specs.Typing.{shape_at, typing_end, top_of, source_row, source_kind, passing_fault, goes_so, argument_fault, arguments_fault, IsTyped}
 use Rattle.il_model.specs.Marks.{word_count, words_in}
-use Rattle.il_model.specs.Constants.{literal_of, operands_in, operands_of}
+use Rattle.il_model.specs.Constants.{operand_literal, operands_in, operands_of}
 use Rattle.il_model.proofs.Declared.{fields_few, field_so}
 use Rattle.il_model.proofs.TypedLines.{bind_ok, ok_before, typed_line, sourced, fault_none, is_among, IsArgumentOf, argument_typed, no_arguments, first_none}
 
@@ -38,7 +38,7 @@ pub record IsTypedLine (Q : Text) (line : Instr) : Type 0 where
 typed_so : (Q : Text) → IsTyped Q → (n : ℕ) (line : Instr) → slice_get Q.code n ≡ Some line → IsTypedLine Q line
 typed_so Q typed n line here =
     let lt : n < length Q.code = slice_get_within Q.code n line here in
-    let all = bind_ok (shape_at Q (length Q.code)) (closed Q) tt typed in
+    let all = bind_ok (shape_at Q (length Q.code)) (typing_end Q) tt typed in
     let sh = ok_before Q (length Q.code) all.0 all.1 n (omega arith) in
     let l = typed_line Q typed n sh.0 line lt sh.1 here in
     let f = fault_none (source_row Q sh.0.cr (top_of sh.0.kept) (length sh.0.kept) line (source_of Q line.operand)) (arguments_fault Q (called_kind Q line.operand) [] line.arguments) l.effect l.row in
@@ -165,20 +165,20 @@ inputs_few kinds.Tof = omega arith
 -- how many operands are literals
 abbrev pub literal_count : List Operand → ℕ
 literal_count [] = 0
-literal_count (o ∷ os) = cond (is_some (literal_of o)) 1 0 + literal_count os
+literal_count (o ∷ os) = cond (is_some (operand_literal o)) 1 0 + literal_count os
 
 literal_count-append : (xs ys : List Operand) → literal_count (xs ++ ys) ≡ literal_count xs + literal_count ys
 literal_count-append [] ys = omega arith
 literal_count-append (o ∷ xs) ys = let more = literal_count-append xs ys in omega arith
 
 abbrev is_literal : Argument → Bool
-is_literal a = is_some (literal_of a.operand)
+is_literal a = is_some (operand_literal a.operand)
 
 input_by : (Q : Text) (v : Value) (side : Side) (t : Ty) (field : Field) → goes_so side field ≡ true → passing_fault side t (source_kind Q (sources.Constant v)) ≡ None → is_input field ≡ true
 input_by Q v sides.Input t field goes passes = goes
 input_by Q v sides.Output t field goes passes = absurd cc
 
-input_of : (Q : Text) (o : Operand) (side : Side) (t : Ty) (field : Field) (src : Source) → is_some (literal_of o) ≡ true → source_of Q o ≡ Some src → goes_so side field ≡ true → passing_fault side t (source_kind Q src) ≡ None → is_input field ≡ true
+input_of : (Q : Text) (o : Operand) (side : Side) (t : Ty) (field : Field) (src : Source) → is_some (operand_literal o) ≡ true → source_of Q o ≡ Some src → goes_so side field ≡ true → passing_fault side t (source_kind Q src) ≡ None → is_input field ≡ true
 input_of Q operands.Absent side t field src e s goes passes = absurd cc
 input_of Q (operands.Literal v) side t field src e s goes passes =
     let is : src ≡ sources.Constant v = cc in
@@ -208,7 +208,7 @@ record IsShort (line : Instr) : Type 0 where
   words : word_count line ≤ 9
   literals : literal_count (operands_in line) ≤ 5
 
-no_literal : (Q : Text) (o : Operand) (k : BlockKind) → called_kind Q o ≡ Some k → literal_of o ≡ None
+no_literal : (Q : Text) (o : Operand) (k : BlockKind) → called_kind Q o ≡ Some k → operand_literal o ≡ None
 no_literal Q operands.Absent k e = refl
 no_literal Q (operands.Literal v) k e = absurd cc
 no_literal Q (operands.Bare z) k e = refl
@@ -229,13 +229,13 @@ none_at_all (Some v) e = absurd cc
 short_by : (kind : Option BlockKind) (Q : Text) (line : Instr) → called_kind Q line.operand ≡ kind → arguments_fault Q kind [] line.arguments ≡ None → IsShort line
 short_by None Q line e h =
     let none : line.arguments ≡ [] = no_arguments Q [] line.arguments h in
-    let one = one_at_most (is_some (literal_of line.operand)) in
+    let one = one_at_most (is_some (operand_literal line.operand)) in
     let rest : literal_count (map (λ (a : Argument). a.operand) line.arguments) ≡ 0 = rw none refl in
     record { words = omega (arith, ap length none); literals = omega (arith, rest) }
 short_by (Some k) Q line e h =
     let all : count (λ a. true) line.arguments ≤ free any [] (kind_fields k) = counted Q k (λ a. true) any (λ a is t. refl) [] line.arguments h in
     let literals : count is_literal line.arguments ≤ free is_input [] (kind_fields k) = counted Q k is_literal is_input (literal_input Q k) [] line.arguments h in
-    let none = none_at_all (literal_of line.operand) (no_literal Q line.operand k e) in
+    let none = none_at_all (operand_literal line.operand) (no_literal Q line.operand k e) in
     record { words = omega (arith, all, count_all line.arguments, free_any (kind_fields k), fields_few k); literals = omega (arith, literals, count_literals line.arguments, inputs_few k, none) }
 
 short_line : (Q : Text) (line : Instr) → IsTypedLine Q line → IsShort line

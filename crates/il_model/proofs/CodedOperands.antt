@@ -12,7 +12,7 @@ use Rattle.il_model.specs.declared.coded_operand.CodedOperand.TheVariants.{Locat
 use Rattle.il_model.specs.declared.value.Ty.{Ty}
 use Rattle.il_model.specs.declared.program.Variable as declarations
 use Rattle.il_model.specs.Typing.{loc_type}
-use Rattle.il_model.specs.Codes.{is_type, is_taken, location_of}
+use Rattle.il_model.specs.Codes.{is_type, is_taken, coded_location}
 use Rattle.il_model.specs.CodedOperands.{base_of, loc_code, IsCell, area_loc, any_loc, code_of, HasOwnCode, with_code}
 
 same_loc : (x y : Loc) → Some x ≡ Some y → x ≡ y
@@ -146,5 +146,5 @@ own_small (Constant k) own = omega (arith, own)
 own_small Unused own = omega arith
 
 -- a free location of the type reads back from its code
-pub located_again : (seen : List declarations.Variable) (type : Ty) (loc : Loc) → IsCell loc → is_type type (loc_type loc) ≡ true → is_taken seen (loc_code loc) ≡ false → location_of seen type (loc_code loc) ≡ Some (Some loc)
+pub located_again : (seen : List declarations.Variable) (type : Ty) (loc : Loc) → IsCell loc → is_type type (loc_type loc) ≡ true → is_taken seen (loc_code loc) ≡ false → coded_location seen type (loc_code loc) ≡ Some (Some loc)
 located_again seen type loc cell suits free = rw (coded_again (Location loc) cell, suits, free) refl

@@ -6,7 +6,7 @@ use Rattle.std.proofs.lemmas.Bool.{eqb-true, eq-eqb, ne_eqb, lt-ltb, le-ltb}
 use Rattle.std.proofs.lemmas.List.{take_more, length-append}
 use Rattle.il_model.specs.Literal.{digit_of, decimals, held_integer}
 use Rattle.std.specs.Prelude.{option_map}
-use Rattle.il_model.specs.Durations.{digit_list, whole_part, PartText, part_by, added, parts_by, past_join}
+use Rattle.il_model.specs.Durations.{digit_list, whole_part, PartText, part_by, sum_of_parts, parts_by, past_join}
 
 pub small_product : (n u : ℕ) → n ≤ 4294967296 → u ≤ 86400000 → n * u ≤ 371085174374400000
 small_product n u a b = mul-le n u 4294967296 86400000 a b
@@ -128,7 +128,7 @@ no_part total i limit bytes whole lt none so_far =
     sym so_far ∙ rw f refl
 
 -- what a part adds
-turned : (i limit : ℕ) (bytes : List ℕ) (p : PartText) → i < 5 → part_by held_integer bytes ≡ Some p → parts_by held_integer (5 - i) limit bytes ≡ added (parts_by held_integer (5 - (i + 1))) limit p
+turned : (i limit : ℕ) (bytes : List ℕ) (p : PartText) → i < 5 → part_by held_integer bytes ≡ Some p → parts_by held_integer (5 - i) limit bytes ≡ sum_of_parts (parts_by held_integer (5 - (i + 1))) limit p
 unfolding parts_by
 turned i limit bytes p lt is =
     let e : 5 - i ≡ suc (5 - (i + 1)) = omega arith in

@@ -10,8 +10,8 @@ use Rattle.il_model.specs.declared.value.Value.{Value}
 use Rattle.il_model.specs.declared.value.Value.TheVariants as values
 use Rattle.il_model.specs.declared.op.Op.{Op}
 use Rattle.il_model.specs.declared.op.Modifier.{Modifier}
-use Rattle.il_model.specs.declared.codes.Form.{Form}
-use Rattle.il_model.specs.declared.codes.Form.TheVariants as forms
+use Rattle.il_model.specs.declared.codes.OperandForm.{OperandForm}
+use Rattle.il_model.specs.declared.codes.OperandForm.TheVariants as forms
 use Rattle.il_model.specs.declared.codes.Usage.{Usage}
 use Rattle.il_model.specs.declared.kind.Field.{Field}
 use Rattle.il_model.specs.declared.program.Variable.{Variable}
@@ -22,15 +22,15 @@ use Rattle.il_model.specs.declared.program.Operand.{Operand}
 use Rattle.il_model.specs.declared.program.Operand.TheVariants as operands
 use Rattle.il_model.specs.declared.program.Instr.{Instr}
 use Rattle.il_model.specs.Text.{Text, Declarations, declared_by}
-use Rattle.il_model.specs.Values.{ty_of, number_of, is_within, made}
+use Rattle.il_model.specs.Values.{ty_of, number_of, is_within, typed_value}
 use Rattle.il_model.specs.Kinds.{any_field, field_type}
-use Rattle.il_model.specs.Typing.{Shape, shape_at, closed, IsTyped}
+use Rattle.il_model.specs.Typing.{Shape, shape_at, typing_end, IsTyped}
 use Rattle.il_model.specs.Codes.{usage_of, has_form, formed_by}
 use Rattle.il_model.specs.Fits.{IsVariable, IsInstance, AreItems, IsImage}
 use Rattle.il_model.specs.Lawful.{IsOperand, IsPassed, IsLawful, AreLawful}
 use Rattle.il_model.specs.Declarable.{as_value, IsArgument, IsInstruction, IsDeclared}
 use Rattle.il_model.specs.Declarable as declarable
-use Rattle.il_model.specs.Settled.{wanted_type, settled_number, settled_as, settled_operand, settled_passing, settled_argument, settled_line, settled, is_bare, has_bare, IsTypedProgramOf}
+use Rattle.il_model.specs.Settled.{wanted_type, settled_number, settled_as, settled_operand, settled_passing, settled_argument, settled_line, typed_program_of, is_bare, has_bare, IsTypedProgramOf}
 use Rattle.il_model.proofs.TypedLines.{bind_ok, ok_before}
 use Rattle.il_model.proofs.Lawful.{lawful_image}
 use Rattle.il_model.proofs.Settling.{typed_program}
@@ -41,24 +41,24 @@ keeps : (b : Bool) (x v : Value) → cond b (Some x) None ≡ Some v → (b ≡ 
 keeps true x v e = (refl, cc)
 keeps false x v e = absurd cc
 
-truth_again : (a b : Bool) (v : Value) → cond a (Some (values.Bool false)) (cond b (Some (values.Bool true)) None) ≡ Some v → made (ty_of v) (number_of v) ≡ Some v
-truth_again true b v e = let is : values.Bool false ≡ v = cc in subst (λ (w : Value). made (ty_of w) (number_of w) ≡ Some w) is refl
-truth_again false true v e = let is : values.Bool true ≡ v = cc in subst (λ (w : Value). made (ty_of w) (number_of w) ≡ Some w) is refl
+truth_again : (a b : Bool) (v : Value) → cond a (Some (values.Bool false)) (cond b (Some (values.Bool true)) None) ≡ Some v → typed_value (ty_of v) (number_of v) ≡ Some v
+truth_again true b v e = let is : values.Bool false ≡ v = cc in subst (λ (w : Value). typed_value (ty_of w) (number_of w) ≡ Some w) is refl
+truth_again false true v e = let is : values.Bool true ≡ v = cc in subst (λ (w : Value). typed_value (ty_of w) (number_of w) ≡ Some w) is refl
 truth_again false false v e = absurd cc
 
 -- a value that was made is made again of its own type and number
-made_again : (t : Ty) (z : ℤ) (v : Value) → made t z ≡ Some v → made (ty_of v) (number_of v) ≡ Some v
+made_again : (t : Ty) (z : ℤ) (v : Value) → typed_value t z ≡ Some v → typed_value (ty_of v) (number_of v) ≡ Some v
 made_again types.Bool (pos n) v e = truth_again (ltb n 1) (ltb n 2) v e
 made_again types.Bool (negsuc n) v e = absurd cc
-made_again types.Int z v e = let k = keeps (is_within 32768 z) (values.Int z) v e in subst (λ (w : Value). made (ty_of w) (number_of w) ≡ Some w) k.1 (rw k.0 refl)
-made_again types.Dint z v e = let k = keeps (is_within 2147483648 z) (values.Dint z) v e in subst (λ (w : Value). made (ty_of w) (number_of w) ≡ Some w) k.1 (rw k.0 refl)
-made_again types.Time z v e = let k = keeps (is_within 2147483648 z) (values.Time z) v e in subst (λ (w : Value). made (ty_of w) (number_of w) ≡ Some w) k.1 (rw k.0 refl)
+made_again types.Int z v e = let k = keeps (is_within 32768 z) (values.Int z) v e in subst (λ (w : Value). typed_value (ty_of w) (number_of w) ≡ Some w) k.1 (rw k.0 refl)
+made_again types.Dint z v e = let k = keeps (is_within 2147483648 z) (values.Dint z) v e in subst (λ (w : Value). typed_value (ty_of w) (number_of w) ≡ Some w) k.1 (rw k.0 refl)
+made_again types.Time z v e = let k = keeps (is_within 2147483648 z) (values.Time z) v e in subst (λ (w : Value). typed_value (ty_of w) (number_of w) ≡ Some w) k.1 (rw k.0 refl)
 
-by_type : (wanted : Option Ty) (z : ℤ) (v : Value) → option_and_then (λ t. made t z) wanted ≡ Some v → made (ty_of v) (number_of v) ≡ Some v
+by_type : (wanted : Option Ty) (z : ℤ) (v : Value) → option_and_then (λ t. typed_value t z) wanted ≡ Some v → typed_value (ty_of v) (number_of v) ≡ Some v
 by_type None z v e = absurd cc
 by_type (Some t) z v e = made_again t z v e
 
-bare_operand : (ds : Declarations) (z : ℤ) (o : Option Value) → ((v : Value) → o ≡ Some v → made (ty_of v) (number_of v) ≡ Some v) → is_bare (settled_as z o) ≡ false → IsOperand ds (settled_as z o)
+bare_operand : (ds : Declarations) (z : ℤ) (o : Option Value) → ((v : Value) → o ≡ Some v → typed_value (ty_of v) (number_of v) ≡ Some v) → is_bare (settled_as z o) ≡ false → IsOperand ds (settled_as z o)
 bare_operand ds z (Some v) fits e = fits v refl
 bare_operand ds z None fits e = absurd cc
 
@@ -85,7 +85,7 @@ operand_fits ds cr op m (operands.Instance name) is e = is
 
 -- ---- its form
 
-form_of_literal : (f : Form) (opens : Bool) (v w : Value) → has_form f opens (operands.Literal v) ≡ true → has_form f opens (operands.Literal w) ≡ true
+form_of_literal : (f : OperandForm) (opens : Bool) (v w : Value) → has_form f opens (operands.Literal v) ≡ true → has_form f opens (operands.Literal w) ≡ true
 form_of_literal forms.Absent opens v w e = absurd cc
 form_of_literal forms.Value opens v w e = refl
 form_of_literal forms.Label opens v w e = absurd cc
@@ -135,7 +135,7 @@ plain_passes ds o is formed e = record { form = plain_form o formed e; operand =
 passes : (ds : Declarations) (side : Side) (field : Option Field) (o : Operand) → declarable.IsOperand ds o → has_form forms.Value false (as_value o) ≡ true → is_bare (settled_passing side field o) ≡ false
     → IsPassable ds (settled_passing side field o)
 passes ds sides.Input (Some field) (operands.Bare z) is formed e =
-    record { form = bare_form z (made (field_type field) z) e; operand = bare_operand ds z (made (field_type field) z) (λ v h. made_again (field_type field) z v h) e }
+    record { form = bare_form z (typed_value (field_type field) z) e; operand = bare_operand ds z (typed_value (field_type field) z) (λ v h. made_again (field_type field) z v h) e }
 passes ds sides.Input (Some field) operands.Absent is formed e = plain_passes ds operands.Absent is formed e
 passes ds sides.Input (Some field) (operands.Literal v) is formed e = plain_passes ds (operands.Literal v) is formed e
 passes ds sides.Input (Some field) (operands.Variable name) is formed e = plain_passes ds (operands.Variable name) is formed e
@@ -194,7 +194,7 @@ mapped_some f None line e = absurd cc
 mapped_some f (Some p) line e = (p, refl, cc)
 
 typed_shape : (Q : Text) → IsTyped Q → (sh : Shape) × (shape_at Q (length Q.code) ≡ Ok sh)
-typed_shape Q typed = let b = bind_ok (shape_at Q (length Q.code)) (closed Q) tt typed in (b.0, b.1)
+typed_shape Q typed = let b = bind_ok (shape_at Q (length Q.code)) (typing_end Q) tt typed in (b.0, b.1)
 
 settled_lines : (P Q : Text) → IsDeclared P → IsTypedProgramOf P Q → (n : ℕ) (line : Instr) → slice_get Q.code n ≡ Some line → IsLawful (declared_by P) line
 settled_lines P Q is t n line e =
@@ -225,5 +225,5 @@ declared_fits P Q is t =
     t.typed
 
 -- a declared program has an image once its bare numbers have types
-pub declared_image : (P Q : Text) → IsDeclared P → settled P ≡ Ok Q → IsImage Q
+pub declared_image : (P Q : Text) → IsDeclared P → typed_program_of P ≡ Ok Q → IsImage Q
 declared_image P Q is e = declared_fits P Q is (typed_program P Q e)

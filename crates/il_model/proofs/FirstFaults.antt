@@ -19,8 +19,8 @@ use Rattle.il_model.specs.declared.program.Side.TheVariants as sides
 use Rattle.il_model.specs.declared.fetched.Source.{Source}
 use Rattle.il_model.specs.declared.typing.TypeFault.{TypeFault}
 use Rattle.il_model.specs.declared.typing.TypeFault.TheVariants.{TypeMismatch, NoCurrentResult, UnknownLabel, DuplicateLabel, Unbalanced, TooDeep, NotWritable, BadField}
-use Rattle.il_model.specs.declared.typing.Kind.{Kind}
-use Rattle.il_model.specs.declared.typing.Kind.TheVariants as kinds
+use Rattle.il_model.specs.declared.typing.OperandKind.{OperandKind}
+use Rattle.il_model.specs.declared.typing.OperandKind.TheVariants as kinds
 use Rattle.il_model.specs.declared.typing.Held.{Held}
 use Rattle.il_model.specs.declared.typing.Effect.{Effect}
 use Rattle.il_model.specs.declared.typing.Effect.TheVariants.{Sets}
@@ -31,7 +31,7 @@ use Rattle.il_model.specs.Operators.{joined_type}
 use Rattle.il_model.specs.Codes.{is_jump, is_call}
 use Rattle.il_model.specs.Resolved.{source_of, target_of, called_kind}
 use Rattle.il_model.specs.Row.{row, same_type, is_bool, negatable, load_row, store_row, set_row, truth_row, leave_row, jump_row, call_row, close_row, closes_to, convert_row, opened_row, opens_with, combine_row, sets_to}
-use Rattle.il_model.specs.Typing.{◌>>=◌, Shape, top_of, source_kind, missing_kind, operand_kind, source_row, refused, fault_rank, first_fault, passing_fault, goes_so, field_fault, field_named, argument_fault, arguments_fault, with_fault, line_row_of, line_row, label_at, label_row, applied, arrived, after_line}
+use Rattle.il_model.specs.Typing.{◌>>=◌, Shape, top_of, source_kind, missing_kind, operand_kind, source_row, without_effect, fault_rank, first_fault, passing_fault, goes_so, field_fault, kind_field, argument_fault, arguments_fault, with_fault, line_row_of, line_row, label_at, label_row, shape_after, shape_on_arrival, after_line}
 use Rattle.il_model.specs.InstructionFaults.{leaves, is_closing, writes, combines, has_operand, needs_result, is_target, is_instance, is_no_field, may_be_written, result_is, both_are, joins, begins_inside, takes, if_goes_so, argument_field, is_field_bad, is_output_side, is_unwritable, is_of_field, is_mismatched, has_twins, is_doubled, applies, IsFirst, TellsFirst}
 use Rattle.il_model.proofs.RowTypes.{and_yes}
 use Rattle.il_model.proofs.TypedLines.{is_among}
@@ -214,7 +214,7 @@ tells has r e = record {
 -- ---- the rows of the operators
 
 -- those of an operator and its operand, where a parenthesis is open and there is room for one more
-abbrev row_has : Bool → Bool → Option Ty → Option Held → Op → Modifier → Kind → TypeFault → Bool
+abbrev row_has : Bool → Bool → Option Ty → Option Held → Op → Modifier → OperandKind → TypeFault → Bool
 row_has within room cr held op m kind DuplicateLabel = false
 row_has within room cr held op m kind Unbalanced = (leaves op && within) || (is_closing op && is_none held)
 row_has within room cr held op m kind TooDeep = combines op && (m.opens && not room)
@@ -232,11 +232,11 @@ unless false e = refl
 abbrev letters : Bool → Bool → Bool → Modifier
 letters n c b = record { negated = n; conditional = c; opens = b }
 
-load_told : (within room : Bool) (cr : Option Ty) (held : Option Held) (n c b : Bool) (kind : Kind) → fault_of (load_row n kind) ≡ first_found (row_has within room cr held ops.Ld (letters n c b) kind)
+load_told : (within room : Bool) (cr : Option Ty) (held : Option Held) (n c b : Bool) (kind : OperandKind) → fault_of (load_row n kind) ≡ first_found (row_has within room cr held ops.Ld (letters n c b) kind)
 load_told within room cr held n c b (kinds.Typed t w) = unless (negatable n t) (Sets (Some t))
 load_told within room cr held n c b _ = refl
 
-store_told : (within room : Bool) (cr : Option Ty) (held : Option Held) (n c b : Bool) (kind : Kind) → fault_of (store_row cr n kind) ≡ first_found (row_has within room cr held ops.St (letters n c b) kind)
+store_told : (within room : Bool) (cr : Option Ty) (held : Option Held) (n c b : Bool) (kind : OperandKind) → fault_of (store_row cr n kind) ≡ first_found (row_has within room cr held ops.St (letters n c b) kind)
 store_told within room None held n c b (kinds.Typed t true) = refl
 store_told within room (Some x) held n c b (kinds.Typed t true) = unless (same_type x t && negatable n t) (Sets (Some x))
 store_told within room None held n c b (kinds.Typed t false) = refl
@@ -244,7 +244,7 @@ store_told within room (Some x) held n c b (kinds.Typed t false) = refl
 store_told within room None held n c b _ = refl
 store_told within room (Some x) held n c b _ = refl
 
-set_told : (within room : Bool) (cr : Option Ty) (held : Option Held) (n c b : Bool) (kind : Kind) → fault_of (set_row cr kind) ≡ first_found (row_has within room cr held ops.S (letters n c b) kind)
+set_told : (within room : Bool) (cr : Option Ty) (held : Option Held) (n c b : Bool) (kind : OperandKind) → fault_of (set_row cr kind) ≡ first_found (row_has within room cr held ops.S (letters n c b) kind)
 set_told within room None held n c b (kinds.Typed t true) = refl
 set_told within room (Some x) held n c b (kinds.Typed t true) = unless (is_bool t && is_bool x) (Sets (Some x))
 set_told within room None held n c b (kinds.Typed t false) = refl
@@ -252,25 +252,25 @@ set_told within room (Some x) held n c b (kinds.Typed t false) = refl
 set_told within room None held n c b _ = refl
 set_told within room (Some x) held n c b _ = refl
 
-truth_told : (within room : Bool) (cr : Option Ty) (held : Option Held) (n c b : Bool) (kind : Kind) → fault_of (truth_row cr) ≡ first_found (row_has within room cr held ops.Not (letters n c b) kind)
+truth_told : (within room : Bool) (cr : Option Ty) (held : Option Held) (n c b : Bool) (kind : OperandKind) → fault_of (truth_row cr) ≡ first_found (row_has within room cr held ops.Not (letters n c b) kind)
 truth_told within room None held n c b kind = refl
 truth_told within room (Some x) held n c b kind = unless (is_bool x) (Sets (Some x))
 
-jump_told : (within room : Bool) (cr : Option Ty) (held : Option Held) (n c b : Bool) (kind : Kind) → fault_of (cond within (Err Unbalanced) (jump_row cr c kind)) ≡ first_found (row_has within room cr held ops.Jmp (letters n c b) kind)
+jump_told : (within room : Bool) (cr : Option Ty) (held : Option Held) (n c b : Bool) (kind : OperandKind) → fault_of (cond within (Err Unbalanced) (jump_row cr c kind)) ≡ first_found (row_has within room cr held ops.Jmp (letters n c b) kind)
 jump_told true room cr held n c b kind = refl
 jump_told false room None held n true b kinds.Target = refl
 jump_told false room (Some x) held n true b kinds.Target = unless (is_bool x) (Sets (Some x))
 jump_told false room cr held n false b kinds.Target = refl
 jump_told false room cr held n c b _ = refl
 
-call_told : (within room : Bool) (cr : Option Ty) (held : Option Held) (n c b : Bool) (kind : Kind) → fault_of (cond within (Err Unbalanced) (call_row cr c kind)) ≡ first_found (row_has within room cr held ops.Cal (letters n c b) kind)
+call_told : (within room : Bool) (cr : Option Ty) (held : Option Held) (n c b : Bool) (kind : OperandKind) → fault_of (cond within (Err Unbalanced) (call_row cr c kind)) ≡ first_found (row_has within room cr held ops.Cal (letters n c b) kind)
 call_told true room cr held n c b kind = refl
 call_told false room None held n true b kinds.Instance = refl
 call_told false room (Some x) held n true b kinds.Instance = unless (is_bool x) (Sets (Some x))
 call_told false room cr held n false b kinds.Instance = refl
 call_told false room cr held n c b _ = refl
 
-return_told : (within room : Bool) (cr : Option Ty) (held : Option Held) (n c b : Bool) (kind : Kind) → fault_of (cond within (Err Unbalanced) (leave_row cr c)) ≡ first_found (row_has within room cr held ops.Ret (letters n c b) kind)
+return_told : (within room : Bool) (cr : Option Ty) (held : Option Held) (n c b : Bool) (kind : OperandKind) → fault_of (cond within (Err Unbalanced) (leave_row cr c)) ≡ first_found (row_has within room cr held ops.Ret (letters n c b) kind)
 return_told true room cr held n c b kind = refl
 return_told false room None held n true b kind = refl
 return_told false room (Some x) held n true b kind = unless (is_bool x) (Sets (Some x))
@@ -281,21 +281,21 @@ closes_told true (Some t) = refl
 closes_told true None = refl
 closes_told false o = refl
 
-close_told : (within room : Bool) (cr : Option Ty) (held : Option Held) (n c b : Bool) (kind : Kind) → fault_of (close_row cr held) ≡ first_found (row_has within room cr held ops.Close (letters n c b) kind)
+close_told : (within room : Bool) (cr : Option Ty) (held : Option Held) (n c b : Bool) (kind : OperandKind) → fault_of (close_row cr held) ≡ first_found (row_has within room cr held ops.Close (letters n c b) kind)
 close_told within room cr None n c b kind = refl
 close_told within room None (Some held) n c b kind = refl
 close_told within room (Some x) (Some held) n c b kind = closes_told (negatable held.negated x) (joined_type held.op held.ty x)
 
-to_dint_told : (within room : Bool) (cr : Option Ty) (held : Option Held) (n c b : Bool) (kind : Kind) → fault_of (convert_row cr types.Int types.Dint) ≡ first_found (row_has within room cr held ops.IntToDint (letters n c b) kind)
+to_dint_told : (within room : Bool) (cr : Option Ty) (held : Option Held) (n c b : Bool) (kind : OperandKind) → fault_of (convert_row cr types.Int types.Dint) ≡ first_found (row_has within room cr held ops.IntToDint (letters n c b) kind)
 to_dint_told within room None held n c b kind = refl
 to_dint_told within room (Some x) held n c b kind = unless (same_type x types.Int) (Sets (Some types.Dint))
 
-to_int_told : (within room : Bool) (cr : Option Ty) (held : Option Held) (n c b : Bool) (kind : Kind) → fault_of (convert_row cr types.Dint types.Int) ≡ first_found (row_has within room cr held ops.DintToInt (letters n c b) kind)
+to_int_told : (within room : Bool) (cr : Option Ty) (held : Option Held) (n c b : Bool) (kind : OperandKind) → fault_of (convert_row cr types.Dint types.Int) ≡ first_found (row_has within room cr held ops.DintToInt (letters n c b) kind)
 to_int_told within room None held n c b kind = refl
 to_int_told within room (Some x) held n c b kind = unless (same_type x types.Dint) (Sets (Some types.Int))
 
 -- the operators on the current result and an operand have one row each way
-abbrev operand_has : Bool → Option Ty → Op → Modifier → Kind → TypeFault → Bool
+abbrev operand_has : Bool → Option Ty → Op → Modifier → OperandKind → TypeFault → Bool
 operand_has room cr op m kind TooDeep = m.opens && not room
 operand_has room cr op m kind BadField = is_no_field kind || false
 operand_has room cr op m kind NoCurrentResult = is_none cr
@@ -303,7 +303,7 @@ operand_has room cr op m kind TypeMismatch =
     not (cond m.opens (result_is (λ c. joins op c c) cr && begins_inside kind) (both_are (λ c t. negatable m.negated t && joins op c t) cr kind))
 operand_has room cr op m kind f = false
 
-opened_told : (o : Option Ty) (held : Held) (kind : Kind) → fault_of (cond (is_none o) (Err TypeMismatch) (opens_with held kind)) ≡ cond (not (is_some o && begins_inside kind)) (Some TypeMismatch) None
+opened_told : (o : Option Ty) (held : Held) (kind : OperandKind) → fault_of (cond (is_none o) (Err TypeMismatch) (opens_with held kind)) ≡ cond (not (is_some o && begins_inside kind)) (Some TypeMismatch) None
 opened_told None held kind = refl
 opened_told (Some t) held kinds.Absent = refl
 opened_told (Some t) held (kinds.Typed u w) = refl
@@ -314,7 +314,7 @@ sets_told true (Some t) = refl
 sets_told true None = refl
 sets_told false o = refl
 
-operand_told : (room : Bool) (cr : Option Ty) (op : Op) (n c b : Bool) (kind : Kind)
+operand_told : (room : Bool) (cr : Option Ty) (op : Op) (n c b : Bool) (kind : OperandKind)
     → fault_of (cond b (cond room (opened_row cr op n kind) (Err TooDeep)) (combine_row cr op n kind)) ≡ first_found (operand_has room cr op (letters n c b) kind)
 operand_told false cr op n c true kind = refl
 operand_told true cr op n c true kinds.NoField = refl
@@ -330,7 +330,7 @@ operand_told room None op n c false _ = refl
 operand_told room (Some x) op n c false (kinds.Typed t w) = sets_told (negatable n t) (joined_type op x t)
 operand_told room (Some x) op n c false _ = refl
 
-row_told : (cr : Option Ty) (held : Option Held) (depth : ℕ) (op : Op) (n c b : Bool) (kind : Kind)
+row_told : (cr : Option Ty) (held : Option Held) (depth : ℕ) (op : Op) (n c b : Bool) (kind : OperandKind)
     → fault_of (row cr held depth op (letters n c b) kind) ≡ first_found (row_has (nat_lt 0 depth) (nat_lt depth 16) cr held op (letters n c b) kind)
 row_told cr held depth ops.Empty n c b kind = refl
 row_told cr held depth ops.Ld n c b kind = load_told (nat_lt 0 depth) (nat_lt depth 16) cr held n c b kind
@@ -366,11 +366,11 @@ mismatch_last NotWritable = refl
 mismatch_last NoCurrentResult = refl
 mismatch_last TypeMismatch = refl
 
-refused_told : (r : Result Effect TypeFault) → fault_of (refused r) ≡ first_fault (fault_of r) (Some TypeMismatch)
+refused_told : (r : Result Effect TypeFault) → fault_of (without_effect r) ≡ first_fault (fault_of r) (Some TypeMismatch)
 refused_told (Ok e) = refl
 refused_told (Err f) = mismatch_last f
 
-abbrev kind_from : Text → Option Source → Kind → Kind
+abbrev kind_from : Text → Option Source → OperandKind → OperandKind
 kind_from Q o missing = elim o [ Some src ↦ source_kind Q src | None ↦ missing ]
 
 source_told : (Q : Text) (cr : Option Ty) (held : Option Held) (depth : ℕ) (line : Instr) (o : Option Source)
@@ -381,7 +381,7 @@ source_told Q cr held depth line None = refused_told (row cr held depth line.op 
 -- ---- the arguments of a call
 
 -- those of one argument: whether its field was given before, which field it is, its side and what its operand is
-abbrev passing_has : Bool → Option Field → Side → Kind → TypeFault → Bool
+abbrev passing_has : Bool → Option Field → Side → OperandKind → TypeFault → Bool
 passing_has given field side kind BadField = (is_none field || is_no_field kind) || given
 passing_has given field side kind NotWritable = is_output_side side && not (may_be_written kind)
 passing_has given field side kind TypeMismatch = not (is_of_field field kind)
@@ -391,7 +391,7 @@ same_told : (b : Bool) → let o : Option TypeFault = cond b None (Some TypeMism
 same_told true = refl
 same_told false = refl
 
-passing_told : (side : Side) (field : Field) (kind : Kind) → passing_fault side (field_type field) kind ≡ first_found (passing_has false (Some field) side kind)
+passing_told : (side : Side) (field : Field) (kind : OperandKind) → passing_fault side (field_type field) kind ≡ first_found (passing_has false (Some field) side kind)
 passing_told sides.Input field kinds.NoField = refl
 passing_told sides.Output field kinds.NoField = refl
 passing_told sides.Input field (kinds.Typed u w) = same_told (same_type (field_type field) u)
@@ -400,7 +400,7 @@ passing_told sides.Output field (kinds.Typed u true) = same_told (same_type (fie
 passing_told sides.Output field (kinds.Typed u false) = refl
 passing_told sides.Output field _ = refl
 
-goes_told : (b : Bool) (side : Side) (field : Field) (kind : Kind) → cond b (passing_fault side (field_type field) kind) (Some BadField) ≡ first_found (passing_has false (cond b (Some field) None) side kind)
+goes_told : (b : Bool) (side : Side) (field : Field) (kind : OperandKind) → cond b (passing_fault side (field_type field) kind) (Some BadField) ≡ first_found (passing_has false (cond b (Some field) None) side kind)
 goes_told true side field kind = passing_told side field kind
 goes_told false side field kind = refl
 
@@ -419,7 +419,7 @@ field_told Q false a (Some field) = goes_told (goes_so a.side field) a.side fiel
 
 argument_told : (Q : Text) (kind : Option BlockKind) (seen : List Argument) (a : Argument) → argument_fault Q kind seen a ≡ first_found (passing_has (is_among seen a) (argument_field kind a) a.side (operand_kind Q a.operand))
 argument_told Q None seen a = refl
-argument_told Q (Some k) seen a = field_told Q (is_among seen a) a (field_named k a.field)
+argument_told Q (Some k) seen a = field_told Q (is_among seen a) a (kind_field k a.field)
 
 -- a field that is given again, behind those
 abbrev given_again : List Argument → List Argument → Bool
@@ -617,7 +617,7 @@ after_told Q n sh line =
     let depth = length sh.kept in
     let by_label = label_has Q n (nat_lt 0 depth) line.label in
     let by_line = line_has Q sh.cr (top_of sh.kept) depth line in
-    then_told (label_row Q n depth line.label) (line_row Q sh line) (λ e. arrived Q (n + 1) (applied sh e))
+    then_told (label_row Q n depth line.label) (line_row Q sh line) (λ e. shape_on_arrival Q (n + 1) (shape_after sh e))
     (λ f g a b. label_first f g (of_label Q n depth line.label f a) (line_other Q sh.cr (top_of sh.kept) depth line g b))
     ∙ ap (λ (o : Option TypeFault). first_fault o (fault_of (line_row Q sh line))) (label_told Q n depth line.label)
     ∙ ap (first_fault (first_found by_label)) (line_told Q sh.cr (top_of sh.kept) depth line)

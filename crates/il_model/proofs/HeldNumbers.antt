@@ -9,8 +9,8 @@ use Rattle.il_model.specs.declared.duration.TimeUnit.{TimeUnit}
 use Rattle.il_model.specs.Values.{is_within}
 use Rattle.il_model.specs.Words.{spells}
 use Rattle.il_model.specs.Literal.{integer_of, held_integer}
-use Rattle.il_model.specs.Durations.{PartText, unit_of, unit_len, digits_len, fraction_of, plain_part, broken_part, at_unit, at_decimals, begins_dot, behind_number, part_by, past_join, added, parts_by, duration_by}
-use Rattle.il_model.specs.Literals.{positive, minus, signed_by, hash_at, based_by, whole_by, time_by, typed, bare, prefixed, literal_by, literal_of}
+use Rattle.il_model.specs.Durations.{PartText, unit_of, unit_len, digits_len, fraction_of, plain_part, broken_part, at_unit, at_decimals, begins_dot, behind_number, part_by, past_join, sum_of_parts, parts_by, duration_by}
+use Rattle.il_model.specs.Literals.{positive, minus, signed_by, hash_at, based_by, whole_by, time_by, typed_literal, bare_literal, prefixed_literal, literal_by, literal_of}
 
 abbrev top : ℕ
 top = 4294967296
@@ -215,7 +215,7 @@ choose_near false a b x y n m = m
 nothing_near : Near None None
 nothing_near = same_near None None refl
 
-added_near : (f g : ℕ → List ℕ → Option ℕ) → ((limit : ℕ) (bytes : List ℕ) → Near (f limit bytes) (g limit bytes)) → (limit : ℕ) (p : PartText) → Near (added f limit p) (added g limit p)
+added_near : (f g : ℕ → List ℕ → Option ℕ) → ((limit : ℕ) (bytes : List ℕ) → Near (f limit bytes) (g limit bytes)) → (limit : ℕ) (p : PartText) → Near (sum_of_parts f limit p) (sum_of_parts g limit p)
 added_near f g near limit p =
     choose_near (ltb p.rank limit) _ _ None None
     (choose_near (eqb (length p.rest) 0) (Some p.milliseconds) (Some p.milliseconds) _ _ (same_near _ _ refl)
@@ -227,7 +227,7 @@ abbrev part : ℕ → Bool → ℕ → List ℕ → PartText
 part r b n rest = record { rank = r; broken = b; milliseconds = n; rest = rest }
 
 added_far : (f g : ℕ → List ℕ → Option ℕ) → ((limit : ℕ) (bytes : List ℕ) → Near (f limit bytes) (g limit bytes)) → (limit r x y : ℕ) (b : Bool) (rest : List ℕ) → 4294967296 ≤ x → 4294967296 ≤ y
-    → Near (added f limit (part r b x rest)) (added g limit (part r b y rest))
+    → Near (sum_of_parts f limit (part r b x rest)) (sum_of_parts g limit (part r b y rest))
 added_far f g near limit r x y b rest i j =
     choose_near (ltb r limit) _ _ None None
     (choose_near (eqb (length rest) 0) (Some x) (Some y) _ _ (far_near x y i j)
@@ -240,12 +240,12 @@ parts_near zero limit bytes = nothing_near
 parts_near (suc k) limit bytes = by_part (part_near bytes) (parts_near k)
   where
     by_part : NearParts (part_by held_integer bytes) (part_by integer_of bytes) → ((limit : ℕ) (bytes : List ℕ) → Near (parts_by held_integer k limit bytes) (parts_by integer_of k limit bytes))
-        → Near (option_and_then (added (parts_by held_integer k) limit) (part_by held_integer bytes)) (option_and_then (added (parts_by integer_of k) limit) (part_by integer_of bytes))
+        → Near (option_and_then (sum_of_parts (parts_by held_integer k) limit) (part_by held_integer bytes)) (option_and_then (sum_of_parts (parts_by integer_of k) limit) (part_by integer_of bytes))
     by_part n again = elim n.near [
-      | inl e ↦ subst (λ (o : Option PartText). Near (option_and_then (added (parts_by held_integer k) limit) (part_by held_integer bytes)) (option_and_then (added (parts_by integer_of k) limit) o)) e (same (part_by held_integer bytes))
+      | inl e ↦ subst (λ (o : Option PartText). Near (option_and_then (sum_of_parts (parts_by held_integer k) limit) (part_by held_integer bytes)) (option_and_then (sum_of_parts (parts_by integer_of k) limit) o)) e (same (part_by held_integer bytes))
       | inr d ↦
-          let F : Option PartText → Option ℕ = option_and_then (added (parts_by held_integer k) limit) in
-          let G : Option PartText → Option ℕ = option_and_then (added (parts_by integer_of k) limit) in
+          let F : Option PartText → Option ℕ = option_and_then (sum_of_parts (parts_by held_integer k) limit) in
+          let G : Option PartText → Option ℕ = option_and_then (sum_of_parts (parts_by integer_of k) limit) in
           let one = d.one in
           let other = d.other in
           let q : Near (F (Some one)) (G (Some (part one.rank one.broken other.milliseconds one.rest))) = added_far (parts_by held_integer k) (parts_by integer_of k) again limit one.rank one.milliseconds other.milliseconds one.broken one.rest d.one_far d.other_far in
@@ -254,7 +254,7 @@ parts_near (suc k) limit bytes = by_part (part_near bytes) (parts_near k)
           subst (λ (o : Option PartText). Near (F o) (G (part_by integer_of bytes))) (sym d.is_one) (subst (λ (o : Option PartText). Near (F (Some one)) (G o)) (sym d.is_other) q2)
     ]
       where
-        same : (o : Option PartText) → Near (option_and_then (added (parts_by held_integer k) limit) o) (option_and_then (added (parts_by integer_of k) limit) o)
+        same : (o : Option PartText) → Near (option_and_then (sum_of_parts (parts_by held_integer k) limit) o) (option_and_then (sum_of_parts (parts_by integer_of k) limit) o)
         same None = nothing_near
         same (Some p) = added_near (parts_by held_integer k) (parts_by integer_of k) again limit p
 
@@ -273,31 +273,31 @@ narrow_out : (z : ℤ) → IsOut z → is_within (2 ^ 15) z ≡ false
 narrow_out (pos n) e = le-ltb n (2 ^ 15) (let h = ltb-false n (2 ^ 31) e in omega (arith, h))
 narrow_out (negsuc n) e = le-ltb n (2 ^ 15) (let h = ltb-false n (2 ^ 31) e in omega (arith, h))
 
-int_same : (a b : Option ℤ) → NearSigned a b → typed types.Int a ≡ typed types.Int b
+int_same : (a b : Option ℤ) → NearSigned a b → typed_literal types.Int a ≡ typed_literal types.Int b
 int_same a b n = elim n.near [
-  | inl e ↦ ap (typed types.Int) e
+  | inl e ↦ ap (typed_literal types.Int) e
   | inr d ↦ let x = narrow_out d.one d.one_out in let y = narrow_out d.other d.other_out in rw (d.is_one, d.is_other, x, y) refl
 ]
 
-dint_same : (a b : Option ℤ) → NearSigned a b → typed types.Dint a ≡ typed types.Dint b
+dint_same : (a b : Option ℤ) → NearSigned a b → typed_literal types.Dint a ≡ typed_literal types.Dint b
 dint_same a b n = elim n.near [
-  | inl e ↦ ap (typed types.Dint) e
+  | inl e ↦ ap (typed_literal types.Dint) e
   | inr d ↦ rw (d.is_one, d.is_other, d.one_out, d.other_out) refl
 ]
 
-time_same : (a b : Option ℤ) → NearSigned a b → typed types.Time a ≡ typed types.Time b
+time_same : (a b : Option ℤ) → NearSigned a b → typed_literal types.Time a ≡ typed_literal types.Time b
 time_same a b n = elim n.near [
-  | inl e ↦ ap (typed types.Time) e
+  | inl e ↦ ap (typed_literal types.Time) e
   | inr d ↦ rw (d.is_one, d.is_other, d.one_out, d.other_out) refl
 ]
 
-bare_same : (a b : Option ℤ) → NearSigned a b → option_and_then bare a ≡ option_and_then bare b
+bare_same : (a b : Option ℤ) → NearSigned a b → option_and_then bare_literal a ≡ option_and_then bare_literal b
 bare_same a b n = elim n.near [
-  | inl e ↦ ap (option_and_then bare) e
+  | inl e ↦ ap (option_and_then bare_literal) e
   | inr d ↦ rw (d.is_one, d.is_other, d.one_out, d.other_out) refl
 ]
 
-prefixed_same : (word bytes : List ℕ) → prefixed held_integer word bytes ≡ prefixed integer_of word bytes
+prefixed_same : (word bytes : List ℕ) → prefixed_literal held_integer word bytes ≡ prefixed_literal integer_of word bytes
 prefixed_same word bytes = rw (int_same _ _ (whole_is bytes), dint_same _ _ (whole_is bytes), time_same _ _ (time_is bytes), bare_same _ _ (based_is word bytes)) refl
 
 pub literal_same : (bytes : List ℕ) → literal_by held_integer bytes ≡ literal_of bytes

@@ -31,22 +31,22 @@ use Rattle.il_model.specs.declared.fetched.Source.{Source}
 use Rattle.il_model.specs.declared.fetched.Source.TheVariants as sources
 use Rattle.il_model.specs.declared.codes.LetterSet.{LetterSet}
 use Rattle.il_model.specs.declared.codes.LetterSet.TheVariants as letters
-use Rattle.il_model.specs.declared.codes.Form.{Form}
-use Rattle.il_model.specs.declared.codes.Form.TheVariants as forms
+use Rattle.il_model.specs.declared.codes.OperandForm.{OperandForm}
+use Rattle.il_model.specs.declared.codes.OperandForm.TheVariants as forms
 use Rattle.il_model.specs.declared.typing.TypeFault.{TypeFault}
 use Rattle.il_model.specs.declared.typing.TypeFault.TheVariants.{Unbalanced, DuplicateLabel}
-use Rattle.il_model.specs.Values.{ty_of, number_of, made, is_within}
+use Rattle.il_model.specs.Values.{ty_of, number_of, typed_value, is_within}
 use Rattle.il_model.specs.Operators.{same_truth, same_number}
 use Rattle.il_model.specs.Names.{same_name, is_lawful_name}
 use Rattle.il_model.specs.Kinds.{field_name}
 use Rattle.il_model.specs.Text.{Text, Declarations, declared_by}
 use Rattle.il_model.specs.Resolved.{has_label, target_of, instance_in, field_of, source_of, called_kind}
-use Rattle.il_model.specs.Typing.{shape_at, closed, label_at, label_row, arguments_fault, IsTyped}
+use Rattle.il_model.specs.Typing.{shape_at, typing_end, label_at, label_row, arguments_fault, IsTyped}
 use Rattle.il_model.specs.Marks.{Mark, with_mark, word_count, words_in, address_of, marks_from}
-use Rattle.il_model.specs.Constants.{same_value, literal_of, joined_constants, constants_from, operands_in, operands_of, constants_of}
+use Rattle.il_model.specs.Constants.{same_value, operand_literal, joined_constants, constants_from, operands_in, operands_of, constants_of}
 use Rattle.il_model.specs.CodedOperands.{code_of}
 use Rattle.il_model.specs.Image.{type_code, op_code, flag, modifier_code, numbered, coded_literal, coded_operand, number_or_unused, operand_code}
-use Rattle.il_model.specs.Codes.{tested, type_of, is_known, usage_of, allows, has_form, allowed_by, formed_by, op_list, modifier_of, letters_of, named_operand, value_operand, label_there, is_jump, is_call, numbered_operand}
+use Rattle.il_model.specs.Codes.{if_passes, type_of, is_known, usage_of, allows, has_form, allowed_by, formed_by, op_list, modifier_of, letters_of, named_operand, value_operand, label_there, is_jump, is_call, numbered_operand}
 use Rattle.il_model.specs.Fits.{IsVariable, IsInstance, IsMark, IsConstant, IsPassing, IsWord, AreItems, IsImage}
 use Rattle.il_model.specs.Lawful.{IsOperand, IsLabel, IsPassed, IsLawful, AreLawful}
 use Rattle.il_model.proofs.TypedLines.{bind_ok, ok_before, typed_line, IsArgumentOf, arguments_typed, no_arguments}
@@ -57,7 +57,7 @@ use Rattle.il_model.proofs.CodedOperands.{coded_again, own_small}
 use Rattle.il_model.proofs.Declared.{StandsAt, variable_stands, map_some, instance_again, field_so, field_stands}
 use Rattle.il_model.proofs.Calls.{IsTypedLine, typed_lines, words_few, literal_count, literals_few}
 
-again : {A : Type 0} (test : A → Bool) (o : Option A) (x : A) → o ≡ Some x → test x ≡ true → option_and_then (tested test) o ≡ Some x
+again : {A : Type 0} (test : A → Bool) (o : Option A) (x : A) → o ≡ Some x → test x ≡ true → option_and_then (if_passes test) o ≡ Some x
 again test o x e h = rw (e, h) refl
 
 -- ---- operators and letters
@@ -165,11 +165,11 @@ letters_again op m e = again (allowed_by (usage_of op)) (modifier_of (modifier_c
 
 -- ---- forms of operands
 
-abbrev is_label_form : Form → Bool
+abbrev is_label_form : OperandForm → Bool
 is_label_form forms.Label = true
 is_label_form form = false
 
-abbrev is_instance_form : Form → Bool
+abbrev is_instance_form : OperandForm → Bool
 is_instance_form forms.Instance = true
 is_instance_form form = false
 
@@ -239,7 +239,7 @@ abbrev is_instance : Operand → Bool
 is_instance (operands.Instance name) = true
 is_instance o = false
 
-label_form : (form : Form) (opens : Bool) (o : Operand) → has_form form opens o ≡ true → is_label_form form ≡ is_label o
+label_form : (form : OperandForm) (opens : Bool) (o : Operand) → has_form form opens o ≡ true → is_label_form form ≡ is_label o
 label_form forms.Absent opens operands.Absent e = refl
 label_form forms.Absent opens (operands.Literal v) e = absurd cc
 label_form forms.Absent opens (operands.Bare z) e = absurd cc
@@ -273,7 +273,7 @@ label_form forms.Instance opens (operands.Label name) e = absurd cc
 label_form forms.Instance opens (operands.Field name field) e = absurd cc
 label_form forms.Instance opens (operands.Instance name) e = refl
 
-instance_form : (form : Form) (opens : Bool) (o : Operand) → has_form form opens o ≡ true → is_instance_form form ≡ is_instance o
+instance_form : (form : OperandForm) (opens : Bool) (o : Operand) → has_form form opens o ≡ true → is_instance_form form ≡ is_instance o
 instance_form forms.Absent opens operands.Absent e = refl
 instance_form forms.Absent opens (operands.Literal v) e = absurd cc
 instance_form forms.Absent opens (operands.Bare z) e = absurd cc
@@ -313,7 +313,7 @@ jumps op m o e = jump_row op ∙ label_form (usage_of op).form m.opens o e
 calls : (op : Op) (m : Modifier) (o : Operand) → formed_by (usage_of op) m o ≡ true → is_call op ≡ is_instance o
 calls op m o e = call_row op ∙ instance_form (usage_of op).form m.opens o e
 
-bare_form : (form : Form) (opens : Bool) (z : ℤ) → has_form form opens (operands.Bare z) ≡ true → ⊥
+bare_form : (form : OperandForm) (opens : Bool) (z : ℤ) → has_form form opens (operands.Bare z) ≡ true → ⊥
 bare_form forms.Absent opens z e = cc
 bare_form forms.Value opens z e = cc
 bare_form forms.Label opens z e = cc
@@ -385,17 +385,17 @@ within_32 : (limit : ℕ) (z : ℤ) → limit ≤ 2 ^ 31 → is_within limit z �
 within_32 limit (pos n) le e = let lt = ltb-true n limit e in word_pos n (omega arith)
 within_32 limit (negsuc n) le e = let lt = ltb-true n limit e in word_neg n (omega arith)
 
-value_32 : (v : Value) → made (ty_of v) (number_of v) ≡ Some v → IsWord32 (number_of v)
+value_32 : (v : Value) → typed_value (ty_of v) (number_of v) ≡ Some v → IsWord32 (number_of v)
 value_32 (values.Bool b) e = truth_32 b
 value_32 (values.Int z) e = within_32 (2 ^ 15) z (omega arith) (kept_by (is_within (2 ^ 15) z) (values.Int z) (values.Int z) e)
 value_32 (values.Dint z) e = within_32 (2 ^ 31) z (omega arith) (kept_by (is_within (2 ^ 31) z) (values.Dint z) (values.Dint z) e)
 value_32 (values.Time z) e = within_32 (2 ^ 31) z (omega arith) (kept_by (is_within (2 ^ 31) z) (values.Time z) (values.Time z) e)
 
-constant_fits : (seen : List Value) (v : Value) → made (ty_of v) (number_of v) ≡ Some v → is_known seen v ≡ false → IsConstant seen v
+constant_fits : (seen : List Value) (v : Value) → typed_value (ty_of v) (number_of v) ≡ Some v → is_known seen v ≡ false → IsConstant seen v
 constant_fits seen v e new =
     let w = value_32 v e in
-    let read : made (ty_of v) (cast_signed w32 (cast_unsigned w32 (number_of v))) ≡ Some v = ap (made (ty_of v)) w.back ∙ e in
-    record { type = type_again (ty_of v); value = again (λ v. not (is_known seen v)) (made (ty_of v) (cast_signed w32 (cast_unsigned w32 (number_of v)))) v read (ap not new); small = w.small }
+    let read : typed_value (ty_of v) (cast_signed w32 (cast_unsigned w32 (number_of v))) ≡ Some v = ap (typed_value (ty_of v)) w.back ∙ e in
+    record { type = type_again (ty_of v); value = again (λ v. not (is_known seen v)) (typed_value (ty_of v) (cast_signed w32 (cast_unsigned w32 (number_of v)))) v read (ap not new); small = w.small }
 
 -- ---- the table of constants
 
@@ -403,11 +403,11 @@ items_snoc : {X : Type 0} (P : List X → X → Type 0) (seen xs : List X) (x : 
 items_snoc P seen [] x are is = (subst (λ (s : List _). P s x) (append-nil seen) is, tt)
 items_snoc P seen (y ∷ xs) x are is = (are.0, items_snoc P (seen ++ y ∷ []) xs x are.1 (subst (λ (s : List _). P s x) (sym (append_assoc seen (y ∷ []) xs)) is))
 
-joined_by : (b : Bool) (seen : List Value) (v : Value) → is_known seen v ≡ b → made (ty_of v) (number_of v) ≡ Some v → AreItems IsConstant [] seen → AreItems IsConstant [] (cond b seen (seen ++ v ∷ []))
+joined_by : (b : Bool) (seen : List Value) (v : Value) → is_known seen v ≡ b → typed_value (ty_of v) (number_of v) ≡ Some v → AreItems IsConstant [] seen → AreItems IsConstant [] (cond b seen (seen ++ v ∷ []))
 joined_by true seen v known e are = are
 joined_by false seen v known e are = items_snoc IsConstant [] seen v are (constant_fits seen v e known)
 
-joined_fit : (ds : Declarations) (seen : List Value) (o : Operand) → IsOperand ds o → AreItems IsConstant [] seen → AreItems IsConstant [] (joined_constants same_value seen (literal_of o))
+joined_fit : (ds : Declarations) (seen : List Value) (o : Operand) → IsOperand ds o → AreItems IsConstant [] seen → AreItems IsConstant [] (joined_constants same_value seen (operand_literal o))
 joined_fit ds seen operands.Absent is are = are
 joined_fit ds seen (operands.Literal v) is are = joined_by (is_known seen v) seen v refl is are
 joined_fit ds seen (operands.Bare z) is are = are
@@ -419,7 +419,7 @@ joined_fit ds seen (operands.Instance name) is are = are
 
 constants_fit : (ds : Declarations) (os : List Operand) (seen : List Value) → AllByRecursion (IsOperand ds) os → AreItems IsConstant [] seen → AreItems IsConstant [] (constants_from same_value seen os)
 constants_fit ds [] seen fit are = are
-constants_fit ds (o ∷ os) seen fit are = constants_fit ds os (joined_constants same_value seen (literal_of o)) fit.1 (joined_fit ds seen o fit.0 are)
+constants_fit ds (o ∷ os) seen fit are = constants_fit ds os (joined_constants same_value seen (operand_literal o)) fit.1 (joined_fit ds seen o fit.0 are)
 
 all_append : (P : Operand → Type 0) (xs ys : List Operand) → AllByRecursion P xs → AllByRecursion P ys → AllByRecursion P (xs ++ ys)
 all_append P [] ys are more = more
@@ -449,8 +449,8 @@ joined_few seen (Some v) = few_by (is_known seen v) seen v
 pub constants_few : (os : List Operand) (seen : List Value) → length (constants_from same_value seen os) ≤ length seen + literal_count os
 constants_few [] seen = omega arith
 constants_few (o ∷ os) seen =
-    let one = joined_few seen (literal_of o) in
-    let more = constants_few os (joined_constants same_value seen (literal_of o)) in
+    let one = joined_few seen (operand_literal o) in
+    let more = constants_few os (joined_constants same_value seen (operand_literal o)) in
     omega arith
 
 known_by : (b : Bool) (seen : List Value) (v : Value) → is_known seen v ≡ b → is_known (cond b seen (seen ++ v ∷ [])) v ≡ true
@@ -462,13 +462,13 @@ kept_known os seen v e = let m = constants_grow os seen in ap (λ (all : List Va
 
 -- an operand that is a constant of the table, if it is a literal
 abbrev IsKnown : List Value → Operand → Type 0
-IsKnown constants o = (v : Value) → literal_of o ≡ Some v → is_known constants v ≡ true
+IsKnown constants o = (v : Value) → operand_literal o ≡ Some v → is_known constants v ≡ true
 
 literals_known : (os : List Operand) (seen : List Value) → AllByRecursion (IsKnown (constants_from same_value seen os)) os
 literals_known [] seen = tt
 literals_known (o ∷ os) seen = (
-  (λ v e. kept_known os (joined_constants same_value seen (literal_of o)) v (ap (λ (l : Option Value). is_known (joined_constants same_value seen l) v) e ∙ known_by (is_known seen v) seen v refl)),
-  literals_known os (joined_constants same_value seen (literal_of o)),
+  (λ v e. kept_known os (joined_constants same_value seen (operand_literal o)) v (ap (λ (l : Option Value). is_known (joined_constants same_value seen l) v) e ∙ known_by (is_known seen v) seen v refl)),
+  literals_known os (joined_constants same_value seen (operand_literal o)),
 )
 
 -- ---- operands
@@ -670,7 +670,7 @@ first_by (Some first) n depth h = ap (λ (k : ℕ). Some k) (first_one (eqb firs
 -- a label of a typed program stands where it is found
 label_stands : (Q : Text) (n : ℕ) (line : Instr) (name : List ℕ) → IsTyped Q → n < length Q.code → slice_get Q.code n ≡ Some line → line.label ≡ Some name → target_of Q name ≡ Some n
 label_stands Q n line name typed lt here is =
-    let all = bind_ok (shape_at Q (length Q.code)) (closed Q) tt typed in
+    let all = bind_ok (shape_at Q (length Q.code)) (typing_end Q) tt typed in
     let sh = ok_before Q (length Q.code) all.0 all.1 n (omega arith) in
     let l = typed_line Q typed n sh.0 line lt sh.1 here in
     let row : label_row Q n (length sh.0.kept) (Some name) ≡ Ok tt = sym (ap (label_row Q n (length sh.0.kept)) is) ∙ l.label in

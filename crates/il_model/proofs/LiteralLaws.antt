@@ -13,15 +13,15 @@ use Rattle.il_model.specs.declared.value.Value.TheVariants as values
 use Rattle.il_model.specs.declared.program.Loc.{Loc}
 use Rattle.il_model.specs.declared.literal.Literal.{Literal}
 use Rattle.il_model.specs.declared.literal.Literal.TheVariants.{Bare, Typed}
-use Rattle.il_model.specs.Values.{ty_of, number_of, is_within, truth_made, made}
+use Rattle.il_model.specs.Values.{ty_of, number_of, is_within, truth_made, typed_value}
 use Rattle.il_model.specs.Words.{spells}
 use Rattle.il_model.specs.Codes.{may_start_with, initial_of}
 use Rattle.il_model.specs.Literal.{integer_of}
-use Rattle.il_model.specs.Literals.{hash_at, signed_by, based_by, whole_by, time_by, truth_of, typed, bare, prefixed, is_word, literal_of}
+use Rattle.il_model.specs.Literals.{hash_at, signed_by, based_by, whole_by, time_by, truth_literal, typed_literal, bare_literal, prefixed_literal, is_word, literal_of}
 
 -- a value of its type's range
 abbrev pub IsValue : Value → Type 0
-IsValue v = made (ty_of v) (number_of v) ≡ Some v
+IsValue v = typed_value (ty_of v) (number_of v) ≡ Some v
 
 abbrev pub IsInRange : Option Literal → Type 0
 IsInRange None = Unit {0}
@@ -35,7 +35,7 @@ either : (b : Bool) (p q : Option Literal) → Good p → Good q → Good (cond 
 either true p q x y = x
 either false p q x y = y
 
-truth_good : (bytes : List ℕ) → Good (truth_of bytes)
+truth_good : (bytes : List ℕ) → Good (truth_literal bytes)
 truth_good bytes = either (spells (codes "TRUE") bytes || spells (codes "1") bytes) (Some (Typed (values.Bool true))) _ (record { good = refl }) (either (spells (codes "FALSE") bytes || spells (codes "0") bytes) (Some (Typed (values.Bool false))) None (record { good = refl }) (record { good = tt }))
 
 int_good : (b : Bool) (z : ℤ) → is_within (2 ^ 15) z ≡ b → Good (option_map Typed (cond b (Some (values.Int z)) None))
@@ -50,15 +50,15 @@ time_good : (b : Bool) (z : ℤ) → is_within (2 ^ 31) z ≡ b → Good (option
 time_good true z e = record { good = rw e refl }
 time_good false z e = record { good = tt }
 
-int_typed : (o : Option ℤ) → Good (typed types.Int o)
+int_typed : (o : Option ℤ) → Good (typed_literal types.Int o)
 int_typed None = record { good = tt }
 int_typed (Some z) = int_good (is_within (2 ^ 15) z) z refl
 
-dint_typed : (o : Option ℤ) → Good (typed types.Dint o)
+dint_typed : (o : Option ℤ) → Good (typed_literal types.Dint o)
 dint_typed None = record { good = tt }
 dint_typed (Some z) = dint_good (is_within (2 ^ 31) z) z refl
 
-time_typed : (o : Option ℤ) → Good (typed types.Time o)
+time_typed : (o : Option ℤ) → Good (typed_literal types.Time o)
 time_typed None = record { good = tt }
 time_typed (Some z) = time_good (is_within (2 ^ 31) z) z refl
 
@@ -66,22 +66,22 @@ bare_by : (b : Bool) (z : ℤ) → is_within (2 ^ 31) z ≡ b → Good (cond b (
 bare_by true z e = record { good = e }
 bare_by false z e = record { good = tt }
 
-bare_good : (o : Option ℤ) → Good (option_and_then bare o)
+bare_good : (o : Option ℤ) → Good (option_and_then bare_literal o)
 bare_good None = record { good = tt }
 bare_good (Some z) = bare_by (is_within (2 ^ 31) z) z refl
 
-prefixed_good : (word bytes : List ℕ) → Good (prefixed integer_of word bytes)
+prefixed_good : (word bytes : List ℕ) → Good (prefixed_literal integer_of word bytes)
 prefixed_good word bytes =
-    either (spells (codes "BOOL") word) (truth_of bytes) _ (truth_good bytes)
-    (either (spells (codes "INT") word) (typed types.Int (whole_by integer_of bytes)) _ (int_typed (whole_by integer_of bytes))
-    (either (spells (codes "DINT") word) (typed types.Dint (whole_by integer_of bytes)) _ (dint_typed (whole_by integer_of bytes))
-    (either (spells (codes "T") word || spells (codes "TIME") word) (typed types.Time (time_by integer_of bytes)) (option_and_then bare (based_by integer_of word bytes)) (time_typed (time_by integer_of bytes)) (bare_good (based_by integer_of word bytes)))))
+    either (spells (codes "BOOL") word) (truth_literal bytes) _ (truth_good bytes)
+    (either (spells (codes "INT") word) (typed_literal types.Int (whole_by integer_of bytes)) _ (int_typed (whole_by integer_of bytes))
+    (either (spells (codes "DINT") word) (typed_literal types.Dint (whole_by integer_of bytes)) _ (dint_typed (whole_by integer_of bytes))
+    (either (spells (codes "T") word || spells (codes "TIME") word) (typed_literal types.Time (time_by integer_of bytes)) (option_and_then bare_literal (based_by integer_of word bytes)) (time_typed (time_by integer_of bytes)) (bare_good (based_by integer_of word bytes)))))
 
 good_literal : (bytes : List ℕ) → Good (literal_of bytes)
 unfolding literal_of
 good_literal bytes =
-    either (ltb (hash_at bytes) (length bytes)) (prefixed integer_of (take (hash_at bytes) bytes) (drop (hash_at bytes + 1) bytes)) _ (prefixed_good (take (hash_at bytes) bytes) (drop (hash_at bytes + 1) bytes))
-    (either (is_word bytes) (truth_of bytes) (option_and_then bare (signed_by integer_of bytes)) (truth_good bytes) (bare_good (signed_by integer_of bytes)))
+    either (ltb (hash_at bytes) (length bytes)) (prefixed_literal integer_of (take (hash_at bytes) bytes) (drop (hash_at bytes + 1) bytes)) _ (prefixed_good (take (hash_at bytes) bytes) (drop (hash_at bytes + 1) bytes))
+    (either (is_word bytes) (truth_literal bytes) (option_and_then bare_literal (signed_by integer_of bytes)) (truth_good bytes) (bare_good (signed_by integer_of bytes)))
 
 pub literal_good : (bytes : List ℕ) → IsInRange (literal_of bytes)
 literal_good bytes = (good_literal bytes).good
@@ -107,7 +107,7 @@ wider (pos n) e = let lt = ltb-true n (2 ^ 15) e in lt-ltb n (2 ^ 31) (omega (ar
 wider (negsuc n) e = let lt = ltb-true n (2 ^ 15) e in lt-ltb n (2 ^ 31) (omega (arith, lt))
 
 record IsMade (type : Ty) (v : Value) : Type 0 where
-  again : made type (number_of v) ≡ Some v
+  again : typed_value type (number_of v) ≡ Some v
   within : is_within (2 ^ 31) (number_of v) ≡ true
 
 truth_by : (a b : Bool) (v : Value) → cond a (Some (values.Bool false)) (cond b (Some (values.Bool true)) None) ≡ one_value v → IsMade types.Bool v
@@ -119,7 +119,7 @@ truth_is : (z : ℤ) (v : Value) → truth_made z ≡ Some v → IsMade types.Bo
 truth_is (pos n) v e = truth_by (ltb n 1) (ltb n 2) v e
 truth_is (negsuc n) v e = absurd cc
 
-made_is : (type : Ty) (z : ℤ) (v : Value) → made type z ≡ Some v → IsMade type v
+made_is : (type : Ty) (z : ℤ) (v : Value) → typed_value type z ≡ Some v → IsMade type v
 made_is types.Bool z v e = truth_is z v e
 made_is types.Int z v e =
     let m = some_of (is_within (2 ^ 15) z) (values.Int z) v e in
@@ -136,7 +136,7 @@ pub record IsStart (type : Ty) (loc : Option Loc) (v : Value) : Type 0 where
   pub again : initial_of type loc (cast_unsigned w32 (number_of v)) ≡ Some v
   pub small : cast_unsigned w32 (number_of v) < 2 ^ 32
 
-pub start_again : (type : Ty) (loc : Option Loc) (z : ℤ) (v : Value) → made type z ≡ Some v → may_start_with loc v ≡ true → IsStart type loc v
+pub start_again : (type : Ty) (loc : Option Loc) (z : ℤ) (v : Value) → typed_value type z ≡ Some v → may_start_with loc v ≡ true → IsStart type loc v
 start_again type loc z v e may =
     let m = made_is type z v e in
     let fits = fits_by (number_of v) m.within in

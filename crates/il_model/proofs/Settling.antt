@@ -25,22 +25,22 @@ use Rattle.il_model.specs.declared.kind.Field.{Field}
 use Rattle.il_model.specs.declared.fetched.Source.{Source}
 use Rattle.il_model.specs.declared.fetched.Source.TheVariants as sources
 use Rattle.il_model.specs.declared.typing.TypeFault.{TypeFault}
-use Rattle.il_model.specs.declared.typing.Kind.{Kind}
-use Rattle.il_model.specs.declared.typing.Kind.TheVariants as kinds
+use Rattle.il_model.specs.declared.typing.OperandKind.{OperandKind}
+use Rattle.il_model.specs.declared.typing.OperandKind.TheVariants as kinds
 use Rattle.il_model.specs.declared.typing.Held.{Held}
 use Rattle.il_model.specs.declared.typing.Effect.{Effect}
 use Rattle.il_model.specs.Text.{Text}
-use Rattle.il_model.specs.Values.{ty_of, number_of, made, truth_made, is_within}
-use Rattle.il_model.specs.Resolved.{has_label, target_of, source_of, place_of, instance_in, instance_number, field_in, field_of, called_kind, labelled, is_labelled}
+use Rattle.il_model.specs.Values.{ty_of, number_of, typed_value, truth_made, is_within}
+use Rattle.il_model.specs.Resolved.{has_label, target_of, source_of, place_of, instance_in, instance_number, field_in, field_of, called_kind, bears_label, is_labelled}
 use Rattle.il_model.specs.Kinds.{any_field, field_type}
-use Rattle.il_model.specs.Constants.{literal_of}
+use Rattle.il_model.specs.Constants.{operand_literal}
 use Rattle.il_model.specs.Row.{row}
 use Rattle.il_model.proofs.RowTypes.{some_yes}
 use Rattle.il_model.proofs.TypedLines.{bind_ok, ok_before, typed_line, sourced, fault_none, IsArgumentOf, arguments_typed, no_arguments, is_among}
 use Rattle.il_model.proofs.ArgumentFaults.{literal_by}
 use Rattle.il_model.proofs.Loop.{goes_at, fails_at}
-use Rattle.il_model.specs.Typing.{◌>>=◌, Shape, source_kind, missing_kind, operand_kind, source_row, goes_so, passing_fault, first_fault, field_fault, field_named, argument_fault, arguments_fault, with_fault, line_row, label_at, label_row, applied, after_line, after_at, numbered, shape_at, closed, judged, IsTyped, top_of}
-use Rattle.il_model.specs.Settled.{wanted_type, settled_number, settled_as, settled_operand, settled_passing, settled_argument, settled_line, settled_nth, settled_on_arrival, settled_before, settled_text, if_typed, settled, is_bare, has_bare, HasNoBare, Settles, AreSettled, SettlesLine, IsSettling, IsSettledOnArrival, IsTypedProgramOf}
+use Rattle.il_model.specs.Typing.{◌>>=◌, Shape, source_kind, missing_kind, operand_kind, source_row, goes_so, passing_fault, first_fault, field_fault, kind_field, argument_fault, arguments_fault, with_fault, line_row, label_at, label_row, shape_after, after_line, after_at, with_number, shape_at, typing_end, judgement_of, IsTyped, top_of}
+use Rattle.il_model.specs.Settled.{wanted_type, settled_number, settled_as, settled_operand, settled_passing, settled_argument, settled_line, settled_nth, settled_on_arrival, settled_before, settled_text, if_typed, typed_program_of, is_bare, has_bare, HasNoBare, Settles, AreSettled, SettlesLine, IsSettling, IsSettledOnArrival, IsTypedProgramOf}
 
 -- ---- programs with the same declarations and labels
 
@@ -71,7 +71,7 @@ targets_alike name xs ys e = ap (λ (k : ℕ). cond (nat_lt k (length xs)) (Some
 pub target_alike : (P Q : Text) (name : List ℕ) → Alike P Q → target_of Q name ≡ target_of P name
 target_alike P Q name e = targets_alike name Q.code P.code e.labels
 
-labels_at : (n : ℕ) (xs ys : List Instr) → labels_of xs ≡ labels_of ys → labelled (slice_get xs n) ≡ labelled (slice_get ys n)
+labels_at : (n : ℕ) (xs ys : List Instr) → labels_of xs ≡ labels_of ys → bears_label (slice_get xs n) ≡ bears_label (slice_get ys n)
 labels_at n [] [] e = refl
 labels_at n [] (y ∷ ys) e = absurd cc
 labels_at n (x ∷ xs) [] e = absurd cc
@@ -115,7 +115,7 @@ source_row_alike : (P Q : Text) (cr : Option Ty) (top : Option Held) (depth : �
 source_row_alike P Q cr top depth line (Some src) e = ap (row cr top depth line.op line.modifier) (kind_alike P Q src e)
 source_row_alike P Q cr top depth line None e = refl
 
-abbrev kind_by : Text → Operand → Option Source → Kind
+abbrev kind_by : Text → Operand → Option Source → OperandKind
 kind_by Q operand o = elim o [ Some src ↦ source_kind Q src | None ↦ missing_kind operand ]
 
 kind_by_alike : (P Q : Text) (operand : Operand) (o : Option Source) → Alike P Q → kind_by Q operand o ≡ kind_by P operand o
@@ -127,11 +127,11 @@ operand_kind_alike P Q operand e = ap (kind_by Q operand) (source_alike P Q oper
 
 field_fault_alike : (P Q : Text) (a : Argument) (field : Option Field) → Alike P Q → field_fault Q a field ≡ field_fault P a field
 field_fault_alike P Q a None e = refl
-field_fault_alike P Q a (Some field) e = ap (λ (kind : Kind). cond (goes_so a.side field) (passing_fault a.side (field_type field) kind) (Some TypeFault.BadField)) (operand_kind_alike P Q a.operand e)
+field_fault_alike P Q a (Some field) e = ap (λ (kind : OperandKind). cond (goes_so a.side field) (passing_fault a.side (field_type field) kind) (Some TypeFault.BadField)) (operand_kind_alike P Q a.operand e)
 
 argument_alike : (P Q : Text) (kind : Option BlockKind) (seen : List Argument) (a : Argument) → Alike P Q → argument_fault Q kind seen a ≡ argument_fault P kind seen a
 argument_alike P Q None seen a e = refl
-argument_alike P Q (Some k) seen a e = ap (cond (is_among seen a) (Some TypeFault.BadField)) (field_fault_alike P Q a (field_named k a.field) e)
+argument_alike P Q (Some k) seen a e = ap (cond (is_among seen a) (Some TypeFault.BadField)) (field_fault_alike P Q a (kind_field k a.field) e)
 
 arguments_alike : (P Q : Text) (kind : Option BlockKind) (seen args : List Argument) → Alike P Q → arguments_fault Q kind seen args ≡ arguments_fault P kind seen args
 arguments_alike P Q kind seen [] e = refl
@@ -153,7 +153,7 @@ label_row_alike P Q n depth None e = refl
 label_row_alike P Q n depth (Some name) e = ap (λ (o : Option ℕ). label_at o n depth) (target_alike P Q name e)
 
 abbrev after_rows : Shape → Result (Unit {0}) TypeFault → Result Effect TypeFault → Bool → Result Shape TypeFault
-after_rows sh a b here = a >>= λ _. b >>= λ e. Ok (cond here (record (applied sh e) { cr = None }) (applied sh e))
+after_rows sh a b here = a >>= λ _. b >>= λ e. Ok (cond here (record (shape_after sh e) { cr = None }) (shape_after sh e))
 
 pub after_alike : (P Q : Text) (n : ℕ) (sh : Shape) (line : Instr) → Alike P Q → after_line Q n sh line ≡ after_line P n sh line
 after_alike P Q n sh line e =
@@ -162,7 +162,7 @@ after_alike P Q n sh line e =
     ∙ ap (after_rows sh (label_row P n (length sh.kept) line.label) (line_row P sh line)) (labelled_alike P Q (n + 1) e)
 
 after_at_alike : (P Q : Text) (n : ℕ) (sh : Shape) (o : Option Instr) → Alike P Q → after_at Q n sh o ≡ after_at P n sh o
-after_at_alike P Q n sh (Some line) e = ap (numbered n) (after_alike P Q n sh line e)
+after_at_alike P Q n sh (Some line) e = ap (with_number n) (after_alike P Q n sh line e)
 after_at_alike P Q n sh None e = refl
 
 turn_alike : (P Q : Text) (n : ℕ) (r : Result Shape (TypeFault × ℕ)) (a b : Option Instr) → a ≡ b → Alike P Q → (r >>= λ sh. after_at Q n sh a) ≡ (r >>= λ sh. after_at P n sh b)
@@ -261,7 +261,7 @@ text_arrival P n sh at =
 -- ---- the literal that a settled operand is
 
 -- an operand that is no literal then was none before, and is as it was
-pub settled_none : (cr : Option Ty) (op : Op) (m : Modifier) (o : Operand) → literal_of (settled_operand cr op m o) ≡ None → settled_operand cr op m o ≡ o
+pub settled_none : (cr : Option Ty) (op : Op) (m : Modifier) (o : Operand) → operand_literal (settled_operand cr op m o) ≡ None → settled_operand cr op m o ≡ o
 settled_none cr op m operands.Absent e = refl
 settled_none cr op m (operands.Literal v) e = refl
 settled_none cr op m (operands.Bare z) e = literal_by z (settled_number cr op m.opens z) e
@@ -271,7 +271,7 @@ settled_none cr op m (operands.Label name) e = refl
 settled_none cr op m (operands.Field name field) e = refl
 settled_none cr op m (operands.Instance name) e = refl
 
-pub literal_is : (o : Operand) (v : Value) → literal_of o ≡ Some v → o ≡ operands.Literal v
+pub literal_is : (o : Operand) (v : Value) → operand_literal o ≡ Some v → o ≡ operands.Literal v
 literal_is operands.Absent v e = absurd cc
 literal_is (operands.Literal w) v e = let is : w ≡ v = cc in ap operands.Literal is
 literal_is (operands.Bare z) v e = absurd cc
@@ -300,11 +300,11 @@ called_settled Q cr op m (operands.Instance name) = refl
 abbrev operand_row : Text → Option Ty → Option Held → ℕ → Instr → Operand → Result Effect TypeFault
 operand_row Q cr top depth line o = source_row Q cr top depth (record line { operand = o }) (source_of Q o)
 
-pub literal_row : (Q : Text) (cr : Option Ty) (top : Option Held) (depth : ℕ) (line : Instr) (v : Value) → literal_of (settled_operand cr line.op line.modifier line.operand) ≡ Some v
+pub literal_row : (Q : Text) (cr : Option Ty) (top : Option Held) (depth : ℕ) (line : Instr) (v : Value) → operand_literal (settled_operand cr line.op line.modifier line.operand) ≡ Some v
     → source_row Q cr top depth (settled_line cr line) (source_of Q (settled_line cr line).operand) ≡ row cr top depth line.op line.modifier (kinds.Typed (ty_of v) false)
 literal_row Q cr top depth line v e = ap (operand_row Q cr top depth line) (literal_is (settled_operand cr line.op line.modifier line.operand) v e)
 
-pub other_row : (Q : Text) (cr : Option Ty) (top : Option Held) (depth : ℕ) (line : Instr) → literal_of (settled_operand cr line.op line.modifier line.operand) ≡ None
+pub other_row : (Q : Text) (cr : Option Ty) (top : Option Held) (depth : ℕ) (line : Instr) → operand_literal (settled_operand cr line.op line.modifier line.operand) ≡ None
     → source_row Q cr top depth (settled_line cr line) (source_of Q (settled_line cr line).operand) ≡ source_row Q cr top depth line (source_of Q line.operand)
 other_row Q cr top depth line e = ap (operand_row Q cr top depth line) (settled_none cr line.op line.modifier line.operand e)
 
@@ -318,23 +318,23 @@ pub goes_settled : (P : Text) (n : ℕ) (sh sh' : Shape) (line : Instr) → shap
 goes_settled P n sh sh' line at here h =
     goes_at (settled_text P) n sh sh' (settled_line sh.cr line) at (here_settled P n sh line at here) (after_alike P (settled_text P) n sh (settled_line sh.cr line) (text_alike P) ∙ h)
 
-pub fails_settled : (P : Text) (n : ℕ) (sh : Shape) (line : Instr) (fault : TypeFault) → n < length P.code → shape_at (settled_text P) n ≡ Ok sh → slice_get P.code n ≡ Some line → after_line P n sh (settled_line sh.cr line) ≡ Err fault → settled P ≡ Err (fault, n)
+pub fails_settled : (P : Text) (n : ℕ) (sh : Shape) (line : Instr) (fault : TypeFault) → n < length P.code → shape_at (settled_text P) n ≡ Ok sh → slice_get P.code n ≡ Some line → after_line P n sh (settled_line sh.cr line) ≡ Err fault → typed_program_of P ≡ Err (fault, n)
 fails_settled P n sh line fault lt at here h =
     let one = fails_at (settled_text P) n sh (settled_line sh.cr line) fault (omega (arith, text_count P)) at (here_settled P n sh line at here) (after_alike P (settled_text P) n sh (settled_line sh.cr line) (text_alike P) ∙ h) in
     ap (λ (r : Result (Unit {0}) (TypeFault × ℕ)). r >>= λ _. Ok (settled_text P)) (sym one)
 
-ends_judged : (P : Text) (sh : Shape) → shape_at (settled_text P) (length P.code) ≡ Ok sh → judged (settled_text P) ≡ closed (settled_text P) sh
-ends_judged P sh at = ap (λ (k : ℕ). shape_at (settled_text P) k >>= closed (settled_text P)) (text_count P) ∙ ap (λ (r : Result Shape (TypeFault × ℕ)). r >>= closed (settled_text P)) at
+ends_judged : (P : Text) (sh : Shape) → shape_at (settled_text P) (length P.code) ≡ Ok sh → judgement_of (settled_text P) ≡ typing_end (settled_text P) sh
+ends_judged P sh at = ap (λ (k : ℕ). shape_at (settled_text P) k >>= typing_end (settled_text P)) (text_count P) ∙ ap (λ (r : Result Shape (TypeFault × ℕ)). r >>= typing_end (settled_text P)) at
 
-pub stays_open : (P : Text) (sh : Shape) → shape_at (settled_text P) (length P.code) ≡ Ok sh → 0 < length sh.kept → settled P ≡ Err (TypeFault.Unbalanced, length P.code)
+pub stays_open : (P : Text) (sh : Shape) → shape_at (settled_text P) (length P.code) ≡ Ok sh → 0 < length sh.kept → typed_program_of P ≡ Err (TypeFault.Unbalanced, length P.code)
 stays_open P sh at lt =
-    let open_end : closed (settled_text P) sh ≡ Err (TypeFault.Unbalanced, length (settled_text P).code) = ap (λ (b : Bool). let r : Result (Unit {0}) (TypeFault × ℕ) = cond b (Err (TypeFault.Unbalanced, length (settled_text P).code)) (Ok tt) in r) (lt-ltb 0 (length sh.kept) lt) in
+    let open_end : typing_end (settled_text P) sh ≡ Err (TypeFault.Unbalanced, length (settled_text P).code) = ap (λ (b : Bool). let r : Result (Unit {0}) (TypeFault × ℕ) = cond b (Err (TypeFault.Unbalanced, length (settled_text P).code)) (Ok tt) in r) (lt-ltb 0 (length sh.kept) lt) in
     ap (λ (r : Result (Unit {0}) (TypeFault × ℕ)). r >>= λ _. Ok (settled_text P)) (ends_judged P sh at ∙ open_end)
     ∙ ap (λ (k : ℕ). let r : Result Text (TypeFault × ℕ) = Err (TypeFault.Unbalanced, k) in r) (text_count P)
 
-pub ends_settled : (P : Text) (sh : Shape) → shape_at (settled_text P) (length P.code) ≡ Ok sh → length sh.kept ≤ 0 → settled P ≡ Ok (settled_text P)
+pub ends_settled : (P : Text) (sh : Shape) → shape_at (settled_text P) (length P.code) ≡ Ok sh → length sh.kept ≤ 0 → typed_program_of P ≡ Ok (settled_text P)
 ends_settled P sh at le =
-    let closed_end : closed (settled_text P) sh ≡ Ok tt = ap (λ (b : Bool). let r : Result (Unit {0}) (TypeFault × ℕ) = cond b (Err (TypeFault.Unbalanced, length (settled_text P).code)) (Ok tt) in r) (le-ltb 0 (length sh.kept) le) in
+    let closed_end : typing_end (settled_text P) sh ≡ Ok tt = ap (λ (b : Bool). let r : Result (Unit {0}) (TypeFault × ℕ) = cond b (Err (TypeFault.Unbalanced, length (settled_text P).code)) (Ok tt) in r) (le-ltb 0 (length sh.kept) le) in
     ap (λ (r : Result (Unit {0}) (TypeFault × ℕ)). r >>= λ _. Ok (settled_text P)) (ends_judged P sh at ∙ closed_end)
 
 -- ---- what holds of a typed program
@@ -348,13 +348,13 @@ truth_number_is : (z : ℤ) (v : Value) → truth_made z ≡ Some v → number_o
 truth_number_is (pos n) v e = truth_by (nat_lt n 1) (nat_lt n 2) n v refl refl e
 truth_number_is (negsuc n) v e = absurd cc
 
-made_number : (t : Ty) (z : ℤ) (v : Value) → made t z ≡ Some v → number_of v ≡ z
+made_number : (t : Ty) (z : ℤ) (v : Value) → typed_value t z ≡ Some v → number_of v ≡ z
 made_number types.Bool z v e = truth_number_is z v e
 made_number types.Int z v e = sym (ap number_of (some_yes (is_within (2 ^ 15) z) (values.Int z) v e).1)
 made_number types.Dint z v e = sym (ap number_of (some_yes (is_within (2 ^ 31) z) (values.Dint z) v e).1)
 made_number types.Time z v e = sym (ap number_of (some_yes (is_within (2 ^ 31) z) (values.Time z) v e).1)
 
-wanted_number : (w : Option Ty) (z : ℤ) (v : Value) → option_and_then (λ (t : Ty). made t z) w ≡ Some v → number_of v ≡ z
+wanted_number : (w : Option Ty) (z : ℤ) (v : Value) → option_and_then (λ (t : Ty). typed_value t z) w ≡ Some v → number_of v ≡ z
 wanted_number (Some t) z v e = made_number t z v e
 wanted_number None z v e = absurd cc
 
@@ -416,7 +416,7 @@ settles_passing sides.Output field o e = settles_itself o e
 settles_passing sides.Input None o e = settles_itself o e
 settles_passing sides.Input (Some field) operands.Absent e = refl
 settles_passing sides.Input (Some field) (operands.Literal v) e = refl
-settles_passing sides.Input (Some field) (operands.Bare z) e = settles_by z (made (field_type field) z) (λ v is. made_number (field_type field) z v is) e
+settles_passing sides.Input (Some field) (operands.Bare z) e = settles_by z (typed_value (field_type field) z) (λ v is. made_number (field_type field) z v is) e
 settles_passing sides.Input (Some field) (operands.Variable name) e = refl
 settles_passing sides.Input (Some field) (operands.Direct loc) e = refl
 settles_passing sides.Input (Some field) (operands.Label name) e = refl
@@ -435,7 +435,7 @@ settles_line cr line e =
     record { label = refl; op = refl; modifier = refl; operand = settles cr line.op line.modifier line.operand both.0; arguments = are_settled line.arguments both.1 }
 
 shape_within : (Q : Text) → IsTyped Q → (n : ℕ) → n ≤ length Q.code → (sh : Shape) × (shape_at Q n ≡ Ok sh)
-shape_within Q typed n le = let all = bind_ok (shape_at Q (length Q.code)) (closed Q) tt typed in ok_before Q (length Q.code) all.0 all.1 n le
+shape_within Q typed n le = let all = bind_ok (shape_at Q (length Q.code)) (typing_end Q) tt typed in ok_before Q (length Q.code) all.0 all.1 n le
 
 -- a typed program has no bare number
 pub typed_plain : (Q : Text) → IsTyped Q → HasNoBare Q
@@ -466,9 +466,9 @@ text_is : (P Q : Text) → (let r : Result Text (TypeFault × ℕ) = Ok P in r) 
 text_is P Q e = cc
 
 -- the typed program of a program is typed, has no bare number, and is otherwise the same
-pub typed_program : (P Q : Text) → settled P ≡ Ok Q → IsTypedProgramOf P Q
+pub typed_program : (P Q : Text) → typed_program_of P ≡ Ok Q → IsTypedProgramOf P Q
 typed_program P Q e =
-    let all = bind_ok (judged (settled_text P)) (λ _. Ok (settled_text P)) Q e in
+    let all = bind_ok (judgement_of (settled_text P)) (λ _. Ok (settled_text P)) Q e in
     let is : settled_text P ≡ Q = text_is (settled_text P) Q all.2 in
     subst (IsTypedProgramOf P) is (text_typed P all.1)
 
@@ -530,10 +530,10 @@ text_same P Q is =
     ∙ ap (λ (code : List Instr). let R : Text = record { variables = (settled_text P).variables; instances = (settled_text P).instances; code = code } in R) codes
 
 -- a typed program of a program is the one that settling gives
-pub typed_only : (P Q : Text) → IsTypedProgramOf P Q → settled P ≡ Ok Q
+pub typed_only : (P Q : Text) → IsTypedProgramOf P Q → typed_program_of P ≡ Ok Q
 typed_only P Q is =
     let same = text_same P Q is in
-    ap (λ (r : Result (Unit {0}) (TypeFault × ℕ)). r >>= λ _. Ok (settled_text P)) (ap judged (sym same) ∙ is.typed)
+    ap (λ (r : Result (Unit {0}) (TypeFault × ℕ)). r >>= λ _. Ok (settled_text P)) (ap judgement_of (sym same) ∙ is.typed)
     ∙ ap (λ (R : Text). let r : Result Text (TypeFault × ℕ) = Ok R in r) (sym same)
 
 -- ---- a program without bare numbers
@@ -587,5 +587,5 @@ before_plain P zero plain = refl
 before_plain P (suc n) plain = ap (λ (Q : Text). settled_on_arrival Q n (shape_at Q n)) (before_plain P n plain) ∙ arrival_plain P n (shape_at P n) plain
 
 -- a program without bare numbers is its own typed program exactly where it is typed, with the same fault otherwise
-pub settled_plain : (P : Text) → HasNoBare P → settled P ≡ if_typed P
+pub settled_plain : (P : Text) → HasNoBare P → typed_program_of P ≡ if_typed P
 settled_plain P plain = ap if_typed (before_plain P (length P.code) plain)

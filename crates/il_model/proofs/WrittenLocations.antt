@@ -7,7 +7,7 @@ use Rattle.il_model.specs.declared.program.Loc.TheVariants.{Bit, Word}
 use Rattle.il_model.specs.Words.{upper}
 use Rattle.il_model.specs.Literal.{integer_of}
 use Rattle.il_model.specs.CodedOperands.{IsCell}
-use Rattle.il_model.specs.Locations.{bit_of, word_of, area_of, bit_at, word_at, place_at, place_in, dot_at, location_of}
+use Rattle.il_model.specs.Locations.{bit_of, word_of, letter_area, bit_at, word_at, place_at, place_in, dot_at, location_of}
 
 abbrev one_loc : Loc → Option Loc
 one_loc z = Some z
@@ -61,4 +61,4 @@ in_place (Some area) bytes loc e = at_place area bytes loc e
 pub location_cell : (text : List ℕ) (loc : Loc) → location_of text ≡ Some loc → IsCell loc
 location_cell [] loc e = absurd cc
 location_cell (percent ∷ []) loc e = absurd cc
-location_cell (percent ∷ letter ∷ bytes) loc e = in_place (area_of letter) bytes loc e
+location_cell (percent ∷ letter ∷ bytes) loc e = in_place (letter_area letter) bytes loc e

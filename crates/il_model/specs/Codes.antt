@@ -21,25 +21,25 @@ use Rattle.il_model.specs.declared.program.Operand.TheVariants as operands
 use Rattle.il_model.specs.declared.program.Instr.{Instr}
 use Rattle.il_model.specs.declared.codes.LetterSet.{LetterSet}
 use Rattle.il_model.specs.declared.codes.LetterSet.TheVariants as letters
-use Rattle.il_model.specs.declared.codes.Form.{Form}
-use Rattle.il_model.specs.declared.codes.Form.TheVariants as forms
+use Rattle.il_model.specs.declared.codes.OperandForm.{OperandForm}
+use Rattle.il_model.specs.declared.codes.OperandForm.TheVariants as forms
 use Rattle.il_model.specs.declared.codes.Usage.{Usage}
-use Rattle.il_model.specs.Values.{made, number_of}
+use Rattle.il_model.specs.Values.{typed_value, number_of}
 use Rattle.il_model.specs.Operators.{is_zero}
 use Rattle.il_model.specs.Names.{same_name, is_lawful_name}
 use Rattle.il_model.specs.Kinds.{kind_fields, field_name}
 use Rattle.il_model.specs.Text.{Declarations}
 use Rattle.il_model.specs.Resolved.{instance_in}
 use Rattle.il_model.specs.Areas.{area_of}
-use Rattle.il_model.specs.Typing.{loc_type, is_output}
+use Rattle.il_model.specs.Typing.{loc_type, is_writable_area}
 use Rattle.il_model.specs.Marks.{Mark}
 use Rattle.il_model.specs.Constants.{same_value}
 use Rattle.il_model.specs.declared.coded_operand.CodedOperand.{CodedOperand}
 use Rattle.il_model.specs.declared.coded_operand.CodedOperand.TheVariants as coded
 use Rattle.il_model.specs.CodedOperands.{loc_code, with_code}
 
-abbrev pub tested : {A : Type 0} → (A → Bool) → A → Option A
-tested test x = if test x then Some x else None
+abbrev pub if_passes : {A : Type 0} → (A → Bool) → A → Option A
+if_passes test x = if test x then Some x else None
 
 abbrev pub is_number : List Variable → List ℕ → Option ℕ
 is_number seen name = position (λ (v : Variable). same_name v.name name) seen
@@ -88,23 +88,23 @@ free_loc seen t coded.Unused = Some None
 free_loc seen t (coded.Location loc) = if is_free seen t loc then Some (Some loc) else None
 free_loc seen t operand = None
 
-abbrev pub location_of : List Variable → Ty → ℕ → Option (Option Loc)
-location_of seen t n = option_and_then (free_loc seen t) (with_code n)
+abbrev pub coded_location : List Variable → Ty → ℕ → Option (Option Loc)
+coded_location seen t n = option_and_then (free_loc seen t) (with_code n)
 
 -- an input has no first value of its own
 abbrev pub may_start_with : Option Loc → Value → Bool
 may_start_with None v = true
-may_start_with (Some loc) v = is_output (area_of loc) || is_zero (number_of v)
+may_start_with (Some loc) v = is_writable_area (area_of loc) || is_zero (number_of v)
 
 abbrev pub initial_of : Ty → Option Loc → ℕ → Option Value
-initial_of type loc bits = option_and_then (tested (may_start_with loc)) (made type (cast_signed w32 bits))
+initial_of type loc bits = option_and_then (if_passes (may_start_with loc)) (typed_value type (cast_signed w32 bits))
 
 abbrev pub is_known : List Value → Value → Bool
 is_known seen v = is_some (position (same_value v) seen)
 
 -- a constant that wasn't there before
 abbrev pub constant_of : List Value → Ty → ℕ → Option Value
-constant_of seen type bits = option_and_then (tested (λ v. not (is_known seen v))) (made type (cast_signed w32 bits))
+constant_of seen type bits = option_and_then (if_passes (λ v. not (is_known seen v))) (typed_value type (cast_signed w32 bits))
 
 -- the letters that a number stands for
 abbrev pub modifier_of : ℕ → Option Modifier
@@ -168,7 +168,7 @@ allows letters.Opens m = not m.negated && not m.conditional
 allows letters.NOpens m = not m.conditional
 
 -- an operator with a parenthesis needs no operand
-abbrev pub has_form : Form → Bool → Operand → Bool
+abbrev pub has_form : OperandForm → Bool → Operand → Bool
 has_form forms.Absent opens operands.Absent = true
 has_form forms.Value opens (operands.Literal v) = true
 has_form forms.Value opens (operands.Variable name) = true
@@ -200,7 +200,7 @@ op_of n = slice_get op_list n
 
 -- the letters of an operator
 abbrev pub letters_of : Op → ℕ → Option Modifier
-letters_of op n = option_and_then (tested (allowed_by (usage_of op))) (modifier_of n)
+letters_of op n = option_and_then (if_passes (allowed_by (usage_of op))) (modifier_of n)
 
 -- the operand that stands under those numbers, if the declarations and the constants have it
 abbrev pub named_operand : Declarations → List Value → CodedOperand → Option Operand
@@ -242,7 +242,7 @@ numbered_operand ds marks constants op n =
 
 -- that, where the operator takes an operand of its form
 abbrev pub word_operand : Declarations → List Mark → List Value → Op → Modifier → ℕ → Option Operand
-word_operand ds marks constants op m n = option_and_then (tested (formed_by (usage_of op) m)) (numbered_operand ds marks constants op n)
+word_operand ds marks constants op m n = option_and_then (if_passes (formed_by (usage_of op) m)) (numbered_operand ds marks constants op n)
 
 -- ---- the words of arguments
 
@@ -255,7 +255,7 @@ argument_number n = if nat_lt n 8 then Some n else None
 
 -- an argument always has a value or a place
 abbrev pub argument_operand : Declarations → List Value → ℕ → Option Operand
-argument_operand ds constants n = option_and_then (tested (has_form forms.Value false)) (value_operand ds constants n)
+argument_operand ds constants n = option_and_then (if_passes (has_form forms.Value false)) (value_operand ds constants n)
 
 -- the name of the field with a number; a number that the kind hasn't is the empty name, which no field has
 abbrev pub argument_name : Option BlockKind → ℕ → List ℕ

@@ -18,9 +18,9 @@ same_value (values.Dint a) (values.Dint b) = same_number a b
 same_value (values.Time a) (values.Time b) = same_number a b
 same_value a b = false
 
-abbrev pub literal_of : Operand → Option Value
-literal_of (operands.Literal v) = Some v
-literal_of operand = None
+abbrev pub operand_literal : Operand → Option Value
+operand_literal (operands.Literal v) = Some v
+operand_literal operand = None
 
 -- a constant is put behind the others where it is new; same is the test of values
 abbrev pub joined_constants : (Value → Value → Bool) → List Value → Option Value → List Value
@@ -29,7 +29,7 @@ joined_constants same seen (Some v) = if is_some (position (same v) seen) then s
 
 abbrev pub constants_from : (Value → Value → Bool) → List Value → List Operand → List Value
 constants_from same seen [] = seen
-constants_from same seen (o ∷ os) = constants_from same (joined_constants same seen (literal_of o)) os
+constants_from same seen (o ∷ os) = constants_from same (joined_constants same seen (operand_literal o)) os
 
 -- the operand of an instruction, then those of its arguments
 abbrev pub operands_in : Instr → List Operand

@@ -88,15 +88,15 @@ past_join [] = []
 past_join (b ∷ bs) = if b == 95 then bs else b ∷ bs
 
 -- a part of a unit below a limit, with those behind it
-abbrev pub added : (ℕ → List ℕ → Option ℕ) → ℕ → PartText → Option ℕ
-added parts limit p =
+abbrev pub sum_of_parts : (ℕ → List ℕ → Option ℕ) → ℕ → PartText → Option ℕ
+sum_of_parts parts limit p =
     if nat_lt p.rank limit then (if length p.rest == 0 then Some p.milliseconds else (if p.broken then None else option_map (λ n. p.milliseconds + n) (parts p.rank (past_join p.rest))))
     else None
 
 -- parts, each of a lower unit than the one before, added up; there are five units
 unfoldable pub parts_by : Digits → ℕ → ℕ → List ℕ → Option ℕ
 parts_by read zero limit bytes = None
-parts_by read (suc k) limit bytes = option_and_then (added (parts_by read k) limit) (part_by read bytes)
+parts_by read (suc k) limit bytes = option_and_then (sum_of_parts (parts_by read k) limit) (part_by read bytes)
 
 -- a duration without a sign
 abbrev pub duration_by : Digits → List ℕ → Option ℕ

@@ -20,14 +20,14 @@ use Rattle.il_model.specs.Typing.{IsTyped}
 use Rattle.il_model.specs.Marks.{Mark, marks_from, words_in}
 use Rattle.il_model.specs.Constants.{constants_of}
 use Rattle.il_model.specs.Image.{type_code, location_code, op_code, modifier_code, operand_code}
-use Rattle.il_model.specs.Codes.{length_of, is_new_name, is_new_instance, is_new_label, type_of, location_of, initial_of, constant_of, op_of, letters_of, word_operand, argument_name, argument_operand, is_call, is_pointless}
+use Rattle.il_model.specs.Codes.{length_of, is_new_name, is_new_instance, is_new_label, type_of, coded_location, initial_of, constant_of, op_of, letters_of, word_operand, argument_name, argument_operand, is_call, is_pointless}
 
 -- a variable behind those that were declared before it
 pub record IsVariable (seen : List Variable) (v : Variable) : Type 0 where
   pub length : length_of (length v.name) ≡ Some (length v.name)
   pub name : is_new_name seen v.name ≡ true
   pub type : type_of (type_code v.ty) ≡ Some v.ty
-  pub location : location_of seen v.ty (location_code v.location) ≡ Some v.location
+  pub location : coded_location seen v.ty (location_code v.location) ≡ Some v.location
   pub location_small : location_code v.location < 2 ^ 16
   pub initial : initial_of v.ty v.location (cast_unsigned w32 (number_of v.initial)) ≡ Some v.initial
   pub initial_small : cast_unsigned w32 (number_of v.initial) < 2 ^ 32

@@ -15,8 +15,8 @@ use Rattle.il_model.specs.declared.kind.BlockKind.{BlockKind}
 use Rattle.il_model.specs.declared.kind.Field.{Field}
 use Rattle.il_model.specs.declared.typing.TypeFault.{TypeFault}
 use Rattle.il_model.specs.declared.typing.TypeFault.TheVariants.{TypeMismatch, NoCurrentResult, UnknownLabel, DuplicateLabel, Unbalanced, TooDeep, NotWritable, BadField}
-use Rattle.il_model.specs.declared.typing.Kind.{Kind}
-use Rattle.il_model.specs.declared.typing.Kind.TheVariants as kinds
+use Rattle.il_model.specs.declared.typing.OperandKind.{OperandKind}
+use Rattle.il_model.specs.declared.typing.OperandKind.TheVariants as kinds
 use Rattle.il_model.specs.declared.typing.Held.{Held}
 use Rattle.il_model.specs.Operators.{joined_type}
 use Rattle.il_model.specs.Kinds.{field_type}
@@ -25,7 +25,7 @@ use Rattle.il_model.specs.Codes.{is_jump, is_call}
 use Rattle.il_model.specs.Text.{Text}
 use Rattle.il_model.specs.Resolved.{source_of, target_of, called_kind}
 use Rattle.il_model.specs.Row.{same_type, is_bool, negatable}
-use Rattle.il_model.specs.Typing.{Shape, top_of, operand_kind, goes_so, field_named, fault_rank}
+use Rattle.il_model.specs.Typing.{Shape, top_of, operand_kind, goes_so, kind_field, fault_rank}
 
 -- ---- operators
 
@@ -78,19 +78,19 @@ needs_result op conditional = true
 
 -- ---- operands
 
-abbrev pub is_target : Kind → Bool
+abbrev pub is_target : OperandKind → Bool
 is_target kinds.Target = true
 is_target kind = false
 
-abbrev pub is_instance : Kind → Bool
+abbrev pub is_instance : OperandKind → Bool
 is_instance kinds.Instance = true
 is_instance kind = false
 
-abbrev pub is_no_field : Kind → Bool
+abbrev pub is_no_field : OperandKind → Bool
 is_no_field kinds.NoField = true
 is_no_field kind = false
 
-abbrev pub may_be_written : Kind → Bool
+abbrev pub may_be_written : OperandKind → Bool
 may_be_written (kinds.Typed t writable) = writable
 may_be_written kind = false
 
@@ -100,11 +100,11 @@ abbrev pub result_is : (Ty → Bool) → Option Ty → Bool
 result_is test (Some c) = test c
 result_is test None = false
 
-abbrev pub operand_is : (Ty → Bool) → Kind → Bool
+abbrev pub operand_is : (Ty → Bool) → OperandKind → Bool
 operand_is test (kinds.Typed t writable) = test t
 operand_is test kind = false
 
-abbrev pub both_are : (Ty → Ty → Bool) → Option Ty → Kind → Bool
+abbrev pub both_are : (Ty → Ty → Bool) → Option Ty → OperandKind → Bool
 both_are test (Some c) (kinds.Typed t writable) = test c t
 both_are test cr kind = false
 
@@ -117,12 +117,12 @@ fits_held (Some held) c = negatable held.negated c && joins held.op held.ty c
 fits_held None c = false
 
 -- an opening parenthesis has an operand or none
-abbrev pub begins_inside : Kind → Bool
+abbrev pub begins_inside : OperandKind → Bool
 begins_inside kinds.Absent = true
 begins_inside (kinds.Typed t writable) = true
 begins_inside kind = false
 
-abbrev pub takes : Option Ty → Option Held → Op → Modifier → Kind → Bool
+abbrev pub takes : Option Ty → Option Held → Op → Modifier → OperandKind → Bool
 takes cr held ops.Empty m kind = true
 takes cr held ops.Ld m kind = operand_is (negatable m.negated) kind
 takes cr held ops.St m kind = both_are (λ c t. same_type c t && negatable m.negated t) cr kind
@@ -146,7 +146,7 @@ if_goes_so side field = if goes_so side field then Some field else None
 
 -- the field of the called kind that an argument goes to, or comes from
 abbrev pub argument_field : Option BlockKind → Argument → Option Field
-argument_field kind a = option_and_then (if_goes_so a.side) (option_and_then (λ k. field_named k a.field) kind)
+argument_field kind a = option_and_then (if_goes_so a.side) (option_and_then (λ k. kind_field k a.field) kind)
 
 abbrev pub is_field_bad : Text → Option BlockKind → Argument → Bool
 is_field_bad Q kind a = is_none (argument_field kind a) || is_no_field (operand_kind Q a.operand)
@@ -159,7 +159,7 @@ is_output_side sides.Output = true
 abbrev pub is_unwritable : Text → Argument → Bool
 is_unwritable Q a = is_output_side a.side && not (may_be_written (operand_kind Q a.operand))
 
-abbrev pub is_of_field : Option Field → Kind → Bool
+abbrev pub is_of_field : Option Field → OperandKind → Bool
 is_of_field (Some field) kind = operand_is (same_type (field_type field)) kind
 is_of_field None kind = false
 

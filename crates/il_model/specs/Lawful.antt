@@ -1,12 +1,12 @@
 -- What a program is whose parts are lawful each for itself. Once it is typed it has an image.
 use Rattle.std.specs.Prelude.{◌≡◌, ℕ, ℤ, true, false, List, [], ◌∷◌, length, Option, Some, None, is_some}
 use Rattle.std.specs.List.{AllByRecursion}
-use Rattle.il_model.specs.declared.codes.Form.TheVariants as forms
+use Rattle.il_model.specs.declared.codes.OperandForm.TheVariants as forms
 use Rattle.il_model.specs.declared.program.Argument.{Argument}
 use Rattle.il_model.specs.declared.program.Operand.{Operand}
 use Rattle.il_model.specs.declared.program.Operand.TheVariants as operands
 use Rattle.il_model.specs.declared.program.Instr.{Instr}
-use Rattle.il_model.specs.Values.{made, ty_of, number_of}
+use Rattle.il_model.specs.Values.{typed_value, ty_of, number_of}
 use Rattle.il_model.specs.Names.{is_lawful_name}
 use Rattle.il_model.specs.Text.{Declarations}
 use Rattle.il_model.specs.Resolved.{instance_in}
@@ -17,7 +17,7 @@ use Rattle.il_model.specs.Codes.{is_number, length_of, usage_of, allowed_by, for
 -- asked of it; labels and fields are judged with the types
 abbrev pub IsOperandOf : (ℤ → Type 0) → Declarations → Operand → Type 0
 IsOperandOf IsNumber ds operands.Absent = Unit {0}
-IsOperandOf IsNumber ds (operands.Literal v) = made (ty_of v) (number_of v) ≡ Some v
+IsOperandOf IsNumber ds (operands.Literal v) = typed_value (ty_of v) (number_of v) ≡ Some v
 IsOperandOf IsNumber ds (operands.Bare z) = IsNumber z
 IsOperandOf IsNumber ds (operands.Variable name) = is_some (is_number ds.variables name) ≡ true
 IsOperandOf IsNumber ds (operands.Direct loc) = IsCell loc

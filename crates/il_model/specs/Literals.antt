@@ -7,7 +7,7 @@ use Rattle.il_model.specs.declared.value.Ty.TheVariants as types
 use Rattle.il_model.specs.declared.value.Value.TheVariants as values
 use Rattle.il_model.specs.declared.literal.Literal.{Literal}
 use Rattle.il_model.specs.declared.literal.Literal.TheVariants.{Bare, Typed}
-use Rattle.il_model.specs.Values.{is_within, made}
+use Rattle.il_model.specs.Values.{is_within, typed_value}
 use Rattle.il_model.specs.Words.{spells}
 use Rattle.il_model.specs.Literal.{Digits, integer_of}
 use Rattle.il_model.specs.Durations.{duration_by}
@@ -56,27 +56,27 @@ time_by read (b ∷ bs) = if b == 45 then option_map minus (duration_by read bs)
 
 -- ---- literals
 
-abbrev pub truth_of : List ℕ → Option Literal
-truth_of bytes =
+abbrev pub truth_literal : List ℕ → Option Literal
+truth_literal bytes =
     if spells (codes "TRUE") bytes || spells (codes "1") bytes then Some (Typed (values.Bool true))
     else if spells (codes "FALSE") bytes || spells (codes "0") bytes then Some (Typed (values.Bool false))
     else None
 
-abbrev pub typed : Ty → Option ℤ → Option Literal
-typed type o = option_map Typed (option_and_then (made type) o)
+abbrev pub typed_literal : Ty → Option ℤ → Option Literal
+typed_literal type o = option_map Typed (option_and_then (typed_value type) o)
 
 -- a number without a type has 32 bits
-abbrev pub bare : ℤ → Option Literal
-bare z = if is_within (2 ^ 31) z then Some (Bare z) else None
+abbrev pub bare_literal : ℤ → Option Literal
+bare_literal z = if is_within (2 ^ 31) z then Some (Bare z) else None
 
 -- behind a word and a #
-abbrev pub prefixed : Digits → List ℕ → List ℕ → Option Literal
-prefixed read word bytes =
-    if spells (codes "BOOL") word then truth_of bytes
-    else if spells (codes "INT") word then typed types.Int (whole_by read bytes)
-    else if spells (codes "DINT") word then typed types.Dint (whole_by read bytes)
-    else if spells (codes "T") word || spells (codes "TIME") word then typed types.Time (time_by read bytes)
-    else option_and_then bare (based_by read word bytes)
+abbrev pub prefixed_literal : Digits → List ℕ → List ℕ → Option Literal
+prefixed_literal read word bytes =
+    if spells (codes "BOOL") word then truth_literal bytes
+    else if spells (codes "INT") word then typed_literal types.Int (whole_by read bytes)
+    else if spells (codes "DINT") word then typed_literal types.Dint (whole_by read bytes)
+    else if spells (codes "T") word || spells (codes "TIME") word then typed_literal types.Time (time_by read bytes)
+    else option_and_then bare_literal (based_by read word bytes)
 
 abbrev pub is_word : List ℕ → Bool
 is_word bytes = spells (codes "TRUE") bytes || spells (codes "FALSE") bytes
@@ -84,9 +84,9 @@ is_word bytes = spells (codes "TRUE") bytes || spells (codes "FALSE") bytes
 -- the literal that a text is, if it is one
 abbrev pub literal_by : Digits → List ℕ → Option Literal
 literal_by read bytes =
-    if nat_lt (hash_at bytes) (length bytes) then prefixed read (take (hash_at bytes) bytes) (drop (hash_at bytes + 1) bytes)
-    else if is_word bytes then truth_of bytes
-    else option_and_then bare (signed_by read bytes)
+    if nat_lt (hash_at bytes) (length bytes) then prefixed_literal read (take (hash_at bytes) bytes) (drop (hash_at bytes + 1) bytes)
+    else if is_word bytes then truth_literal bytes
+    else option_and_then bare_literal (signed_by read bytes)
 
 unfoldable pub literal_of : List ℕ → Option Literal
 literal_of bytes = literal_by integer_of bytes

@@ -25,8 +25,8 @@ abbrev pub word_of : Area → Option ℕ → Option Loc
 word_of area (Some k) = if nat_lt k 64 then Some (Word area k) else None
 word_of area None = None
 
-abbrev pub area_of : ℕ → Option Area
-area_of letter = if upper letter == 73 then Some areas.Input else if upper letter == 81 then Some areas.Output else if upper letter == 77 then Some areas.Memory else None
+abbrev pub letter_area : ℕ → Option Area
+letter_area letter = if upper letter == 73 then Some areas.Input else if upper letter == 81 then Some areas.Output else if upper letter == 77 then Some areas.Memory else None
 
 -- two integers with a dot between them
 unfoldable pub bit_at : Area → List ℕ → Option Loc
@@ -49,4 +49,4 @@ place_in (Some area) bytes = place_at area bytes
 abbrev pub location_of : List ℕ → Option Loc
 location_of [] = None
 location_of (percent ∷ []) = None
-location_of (percent ∷ letter ∷ bytes) = place_in (area_of letter) bytes
+location_of (percent ∷ letter ∷ bytes) = place_in (letter_area letter) bytes

@@ -7,8 +7,8 @@ use Rattle.il_model.specs.declared.op.Op.TheVariants as ops
 use Rattle.il_model.specs.declared.op.Modifier.{Modifier}
 use Rattle.il_model.specs.declared.typing.TypeFault.{TypeFault}
 use Rattle.il_model.specs.declared.typing.TypeFault.TheVariants.{TypeMismatch, NoCurrentResult, UnknownLabel, Unbalanced, TooDeep, NotWritable, BadField}
-use Rattle.il_model.specs.declared.typing.Kind.{Kind}
-use Rattle.il_model.specs.declared.typing.Kind.TheVariants as kinds
+use Rattle.il_model.specs.declared.typing.OperandKind.{OperandKind}
+use Rattle.il_model.specs.declared.typing.OperandKind.TheVariants as kinds
 use Rattle.il_model.specs.declared.typing.Held.{Held}
 use Rattle.il_model.specs.declared.typing.Effect.{Effect}
 use Rattle.il_model.specs.declared.typing.Effect.TheVariants.{Sets, Opens, Closes}
@@ -30,18 +30,18 @@ abbrev pub negatable : Bool → Ty → Bool
 negatable negated t = not negated || is_bool t
 
 -- An operand that is no field of its block is a bad field in each row.
-abbrev pub load_row : Bool → Kind → Result Effect TypeFault
+abbrev pub load_row : Bool → OperandKind → Result Effect TypeFault
 load_row negated kinds.NoField = Err BadField
 load_row negated (kinds.Typed t w) = if negatable negated t then Ok (Sets (Some t)) else Err TypeMismatch
 load_row negated kind = Err TypeMismatch
 
-abbrev pub store_row : Option Ty → Bool → Kind → Result Effect TypeFault
+abbrev pub store_row : Option Ty → Bool → OperandKind → Result Effect TypeFault
 store_row cr negated kinds.NoField = Err BadField
 store_row None negated (kinds.Typed t true) = Err NoCurrentResult
 store_row (Some c) negated (kinds.Typed t true) = if same_type c t && negatable negated t then Ok (Sets (Some c)) else Err TypeMismatch
 store_row cr negated kind = Err NotWritable
 
-abbrev pub set_row : Option Ty → Kind → Result Effect TypeFault
+abbrev pub set_row : Option Ty → OperandKind → Result Effect TypeFault
 set_row cr kinds.NoField = Err BadField
 set_row None (kinds.Typed t true) = Err NoCurrentResult
 set_row (Some c) (kinds.Typed t true) = if is_bool t && is_bool c then Ok (Sets (Some c)) else Err TypeMismatch
@@ -67,36 +67,36 @@ abbrev pub convert_row : Option Ty → Ty → Ty → Result Effect TypeFault
 convert_row None from to = Err NoCurrentResult
 convert_row (Some c) from to = if same_type c from then Ok (Sets (Some to)) else Err TypeMismatch
 
-abbrev pub opens_with : Held → Kind → Result Effect TypeFault
+abbrev pub opens_with : Held → OperandKind → Result Effect TypeFault
 opens_with held kinds.Absent = Ok (Opens held None)
 opens_with held (kinds.Typed t w) = Ok (Opens held (Some t))
 opens_with held kind = Err TypeMismatch
 
 -- the deferred operator has to take the type of the current result
-abbrev pub opened_row : Option Ty → Op → Bool → Kind → Result Effect TypeFault
+abbrev pub opened_row : Option Ty → Op → Bool → OperandKind → Result Effect TypeFault
 opened_row cr op negated kinds.NoField = Err BadField
 opened_row None op negated kind = Err NoCurrentResult
 opened_row (Some c) op negated kind = if is_none (joined_type op c c) then Err TypeMismatch else opens_with (record { op = op; negated = negated; ty = c }) kind
 
-abbrev pub open_row : Option Ty → ℕ → Op → Bool → Kind → Result Effect TypeFault
+abbrev pub open_row : Option Ty → ℕ → Op → Bool → OperandKind → Result Effect TypeFault
 open_row cr depth op negated kind = if nat_lt depth 16 then opened_row cr op negated kind else Err TooDeep
 
 abbrev pub sets_to : Option Ty → Result Effect TypeFault
 sets_to (Some t) = Ok (Sets (Some t))
 sets_to None = Err TypeMismatch
 
-abbrev pub combine_row : Option Ty → Op → Bool → Kind → Result Effect TypeFault
+abbrev pub combine_row : Option Ty → Op → Bool → OperandKind → Result Effect TypeFault
 combine_row cr op negated kinds.NoField = Err BadField
 combine_row None op negated kind = Err NoCurrentResult
 combine_row (Some c) op negated (kinds.Typed t w) = if negatable negated t then sets_to (joined_type op c t) else Err TypeMismatch
 combine_row (Some c) op negated kind = Err TypeMismatch
 
-abbrev pub jump_row : Option Ty → Bool → Kind → Result Effect TypeFault
+abbrev pub jump_row : Option Ty → Bool → OperandKind → Result Effect TypeFault
 jump_row cr conditional kinds.Target = leave_row cr conditional
 jump_row cr conditional kind = Err UnknownLabel
 
 -- CAL leaves the current result as it was; its arguments are judged by rows of their own
-abbrev pub call_row : Option Ty → Bool → Kind → Result Effect TypeFault
+abbrev pub call_row : Option Ty → Bool → OperandKind → Result Effect TypeFault
 call_row cr conditional kinds.Instance = if conditional then truth_row cr else Ok (Sets cr)
 call_row cr conditional kind = Err BadField
 
@@ -104,7 +104,7 @@ abbrev pub outside : ℕ → Result Effect TypeFault → Result Effect TypeFault
 outside depth r = if nat_lt 0 depth then Err Unbalanced else r
 
 -- what an instruction does to the types, or its first fault
-abbrev pub row : Option Ty → Option Held → ℕ → Op → Modifier → Kind → Result Effect TypeFault
+abbrev pub row : Option Ty → Option Held → ℕ → Op → Modifier → OperandKind → Result Effect TypeFault
 row cr top depth ops.Empty m kind = Ok (Sets cr)
 row cr top depth ops.Ld m kind = load_row m.negated kind
 row cr top depth ops.St m kind = store_row cr m.negated kind

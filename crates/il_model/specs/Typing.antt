@@ -24,8 +24,8 @@ use Rattle.il_model.specs.declared.fetched.Source.{Source}
 use Rattle.il_model.specs.declared.fetched.Source.TheVariants as sources
 use Rattle.il_model.specs.declared.typing.TypeFault.{TypeFault}
 use Rattle.il_model.specs.declared.typing.TypeFault.TheVariants.{TypeMismatch, NoCurrentResult, UnknownLabel, DuplicateLabel, Unbalanced, TooDeep, NotWritable, BadField}
-use Rattle.il_model.specs.declared.typing.Kind.{Kind}
-use Rattle.il_model.specs.declared.typing.Kind.TheVariants as kinds
+use Rattle.il_model.specs.declared.typing.OperandKind.{OperandKind}
+use Rattle.il_model.specs.declared.typing.OperandKind.TheVariants as kinds
 use Rattle.il_model.specs.declared.typing.Held.{Held}
 use Rattle.il_model.specs.declared.typing.Effect.{Effect}
 use Rattle.il_model.specs.declared.typing.Effect.TheVariants.{Sets, Opens, Closes}
@@ -70,9 +70,9 @@ place_type Q (Own i) = option_map (λ v. v.ty) (slice_get Q.variables i)
 place_type Q (At loc) = loc_type loc
 place_type Q (places.Field i n) = option_map field_type (field_at Q i n)
 
-abbrev pub is_output : Area → Bool
-is_output areas.Input = false
-is_output a = true
+abbrev pub is_writable_area : Area → Bool
+is_writable_area areas.Input = false
+is_writable_area a = true
 
 abbrev pub is_input_field : Option Field → Bool
 is_input_field None = false
@@ -81,14 +81,14 @@ is_input_field (Some field) = is_input field
 -- neither an input location nor an output of a block
 abbrev pub is_writable : Text → Place → Bool
 is_writable Q (Own i) = true
-is_writable Q (At loc) = is_output (area_of loc)
+is_writable Q (At loc) = is_writable_area (area_of loc)
 is_writable Q (places.Field i n) = is_input_field (field_at Q i n)
 
-abbrev pub typed_kind : Option Ty → Bool → Kind
+abbrev pub typed_kind : Option Ty → Bool → OperandKind
 typed_kind (Some t) w = kinds.Typed t w
 typed_kind None w = kinds.Misfit
 
-abbrev pub source_kind : Text → Source → Kind
+abbrev pub source_kind : Text → Source → OperandKind
 source_kind Q sources.Absent = kinds.Absent
 source_kind Q (sources.Constant v) = kinds.Typed (ty_of v) false
 source_kind Q (sources.Of p) = typed_kind (place_type Q p) (is_writable Q p)
@@ -96,7 +96,7 @@ source_kind Q (sources.Target n) = kinds.Target
 source_kind Q (sources.Instance i) = kinds.Instance
 
 -- of an operand that stands for nothing
-abbrev pub missing_kind : Operand → Kind
+abbrev pub missing_kind : Operand → OperandKind
 missing_kind (operands.Label name) = kinds.NoTarget
 missing_kind (operands.Field name field) = kinds.NoField
 missing_kind operand = kinds.Misfit
@@ -105,13 +105,13 @@ abbrev pub top_of : List Held → Option Held
 top_of [] = None
 top_of (h ∷ hs) = Some h
 
-abbrev pub refused : Result Effect TypeFault → Result Effect TypeFault
-refused (Err f) = Err f
-refused (Ok e) = Err TypeMismatch
+abbrev pub without_effect : Result Effect TypeFault → Result Effect TypeFault
+without_effect (Err f) = Err f
+without_effect (Ok e) = Err TypeMismatch
 
 abbrev pub source_row : Text → Option Ty → Option Held → ℕ → Instr → Option Source → Result Effect TypeFault
 source_row Q cr top depth line (Some src) = row cr top depth line.op line.modifier (source_kind Q src)
-source_row Q cr top depth line None = refused (row cr top depth line.op line.modifier (missing_kind line.operand))
+source_row Q cr top depth line None = without_effect (row cr top depth line.op line.modifier (missing_kind line.operand))
 
 -- ---- the arguments of a call
 
@@ -134,14 +134,14 @@ first_fault None o = o
 first_fault (Some f) None = Some f
 first_fault (Some f) (Some g) = Some (tried_first f g)
 
-abbrev pub operand_kind : Text → Operand → Kind
+abbrev pub operand_kind : Text → Operand → OperandKind
 operand_kind Q operand = elim (source_of Q operand) [ Some src ↦ source_kind Q src | None ↦ missing_kind operand ]
 
 abbrev pub unless_same : Ty → Ty → Option TypeFault
 unless_same t u = if same_type t u then None else Some TypeMismatch
 
 -- what goes into an input or out of an output is of the field's type, and what an output is stored to can be written
-abbrev pub passing_fault : Side → Ty → Kind → Option TypeFault
+abbrev pub passing_fault : Side → Ty → OperandKind → Option TypeFault
 passing_fault side t kinds.NoField = Some BadField
 passing_fault sides.Input t (kinds.Typed u w) = unless_same t u
 passing_fault sides.Input t kind = Some TypeMismatch
@@ -156,13 +156,13 @@ abbrev pub field_fault : Text → Argument → Option Field → Option TypeFault
 field_fault Q a None = Some BadField
 field_fault Q a (Some field) = if goes_so a.side field then passing_fault a.side (field_type field) (operand_kind Q a.operand) else Some BadField
 
-abbrev pub field_named : BlockKind → List ℕ → Option Field
-field_named kind name = option_and_then (slice_get (kind_fields kind)) (field_number kind name)
+abbrev pub kind_field : BlockKind → List ℕ → Option Field
+kind_field kind name = option_and_then (slice_get (kind_fields kind)) (field_number kind name)
 
 -- a field stands once among the arguments of a call; seen are those before it
 abbrev pub argument_fault : Text → Option BlockKind → List Argument → Argument → Option TypeFault
 argument_fault Q None seen a = Some BadField
-argument_fault Q (Some kind) seen a = if list_any (λ (b : Argument). same_name b.field a.field) seen then Some BadField else field_fault Q a (field_named kind a.field)
+argument_fault Q (Some kind) seen a = if list_any (λ (b : Argument). same_name b.field a.field) seen then Some BadField else field_fault Q a (kind_field kind a.field)
 
 abbrev pub arguments_fault : Text → Option BlockKind → List Argument → List Argument → Option TypeFault
 arguments_fault Q kind seen [] = None
@@ -191,37 +191,37 @@ abbrev pub label_row : Text → ℕ → ℕ → Option (List ℕ) → Result (Un
 label_row Q n depth None = Ok tt
 label_row Q n depth (Some name) = label_at (target_of Q name) n depth
 
-abbrev pub applied : Shape → Effect → Shape
-applied sh (Sets cr) = record sh { cr = cr }
-applied sh (Opens held cr) = record { cr = cr; kept = held ∷ sh.kept }
-applied sh (Closes t) = record { cr = Some t; kept = drop 1 sh.kept }
+abbrev pub shape_after : Shape → Effect → Shape
+shape_after sh (Sets cr) = record sh { cr = cr }
+shape_after sh (Opens held cr) = record { cr = cr; kept = held ∷ sh.kept }
+shape_after sh (Closes t) = record { cr = Some t; kept = drop 1 sh.kept }
 
 -- at a label there is no current result
-abbrev pub arrived : Text → ℕ → Shape → Shape
-arrived Q n sh = if is_labelled Q n then record sh { cr = None } else sh
+abbrev pub shape_on_arrival : Text → ℕ → Shape → Shape
+shape_on_arrival Q n sh = if is_labelled Q n then record sh { cr = None } else sh
 
 abbrev pub after_line : Text → ℕ → Shape → Instr → Result Shape TypeFault
-after_line Q n sh line = label_row Q n (length sh.kept) line.label >>= λ _. line_row Q sh line >>= λ e. Ok (arrived Q (n + 1) (applied sh e))
+after_line Q n sh line = label_row Q n (length sh.kept) line.label >>= λ _. line_row Q sh line >>= λ e. Ok (shape_on_arrival Q (n + 1) (shape_after sh e))
 
-abbrev pub numbered : {X : Type 0} → ℕ → Result X TypeFault → Result X (TypeFault × ℕ)
-numbered n (Ok x) = Ok x
-numbered n (Err f) = Err (f, n)
+abbrev pub with_number : {X : Type 0} → ℕ → Result X TypeFault → Result X (TypeFault × ℕ)
+with_number n (Ok x) = Ok x
+with_number n (Err f) = Err (f, n)
 
 abbrev pub after_at : Text → ℕ → Shape → Option Instr → Result Shape (TypeFault × ℕ)
-after_at Q n sh (Some line) = numbered n (after_line Q n sh line)
+after_at Q n sh (Some line) = with_number n (after_line Q n sh line)
 after_at Q n sh None = Ok sh
 
 -- the types on arrival at a position, or the first fault before it with the instruction's number
 abbrev pub shape_at : Text → ℕ → Result Shape (TypeFault × ℕ)
-shape_at Q zero = Ok (arrived Q 0 (record { cr = None; kept = [] }))
+shape_at Q zero = Ok (shape_on_arrival Q 0 (record { cr = None; kept = [] }))
 shape_at Q (suc n) = shape_at Q n >>= λ sh. after_at Q n sh (slice_get Q.code n)
 
 -- no parenthesis is open at the end
-abbrev pub closed : Text → Shape → Result (Unit {0}) (TypeFault × ℕ)
-closed Q sh = if nat_lt 0 (length sh.kept) then Err (Unbalanced, length Q.code) else Ok tt
+abbrev pub typing_end : Text → Shape → Result (Unit {0}) (TypeFault × ℕ)
+typing_end Q sh = if nat_lt 0 (length sh.kept) then Err (Unbalanced, length Q.code) else Ok tt
 
-abbrev pub judged : Text → Result (Unit {0}) (TypeFault × ℕ)
-judged Q = shape_at Q (length Q.code) >>= closed Q
+abbrev pub judgement_of : Text → Result (Unit {0}) (TypeFault × ℕ)
+judgement_of Q = shape_at Q (length Q.code) >>= typing_end Q
 
 abbrev pub IsTyped : Text → Type 0
-IsTyped Q = judged Q ≡ Ok tt
+IsTyped Q = judgement_of Q ≡ Ok tt

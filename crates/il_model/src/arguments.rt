@@ -3,14 +3,16 @@
 ghost use Rattle.std.specs.Prelude.{◌≡◌, [], map, option_and_then, if◌then◌else◌};
 ghost use Rattle.std.specs.List.{list_any};
 ghost use Rattle.il_model.specs.Names.{same_name};
-ghost use Rattle.il_model.specs.Constants.{literal_of};
-ghost use Rattle.il_model.specs.Typing.{fault_rank, tried_first, first_fault, operand_kind, unless_same, passing_fault, goes_so, field_fault, field_named, argument_fault, arguments_fault, with_fault};
+ghost use Rattle.il_model.specs.Constants.{operand_literal};
+ghost use Rattle.il_model.specs.Typing.{fault_rank, tried_first, first_fault, operand_kind, unless_same, passing_fault, goes_so, field_fault, kind_field, argument_fault, arguments_fault, with_fault};
 ghost use Rattle.il_model.specs.Settled.{settled_argument, as_settled};
 
 use crate::indexed::IndexedProgram;
 use crate::resolve::{kind_of, missing_kind};
 use crate::value::make;
-use crate::{Argument, BlockKind, Effect, Field, Kind, Name, Operand, Side, Ty, TypeFault, Value};
+use crate::{
+    Argument, BlockKind, Effect, Field, Name, Operand, OperandKind, Side, Ty, TypeFault, Value,
+};
 
 fn rank(fault: TypeFault) -> u8
     ensures { result ≡ fault_rank fault }
@@ -54,12 +56,12 @@ fn unless_same(t: Ty, u: Ty) -> Option<TypeFault>
     }
 }
 
-fn passing_fault(side: Side, ty: Ty, kind: Kind) -> Option<TypeFault>
+fn passing_fault(side: Side, ty: Ty, kind: OperandKind) -> Option<TypeFault>
     ensures { result ≡ passing_fault side ty kind }
 {
     match (side, kind) {
-        (_, Kind::NoField) => Some(TypeFault::BadField),
-        (Side::Input, Kind::Typed(u, _)) | (Side::Output, Kind::Typed(u, true)) => {
+        (_, OperandKind::NoField) => Some(TypeFault::BadField),
+        (Side::Input, OperandKind::Typed(u, _)) | (Side::Output, OperandKind::Typed(u, true)) => {
             unless_same(ty, u)
         }
         (Side::Input, _) => Some(TypeFault::TypeMismatch),
@@ -76,8 +78,8 @@ fn goes_so(side: Side, field: Field) -> bool
     }
 }
 
-fn field_named(kind: BlockKind, name: &Name) -> Option<Field>
-    ensures { result ≡ field_named kind name.now }
+fn kind_field(kind: BlockKind, name: &Name) -> Option<Field>
+    ensures { result ≡ kind_field kind name.now }
 {
     let number = kind.field_number(name.bytes())?;
     kind.field(number)
@@ -85,7 +87,7 @@ fn field_named(kind: BlockKind, name: &Name) -> Option<Field>
 
 /// The literal that the operand of an argument is, once a bare number that goes into an input has the input's type.
 pub fn argument_literal(a: &Argument) -> Option<Value>
-    ensures { result ≡ literal_of (settled_argument a.now).operand }
+    ensures { result ≡ operand_literal (settled_argument a.now).operand }
 {
     match (&a.operand, a.side) {
         (Operand::Literal(v), _) => Some(*v),
@@ -97,7 +99,7 @@ pub fn argument_literal(a: &Argument) -> Option<Value>
     }
 }
 
-fn operand_kind(program: &IndexedProgram, operand: &Operand) -> Kind
+fn operand_kind(program: &IndexedProgram, operand: &Operand) -> OperandKind
     ensures { result ≡ operand_kind program.now operand.now }
 {
     match program.source_of(operand) {
@@ -107,14 +109,14 @@ fn operand_kind(program: &IndexedProgram, operand: &Operand) -> Kind
 }
 
 /// What an argument's operand is to the typing, with its bare number settled where that is asked for.
-fn passing_kind(program: &IndexedProgram, settles: bool, a: &Argument) -> Kind
+fn passing_kind(program: &IndexedProgram, settles: bool, a: &Argument) -> OperandKind
     ensures { result ≡ operand_kind program.now (as_settled settles a.now).operand }
 {
     if !settles {
         return operand_kind(program, &a.operand);
     }
     match argument_literal(a) {
-        Some(v) => Kind::Typed(v.ty(), false),
+        Some(v) => OperandKind::Typed(v.ty(), false),
         None => operand_kind(program, &a.operand),
     }
 }
@@ -159,7 +161,7 @@ pub(crate) fn argument_fault(
             if is_seen(seen, &a.field) {
                 Some(TypeFault::BadField)
             } else {
-                field_fault(program, settles, a, field_named(kind, &a.field))
+                field_fault(program, settles, a, kind_field(kind, &a.field))
             }
         }
         None => Some(TypeFault::BadField),

@@ -1,7 +1,7 @@
 //! The types on arrival at each instruction, and whether a program is typed.
 
 ghost use Rattle.std.specs.Prelude.{◌≡◌, ◌<◌, ℕ, length, reverse, Ok, Err, Some};
-ghost use Rattle.il_model.specs.Typing.{judged, shape_at, source_row, line_row, line_row_of, label_at, label_row, applied, arrived, top_of, Shape, after_line};
+ghost use Rattle.il_model.specs.Typing.{judgement_of, shape_at, source_row, line_row, line_row_of, label_at, label_row, shape_after, shape_on_arrival, top_of, Shape, after_line};
 ghost use Rattle.il_model.specs.Resolved.{is_labelled};
 ghost use Rattle.il_model.specs.Row.{HasRoom};
 ghost use Rattle.il_model.specs.declared.program.Instr.{Instr};
@@ -165,7 +165,7 @@ impl Types {
     /// What an instruction does to the types.
     pub fn apply(&mut self, effect: Effect)
         requires { HasRoom (length self.old.kept) effect }
-        ensures { self.new ≡ applied self.old effect }
+        ensures { self.new ≡ shape_after self.old effect }
     {
         match effect {
             Effect::Sets(cr) => self.cr = cr,
@@ -182,7 +182,7 @@ impl Types {
 
     /// At a label there is no current result.
     pub fn arrive(&mut self, program: &Program, n: usize)
-        ensures { self.new ≡ arrived program.now n self.old }
+        ensures { self.new ≡ shape_on_arrival program.now n self.old }
     {
         if is_labelled(program, n) {
             self.cr = None;
@@ -222,7 +222,7 @@ fn is_labelled(program: &Program, n: usize) -> bool
 
 /// Whether a program is typed, or the first fault with the instruction's number.
 pub fn check(program: &IndexedProgram) -> Result<(), (TypeFault, usize)>
-    ensures { result ≡ judged program.now }
+    ensures { result ≡ judgement_of program.now }
 {
     let mut types = Types::start(program.program());
     let code = program.code();

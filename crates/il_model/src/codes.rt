@@ -2,7 +2,7 @@
 
 ghost use Rattle.std.specs.Prelude.{◌≡◌, Some, false};
 ghost use Rattle.std.specs.Int.{w32, cast_signed, cast_unsigned};
-ghost use Rattle.il_model.specs.declared.codes.Form.TheVariants as forms;
+ghost use Rattle.il_model.specs.declared.codes.OperandForm.TheVariants as forms;
 ghost use Rattle.il_model.specs.Values.{number_of};
 ghost use Rattle.il_model.specs.Image.{type_code, location_code, op_code, flag, modifier_code, side_code};
 ghost use Rattle.il_model.specs.Codes.{length_of, type_of, is_type, may_start_with, initial_of, op_of, modifier_of, usage_of, allows, has_form, allowed_by, formed_by, letters_of, side_of, is_pointless};
@@ -10,7 +10,7 @@ ghost use Rattle.il_model.specs.Codes.{length_of, type_of, is_type, may_start_wi
 use crate::coded_operand::CodedOperand;
 use crate::op::{Modifier, Op};
 use crate::program::{Instr, Loc, Operand, Side};
-use crate::resolve::is_output;
+use crate::resolve::in_writable_area;
 use crate::value::{Ty, Value, make};
 
 /// How each image begins.
@@ -75,7 +75,7 @@ fn may_start_with(location: Option<Loc>, first: Value) -> bool
     ensures { result ≡ may_start_with location first }
 {
     match location {
-        Some(loc) => is_output(loc) || first.number() == 0,
+        Some(loc) => in_writable_area(loc) || first.number() == 0,
         None => true,
     }
 }
@@ -158,7 +158,7 @@ pub enum LetterSet {
 
 /// The form of an operator's operand.
 #[derive(Clone, Copy, PartialEq, Eq)]
-pub enum Form {
+pub enum OperandForm {
     /// There is none.
     Absent,
     /// A constant, a variable, a location or a field of an instance; there may be none behind a parenthesis.
@@ -173,10 +173,10 @@ pub enum Form {
 #[derive(Clone, Copy, PartialEq, Eq)]
 pub struct Usage {
     pub letters: LetterSet,
-    pub form: Form,
+    pub form: OperandForm,
 }
 
-fn row(letters: LetterSet, form: Form) -> Usage
+fn row(letters: LetterSet, form: OperandForm) -> Usage
     ensures { result ≡ record { letters = letters; form = form } }
 {
     Usage { letters, form }
@@ -187,17 +187,23 @@ fn usage_of(op: Op) -> Usage
     ensures { result ≡ usage_of op }
 {
     match op {
-        Op::Ld | Op::St => row(LetterSet::N, Form::Value),
-        Op::S | Op::R => row(LetterSet::None, Form::Value),
-        Op::And | Op::Or | Op::Xor => row(LetterSet::NOpens, Form::Value),
-        Op::Add | Op::Sub | Op::Mul | Op::Div | Op::Mod => row(LetterSet::Opens, Form::Value),
-        Op::Gt | Op::Ge | Op::Eq | Op::Ne | Op::Le | Op::Lt => row(LetterSet::Opens, Form::Value),
-        Op::Jmp => row(LetterSet::C, Form::Label),
-        Op::Ret => row(LetterSet::C, Form::Absent),
+        Op::Ld | Op::St => row(LetterSet::N, OperandForm::Value),
+        Op::S | Op::R => row(LetterSet::None, OperandForm::Value),
+        Op::And | Op::Or | Op::Xor => row(LetterSet::NOpens, OperandForm::Value),
+        Op::Add | Op::Sub | Op::Mul | Op::Div | Op::Mod => row(
+            LetterSet::Opens,
+            OperandForm::Value,
+        ),
+        Op::Gt | Op::Ge | Op::Eq | Op::Ne | Op::Le | Op::Lt => row(
+            LetterSet::Opens,
+            OperandForm::Value,
+        ),
+        Op::Jmp => row(LetterSet::C, OperandForm::Label),
+        Op::Ret => row(LetterSet::C, OperandForm::Absent),
         Op::Empty | Op::Not | Op::Close | Op::IntToDint | Op::DintToInt => {
-            row(LetterSet::None, Form::Absent)
+            row(LetterSet::None, OperandForm::Absent)
         }
-        Op::Cal => row(LetterSet::C, Form::Instance),
+        Op::Cal => row(LetterSet::C, OperandForm::Instance),
     }
 }
 
@@ -213,12 +219,12 @@ fn allows(letters: LetterSet, m: Modifier) -> bool
     }
 }
 
-fn has_form(form: Form, opens: bool, operand: &Operand) -> bool
+fn has_form(form: OperandForm, opens: bool, operand: &Operand) -> bool
     ensures { result ≡ has_form form opens operand.now }
 {
     match form {
-        Form::Absent => matches!(operand, Operand::Absent),
-        Form::Value => match operand {
+        OperandForm::Absent => matches!(operand, Operand::Absent),
+        OperandForm::Value => match operand {
             Operand::Literal(_)
             | Operand::Variable(_)
             | Operand::Direct(_)
@@ -226,8 +232,8 @@ fn has_form(form: Form, opens: bool, operand: &Operand) -> bool
             Operand::Absent => opens,
             _ => false,
         },
-        Form::Label => matches!(operand, Operand::Label(_)),
-        Form::Instance => matches!(operand, Operand::Instance(_)),
+        OperandForm::Label => matches!(operand, Operand::Label(_)),
+        OperandForm::Instance => matches!(operand, Operand::Instance(_)),
     }
 }
 
@@ -277,7 +283,7 @@ pub fn side_of(code: u8) -> Option<Side>
 pub fn is_passed(operand: &Operand) -> bool
     ensures { result ≡ has_form forms.Value false operand.now }
 {
-    has_form(Form::Value, false, operand)
+    has_form(OperandForm::Value, false, operand)
 }
 
 /// Whether an instruction is an empty one without a label.

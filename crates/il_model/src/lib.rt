@@ -47,5 +47,5 @@ pub use program::{
 };
 pub use slot::Slot;
 pub use snapshot::{ForcedSlot, SavedInstance, SavedPhase, Snapshot};
-pub use typing::{Effect, Held, Kind, TypeFault};
+pub use typing::{Effect, Held, OperandKind, TypeFault};
 pub use value::{Stop, Ty, Value};

@@ -2,7 +2,7 @@
 
 ghost use Rattle.std.specs.Prelude.{◌≡◌};
 ghost use Rattle.std.specs.List.{prefix_len};
-ghost use Rattle.il_model.specs.Locations.{is_no_dot, dot_at, bit_of, word_of, area_of, bit_at, word_at, place_at, location_of};
+ghost use Rattle.il_model.specs.Locations.{is_no_dot, dot_at, bit_of, word_of, letter_area, bit_at, word_at, place_at, location_of};
 
 use crate::literal::integer;
 use crate::program::{Area, Loc};
@@ -18,7 +18,7 @@ fn bit(area: Area, byte: Option<u64>, bit: Option<u64>) -> Option<Loc>
 }
 
 fn area(letter: u8) -> Option<Area>
-    ensures { result ≡ area_of letter }
+    ensures { result ≡ letter_area letter }
 {
     match capital(letter) {
         b'I' => Some(Area::Input),

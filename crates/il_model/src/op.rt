@@ -2,7 +2,7 @@
 
 ghost use Rattle.std.specs.Prelude.{◌≡◌, slice_get, length};
 ghost use Rattle.il_model.specs.Values.{ty_of};
-ghost use Rattle.il_model.specs.Operators.{joined_type, numeric_type, operated, on_numbers, on_truths, in_type, divided, rest_of};
+ghost use Rattle.il_model.specs.Operators.{joined_type, numeric_type, operation_result, on_numbers, on_truths, in_type, quotient_of, rest_of};
 ghost use Rattle.std.specs.Prelude.{◌*ℤ◌, int_div, int_rem, pos, ◌≢◌};
 
 use crate::value::{Stop, Ty, Value, make};
@@ -150,7 +150,7 @@ fn numeric(op: Op, ty: Ty) -> Option<Ty>
 /// An operator on the current result and an operand, or none where it has no row at their types.
 #[inline(always)]
 pub fn operate(op: Op, cr: Value, operand: Value) -> Option<Result<Value, Stop>>
-    ensures { result ≡ operated op cr operand }
+    ensures { result ≡ operation_result op cr operand }
 {
     let (ty, a, b) = match (cr, operand) {
         (Value::Bool(a), Value::Bool(b)) => return truths(op, a, b),
@@ -247,7 +247,7 @@ fn rest(a: i32, b: i32) -> i64
 
 #[inline(always)]
 fn quotient(ty: Ty, a: i32, b: i32) -> Result<Value, Stop>
-    ensures { result ≡ divided ty a b }
+    ensures { result ≡ quotient_of ty a b }
 {
     if b == 0 {
         Err(Stop::ZeroDivisor)

@@ -2,10 +2,10 @@
 
 ghost use Rattle.std.specs.Prelude.{◌≡◌, slice_get};
 ghost use Rattle.il_model.specs.Kinds.{kind_fields};
-ghost use Rattle.il_model.specs.Typing.{place_type, loc_type, field_at, is_input_field, is_writable, is_output, source_kind, missing_kind};
+ghost use Rattle.il_model.specs.Typing.{place_type, loc_type, field_at, is_input_field, is_writable, is_writable_area, source_kind, missing_kind};
 ghost use Rattle.il_model.specs.Areas.{area_of};
 
-use crate::{Area, Field, Kind, Loc, Operand, Place, Program, Source, Ty};
+use crate::{Area, Field, Loc, Operand, OperandKind, Place, Program, Source, Ty};
 
 /// The type of a location: BOOL for a bit, INT for a word; none past its area.
 pub fn loc_type(loc: Loc) -> Option<Ty>
@@ -43,8 +43,8 @@ fn place_type(program: &Program, place: Place) -> Option<Ty>
 }
 
 /// Whether a location lies among the outputs or in memory.
-pub fn is_output(loc: Loc) -> bool
-    ensures { result ≡ is_output (area_of loc) }
+pub fn in_writable_area(loc: Loc) -> bool
+    ensures { result ≡ is_writable_area (area_of loc) }
 {
     !matches!(loc, Loc::Bit(Area::Input, _) | Loc::Word(Area::Input, _))
 }
@@ -63,34 +63,34 @@ fn is_writable(program: &Program, place: Place) -> bool
 {
     match place {
         Place::Own(_) => true,
-        Place::At(loc) => is_output(loc),
+        Place::At(loc) => in_writable_area(loc),
         Place::Field(i, n) => is_input_field(field_at(program, i, n)),
     }
 }
 
 /// What an operand that stands for something is to the typing.
-pub fn kind_of(program: &Program, source: Source) -> Kind
+pub fn kind_of(program: &Program, source: Source) -> OperandKind
     ensures { result ≡ source_kind program.now source }
 {
     match source {
-        Source::Absent => Kind::Absent,
-        Source::Constant(v) => Kind::Typed(v.ty(), false),
+        Source::Absent => OperandKind::Absent,
+        Source::Constant(v) => OperandKind::Typed(v.ty(), false),
         Source::Of(place) => match place_type(program, place) {
-            Some(ty) => Kind::Typed(ty, is_writable(program, place)),
-            None => Kind::Misfit,
+            Some(ty) => OperandKind::Typed(ty, is_writable(program, place)),
+            None => OperandKind::Misfit,
         },
-        Source::Target(_) => Kind::Target,
-        Source::Instance(_) => Kind::Instance,
+        Source::Target(_) => OperandKind::Target,
+        Source::Instance(_) => OperandKind::Instance,
     }
 }
 
 /// What an operand that stands for nothing is to the typing.
-pub fn missing_kind(operand: &Operand) -> Kind
+pub fn missing_kind(operand: &Operand) -> OperandKind
     ensures { result ≡ missing_kind operand.now }
 {
     match operand {
-        Operand::Label(_) => Kind::NoTarget,
-        Operand::Field(_, _) => Kind::NoField,
-        _ => Kind::Misfit,
+        Operand::Label(_) => OperandKind::NoTarget,
+        Operand::Field(_, _) => OperandKind::NoField,
+        _ => OperandKind::Misfit,
     }
 }

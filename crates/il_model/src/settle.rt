@@ -1,21 +1,21 @@
 //! Bare numbers in a program: each takes the type that its place asks for, by the type of the current result on arrival.
 
 ghost use Rattle.std.specs.Prelude.{◌≡◌, ◌<◌, length, OnOk, OnErr, IfOk, IfErr, Ok, Err};
-ghost use Rattle.il_model.specs.Constants.{literal_of};
+ghost use Rattle.il_model.specs.Constants.{operand_literal};
 ghost use Rattle.il_model.specs.Text.{Text};
 ghost use Rattle.il_model.specs.Resolved.{source_of};
 ghost use Rattle.il_model.specs.Typing.{source_row, line_row_of};
-ghost use Rattle.il_model.specs.Settled.{settled_operand, settled_line, if_typed, settled, HasNoBare, IsTypedProgramOf};
+ghost use Rattle.il_model.specs.Settled.{settled_operand, settled_line, if_typed, typed_program_of, HasNoBare, IsTypedProgramOf};
 
 use crate::arguments::{arguments_fault, with_fault};
 use crate::check::{Types, label_row, source_row};
 use crate::indexed::IndexedProgram;
 use crate::typing::{row_of, settle};
-use crate::{Effect, Held, Instr, Kind, Operand, Program, Ty, TypeFault, Value};
+use crate::{Effect, Held, Instr, Operand, OperandKind, Program, Ty, TypeFault, Value};
 
 /// The literal that an operand is, once a bare number has the type that its place asks for.
 fn settled_literal(cr: Option<Ty>, line: &Instr) -> Option<Value>
-    ensures { result ≡ literal_of (settled_operand cr line.now.op line.now.modifier line.now.operand) }
+    ensures { result ≡ operand_literal (settled_operand cr line.now.op line.now.modifier line.now.operand) }
 {
     match &line.operand {
         Operand::Literal(v) => Some(*v),
@@ -33,7 +33,7 @@ fn operand_row(
     line: &Instr,
     literal: Option<Value>,
 ) -> Result<Effect, TypeFault>
-    requires { literal ≡ literal_of (settled_operand cr line.now.op line.now.modifier line.now.operand) }
+    requires { literal ≡ operand_literal (settled_operand cr line.now.op line.now.modifier line.now.operand) }
     ensures { result ≡ source_row program.now cr top depth (settled_line cr line.now) (source_of program.now (settled_line cr line.now).operand) }
 {
     match literal {
@@ -43,7 +43,7 @@ fn operand_row(
             depth,
             line.op,
             line.modifier,
-            Kind::Typed(v.ty(), false),
+            OperandKind::Typed(v.ty(), false),
         ),
         None => source_row(
             program.program(),
@@ -64,7 +64,7 @@ fn settled_row(
     line: &Instr,
     literal: Option<Value>,
 ) -> Result<Effect, TypeFault>
-    requires { literal ≡ literal_of (settled_operand cr line.now.op line.now.modifier line.now.operand) }
+    requires { literal ≡ operand_literal (settled_operand cr line.now.op line.now.modifier line.now.operand) }
     ensures { result ≡ line_row_of program.now cr top depth (settled_line cr line.now) }
 {
     let row = operand_row(program, cr, top, depth, line, literal);
@@ -88,7 +88,7 @@ impl Types {
     ) -> Result<Option<Value>, TypeFault>
         requires n { n < length program.now.code }
         ensures ok { OnOk result (after_line program.now n self.old (settled_line self.old.cr line.now) ≡ Ok self.new) }
-        ensures literal { IfOk result (λ v. v ≡ literal_of (settled_operand self.old.cr line.now.op line.now.modifier line.now.operand)) }
+        ensures literal { IfOk result (λ v. v ≡ operand_literal (settled_operand self.old.cr line.now.op line.now.modifier line.now.operand)) }
         ensures err { IfErr result (λ f. after_line program.now n self.old (settled_line self.old.cr line.now) ≡ Err f) }
         ensures unchanged { OnErr result (self.new ≡ self.old) }
     {
@@ -107,9 +107,9 @@ impl Types {
 
 /// What holds of a program and its typed program. For proofs; it does nothing.
 pub fn settling(program: &Program)
-    ensures typed { (Q : Text) → settled program.now ≡ Ok Q → IsTypedProgramOf program.now Q }
-    ensures only { (Q : Text) → IsTypedProgramOf program.now Q → settled program.now ≡ Ok Q }
-    ensures plain { HasNoBare program.now → settled program.now ≡ if_typed program.now }
+    ensures typed { (Q : Text) → typed_program_of program.now ≡ Ok Q → IsTypedProgramOf program.now Q }
+    ensures only { (Q : Text) → IsTypedProgramOf program.now Q → typed_program_of program.now ≡ Ok Q }
+    ensures plain { HasNoBare program.now → typed_program_of program.now ≡ if_typed program.now }
 {
     let _code = &program.code;
 }

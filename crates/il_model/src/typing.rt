@@ -59,7 +59,7 @@ impl TypeFault {
 
 /// What an operand is to the typing.
 #[derive(Clone, Copy, PartialEq, Eq)]
-pub enum Kind {
+pub enum OperandKind {
     Absent,
     /// Of a type, and whether it may be written.
     Typed(Ty, bool),
@@ -99,7 +99,7 @@ pub fn row_of(
     depth: usize,
     op: Op,
     modifier: Modifier,
-    kind: Kind,
+    kind: OperandKind,
 ) -> Result<Effect, TypeFault>
     ensures { result ≡ row cr top depth op modifier kind }
 {
@@ -114,7 +114,7 @@ pub fn row_of(
                 return Err(TypeFault::Unbalanced);
             }
             match kind {
-                Kind::Target => leave_types(cr, modifier),
+                OperandKind::Target => leave_types(cr, modifier),
                 _ => Err(TypeFault::UnknownLabel),
             }
         }
@@ -143,30 +143,30 @@ pub fn row_of(
     }
 }
 
-fn load_types(modifier: Modifier, kind: Kind) -> Result<Effect, TypeFault>
+fn load_types(modifier: Modifier, kind: OperandKind) -> Result<Effect, TypeFault>
     ensures { result ≡ load_row modifier.negated kind }
 {
     match kind {
-        Kind::Typed(Ty::Bool, _) => Ok(Effect::Sets(Some(Ty::Bool))),
-        Kind::Typed(ty, _) => {
+        OperandKind::Typed(Ty::Bool, _) => Ok(Effect::Sets(Some(Ty::Bool))),
+        OperandKind::Typed(ty, _) => {
             if modifier.negated {
                 Err(TypeFault::TypeMismatch)
             } else {
                 Ok(Effect::Sets(Some(ty)))
             }
         }
-        Kind::NoField => Err(TypeFault::BadField),
+        OperandKind::NoField => Err(TypeFault::BadField),
         _ => Err(TypeFault::TypeMismatch),
     }
 }
 
-fn store_types(cr: Option<Ty>, modifier: Modifier, kind: Kind) -> Result<Effect, TypeFault>
+fn store_types(cr: Option<Ty>, modifier: Modifier, kind: OperandKind) -> Result<Effect, TypeFault>
     ensures { result ≡ store_row cr modifier.negated kind }
 {
-    if kind == Kind::NoField {
+    if kind == OperandKind::NoField {
         return Err(TypeFault::BadField);
     }
-    let Kind::Typed(ty, true) = kind else {
+    let OperandKind::Typed(ty, true) = kind else {
         return Err(TypeFault::NotWritable);
     };
     let Some(c) = cr else {
@@ -178,19 +178,19 @@ fn store_types(cr: Option<Ty>, modifier: Modifier, kind: Kind) -> Result<Effect,
     Ok(Effect::Sets(cr))
 }
 
-fn set_types(cr: Option<Ty>, kind: Kind) -> Result<Effect, TypeFault>
+fn set_types(cr: Option<Ty>, kind: OperandKind) -> Result<Effect, TypeFault>
     ensures { result ≡ set_row cr kind }
 {
     match (kind, cr) {
-        (Kind::Typed(ty, true), Some(c)) => {
+        (OperandKind::Typed(ty, true), Some(c)) => {
             if ty == Ty::Bool && c == Ty::Bool {
                 Ok(Effect::Sets(cr))
             } else {
                 Err(TypeFault::TypeMismatch)
             }
         }
-        (Kind::Typed(_, true), None) => Err(TypeFault::NoCurrentResult),
-        (Kind::NoField, _) => Err(TypeFault::BadField),
+        (OperandKind::Typed(_, true), None) => Err(TypeFault::NoCurrentResult),
+        (OperandKind::NoField, _) => Err(TypeFault::BadField),
         _ => Err(TypeFault::NotWritable),
     }
 }
@@ -216,11 +216,11 @@ fn leave_types(cr: Option<Ty>, modifier: Modifier) -> Result<Effect, TypeFault>
 }
 
 /// A call leaves the current result as it was.
-fn call_types(cr: Option<Ty>, modifier: Modifier, kind: Kind) -> Result<Effect, TypeFault>
+fn call_types(cr: Option<Ty>, modifier: Modifier, kind: OperandKind) -> Result<Effect, TypeFault>
     ensures { result ≡ call_row cr modifier.conditional kind }
 {
     match kind {
-        Kind::Instance => {
+        OperandKind::Instance => {
             if modifier.conditional {
                 truth_types(cr)
             } else {
@@ -267,7 +267,7 @@ fn open_types(
     depth: usize,
     op: Op,
     modifier: Modifier,
-    kind: Kind,
+    kind: OperandKind,
 ) -> Result<Effect, TypeFault>
     ensures { result ≡ open_row cr depth op modifier.negated kind }
 {
@@ -278,10 +278,15 @@ fn open_types(
 }
 
 /// The deferred operator has to take the type of the current result.
-fn opened_types(cr: Option<Ty>, op: Op, modifier: Modifier, kind: Kind) -> Result<Effect, TypeFault>
+fn opened_types(
+    cr: Option<Ty>,
+    op: Op,
+    modifier: Modifier,
+    kind: OperandKind,
+) -> Result<Effect, TypeFault>
     ensures { result ≡ opened_row cr op modifier.negated kind }
 {
-    if kind == Kind::NoField {
+    if kind == OperandKind::NoField {
         return Err(TypeFault::BadField);
     }
     let Some(c) = cr else {
@@ -296,8 +301,8 @@ fn opened_types(cr: Option<Ty>, op: Op, modifier: Modifier, kind: Kind) -> Resul
         ty: c,
     };
     match kind {
-        Kind::Absent => Ok(Effect::Opens(held, None)),
-        Kind::Typed(ty, _) => Ok(Effect::Opens(held, Some(ty))),
+        OperandKind::Absent => Ok(Effect::Opens(held, None)),
+        OperandKind::Typed(ty, _) => Ok(Effect::Opens(held, Some(ty))),
         _ => Err(TypeFault::TypeMismatch),
     }
 }
@@ -306,17 +311,17 @@ fn combine_types(
     cr: Option<Ty>,
     op: Op,
     modifier: Modifier,
-    kind: Kind,
+    kind: OperandKind,
 ) -> Result<Effect, TypeFault>
     ensures { result ≡ combine_row cr op modifier.negated kind }
 {
-    if kind == Kind::NoField {
+    if kind == OperandKind::NoField {
         return Err(TypeFault::BadField);
     }
     let Some(c) = cr else {
         return Err(TypeFault::NoCurrentResult);
     };
-    let Kind::Typed(ty, _) = kind else {
+    let OperandKind::Typed(ty, _) = kind else {
         return Err(TypeFault::TypeMismatch);
     };
     if modifier.negated && ty != Ty::Bool {

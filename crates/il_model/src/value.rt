@@ -1,7 +1,7 @@
 //! Types and values.
 
 ghost use Rattle.std.specs.Prelude.{◌≡◌};
-ghost use Rattle.il_model.specs.Values.{ty_of, zero_of, number_of, made};
+ghost use Rattle.il_model.specs.Values.{ty_of, zero_of, number_of, typed_value};
 
 /// An elementary type (IEC 61131-3:2003, 2.3.1).
 #[derive(Clone, Copy, Debug, PartialEq, Eq)]
@@ -88,7 +88,7 @@ impl Value {
 /// The value of a type with a number, if that fits.
 #[inline(always)]
 pub fn make(ty: Ty, z: i64) -> Option<Value>
-    ensures { result ≡ made ty z }
+    ensures { result ≡ typed_value ty z }
 {
     match ty {
         Ty::Bool => {

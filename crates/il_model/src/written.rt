@@ -2,7 +2,7 @@
 
 ghost use Rattle.std.specs.Prelude.{◌≡◌, ◌≤◌, ◌<◌, ◌^◌, length, option_map, IfSome};
 ghost use Rattle.il_model.specs.Literal.{held_integer};
-ghost use Rattle.il_model.specs.Literals.{positive, minus, signed_by, is_no_hash, hash_at, based_by, whole_by, time_by, truth_of, typed, bare, prefixed, is_word, literal_by, literal_of};
+ghost use Rattle.il_model.specs.Literals.{positive, minus, signed_by, is_no_hash, hash_at, based_by, whole_by, time_by, truth_literal, typed_literal, bare_literal, prefixed_literal, is_word, literal_by, literal_of};
 
 use crate::duration::duration;
 use crate::literal::{Literal, integer};
@@ -83,7 +83,7 @@ fn time(bytes: &[u8]) -> Option<i64>
 }
 
 fn truth(bytes: &[u8]) -> Option<Literal>
-    ensures { result ≡ truth_of bytes.now }
+    ensures { result ≡ truth_literal bytes.now }
 {
     if is_spelled(b"TRUE", bytes) || is_spelled(b"1", bytes) {
         Some(Literal::Typed(Value::Bool(true)))
@@ -94,14 +94,14 @@ fn truth(bytes: &[u8]) -> Option<Literal>
     }
 }
 
-fn typed(ty: Ty, z: Option<i64>) -> Option<Literal>
-    ensures { result ≡ typed ty z }
+fn typed_literal(ty: Ty, z: Option<i64>) -> Option<Literal>
+    ensures { result ≡ typed_literal ty z }
 {
     Some(Literal::Typed(make(ty, z?)?))
 }
 
-fn bare(z: i64) -> Option<Literal>
-    ensures { result ≡ bare z }
+fn bare_literal(z: i64) -> Option<Literal>
+    ensures { result ≡ bare_literal z }
 {
     if -2147483648 <= z && z < 2147483648 {
         Some(Literal::Bare(z as i32))
@@ -110,19 +110,19 @@ fn bare(z: i64) -> Option<Literal>
     }
 }
 
-fn prefixed(word: &[u8], bytes: &[u8]) -> Option<Literal>
-    ensures { result ≡ prefixed held_integer word.now bytes.now }
+fn prefixed_literal(word: &[u8], bytes: &[u8]) -> Option<Literal>
+    ensures { result ≡ prefixed_literal held_integer word.now bytes.now }
 {
     if is_spelled(b"BOOL", word) {
         truth(bytes)
     } else if is_spelled(b"INT", word) {
-        typed(Ty::Int, whole(bytes))
+        typed_literal(Ty::Int, whole(bytes))
     } else if is_spelled(b"DINT", word) {
-        typed(Ty::Dint, whole(bytes))
+        typed_literal(Ty::Dint, whole(bytes))
     } else if is_spelled(b"T", word) || is_spelled(b"TIME", word) {
-        typed(Ty::Time, time(bytes))
+        typed_literal(Ty::Time, time(bytes))
     } else {
-        bare(based(word, bytes)?)
+        bare_literal(based(word, bytes)?)
     }
 }
 
@@ -137,11 +137,11 @@ fn judged(bytes: &[u8]) -> Option<Literal>
 {
     let hash = hash(bytes);
     if hash < bytes.len() {
-        prefixed(&bytes[..hash], &bytes[hash + 1..])
+        prefixed_literal(&bytes[..hash], &bytes[hash + 1..])
     } else if is_truth(bytes) {
         truth(bytes)
     } else {
-        bare(signed(bytes)?)
+        bare_literal(signed(bytes)?)
     }
 }
 

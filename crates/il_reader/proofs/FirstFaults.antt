@@ -14,7 +14,7 @@ use Rattle.il_reader.specs.declared.contents.Operator.{Operator}
 use Rattle.il_reader.specs.declared.operations.Form.{Form}
 use Rattle.il_reader.specs.declared.operations.Form.TheVariants as forms
 use Rattle.il_reader.specs.Tokens.{Token, goes_on, tokens_of}
-use Rattle.il_reader.specs.Reading.{◌>>=◌, Reading, is_sign, is_end, is_word_token, no_token, first, others, fault_at, skip_breaks, expect, keyword, pair, led, closed, choice, mapped, past, mark, stand, many, meant}
+use Rattle.il_reader.specs.Reading.{◌>>=◌, Reading, is_sign, is_end, is_word_token, first, others, fault_at, skip_breaks, expect, keyword, pair, led, closed, choice, mapped, past, mark, stand, many, meant}
 use Rattle.il_reader.specs.Grammar.{is_variable, is_constant, variable_at, constant_at, named, field_at, inner_field_at, lone_at, operand_at, inner_operand_at, before_dot, Direct, Constant, OperandText, ArgumentText, side_at, an_output, an_input, an_argument, argument_at, ends_arguments, next_argument_at, before_close, together, inside_at, arguments_at, a_call, call_at, BehindText, Given, Target, Opened, Called, OperationText, form_of, operator_of, operator_at, optional_operand_at, nested_at, either_at, behind_at, operation_at, optional_operation_at, is_line_stop, operator_from, LineText, Plain, is_label, labelled, labelled_at, plain_at, either_line_at, line_at, Located, More, DeclarationText, ends_names, name_at, names_at, initial_at, declared, declaration_at, ends_block, ends_blocks, block_at, ProgramText, ends_lines, ends_named, end_at, finish_at, named_program, bare_program, named_at, bare_at, begins_program, program_at}
 use Rattle.il_reader.specs.FirstFault.{StandsAt, IsFirstFault}
 use Rattle.il_reader.proofs.Programs.{next_shrinks, line_shrinks, name_shrinks, declaration_shrinks, block_shrinks, program_law}

@@ -1,5 +1,5 @@
 -- The tokens of a text, one after the other.
-use Rattle.std.proofs.Common.{◌≡◌, ℕ, zero, suc, ◌+◌, ◌-◌, ◌<◌, List, [], ◌∷◌, length, take, drop, Option, Some, None, refl, ap, arith, ◌∙◌, sym, subst, ◌≢◌}
+use Rattle.std.proofs.Common.{◌≡◌, ℕ, zero, suc, ◌+◌, ◌-◌, ◌<◌, List, [], ◌∷◌, length, take, drop, Option, Some, None, refl, ap, arith, ◌∙◌, sym, subst}
 use Rattle.il_reader.specs.declared.lexeme.Piece.{Piece}
 use Rattle.il_reader.specs.declared.lexeme.Class.{Class}
 use Rattle.il_reader.specs.Tokens.{add_len, Token, put, piece_of, tokens_behind, tokens_of, after}

@@ -120,13 +120,22 @@ names_of (names.Located t) = Located (token t)
 names_of (names.More ts) = More (map token ts.items)
 
 abbrev pub declaration : Declaration → DeclarationText
-declaration d = record { name = token d.name; names = names_of d.names; ty = token d.ty; initial = option_map token d.initial }
+declaration d = record {
+  name = token d.name;
+  names = names_of d.names;
+  ty = token d.ty;
+  initial = option_map token d.initial;
+}
 
 abbrev pub declarations : List Declaration → List DeclarationText
 declarations ds = map declaration ds
 
 abbrev pub program_text : Contents → ProgramText
-program_text c = record { name = option_map token c.name; blocks = map (λ ds. declarations ds.items) c.blocks.items; lines = map line c.lines.items }
+program_text c = record {
+  name = option_map token c.name;
+  blocks = map (λ ds. declarations ds.items) c.blocks.items;
+  lines = map line c.lines.items;
+}
 
 -- ---- instructions
 
@@ -188,7 +197,10 @@ no_dot ts = not (next_is signs.Dot ts)
 
 -- '.' field_selector of a structured_variable (B.1.4.2), where a dot stands
 unfoldable pub field_at : Reading (Option Token)
-field_at ts = choice (next_is signs.Dot) (mapped Some (led (mark (expect signs.Dot)) (expect signs.Name))) (stand no_dot None) ts
+field_at ts =
+    choice (next_is signs.Dot)
+    (mapped Some (led (mark (expect signs.Dot)) (expect signs.Name)))
+    (stand no_dot None) ts
 
 abbrev pub before_dot : List Token → Bool
 before_dot ts = next_is signs.Dot (skip_breaks ts)
@@ -198,7 +210,10 @@ before_no_dot ts = not (before_dot ts)
 
 -- the same between the parentheses of a call, where line ends are white space
 unfoldable pub inner_field_at : Reading (Option Token)
-inner_field_at ts = choice before_dot (mapped Some (led (past (mark (expect signs.Dot))) (past (expect signs.Name)))) (stand before_no_dot None) ts
+inner_field_at ts =
+    choice before_dot
+    (mapped Some (led (past (mark (expect signs.Dot))) (past (expect signs.Name))))
+    (stand before_no_dot None) ts
 
 abbrev pub named_by : Token → Option Token → OperandText
 named_by t None = Named t
@@ -209,7 +224,10 @@ named (name, field) = named_by name field
 
 -- constant (B.1.2) and direct_variable (B.1.4.1)
 unfoldable pub lone_at : Reading OperandText
-lone_at ts = choice (next_is signs.Address) (mapped Direct (expect signs.Address)) (mapped Constant constant_at) ts
+lone_at ts =
+    choice (next_is signs.Address)
+    (mapped Direct (expect signs.Address))
+    (mapped Constant constant_at) ts
 
 -- il_operand (B.2.1)
 unfoldable pub operand_at : Reading OperandText
@@ -244,14 +262,19 @@ an_input u = sides.Input
 
 -- the sign of an il_assign_out_operator or of an il_assign_operator (B.2.2)
 unfoldable pub side_at : Reading Side
-side_at ts = choice (next_is signs.Arrow) (mapped an_output (mark (expect signs.Arrow))) (mapped an_input (mark (expect signs.Assign))) ts
+side_at ts =
+    choice (next_is signs.Arrow)
+    (mapped an_output (mark (expect signs.Arrow)))
+    (mapped an_input (mark (expect signs.Assign))) ts
 
 abbrev pub an_argument : Token × (Side × OperandText) → ArgumentText
 an_argument (field, (side, operand)) = record { field = field; side = side; operand = operand }
 
 -- il_param_assignment and il_param_out_assignment (B.2.1), of an operand alone
 unfoldable pub argument_at : Reading ArgumentText
-argument_at ts = mapped an_argument (pair (past (expect signs.Name)) (pair (past side_at) (past inner_operand_at))) ts
+argument_at ts = mapped an_argument
+    (pair (past (expect signs.Name))
+    (pair (past side_at) (past inner_operand_at))) ts
 
 unfoldable pub ends_arguments : List Token → Bool
 ends_arguments ts = not (next_is signs.Comma (skip_breaks ts))
@@ -268,13 +291,19 @@ together (x, more) = x ∷ more
 
 -- il_param_list (B.2.1), or nothing
 unfoldable pub inside_at : Reading (List ArgumentText)
-inside_at ts = choice before_close (stand before_close []) (mapped together (pair argument_at (many ends_arguments next_argument_at))) ts
+inside_at ts =
+    choice before_close
+    (stand before_close [])
+    (mapped together (pair argument_at (many ends_arguments next_argument_at))) ts
 
 abbrev pub no_open : List Token → Bool
 no_open ts = not (next_is signs.Open ts)
 
 unfoldable pub arguments_at : Reading (Option (List ArgumentText))
-arguments_at ts = choice (next_is signs.Open) (mapped Some (led (mark (expect signs.Open)) (closed inside_at (past (mark (expect signs.Close)))))) (stand no_open None) ts
+arguments_at ts =
+    choice (next_is signs.Open)
+    (mapped Some (led (mark (expect signs.Open)) (closed inside_at (past (mark (expect signs.Close))))))
+    (stand no_open None) ts
 
 abbrev pub a_call : Token × Option (List ArgumentText) → CallText
 a_call (instance, written) = record { instance = instance; written = written }
@@ -285,7 +314,8 @@ call_at ts = mapped a_call (pair (expect signs.Name) arguments_at) ts
 
 -- ---- operations and lines
 
--- what stands behind an il_simple_operator, an il_return_operator, an il_jump_operator, an il_expr_operator and an il_call_operator (B.2.2)
+-- what stands behind an il_simple_operator, an il_return_operator, an il_jump_operator, an il_expr_operator and
+-- an il_call_operator (B.2.2)
 unfoldable pub behind_at : Form → Reading BehindText
 behind_at forms.Operand ts = mapped Given operand_at ts
 behind_at forms.Nothing ts = Ok (Nothing, ts)
@@ -305,7 +335,8 @@ optional_operation_at ts = choice is_line_stop (stand is_line_stop None) (mapped
 
 -- label (B.2.1): a word before a colon, and also one that is no operator
 unfoldable pub is_label : List Token → Bool
-is_label ts = next_is signs.Name ts && (next_is signs.Colon (others ts) || is_none (mnemonic_of (first ts).text))
+is_label ts =
+    next_is signs.Name ts && (next_is signs.Colon (others ts) || is_none (mnemonic_of (first ts).text))
 
 abbrev pub is_no_label : List Token → Bool
 is_no_label ts = not (is_label ts)
@@ -315,7 +346,9 @@ labelled (label, operation) = Labelled label operation
 
 -- label ':' and what may follow it in an il_instruction (B.2.1)
 unfoldable pub labelled_at : Reading LineText
-labelled_at ts = mapped labelled (pair (expect signs.Name) (led (mark (expect signs.Colon)) optional_operation_at)) ts
+labelled_at ts = mapped labelled
+    (pair (expect signs.Name)
+    (led (mark (expect signs.Colon)) optional_operation_at)) ts
 
 unfoldable pub plain_at : Reading LineText
 plain_at ts = mapped Plain operation_at ts
@@ -345,21 +378,32 @@ name_at ts = led (past (mark (expect signs.Comma))) (past (expect signs.Name)) t
 
 -- location of a located_var_decl, or what follows the first name of a var1_list (B.1.4.3)
 unfoldable pub names_at : Reading NamesText
-names_at ts = choice (next_is_word (codes "AT")) (mapped Located (led (keyword (codes "AT")) (past (expect signs.Address)))) (mapped More (many ends_names name_at)) ts
+names_at ts =
+    choice (next_is_word (codes "AT"))
+    (mapped Located (led (keyword (codes "AT")) (past (expect signs.Address))))
+    (mapped More (many ends_names name_at)) ts
 
 abbrev pub no_value : List Token → Bool
 no_value ts = not (next_is signs.Assign ts)
 
 -- ':=' constant of a simple_spec_init (B.1.3.3), where it stands
 unfoldable pub initial_at : Reading (Option Token)
-initial_at ts = choice (next_is signs.Assign) (mapped Some (led (mark (expect signs.Assign)) (past constant_at))) (stand no_value None) ts
+initial_at ts =
+    choice (next_is signs.Assign)
+    (mapped Some (led (mark (expect signs.Assign)) (past constant_at)))
+    (stand no_value None) ts
 
 abbrev pub declared : Token × (NamesText × (Token × Option Token)) → DeclarationText
 declared (name, (names, (ty, initial))) = record { name = name; names = names; ty = ty; initial = initial }
 
 -- var1_init_decl, fb_name_decl or located_var_decl, and the semicolon behind it (B.1.4.3)
 unfoldable pub declaration_at : Reading DeclarationText
-declaration_at ts = mapped declared (pair (past (expect signs.Name)) (pair (past names_at) (led (past (mark (expect signs.Colon))) (pair (past (expect signs.Name)) (closed (past initial_at) (past (mark (expect signs.Semicolon)))))))) ts
+declaration_at ts = mapped declared
+    (pair (past (expect signs.Name))
+    (pair (past names_at)
+    (led (past (mark (expect signs.Colon)))
+    (pair (past (expect signs.Name))
+    (closed (past initial_at) (past (mark (expect signs.Semicolon)))))))) ts
 
 unfoldable pub ends_block : List Token → Bool
 ends_block ts = next_is_word (codes "END_VAR") (skip_breaks ts)
@@ -369,7 +413,9 @@ ends_blocks ts = not (next_is_word (codes "VAR") (skip_breaks ts))
 
 -- var_declarations and located_var_declarations, which may stand in one block (B.1.4.3)
 unfoldable pub block_at : Reading (List DeclarationText)
-block_at ts = led (past (keyword (codes "VAR"))) (closed (many ends_block declaration_at) (past (keyword (codes "END_VAR")))) ts
+block_at ts =
+    led (past (keyword (codes "VAR")))
+    (closed (many ends_block declaration_at) (past (keyword (codes "END_VAR")))) ts
 
 -- ---- programs
 
@@ -388,11 +434,16 @@ finish_at ts = led (past (keyword (codes "END_PROGRAM"))) (past end_at) ts
 
 -- program_declaration (B.1.5.3)
 unfoldable pub named_at : Reading ProgramText
-named_at ts = led (past (keyword (codes "PROGRAM"))) (mapped named_program (pair (expect signs.Name) (pair (many ends_blocks block_at) (closed (many ends_named line_at) finish_at)))) ts
+named_at ts =
+    led (past (keyword (codes "PROGRAM")))
+    (mapped named_program
+    (pair (expect signs.Name)
+    (pair (many ends_blocks block_at) (closed (many ends_named line_at) finish_at)))) ts
 
 -- the same without the words around it: declarations and an instruction_list (B.2.1)
 unfoldable pub bare_at : Reading ProgramText
-bare_at ts = mapped bare_program (pair (many ends_blocks block_at) (closed (many ends_lines line_at) (past end_at))) ts
+bare_at ts = mapped bare_program
+    (pair (many ends_blocks block_at) (closed (many ends_lines line_at) (past end_at))) ts
 
 unfoldable pub begins_program : List Token → Bool
 begins_program ts = next_is_word (codes "PROGRAM") (skip_breaks ts)

@@ -1,5 +1,6 @@
 -- Reading from left to right, with the first fault that is met.
-use Rattle.std.specs.Prelude.{◌≡◌, ℕ, zero, suc, List, [], ◌∷◌, length, Option, Some, None, Result, Ok, Err, Bool, true, false, ◌&&◌, if◌then◌else◌}
+use Rattle.std.specs.Prelude.{◌≡◌, ℕ, zero, suc, List, [], ◌∷◌, length, Option, Some, None, Result, Ok, Err, Bool, true, false, ◌<◌, IfOk, ◌&&◌, if◌then◌else◌}
+use denote.Ref.{Bor}
 use Rattle.il_model.specs.Words.{spells}
 use Rattle.il_reader.specs.declared.fault.Refusal.{Refusal}
 use Rattle.il_reader.specs.declared.fault.Failure.{Failure}
@@ -10,12 +11,16 @@ use Rattle.il_reader.specs.declared.lexeme.Sign.{Sign}
 use Rattle.il_reader.specs.declared.lexeme.Sign.TheVariants as signs
 use Rattle.il_reader.specs.declared.lexeme.Class.{Class}
 use Rattle.il_reader.specs.declared.lexeme.Class.TheVariants as classes
-use Rattle.il_reader.specs.Tokens.{Token}
+use Rattle.il_reader.specs.Tokens.{Token, tokens_of}
 
 infixl 10 ◌>>=◌
 abbrev pub ◌>>=◌ : {A B : Type 0} → Result A Refusal → (A → Result B Refusal) → Result B Refusal
 (Ok x) >>= f = f x
 (Err e) >>= f = Err e
+
+-- what stands at the front of a list of tokens, and the tokens behind it, or the first fault
+abbrev pub Reading : Type 0 → Type 0
+Reading X = List Token → Result (X × List Token) Refusal
 
 -- What a function returned, seen by view, is what reading gives, unless memory ran out.
 abbrev pub Fails : {Y : Type 0} → Failure → Result Y Refusal → Type 0
@@ -26,6 +31,7 @@ abbrev pub Gives : {X Y : Type 0} → (X → Y) → Result X Failure → Result 
 Gives view (Ok x) read = read ≡ Ok (view x)
 Gives view (Err e) read = Fails e read
 
+-- one sign and not another
 abbrev pub same_sign : Sign → Sign → Bool
 same_sign signs.Break signs.Break = true
 same_sign signs.Name signs.Name = true
@@ -61,13 +67,16 @@ abbrev pub others : List Token → List Token
 others [] = []
 others (t ∷ ts) = ts
 
+-- the class is this sign
 abbrev pub is_class_of : Sign → Class → Bool
 is_class_of s (classes.Sign u) = same_sign s u
 is_class_of s c = false
 
+-- the token is this sign
 abbrev pub is_sign : Sign → Token → Bool
 is_sign s t = is_class_of s t.class
 
+-- the same of the end of the text
 abbrev pub is_end_class : Class → Bool
 is_end_class classes.End = true
 is_end_class c = false
@@ -80,21 +89,33 @@ skip_breaks [] = []
 skip_breaks (t ∷ ts) = if is_sign signs.Break t then skip_breaks ts else t ∷ ts
 
 -- this sign, and what follows it
-unfoldable pub expect : Sign → List Token → Result (Token × List Token) Refusal
+unfoldable pub expect : Sign → Reading Token
 expect s ts = if is_sign s (first ts) then Ok (first ts, others ts) else Err (fault_at (first ts))
 
 -- As many of them as there are before it stops, and so many at most.
-unfoldable pub many_within : {X : Type 0} → (List Token → Bool) → (List Token → Result (X × List Token) Refusal) → ℕ → List Token → Result (List X × List Token) Refusal
+unfoldable pub many_within : {X : Type 0} → (List Token → Bool) → Reading X → ℕ → Reading (List X)
 many_within stops item zero ts = Err (fault_at (first ts))
-many_within stops item (suc n) ts = if stops ts then Ok ([], ts) else item ts >>= λ x. many_within stops item n x.1 >>= λ xs. Ok (x.0 ∷ xs.0, xs.1)
+many_within stops item (suc n) ts =
+    if stops ts then Ok ([], ts) else item ts >>= λ x. many_within stops item n x.1 >>= λ xs. Ok (x.0 ∷ xs.0, xs.1)
 
 -- As many of them as there are before it stops: each takes a token, so there are no more of them than tokens.
-unfoldable pub many : {X : Type 0} → (List Token → Bool) → (List Token → Result (X × List Token) Refusal) → List Token → Result (List X × List Token) Refusal
+unfoldable pub many : {X : Type 0} → (List Token → Bool) → Reading X → Reading (List X)
 many stops item ts = many_within stops item (suc (length ts)) ts
 
 -- How readings are put together.
-abbrev pub Reading : Type 0 → Type 0
-Reading X = List Token → Result (X × List Token) Refusal
+
+-- What a function took off the front of a text, seen by view, is what the reading takes of its tokens, and what it left
+-- are those that follow.
+abbrev pub Takes : {X Y : Type 0} → (X → Y) → Reading Y → List ℕ → Result (X × Bor (List ℕ)) Failure → Type 0
+Takes view reading bytes result = Gives (λ x. (view x.0, tokens_of x.1.now)) result (reading (tokens_of bytes))
+
+-- the same of what only has to stand there
+abbrev pub Passes : Reading (Unit {0}) → List ℕ → Result (Bor (List ℕ)) Failure → Type 0
+Passes reading bytes result = Gives (λ x. (tt, tokens_of x.now)) result (reading (tokens_of bytes))
+
+-- it left fewer tokens than there were
+abbrev pub LeavesFewer : {X : Type 0} → List ℕ → Result (X × Bor (List ℕ)) Failure → Type 0
+LeavesFewer bytes result = IfOk result (λ x. length (tokens_of x.1.now) < length (tokens_of bytes))
 
 abbrev pub both : {X Y : Type 0} → X → Y → X × Y
 both x y = (x, y)

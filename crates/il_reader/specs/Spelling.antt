@@ -12,7 +12,8 @@ use Rattle.il_reader.specs.Tokens.{Token, tokens_of}
 use Rattle.il_reader.specs.Reading.{skip_breaks, is_sign, is_word_token, next_is_word, at_end}
 use Rattle.il_reader.specs.Grammar.{OperandText, Constant, Direct, Named, Field, ArgumentText, CallText, no_dot, before_no_dot, before_close, ends_arguments, no_open, BehindText, Nothing, Given, Target, Opened, Called, OperationText, LineText, Labelled, Plain, NamesText, Located, More, DeclarationText, ProgramText, is_constant, is_variable, form_of, operator_of, is_line_stop, is_no_label, no_value, ends_names, ends_block, ends_blocks, ends_lines, ends_named, begins_program}
 
--- what stands next: any number of line ends, a token of this sort, this token, a token that is this operator, or nothing where this comes next
+-- what stands next: any number of line ends, a token of this sort, this token, a token that is this operator, or nothing
+-- where this comes next
 pub data Part : Type 0 where
   breaks : Part
   one : (Token → Bool) → Part
@@ -57,14 +58,17 @@ abbrev pub spelled_inner_operand : OperandText → List Part
 spelled_inner_operand (Constant t) = this is_constant t ∷ []
 spelled_inner_operand (Direct t) = address t ∷ []
 spelled_inner_operand (Named t) = this is_variable t ∷ ahead before_no_dot ∷ []
-spelled_inner_operand (Field t f) = this is_variable t ∷ breaks ∷ sign signs.Dot ∷ breaks ∷ name f ∷ []
+spelled_inner_operand (Field t f) =
+    this is_variable t ∷ breaks ∷ sign signs.Dot ∷ breaks ∷ name f ∷ []
 
 abbrev pub spelled_side : Side → List Part
 spelled_side sides.Input = sign signs.Assign ∷ []
 spelled_side sides.Output = sign signs.Arrow ∷ []
 
 abbrev pub spelled_argument : ArgumentText → List Part
-spelled_argument a = breaks ∷ name a.field ∷ breaks ∷ (spelled_side a.side ++ breaks ∷ spelled_inner_operand a.operand)
+spelled_argument a =
+    breaks ∷ name a.field
+    ∷ breaks ∷ (spelled_side a.side ++ breaks ∷ spelled_inner_operand a.operand)
 
 -- another argument of the same call
 abbrev pub spelled_next : ArgumentText → List Part
@@ -142,7 +146,12 @@ spelled_initial None = ahead no_value ∷ []
 spelled_initial (Some t) = sign signs.Assign ∷ breaks ∷ this is_constant t ∷ []
 
 abbrev pub spelled_declaration : DeclarationText → List Part
-spelled_declaration d = breaks ∷ name d.name ∷ breaks ∷ (spelled_names d.names ++ breaks ∷ sign signs.Colon ∷ breaks ∷ name d.ty ∷ breaks ∷ (spelled_initial d.initial ++ breaks ∷ sign signs.Semicolon ∷ []))
+spelled_declaration d =
+    breaks ∷ name d.name
+    ∷ breaks ∷ (spelled_names d.names
+    ++ breaks ∷ sign signs.Colon
+    ∷ breaks ∷ name d.ty
+    ∷ breaks ∷ (spelled_initial d.initial ++ breaks ∷ sign signs.Semicolon ∷ []))
 
 -- a thing of a list, which does not begin where the list stops
 abbrev pub going : {X : Type 0} → (List Token → Bool) → (X → List Part) → X → List Part
@@ -153,7 +162,9 @@ abbrev pub listed : {X : Type 0} → (List Token → Bool) → (X → List Part)
 listed stops s xs = flat_map (going stops s) xs ++ ahead stops ∷ []
 
 abbrev pub spelled_block : List DeclarationText → List Part
-spelled_block ds = breaks ∷ word (codes "VAR") ∷ (listed ends_block spelled_declaration ds ++ breaks ∷ word (codes "END_VAR") ∷ [])
+spelled_block ds =
+    breaks ∷ word (codes "VAR")
+    ∷ (listed ends_block spelled_declaration ds ++ breaks ∷ word (codes "END_VAR") ∷ [])
 
 -- ---- programs
 
@@ -161,10 +172,16 @@ abbrev pub is_bare : List Token → Bool
 is_bare ts = not (begins_program ts)
 
 abbrev pub spelled_named : Token → ProgramText → List Part
-spelled_named t s = breaks ∷ word (codes "PROGRAM") ∷ name t ∷ (listed ends_blocks spelled_block s.blocks ++ (listed ends_named spelled_line s.lines ++ breaks ∷ word (codes "END_PROGRAM") ∷ breaks ∷ ahead at_end ∷ []))
+spelled_named t s =
+    breaks ∷ word (codes "PROGRAM") ∷ name t
+    ∷ (listed ends_blocks spelled_block s.blocks
+    ++ (listed ends_named spelled_line s.lines
+    ++ breaks ∷ word (codes "END_PROGRAM") ∷ breaks ∷ ahead at_end ∷ []))
 
 abbrev pub spelled_bare : ProgramText → List Part
-spelled_bare s = listed ends_blocks spelled_block s.blocks ++ (listed ends_lines spelled_line s.lines ++ breaks ∷ ahead at_end ∷ [])
+spelled_bare s =
+    listed ends_blocks spelled_block s.blocks
+    ++ (listed ends_lines spelled_line s.lines ++ breaks ∷ ahead at_end ∷ [])
 
 abbrev pub spelled_by : Option Token → ProgramText → List Part
 spelled_by None s = ahead is_bare ∷ spelled_bare s

@@ -5,14 +5,18 @@ use Rattle.il_reader.specs.declared.fault.Refusal.{Refusal}
 use Rattle.il_reader.specs.declared.fault.Fault.{Fault}
 use Rattle.il_reader.specs.declared.fault.ReadError.{ReadError}
 use Rattle.il_reader.specs.declared.fault.ReadError.TheVariants as errors
+use Rattle.il_reader.specs.declared.contents.Contents.{Contents}
 use Rattle.il_reader.specs.Place.{place_at}
-use Rattle.il_reader.specs.Grammar.{ProgramText, text_of}
+use Rattle.il_reader.specs.Grammar.{ProgramText, program_text, text_of}
 use Rattle.il_reader.specs.Spelling.{Says}
 
 -- a text and what it says
 pub record SourceText : Type 0 where
   pub text : List ℕ
   pub says : ProgramText
+
+abbrev pub source_text : List ℕ → Contents → SourceText
+source_text text contents = record { text = text; says = program_text contents }
 
 -- a text is short enough, and it says this
 pub record IsSource (s : SourceText) : Type 0 where
@@ -32,7 +36,9 @@ told bytes (Err f) = Err (placed bytes f)
 
 -- a text over the limit is too long at its first byte, whatever it says
 abbrev pub source_of : List ℕ → Result SourceText Fault
-source_of bytes = if nat_lt 2097152 (length bytes) then Err (record { kind = kinds.TooLong; place = record { line = 1; column = 1 } }) else told bytes (text_of bytes)
+source_of bytes =
+    if nat_lt 2097152 (length bytes) then Err (record { kind = kinds.TooLong; place = record { line = 1; column = 1 } })
+    else told bytes (text_of bytes)
 
 -- What a call answered is this, unless memory ran out.
 abbrev pub Refuses : ReadError → Result SourceText Fault → Type 0

@@ -70,7 +70,8 @@ literal_piece text = if is_some (literal_of text) then sign signs.Literal (lengt
 unfoldable pub word_piece : List ℕ → Piece
 word_piece bytes =
     let n = 1 + prefix_len is_word_byte (drop 1 bytes) in
-    if begins_with 35 (drop n bytes) then literal_piece (take (1 + prefix_len is_literal_byte (drop 1 bytes)) bytes) else name_of (take n bytes)
+    if begins_with 35 (drop n bytes) then literal_piece (take (1 + prefix_len is_literal_byte (drop 1 bytes)) bytes)
+    else name_of (take n bytes)
 
 -- the byte is in no word and begins no literal behind one
 abbrev pub is_word_end : List ℕ → Bool
@@ -134,10 +135,14 @@ after (classes.Sign s) ts = ts
 after (classes.Broken f) ts = []
 after classes.End ts = []
 
+-- a token, and those behind it
+abbrev pub joined : Token → List Token → List Token
+joined t ts = t ∷ after t.class ts
+
 -- white space is no token
 abbrev pub put : Option Class → List ℕ → ℕ → List Token → List Token
 put None text left ts = ts
-put (Some c) text left ts = record { class = c; text = text; left = left } ∷ after c ts
+put (Some c) text left ts = joined (record { class = c; text = text; left = left }) ts
 
 -- The tokens of a text, of whose first bytes so many belong to a token that has been put already.
 unfoldable pub tokens_behind : ℕ → List ℕ → List Token

@@ -1,8 +1,8 @@
 //! Blocks of declarations (IEC 61131-3:2003, B.1.4.3 and 2.4.3).
 
-ghost use Rattle.std.specs.Prelude.{◌≡◌, List, codes, option_map};
+ghost use Rattle.std.specs.Prelude.{◌≡◌, List, option_map};
 ghost use Rattle.il_reader.specs.Tokens.{Token, tokens_of, token};
-ghost use Rattle.il_reader.specs.Reading.{Gives};
+ghost use Rattle.il_reader.specs.Reading.{Takes};
 ghost use Rattle.il_reader.specs.Grammar.{DeclarationText, names_of, declaration, declarations, ends_names, name_at, names_at, initial_at, declaration_at, ends_block, ends_blocks, block_at};
 
 use crate::contents::{Declaration, Names};
@@ -15,7 +15,7 @@ use std::alloc::Global;
 
 #[tactic(auto, unfolding(crate::specs::Grammar::name_at))]
 fn name_read(bytes: &[u8]) -> Result<(Lexeme<'_>, &[u8]), Failure>
-    ensures { Gives (λ x. (token x.0, tokens_of x.1.now)) result (name_at (tokens_of bytes.now)) }
+    ensures { Takes token name_at bytes.now result }
 {
     let (_, rest) = expected(Sign::Comma, past_breaks(bytes))?;
     expected(Sign::Name, past_breaks(rest))
@@ -49,7 +49,7 @@ impl<'a> Listed<'a> for MoreNames {
 
 #[tactic(auto, unfolding(crate::specs::Grammar::names_at))]
 fn names(alloc: Global, bytes: &[u8]) -> Result<(Names<'_>, &[u8]), Failure>
-    ensures { Gives (λ x. (names_of x.0, tokens_of x.1.now)) result (names_at (tokens_of bytes.now)) }
+    ensures { Takes names_of names_at bytes.now result }
 {
     let (t, _) = next(bytes);
     if is_word(b"AT", t) {
@@ -64,7 +64,7 @@ fn names(alloc: Global, bytes: &[u8]) -> Result<(Names<'_>, &[u8]), Failure>
 
 #[tactic(auto, unfolding(crate::specs::Grammar::initial_at))]
 fn initial(bytes: &[u8]) -> Result<(Option<Lexeme<'_>>, &[u8]), Failure>
-    ensures { Gives (λ x. (option_map token x.0, tokens_of x.1.now)) result (initial_at (tokens_of bytes.now)) }
+    ensures { Takes (option_map token) initial_at bytes.now result }
 {
     let (t, _) = next(bytes);
     if is(Sign::Assign, t) {
@@ -78,7 +78,7 @@ fn initial(bytes: &[u8]) -> Result<(Option<Lexeme<'_>>, &[u8]), Failure>
 
 #[tactic(auto, unfolding(crate::specs::Grammar::declaration_at))]
 fn declared(alloc: Global, bytes: &[u8]) -> Result<(Declaration<'_>, &[u8]), Failure>
-    ensures { Gives (λ x. (declaration x.0, tokens_of x.1.now)) result (declaration_at (tokens_of bytes.now)) }
+    ensures { Takes declaration declaration_at bytes.now result }
 {
     let (name, rest) = expected(Sign::Name, past_breaks(bytes))?;
     let (names, rest) = names(alloc, past_breaks(rest))?;
@@ -125,7 +125,7 @@ impl<'a> Listed<'a> for Declarations {
 
 #[tactic(auto, unfolding(crate::specs::Grammar::block_at))]
 fn block(alloc: Global, bytes: &[u8]) -> Result<(Vec<Declaration<'_>>, &[u8]), Failure>
-    ensures { Gives (λ x. (declarations x.0.items, tokens_of x.1.now)) result (block_at (tokens_of bytes.now)) }
+    ensures { Takes (λ xs. declarations xs.items) block_at bytes.now result }
 {
     let rest = past_keyword(b"VAR", past_breaks(bytes))?;
     let (found, rest) = many::<Declarations>(alloc, rest)?;

@@ -1,8 +1,8 @@
 //! Calls of instances (IEC 61131-3:2003, 3.2.3: CAL with a list of inputs and outputs).
 
 ghost use Rattle.std.specs.Prelude.{◌≡◌, map, option_map};
-ghost use Rattle.il_reader.specs.Tokens.{tokens_of, token};
-ghost use Rattle.il_reader.specs.Reading.{Gives};
+ghost use Rattle.il_reader.specs.Tokens.{tokens_of};
+ghost use Rattle.il_reader.specs.Reading.{Takes};
 ghost use Rattle.il_reader.specs.Grammar.{ArgumentText, argument, call, side_at, argument_at, ends_arguments, next_argument_at, inside_at, arguments_at, call_at};
 
 use crate::contents::{Argument, Call};
@@ -16,7 +16,7 @@ use std::alloc::Global;
 
 #[tactic(auto, unfolding(crate::specs::Grammar::side_at))]
 fn side_read(bytes: &[u8]) -> Result<(Side, &[u8]), Failure>
-    ensures { Gives (λ x. (x.0, tokens_of x.1.now)) result (side_at (tokens_of bytes.now)) }
+    ensures { Takes (λ x. x) side_at bytes.now result }
 {
     let (t, _) = next(bytes);
     if is(Sign::Arrow, t) {
@@ -30,7 +30,7 @@ fn side_read(bytes: &[u8]) -> Result<(Side, &[u8]), Failure>
 
 #[tactic(auto, unfolding(crate::specs::Grammar::argument_at))]
 fn argument_read(bytes: &[u8]) -> Result<(Argument<'_>, &[u8]), Failure>
-    ensures { Gives (λ x. (argument x.0, tokens_of x.1.now)) result (argument_at (tokens_of bytes.now)) }
+    ensures { Takes argument argument_at bytes.now result }
 {
     let (field, rest) = expected(Sign::Name, past_breaks(bytes))?;
     let (side, rest) = side_read(past_breaks(rest))?;
@@ -47,7 +47,7 @@ fn argument_read(bytes: &[u8]) -> Result<(Argument<'_>, &[u8]), Failure>
 
 #[tactic(auto, unfolding(crate::specs::Grammar::next_argument_at))]
 fn next_argument(bytes: &[u8]) -> Result<(Argument<'_>, &[u8]), Failure>
-    ensures { Gives (λ x. (argument x.0, tokens_of x.1.now)) result (next_argument_at (tokens_of bytes.now)) }
+    ensures { Takes argument next_argument_at bytes.now result }
 {
     let (_, rest) = expected(Sign::Comma, past_breaks(bytes))?;
     argument_read(rest)
@@ -81,7 +81,7 @@ impl<'a> Listed<'a> for MoreArguments {
 
 #[tactic(auto, unfolding(crate::specs::Grammar::inside_at))]
 fn inside(alloc: Global, bytes: &[u8]) -> Result<(Vec<Argument<'_>>, &[u8]), Failure>
-    ensures { Gives (λ x. (map argument x.0.items, tokens_of x.1.now)) result (inside_at (tokens_of bytes.now)) }
+    ensures { Takes (λ xs. map argument xs.items) inside_at bytes.now result }
 {
     let (t, _) = next(past_breaks(bytes));
     if is(Sign::Close, t) {
@@ -99,7 +99,7 @@ fn arguments_read(
     alloc: Global,
     bytes: &[u8],
 ) -> Result<(Option<Vec<Argument<'_>>>, &[u8]), Failure>
-    ensures { Gives (λ x. (option_map (λ xs. map argument xs.items) x.0, tokens_of x.1.now)) result (arguments_at (tokens_of bytes.now)) }
+    ensures { Takes (option_map (λ xs. map argument xs.items)) arguments_at bytes.now result }
 {
     let (t, _) = next(bytes);
     if is(Sign::Open, t) {
@@ -115,7 +115,7 @@ fn arguments_read(
 /// An instance and what it is called with.
 #[tactic(auto, unfolding(crate::specs::Grammar::call_at))]
 pub fn call_read(alloc: Global, bytes: &[u8]) -> Result<(Call<'_>, &[u8]), Failure>
-    ensures { Gives (λ x. (call x.0, tokens_of x.1.now)) result (call_at (tokens_of bytes.now)) }
+    ensures { Takes call call_at bytes.now result }
 {
     let (instance, rest) = expected(Sign::Name, bytes)?;
     let (written, rest) = arguments_read(alloc, rest)?;

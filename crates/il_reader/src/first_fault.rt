@@ -13,11 +13,14 @@ ghost use Rattle.il_reader.specs.Texts.{source_of};
 /// every fault of a text that isn't over the limit. Of one over it the law says nothing: that is too long before all else.
 pub fn fault_stands_first()
     // The fault of a list of tokens.
-    ensures tokens { (tokens : List Token) (f : Refusal) → program_at tokens ≡ Err f → IsFirstFault tokens f }
+    ensures tokens { (tokens : List Token) (f : Refusal) → program_at tokens ≡ Err f
+        → IsFirstFault tokens f }
     // A fault that stands so is that of the text, and no other is.
-    ensures texts { (bytes : List ℕ) (f : Refusal) → (text_of bytes ≡ Err f) ↔ IsTextFault bytes f }
+    ensures texts { (bytes : List ℕ) (f : Refusal)
+        → (text_of bytes ≡ Err f) ↔ IsTextFault bytes f }
     // With line and column it is the fault that a call answers.
-    ensures sources { (bytes : List ℕ) (g : Fault) → length bytes ≤ 2097152 → source_of bytes ≡ Err g → IsSourceFault bytes g }
+    ensures sources { (bytes : List ℕ) (g : Fault) → length bytes ≤ 2097152 → source_of bytes ≡ Err g
+        → IsSourceFault bytes g }
 {}
 
 /// What the definitions give for worked texts.

@@ -1,8 +1,8 @@
 //! The tokens of a text (IEC 61131-3:2003, 2.1 and B.1.1).
 
-ghost use Rattle.std.specs.Prelude.{◌≡◌, ◌≢◌, ◌≤◌, ◌<◌, ◌+◌, length, drop, IfSome, ◌∷◌, true};
+ghost use Rattle.std.specs.Prelude.{◌≡◌, ◌≢◌, ◌≤◌, ◌<◌, ◌+◌, length, IfSome, true};
 ghost use Rattle.std.specs.List.{prefix_len};
-ghost use Rattle.il_reader.specs.Tokens.{is_letter_byte, is_number_start, is_blank_byte, solid_piece, is_word_byte, is_literal_byte, is_address_byte, name_of, literal_piece, word_piece, sign_of, comment_len, comment_piece, piece_of, begins_with, is_word_end, is_n, after, tokens_of, token};
+ghost use Rattle.il_reader.specs.Tokens.{is_letter_byte, is_number_start, is_blank_byte, solid_piece, is_word_byte, is_literal_byte, is_address_byte, name_of, literal_piece, word_piece, sign_of, comment_len, comment_piece, piece_of, begins_with, is_word_end, is_n, joined, tokens_of, token};
 
 use crate::fault::FaultKind;
 use il_model::name::is_well_spelled;
@@ -313,7 +313,7 @@ fn comment_at(inside: &[u8]) -> Piece
 
 /// The first token, and what stands after it.
 pub fn next(bytes: &[u8]) -> (Lexeme<'_>, &[u8])
-    ensures value { tokens_of bytes.now ≡ token result.0 ∷ after result.0.class (tokens_of result.1.now) }
+    ensures value { tokens_of bytes.now ≡ joined (token result.0) (tokens_of result.1.now) }
     ensures moves { result.0.class ≢ Class.End → length result.1.now < length bytes.now }
 {
     let mut rest = bytes;

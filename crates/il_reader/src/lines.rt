@@ -1,9 +1,9 @@
 //! Instruction lines (IEC 61131-3:2003, B.2.1).
 
 ghost use Rattle.std.specs.Prelude.{◌≡◌};
-ghost use Rattle.il_reader.specs.Tokens.{tokens_of, token};
-ghost use Rattle.il_reader.specs.Reading.{Gives};
-ghost use Rattle.il_reader.specs.Grammar.{LineText, line, is_line_stop, is_label, labelled_at, plain_at, either_line_at, line_at, ends_lines, ends_named};
+ghost use Rattle.il_reader.specs.Tokens.{tokens_of};
+ghost use Rattle.il_reader.specs.Reading.{Takes};
+ghost use Rattle.il_reader.specs.Grammar.{LineText, line, is_label, labelled_at, plain_at, either_line_at, line_at, ends_lines, ends_named};
 
 use crate::contents::Line;
 use crate::fault::Failure;
@@ -29,7 +29,7 @@ fn at_label(bytes: &[u8]) -> bool
 
 #[tactic(auto, unfolding(crate::specs::Grammar::labelled_at))]
 fn labelled(alloc: Global, bytes: &[u8]) -> Result<(Line<'_>, &[u8]), Failure>
-    ensures { Gives (λ x. (line x.0, tokens_of x.1.now)) result (labelled_at (tokens_of bytes.now)) }
+    ensures { Takes line labelled_at bytes.now result }
 {
     let (label, rest) = expected(Sign::Name, bytes)?;
     let (_, rest) = expected(Sign::Colon, rest)?;
@@ -39,7 +39,7 @@ fn labelled(alloc: Global, bytes: &[u8]) -> Result<(Line<'_>, &[u8]), Failure>
 
 #[tactic(auto, unfolding(crate::specs::Grammar::plain_at))]
 fn plain(alloc: Global, bytes: &[u8]) -> Result<(Line<'_>, &[u8]), Failure>
-    ensures { Gives (λ x. (line x.0, tokens_of x.1.now)) result (plain_at (tokens_of bytes.now)) }
+    ensures { Takes line plain_at bytes.now result }
 {
     let (x, rest) = operation_read(alloc, bytes)?;
     Ok((Line::Plain(x), rest))
@@ -47,7 +47,7 @@ fn plain(alloc: Global, bytes: &[u8]) -> Result<(Line<'_>, &[u8]), Failure>
 
 #[tactic(auto, unfolding(crate::specs::Grammar::either_line_at))]
 fn either_line(alloc: Global, bytes: &[u8]) -> Result<(Line<'_>, &[u8]), Failure>
-    ensures { Gives (λ x. (line x.0, tokens_of x.1.now)) result (either_line_at (tokens_of bytes.now)) }
+    ensures { Takes line either_line_at bytes.now result }
 {
     if at_label(bytes) {
         labelled(alloc, bytes)
@@ -58,7 +58,7 @@ fn either_line(alloc: Global, bytes: &[u8]) -> Result<(Line<'_>, &[u8]), Failure
 
 #[tactic(auto, unfolding(crate::specs::Grammar::line_at))]
 fn line_read(alloc: Global, bytes: &[u8]) -> Result<(Line<'_>, &[u8]), Failure>
-    ensures { Gives (λ x. (line x.0, tokens_of x.1.now)) result (line_at (tokens_of bytes.now)) }
+    ensures { Takes line line_at bytes.now result }
 {
     let (x, rest) = either_line(alloc, past_breaks(bytes))?;
     if at_line_stop(rest) {

@@ -1,8 +1,8 @@
 //! Lists of the grammar: as many things as there are before they stop.
 
-ghost use Rattle.std.specs.Prelude.{◌≡◌, ◌<◌, Bool, List, length, IfOk, map};
+ghost use Rattle.std.specs.Prelude.{◌≡◌, Bool, List, map};
 ghost use Rattle.il_reader.specs.Tokens.{Token, tokens_of};
-ghost use Rattle.il_reader.specs.Reading.{Gives, Reading, many};
+ghost use Rattle.il_reader.specs.Reading.{Takes, LeavesFewer, Reading, many};
 
 use crate::fault::Failure;
 use std::alloc::Global;
@@ -25,8 +25,8 @@ pub trait Listed<'a> {
 
     /// The next thing of the list, which takes a token at least.
     fn item(alloc: Global, bytes: &'a [u8]) -> Result<(Self::Item, &'a [u8]), Failure>
-        ensures read { Gives (λ x. (said x.0, tokens_of x.1.now)) result (item_at (tokens_of bytes.entry.now)) }
-        ensures moves { IfOk result (λ x. length (tokens_of x.1.now) < length (tokens_of bytes.entry.now)) };
+        ensures read { Takes said item_at bytes.entry.now result }
+        ensures moves { LeavesFewer bytes.entry.now result };
 }
 
 /// As many things as there are before the list stops.
@@ -34,7 +34,7 @@ pub fn many<'a, L: Listed<'a>>(
     alloc: Global,
     bytes: &'a [u8],
 ) -> Result<(Vec<L::Item>, &'a [u8]), Failure>
-    ensures { Gives (λ x. (map L.said x.0.items, tokens_of x.1.now)) result (many L.ends L.item_at (tokens_of bytes.entry.now)) }
+    ensures { Takes (λ xs. map L.said xs.items) (many L.ends L.item_at) bytes.entry.now result }
 {
     let mut found = Vec::new(alloc);
     let mut rest = bytes;

@@ -1,8 +1,8 @@
 //! Operands: literals, direct addresses, variables and fields of instances (IEC 61131-3:2003, B.2.2 and 2.5.2.1).
 
-ghost use Rattle.std.specs.Prelude.{◌≡◌, true, option_map};
-ghost use Rattle.il_reader.specs.Tokens.{goes_on, tokens_of, token};
-ghost use Rattle.il_reader.specs.Reading.{Gives};
+ghost use Rattle.std.specs.Prelude.{◌≡◌, option_map};
+ghost use Rattle.il_reader.specs.Tokens.{token};
+ghost use Rattle.il_reader.specs.Reading.{Takes};
 ghost use Rattle.il_reader.specs.Grammar.{operand, is_truth, is_variable, is_constant, variable_at, constant_at, field_at, inner_field_at, named_by, lone_at, operand_at, inner_operand_at};
 
 use crate::contents::Operand;
@@ -18,16 +18,14 @@ fn truth(t: Lexeme) -> bool
 }
 
 fn variable(t: Lexeme) -> bool
-    ensures value { result ≡ is_variable (token t.entry) }
-    ensures inner { result ≡ true → goes_on t.entry.class ≡ true }
+    ensures { result ≡ is_variable (token t.entry) }
 {
     is(Sign::Name, t) && !truth(t)
 }
 
 #[tactic(auto, unfolding(crate::specs::Grammar::is_constant))]
 fn constant(t: Lexeme) -> bool
-    ensures value { result ≡ is_constant (token t.entry) }
-    ensures inner { result ≡ true → goes_on t.entry.class ≡ true }
+    ensures { result ≡ is_constant (token t.entry) }
 {
     if is(Sign::Name, t) {
         truth(t)
@@ -38,7 +36,7 @@ fn constant(t: Lexeme) -> bool
 
 #[tactic(auto, unfolding(crate::specs::Grammar::variable_at))]
 fn variable_read(bytes: &[u8]) -> Result<(Lexeme<'_>, &[u8]), Failure>
-    ensures { Gives (λ x. (token x.0, tokens_of x.1.now)) result (variable_at (tokens_of bytes.now)) }
+    ensures { Takes token variable_at bytes.now result }
 {
     let (t, rest) = next(bytes);
     if variable(t) {
@@ -49,9 +47,9 @@ fn variable_read(bytes: &[u8]) -> Result<(Lexeme<'_>, &[u8]), Failure>
 }
 
 /// A literal, TRUE or FALSE.
-#[tactic(auto, unfolding(crate::specs::Grammar::constant_at))]
+#[tactic(auto, unfolding(crate::specs::Grammar::constant_at, crate::specs::Grammar::is_constant))]
 pub fn constant_read(bytes: &[u8]) -> Result<(Lexeme<'_>, &[u8]), Failure>
-    ensures { Gives (λ x. (token x.0, tokens_of x.1.now)) result (constant_at (tokens_of bytes.now)) }
+    ensures { Takes token constant_at bytes.now result }
 {
     let (t, rest) = next(bytes);
     if constant(t) {
@@ -63,7 +61,7 @@ pub fn constant_read(bytes: &[u8]) -> Result<(Lexeme<'_>, &[u8]), Failure>
 
 #[tactic(auto, unfolding(crate::specs::Grammar::field_at))]
 fn field_read(bytes: &[u8]) -> Result<(Option<Lexeme<'_>>, &[u8]), Failure>
-    ensures { Gives (λ x. (option_map token x.0, tokens_of x.1.now)) result (field_at (tokens_of bytes.now)) }
+    ensures { Takes (option_map token) field_at bytes.now result }
 {
     let (t, _) = next(bytes);
     if is(Sign::Dot, t) {
@@ -77,7 +75,7 @@ fn field_read(bytes: &[u8]) -> Result<(Option<Lexeme<'_>>, &[u8]), Failure>
 
 #[tactic(auto, unfolding(crate::specs::Grammar::inner_field_at))]
 fn inner_field_read(bytes: &[u8]) -> Result<(Option<Lexeme<'_>>, &[u8]), Failure>
-    ensures { Gives (λ x. (option_map token x.0, tokens_of x.1.now)) result (inner_field_at (tokens_of bytes.now)) }
+    ensures { Takes (option_map token) inner_field_at bytes.now result }
 {
     let (t, _) = next(past_breaks(bytes));
     if is(Sign::Dot, t) {
@@ -100,7 +98,7 @@ fn named<'a>(t: Lexeme<'a>, field: Option<Lexeme<'a>>) -> Operand<'a>
 
 #[tactic(auto, unfolding(crate::specs::Grammar::lone_at))]
 fn lone_read(bytes: &[u8]) -> Result<(Operand<'_>, &[u8]), Failure>
-    ensures { Gives (λ x. (operand x.0, tokens_of x.1.now)) result (lone_at (tokens_of bytes.now)) }
+    ensures { Takes operand lone_at bytes.now result }
 {
     let (t, _) = next(bytes);
     if is(Sign::Address, t) {
@@ -115,7 +113,7 @@ fn lone_read(bytes: &[u8]) -> Result<(Operand<'_>, &[u8]), Failure>
 /// An operand on a line.
 #[tactic(auto, unfolding(crate::specs::Grammar::operand_at))]
 pub fn operand_read(bytes: &[u8]) -> Result<(Operand<'_>, &[u8]), Failure>
-    ensures { Gives (λ x. (operand x.0, tokens_of x.1.now)) result (operand_at (tokens_of bytes.now)) }
+    ensures { Takes operand operand_at bytes.now result }
 {
     let (t, _) = next(bytes);
     if variable(t) {
@@ -130,7 +128,7 @@ pub fn operand_read(bytes: &[u8]) -> Result<(Operand<'_>, &[u8]), Failure>
 /// An operand between the parentheses of a call, where line ends are white space.
 #[tactic(auto, unfolding(crate::specs::Grammar::inner_operand_at))]
 pub fn inner_operand_read(bytes: &[u8]) -> Result<(Operand<'_>, &[u8]), Failure>
-    ensures { Gives (λ x. (operand x.0, tokens_of x.1.now)) result (inner_operand_at (tokens_of bytes.now)) }
+    ensures { Takes operand inner_operand_at bytes.now result }
 {
     let (t, _) = next(bytes);
     if variable(t) {

@@ -1,8 +1,8 @@
 //! Operators with what stands behind them (IEC 61131-3:2003, B.2.1 and B.2.2).
 
-ghost use Rattle.std.specs.Prelude.{◌≡◌, true, IfSome, option_map};
-ghost use Rattle.il_reader.specs.Tokens.{goes_on, tokens_of, token};
-ghost use Rattle.il_reader.specs.Reading.{Gives};
+ghost use Rattle.std.specs.Prelude.{◌≡◌, option_map};
+ghost use Rattle.il_reader.specs.Tokens.{tokens_of, token};
+ghost use Rattle.il_reader.specs.Reading.{Takes};
 ghost use Rattle.il_reader.specs.Grammar.{operand, behind, operation, form_of, operator_from, operator_of, operator_at, is_line_stop, optional_operand_at, nested_at, either_at, behind_at, operation_at, optional_operation_at};
 
 use crate::calls::call_read;
@@ -48,8 +48,7 @@ fn operator_with(left: usize, mnemonic: Option<Mnemonic>) -> Option<Operator>
 
 #[tactic(auto, unfolding(crate::specs::Grammar::operator_of))]
 fn operator(t: Lexeme) -> Option<Operator>
-    ensures value { result ≡ operator_of (token t.entry) }
-    ensures inner { IfSome result (λ o. goes_on t.entry.class ≡ true) }
+    ensures { result ≡ operator_of (token t.entry) }
 {
     if is(Sign::Name, t) || is(Sign::Ampersand, t) {
         operator_with(t.left, mnemonic_from(t.text))
@@ -72,9 +71,9 @@ fn operator(t: Lexeme) -> Option<Operator>
     }
 }
 
-#[tactic(auto, unfolding(crate::specs::Grammar::operator_at))]
+#[tactic(auto, unfolding(crate::specs::Grammar::operator_at, crate::specs::Grammar::operator_of))]
 fn operator_read(bytes: &[u8]) -> Result<(Operator, &[u8]), Failure>
-    ensures { Gives (λ x. (x.0, tokens_of x.1.now)) result (operator_at (tokens_of bytes.now)) }
+    ensures { Takes (λ x. x) operator_at bytes.now result }
 {
     let (t, rest) = next(bytes);
     match operator(t) {
@@ -93,7 +92,7 @@ pub fn at_line_stop(bytes: &[u8]) -> bool
 
 #[tactic(auto, unfolding(crate::specs::Grammar::optional_operand_at))]
 fn optional_operand(bytes: &[u8]) -> Result<(Option<Operand<'_>>, &[u8]), Failure>
-    ensures { Gives (λ x. (option_map operand x.0, tokens_of x.1.now)) result (optional_operand_at (tokens_of bytes.now)) }
+    ensures { Takes (option_map operand) optional_operand_at bytes.now result }
 {
     if at_line_stop(bytes) {
         Ok((None, bytes))
@@ -105,7 +104,7 @@ fn optional_operand(bytes: &[u8]) -> Result<(Option<Operand<'_>>, &[u8]), Failur
 
 #[tactic(auto, unfolding(crate::specs::Grammar::nested_at))]
 fn nested(bytes: &[u8]) -> Result<(Option<Operand<'_>>, &[u8]), Failure>
-    ensures { Gives (λ x. (option_map operand x.0, tokens_of x.1.now)) result (nested_at (tokens_of bytes.now)) }
+    ensures { Takes (option_map operand) nested_at bytes.now result }
 {
     let (_, rest) = expected(Sign::Open, bytes)?;
     optional_operand(rest)
@@ -113,7 +112,7 @@ fn nested(bytes: &[u8]) -> Result<(Option<Operand<'_>>, &[u8]), Failure>
 
 #[tactic(auto, unfolding(crate::specs::Grammar::either_at))]
 fn either(bytes: &[u8]) -> Result<(Behind<'_>, &[u8]), Failure>
-    ensures { Gives (λ x. (behind x.0, tokens_of x.1.now)) result (either_at (tokens_of bytes.now)) }
+    ensures { Takes behind either_at bytes.now result }
 {
     let (t, _) = next(bytes);
     if is(Sign::Open, t) {
@@ -127,7 +126,7 @@ fn either(bytes: &[u8]) -> Result<(Behind<'_>, &[u8]), Failure>
 
 #[tactic(auto, unfolding(crate::specs::Grammar::behind_at))]
 fn behind_read(alloc: Global, form: Form, bytes: &[u8]) -> Result<(Behind<'_>, &[u8]), Failure>
-    ensures { Gives (λ x. (behind x.0, tokens_of x.1.now)) result (behind_at form (tokens_of bytes.now)) }
+    ensures { Takes behind (behind_at form) bytes.now result }
 {
     match form {
         Form::Operand => {
@@ -150,7 +149,7 @@ fn behind_read(alloc: Global, form: Form, bytes: &[u8]) -> Result<(Behind<'_>, &
 /// An operator with what stands behind it.
 #[tactic(auto, unfolding(crate::specs::Grammar::operation_at))]
 pub fn operation_read(alloc: Global, bytes: &[u8]) -> Result<(Operation<'_>, &[u8]), Failure>
-    ensures { Gives (λ x. (operation x.0, tokens_of x.1.now)) result (operation_at (tokens_of bytes.now)) }
+    ensures { Takes operation operation_at bytes.now result }
 {
     let (operator, rest) = operator_read(bytes)?;
     let (behind, rest) = behind_read(alloc, follows(operator.mnemonic.op), rest)?;
@@ -163,7 +162,7 @@ pub fn optional_operation(
     alloc: Global,
     bytes: &[u8],
 ) -> Result<(Option<Operation<'_>>, &[u8]), Failure>
-    ensures { Gives (λ x. (option_map operation x.0, tokens_of x.1.now)) result (optional_operation_at (tokens_of bytes.now)) }
+    ensures { Takes (option_map operation) optional_operation_at bytes.now result }
 {
     if at_line_stop(bytes) {
         Ok((None, bytes))

@@ -2,7 +2,7 @@
 
 ghost use Rattle.std.specs.Prelude.{◌≡◌};
 ghost use Rattle.il_reader.specs.Tokens.{tokens_of, token};
-ghost use Rattle.il_reader.specs.Reading.{Gives, fault_at, is_sign, is_end, is_word_token, skip_breaks, expect, keyword};
+ghost use Rattle.il_reader.specs.Reading.{Takes, Passes, fault_at, is_sign, is_end, is_word_token, skip_breaks, expect, keyword};
 
 use crate::fault::{Failure, FaultKind, Refusal};
 use crate::lexeme::{Class, Lexeme, Sign, next};
@@ -36,7 +36,7 @@ pub fn refused(t: Lexeme) -> Failure
 /// This sign, and what stands after it.
 #[tactic(auto, unfolding(crate::specs::Reading::expect))]
 pub fn expected(sign: Sign, bytes: &[u8]) -> Result<(Lexeme<'_>, &[u8]), Failure>
-    ensures { Gives (λ x. (token x.0, tokens_of x.1.now)) result (expect sign (tokens_of bytes.now)) }
+    ensures { Takes token (expect sign) bytes.now result }
 {
     let (t, rest) = next(bytes);
     if is(sign, t) {
@@ -71,7 +71,7 @@ pub fn is_word(word: &[u8], t: Lexeme) -> bool
 /// What stands after a keyword.
 #[tactic(auto, unfolding(crate::specs::Reading::keyword))]
 pub fn past_keyword<'a>(word: &[u8], bytes: &'a [u8]) -> Result<&'a [u8], Failure>
-    ensures { Gives (λ x. (tt, tokens_of x.now)) result (keyword word.now (tokens_of bytes.entry.now)) }
+    ensures { Passes (keyword word.now) bytes.entry.now result }
 {
     let (t, rest) = next(bytes);
     if is_word(word, t) {

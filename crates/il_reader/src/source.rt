@@ -18,14 +18,13 @@ pub struct Source<'a> {
 }
 
 impl<'a> Model for Source<'a> {
-    ghost use Rattle.il_reader.specs.Grammar.{program_text};
-    ghost use Rattle.il_reader.specs.Texts.{SourceText, IsSource};
+    ghost use Rattle.il_reader.specs.Texts.{SourceText, IsSource, source_text};
 
     ghost Value = { SourceText };
 
-    ghost view = { λ s. record { text = s.text.now; says = program_text s.contents } };
+    ghost view = { λ s. source_text s.text.now s.contents };
 
-    ghost invariant = { λ s. IsSource (record { text = s.text.now; says = program_text s.contents }) };
+    ghost invariant = { λ s. IsSource (source_text s.text.now s.contents) };
 }
 
 /// The greatest length of a text, in bytes.

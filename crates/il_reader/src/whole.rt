@@ -1,8 +1,8 @@
 //! Programs (IEC 61131-3:2003, B.1.5.3): with a name and END_PROGRAM, or without.
 
-ghost use Rattle.std.specs.Prelude.{◌≡◌, codes, Ok, IfOk};
-ghost use Rattle.il_reader.specs.Tokens.{tokens_of, token};
-ghost use Rattle.il_reader.specs.Reading.{Gives};
+ghost use Rattle.std.specs.Prelude.{◌≡◌, Ok, IfOk};
+ghost use Rattle.il_reader.specs.Tokens.{tokens_of};
+ghost use Rattle.il_reader.specs.Reading.{Gives, Takes, Passes};
 ghost use Rattle.il_reader.specs.Spelling.{Says};
 ghost use Rattle.il_reader.specs.Grammar.{program_text, end_at, finish_at, named_at, bare_at, begins_program, program_at, text_of, ProgramText};
 
@@ -25,7 +25,7 @@ fn at_program(bytes: &[u8]) -> bool
 
 #[tactic(auto, unfolding(crate::specs::Grammar::end_at))]
 fn ended(bytes: &[u8]) -> Result<&[u8], Failure>
-    ensures { Gives (λ x. (tt, tokens_of x.now)) result (end_at (tokens_of bytes.now)) }
+    ensures { Passes end_at bytes.now result }
 {
     let (t, _) = next(bytes);
     if is_end(t) {
@@ -37,7 +37,7 @@ fn ended(bytes: &[u8]) -> Result<&[u8], Failure>
 
 #[tactic(auto, unfolding(crate::specs::Grammar::finish_at))]
 fn finished(bytes: &[u8]) -> Result<&[u8], Failure>
-    ensures { Gives (λ x. (tt, tokens_of x.now)) result (finish_at (tokens_of bytes.now)) }
+    ensures { Passes finish_at bytes.now result }
 {
     let behind = past_keyword(b"END_PROGRAM", past_breaks(bytes))?;
     ended(past_breaks(behind))
@@ -45,7 +45,7 @@ fn finished(bytes: &[u8]) -> Result<&[u8], Failure>
 
 #[tactic(auto, unfolding(crate::specs::Grammar::named_at))]
 fn named(alloc: Global, bytes: &[u8]) -> Result<(Contents<'_>, &[u8]), Failure>
-    ensures { Gives (λ x. (program_text x.0, tokens_of x.1.now)) result (named_at (tokens_of bytes.now)) }
+    ensures { Takes program_text named_at bytes.now result }
 {
     let rest = past_keyword(b"PROGRAM", past_breaks(bytes))?;
     let (name, rest) = expected(Sign::Name, rest)?;
@@ -64,7 +64,7 @@ fn named(alloc: Global, bytes: &[u8]) -> Result<(Contents<'_>, &[u8]), Failure>
 
 #[tactic(auto, unfolding(crate::specs::Grammar::bare_at))]
 fn bare(alloc: Global, bytes: &[u8]) -> Result<(Contents<'_>, &[u8]), Failure>
-    ensures { Gives (λ x. (program_text x.0, tokens_of x.1.now)) result (bare_at (tokens_of bytes.now)) }
+    ensures { Takes program_text bare_at bytes.now result }
 {
     let (blocks, rest) = many::<Blocks>(alloc, bytes)?;
     let (lines, rest) = many::<Lines>(alloc, rest)?;
@@ -81,7 +81,7 @@ fn bare(alloc: Global, bytes: &[u8]) -> Result<(Contents<'_>, &[u8]), Failure>
 
 #[tactic(auto, unfolding(crate::specs::Grammar::program_at))]
 fn program(alloc: Global, bytes: &[u8]) -> Result<(Contents<'_>, &[u8]), Failure>
-    ensures { Gives (λ x. (program_text x.0, tokens_of x.1.now)) result (program_at (tokens_of bytes.now)) }
+    ensures { Takes program_text program_at bytes.now result }
 {
     if at_program(bytes) {
         named(alloc, bytes)

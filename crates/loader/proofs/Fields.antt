@@ -15,13 +15,13 @@ use Rattle.il_model.specs.declared.program.Variable.{Variable}
 use Rattle.il_model.specs.declared.program.Loc.{Loc}
 use Rattle.il_model.specs.declared.coded_operand.CodedOperand.{CodedOperand}
 use Rattle.il_model.specs.declared.coded_operand.CodedOperand.TheVariants as coded
-use Rattle.il_model.specs.Values.{made, truth_made, ty_of, number_of, is_within}
+use Rattle.il_model.specs.Values.{typed_value, truth_made, ty_of, number_of, is_within}
 use Rattle.il_model.specs.CodedOperands.{code_of, with_code}
 use Rattle.il_model.specs.Image.{type_code, location_code}
 use Rattle.il_model.proofs.CodedOperands.{coded_back}
 use Rattle.loader.specs.declared.fault.LoadFault.{LoadFault}
 use Rattle.loader.specs.declared.fault.LoadFault.TheVariants.{Truncated}
-use Rattle.il_model.specs.Codes.{tested, length_of, type_of, is_free, free_loc, location_of, may_start_with, initial_of, is_known, constant_of}
+use Rattle.il_model.specs.Codes.{if_passes, length_of, type_of, is_free, free_loc, coded_location, may_start_with, initial_of, is_known, constant_of}
 use Rattle.loader.specs.Reading.{◌>>=◌, number_at, lawful, agrees}
 
 abbrev pub IsBytes : List ℕ → Type 0
@@ -154,7 +154,7 @@ located_by : (seen : List Variable) (t : Ty) (n : ℕ) (o : Option CodedOperand)
 located_by seen t n None loc is e = absurd cc
 located_by seen t n (Some x) loc is e = free_is seen t x loc e ∙ (coded_back n x is).code
 
-pub location_is : (seen : List Variable) (t : Ty) (n : ℕ) (loc : Option Loc) → location_of seen t n ≡ Some loc → location_code loc ≡ n
+pub location_is : (seen : List Variable) (t : Ty) (n : ℕ) (loc : Option Loc) → coded_location seen t n ≡ Some loc → location_code loc ≡ n
 location_is seen t n loc e = located_by seen t n (with_code n) loc refl e
 
 -- the number of a value that was made is the number that it was made of
@@ -167,7 +167,7 @@ pub truth_number_is : (z : ℤ) (v : Value) → truth_made z ≡ Some v → numb
 truth_number_is (pos n) v e = truth_by (ltb n 1) (ltb n 2) n v refl refl e
 truth_number_is (negsuc n) v e = absurd cc
 
-pub made_number : (t : Ty) (z : ℤ) (v : Value) → made t z ≡ Some v → number_of v ≡ z
+pub made_number : (t : Ty) (z : ℤ) (v : Value) → typed_value t z ≡ Some v → number_of v ≡ z
 made_number types.Bool z v e = truth_number_is z v e
 made_number types.Int z v e = sym (ap number_of (some_yes (is_within (2 ^ 15) z) (values.Int z) v e).1)
 made_number types.Dint z v e = sym (ap number_of (some_yes (is_within (2 ^ 31) z) (values.Dint z) v e).1)
@@ -176,12 +176,12 @@ made_number types.Time z v e = sym (ap number_of (some_yes (is_within (2 ^ 31) z
 started_by : (b : Bool) (x v : Value) → cond b (Some x) None ≡ Some v → x ≡ v
 started_by b x v e = (some_yes b x v e).1
 
-made_start : (loc : Option Loc) (o : Option Value) (v : Value) → option_and_then (tested (may_start_with loc)) o ≡ Some v → o ≡ Some v
+made_start : (loc : Option Loc) (o : Option Value) (v : Value) → option_and_then (if_passes (may_start_with loc)) o ≡ Some v → o ≡ Some v
 made_start loc None v e = absurd cc
 made_start loc (Some x) v e = ap (λ (y : Value). Some y) (started_by (may_start_with loc x) x v e)
 
 pub initial_is : (t : Ty) (loc : Option Loc) (bits : ℕ) (v : Value) → bits < 2 ^ 32 → initial_of t loc bits ≡ Some v → cast_unsigned w32 (number_of v) ≡ bits
-initial_is t loc bits v lt e = ap (cast_unsigned w32) (made_number t (cast_signed w32 bits) v (made_start loc (made t (cast_signed w32 bits)) v e)) ∙ of_z-to_z w32 bits lt
+initial_is t loc bits v lt e = ap (cast_unsigned w32) (made_number t (cast_signed w32 bits) v (made_start loc (typed_value t (cast_signed w32 bits)) v e)) ∙ of_z-to_z w32 bits lt
 
 truth_of : (a b : Bool) (v : Value) → cond a (Some (values.Bool false)) (cond b (Some (values.Bool true)) None) ≡ Some v → ty_of v ≡ types.Bool
 truth_of true b v e = let is : values.Bool false ≡ v = cc in ap ty_of (sym is)
@@ -192,18 +192,18 @@ truth_ty : (z : ℤ) (v : Value) → truth_made z ≡ Some v → ty_of v ≡ typ
 truth_ty (pos n) v e = truth_of (ltb n 1) (ltb n 2) v e
 truth_ty (negsuc n) v e = absurd cc
 
-made_ty : (t : Ty) (z : ℤ) (v : Value) → made t z ≡ Some v → ty_of v ≡ t
+made_ty : (t : Ty) (z : ℤ) (v : Value) → typed_value t z ≡ Some v → ty_of v ≡ t
 made_ty types.Bool z v e = truth_ty z v e
 made_ty types.Int z v e = ap ty_of (sym (some_yes (is_within (2 ^ 15) z) (values.Int z) v e).1)
 made_ty types.Dint z v e = ap ty_of (sym (some_yes (is_within (2 ^ 31) z) (values.Dint z) v e).1)
 made_ty types.Time z v e = ap ty_of (sym (some_yes (is_within (2 ^ 31) z) (values.Time z) v e).1)
 
-pub tested_some : {A : Type 0} (test : A → Bool) (o : Option A) (y : A) → option_and_then (tested test) o ≡ Some y → (o ≡ Some y) × (test y ≡ true)
+pub tested_some : {A : Type 0} (test : A → Bool) (o : Option A) (y : A) → option_and_then (if_passes test) o ≡ Some y → (o ≡ Some y) × (test y ≡ true)
 tested_some test None y e = absurd cc
 tested_some test (Some x) y e = let r = some_yes (test x) x y e in (ap (λ (z : _). Some z) r.1, ap test (sym r.1) ∙ r.0)
 
 -- what a constant that was read is
 pub constant_is : (seen : List Value) (t : Ty) (bits : ℕ) (v : Value) → bits < 2 ^ 32 → constant_of seen t bits ≡ Some v → (ty_of v ≡ t) × (cast_unsigned w32 (number_of v) ≡ bits)
 constant_is seen t bits v lt e =
-    let m = (tested_some (λ v. not (is_known seen v)) (made t (cast_signed w32 bits)) v e).0 in
+    let m = (tested_some (λ v. not (is_known seen v)) (typed_value t (cast_signed w32 bits)) v e).0 in
     (made_ty t (cast_signed w32 bits) v m, ap (cast_unsigned w32) (made_number t (cast_signed w32 bits) v m) ∙ of_z-to_z w32 bits lt)

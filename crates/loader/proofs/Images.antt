@@ -9,7 +9,7 @@ use Rattle.il_model.specs.declared.program.Instr.{Instr}
 use Rattle.il_model.specs.declared.typing.TypeFault.{TypeFault}
 use Rattle.il_model.specs.Text.{Text}
 use Rattle.il_model.specs.Limits.{program_of}
-use Rattle.il_model.specs.Typing.{judged, IsTyped}
+use Rattle.il_model.specs.Typing.{judgement_of, IsTyped}
 use Rattle.il_model.specs.Marks.{Mark, marks_from, words_in, AreRising, AreStarts}
 use Rattle.il_model.specs.Constants.{same_value, operands_of, constants_from, constants_of}
 use Rattle.il_model.specs.Image.{instruction_bytes, spelling}
@@ -97,10 +97,10 @@ record IsJudged (t : Tables) : Type 0 where
   typed : IsTyped (program_in t)
 
 judged_join : (total : ℕ) (t : Tables) (Q : Text) (x y z : Unit {0}) → program_of t.variables t.instances (lines_of t.instances t.words) ≡ Some Q → risen (constant_place total (length t.words) (length t.constants) 0) 0 t.words t.labels ≡ Ok x
-    → words_fine total (length t.words) (misspelled t.words (used_from 0 0 t.words)) (at_word Q (judged Q)) ≡ Ok y → all_used total (length t.words) (length t.constants) (used_from 0 0 t.words) ≡ Ok z → IsJudged t × (program_in t ≡ Q)
+    → words_fine total (length t.words) (misspelled t.words (used_from 0 0 t.words)) (at_word Q (judgement_of Q)) ≡ Ok y → all_used total (length t.words) (length t.constants) (used_from 0 0 t.words) ≡ Ok z → IsJudged t × (program_in t ≡ Q)
 judged_join total t Q x y z small-is risen-is fine-is used-is =
     let p = program_by (ltb 512 (length t.variables)) (ltb 128 (length t.instances)) (ltb 4096 (length (lines_of t.instances t.words))) (program_in t) Q small-is in
-    let fine = fine_takes total (length t.words) (misspelled t.words (used_from 0 0 t.words)) (at_word Q (judged Q)) y fine-is in
+    let fine = fine_takes total (length t.words) (misspelled t.words (used_from 0 0 t.words)) (at_word Q (judgement_of Q)) y fine-is in
     let used = earlier_none (sooner (position silent t.words) (stray_from false t.words)) (used_from 0 0 t.words) fine.none in
     let both = sooner_none (position silent t.words) (stray_from false t.words) used.none in
     let all = all_takes total (length t.words) (length t.constants) (used_from 0 0 t.words) used.number z used.is used-is in
@@ -112,7 +112,7 @@ judged_join total t Q x y z small-is risen-is fine-is used-is =
         used = used.is ∙ ap (λ (u : ℕ). let r : Result ℕ ℕ = Ok u in r) all;
         loud = both.0;
         stray = both.1;
-        typed = subst IsTyped (sym p.1) (word_ok Q (judged Q) fine.typed);
+        typed = subst IsTyped (sym p.1) (word_ok Q (judgement_of Q) fine.typed);
       },
       p.1,
     )
@@ -123,10 +123,10 @@ judged_takes total t Q e =
     let end = constant_place total (length t.words) (length t.constants) 0 in
     let used = used_from 0 0 t.words in
     let wrong = misspelled t.words used in
-    let a = bind_ok (small (program_of t.variables t.instances (lines_of t.instances t.words))) (λ Q. risen end 0 t.words t.labels >>= λ rising. words_fine total (length t.words) wrong (at_word Q (judged Q)) >>= λ fine. all_used total (length t.words) (length t.constants) used >>= λ used. Ok Q) Q e in
+    let a = bind_ok (small (program_of t.variables t.instances (lines_of t.instances t.words))) (λ Q. risen end 0 t.words t.labels >>= λ rising. words_fine total (length t.words) wrong (at_word Q (judgement_of Q)) >>= λ fine. all_used total (length t.words) (length t.constants) used >>= λ used. Ok Q) Q e in
     let P = a.0 in
-    let b = bind_ok (risen end 0 t.words t.labels) (λ rising. words_fine total (length t.words) wrong (at_word P (judged P)) >>= λ fine. all_used total (length t.words) (length t.constants) used >>= λ used. Ok P) Q a.2 in
-    let c = bind_ok (words_fine total (length t.words) wrong (at_word P (judged P))) (λ fine. all_used total (length t.words) (length t.constants) used >>= λ used. Ok P) Q b.2 in
+    let b = bind_ok (risen end 0 t.words t.labels) (λ rising. words_fine total (length t.words) wrong (at_word P (judgement_of P)) >>= λ fine. all_used total (length t.words) (length t.constants) used >>= λ used. Ok P) Q a.2 in
+    let c = bind_ok (words_fine total (length t.words) wrong (at_word P (judgement_of P))) (λ fine. all_used total (length t.words) (length t.constants) used >>= λ used. Ok P) Q b.2 in
     let d = bind_ok (all_used total (length t.words) (length t.constants) used) (λ used. Ok P) Q c.2 in
     let j = judged_join total t P b.0 c.0 d.0 (small_ok (program_of t.variables t.instances (lines_of t.instances t.words)) P a.1) b.1 c.1 d.1 in
     (j.0, j.1 ∙ ok_is P Q d.2)
@@ -137,19 +137,19 @@ spelled_join : (t : Tables) (Q : Text) → t.variables ≡ Q.variables → t.ins
 spelled_join t Q vs-is xs-is ms-is cs-is long ws-is = rw (vs-is, xs-is, ms-is, cs-is, long, ws-is) refl
 
 tables_spelled : (t : Tables) → AreTables t → IsJudged t → IsImage (program_in t) × (tables_bytes t ≡ spelling (program_in t))
-tables_spelled t are judged =
+tables_spelled t are judgement_of =
     let Q = program_in t in
     let ds = declared_in t in
-    let ms-is : marks_from 0 Q.code ≡ t.labels = table_again t.labels Q.code (length t.words) (labels_read t.instances ds t.labels t.constants t.words judged.stray are.words) judged.rising judged.starts in
+    let ms-is : marks_from 0 Q.code ≡ t.labels = table_again t.labels Q.code (length t.words) (labels_read t.instances ds t.labels t.constants t.words judgement_of.stray are.words) judgement_of.rising judgement_of.starts in
     let read = words_read ds t.labels t.constants [] t.words are.words in
     let apart = are_apart t.constants are.constants in
-    let cs-is : constants_of Q ≡ t.constants = ap (constants_from same_value []) (operands_are t.instances t.words judged.stray) ∙ used_take ds t.labels t.constants t.words 0 0 (length t.constants) apart read judged.used ∙ take_all (length t.constants) t.constants (omega arith) in
+    let cs-is : constants_of Q ≡ t.constants = ap (constants_from same_value []) (operands_are t.instances t.words judgement_of.stray) ∙ used_take ds t.labels t.constants t.words 0 0 (length t.constants) apart read judgement_of.used ∙ take_all (length t.constants) t.constants (omega arith) in
     let marks = subst (AreItems IsMark []) (sym ms-is) are.labels in
     let constants = subst (AreItems IsConstant []) (sym cs-is) are.constants in
     let read2 = subst (λ (ms : List Mark). AllByRecursion (IsReadSomewhere ds ms (constants_of Q)) t.words) (sym ms-is) (subst (λ (cs : List Value). AllByRecursion (IsReadSomewhere ds t.labels cs) t.words) (sym cs-is) read) in
     let known : AreKnown Q (marks_from 0 Q.code) (constants_of Q) = record { variables = are.variables; instances = are.instances; marks = marks; apart = are_apart (constants_of Q) constants; labels = table_labels Q.code } in
-    let w = are_words Q t.words known read2 (typed_lines Q judged.typed) judged.loud judged.stray in
-    let none : front t.words ≡ 0 = (none_front None t.words judged.stray).0 in
+    let w = are_words Q t.words known read2 (typed_lines Q judgement_of.typed) judgement_of.loud judgement_of.stray in
+    let none : front t.words ≡ 0 = (none_front None t.words judgement_of.stray).0 in
     let long : length t.words ≡ words_in Q.code = omega (arith, words_are t.instances t.words, none) in
     let few = are.few in
     let few-vs : length t.variables ≤ 512 = few.variables in
@@ -169,7 +169,7 @@ tables_spelled t are judged =
       words = w.words;
       words_few = subst (λ (k : ℕ). k ≤ 36864) long few-ws;
     } in
-    (record { text = text; short = judged.short; typed = judged.typed }, spelled_join t Q refl refl (sym ms-is) (sym cs-is) long w.same)
+    (record { text = text; short = judgement_of.short; typed = judgement_of.typed }, spelled_join t Q refl refl (sym ms-is) (sym cs-is) long w.same)
 
 pub image_takes : (bytes : List ℕ) (Q : Text) → IsBytes bytes → image_of bytes ≡ Ok Q → IsImage Q × (bytes ≡ spelling Q)
 unfolding image_of

@@ -24,7 +24,7 @@ use Rattle.il_model.specs.Kinds.{block_kinds, kind_code, kind_of_code}
 use Rattle.il_model.specs.Text.{Declarations}
 use Rattle.il_model.specs.Marks.{Mark}
 use Rattle.il_model.specs.Image.{type_code, location_code, name_bytes, variable_bytes, instance_bytes, mark_bytes, constant_bytes, op_code, modifier_code, side_code, coded_word}
-use Rattle.il_model.specs.Codes.{is_new_name, is_new_instance, is_new_label, length_of, type_of, location_of, initial_of, constant_of, usage_of, allowed_by, op_list, op_of, modifier_of, letters_of, label_there, word_operand, side_of, argument_number, argument_operand}
+use Rattle.il_model.specs.Codes.{is_new_name, is_new_instance, is_new_label, length_of, type_of, coded_location, initial_of, constant_of, usage_of, allowed_by, op_list, op_of, modifier_of, letters_of, label_there, word_operand, side_of, argument_number, argument_operand}
 use Rattle.il_model.specs.Fits.{IsVariable, IsInstance, IsMark, IsConstant, IsCoded, AreItems}
 use Rattle.il_model.proofs.BlockKinds.{kind_of_code-kind_code}
 use Rattle.loader.specs.declared.word.Word.{Word}
@@ -84,7 +84,7 @@ name_again p is_new name rest len new = rw (spelled_again p name rest len, new) 
 -- the parts of a variable, each with what was read of it
 variable_joins : (seen : List Variable) (bytes r0 r1 r2 rest : List ℕ) (v : Variable) (code place bits : ℕ)
     → Takes bytes (name_bytes v.name) r0 → Takes r0 (to_be_bytes w8 code) r1 → Takes r1 (to_be_bytes w16 place) r2 → Takes r2 (to_be_bytes w32 bits) rest
-    → IsName (is_new_name seen) v.name → type_of code ≡ Some v.ty → location_of seen v.ty place ≡ Some v.location → place < 2 ^ 16 → initial_of v.ty v.location bits ≡ Some v.initial → bits < 2 ^ 32
+    → IsName (is_new_name seen) v.name → type_of code ≡ Some v.ty → coded_location seen v.ty place ≡ Some v.location → place < 2 ^ 16 → initial_of v.ty v.location bits ≡ Some v.initial → bits < 2 ^ 32
     → Takes bytes (variable_bytes v) rest × IsVariable seen v
 variable_joins seen bytes r0 r1 r2 rest v code place bits t0 t1 t2 t3 name ty-ok loc-ok place-lt value-ok bits-lt =
     let ty-is = sym (type_is code v.ty ty-ok) in
@@ -101,7 +101,7 @@ variable_joins seen bytes r0 r1 r2 rest v code place bits t0 t1 t2 t3 name ty-ok
         length = name.len;
         name = name.new;
         type = subst (λ (k : ℕ). type_of k ≡ Some v.ty) ty-is ty-ok;
-        location = subst (λ (k : ℕ). location_of seen v.ty k ≡ Some v.location) loc-is loc-ok;
+        location = subst (λ (k : ℕ). coded_location seen v.ty k ≡ Some v.location) loc-is loc-ok;
         location_small = subst (λ (k : ℕ). k < 2 ^ 16) loc-is place-lt;
         initial = subst (λ (k : ℕ). initial_of v.ty v.location k ≡ Some v.initial) value-is value-ok;
         initial_small = subst (λ (k : ℕ). k < 2 ^ 32) value-is bits-lt;
@@ -110,7 +110,7 @@ variable_joins seen bytes r0 r1 r2 rest v code place bits t0 t1 t2 t3 name ty-ok
 
 variable_ends : (seen : List Variable) (bytes r0 r1 r2 rest : List ℕ) (v : Variable) (code place bits : ℕ) (x : Variable × List ℕ)
     → Takes bytes (name_bytes v.name) r0 → Takes r0 (to_be_bytes w8 code) r1 → Takes r1 (to_be_bytes w16 place) r2 → Takes r2 (to_be_bytes w32 bits) rest
-    → IsName (is_new_name seen) v.name → type_of code ≡ Some v.ty → location_of seen v.ty place ≡ Some v.location → place < 2 ^ 16 → initial_of v.ty v.location bits ≡ Some v.initial → bits < 2 ^ 32
+    → IsName (is_new_name seen) v.name → type_of code ≡ Some v.ty → coded_location seen v.ty place ≡ Some v.location → place < 2 ^ 16 → initial_of v.ty v.location bits ≡ Some v.initial → bits < 2 ^ 32
     → (let r : Result (Variable × List ℕ) LoadFault = Ok (v, rest) in r ≡ Ok x)
     → Takes bytes (variable_bytes x.0) x.1 × IsVariable seen x.0
 variable_ends seen bytes r0 r1 r2 rest v code place bits x t0 t1 t2 t3 name ty-ok loc-ok place-lt value-ok bits-lt e =
@@ -119,16 +119,16 @@ variable_ends seen bytes r0 r1 r2 rest v code place bits x t0 t1 t2 t3 name ty-o
 -- a variable behind its name and its type
 variable_tail : (p : ℕ) (seen : List Variable) (bytes r0 r1 name : List ℕ) (code : ℕ) (type : Ty) (x : Variable × List ℕ)
     → Takes bytes (name_bytes name) r0 → IsName (is_new_name seen) name → Takes r0 (to_be_bytes w8 code) r1 → type_of code ≡ Some type
-    → (number_at w16 r1 >>= λ place. lawful p (location_of seen type place.0) >>= λ loc. number_at w32 place.1 >>= λ first. lawful p (initial_of type loc first.0) >>= λ value. Ok (record { name = name; ty = type; location = loc; initial = value }, first.1)) ≡ Ok x
+    → (number_at w16 r1 >>= λ place. lawful p (coded_location seen type place.0) >>= λ loc. number_at w32 place.1 >>= λ first. lawful p (initial_of type loc first.0) >>= λ value. Ok (record { name = name; ty = type; location = loc; initial = value }, first.1)) ≡ Ok x
     → Takes bytes (variable_bytes x.0) x.1 × IsVariable seen x.0
 variable_tail p seen bytes r0 r1 name code type x t0 named t1 ty-ok e =
-    let b_place = bind_ok (number_at w16 r1) (λ place. lawful p (location_of seen type place.0) >>= λ loc. number_at w32 place.1 >>= λ first. lawful p (initial_of type loc first.0) >>= λ value. Ok (record { name = name; ty = type; location = loc; initial = value }, first.1)) x e in
-    let b_loc = bind_ok (lawful p (location_of seen type b_place.0.0)) (λ loc. number_at w32 b_place.0.1 >>= λ first. lawful p (initial_of type loc first.0) >>= λ value. Ok (record { name = name; ty = type; location = loc; initial = value }, first.1)) x b_place.2 in
+    let b_place = bind_ok (number_at w16 r1) (λ place. lawful p (coded_location seen type place.0) >>= λ loc. number_at w32 place.1 >>= λ first. lawful p (initial_of type loc first.0) >>= λ value. Ok (record { name = name; ty = type; location = loc; initial = value }, first.1)) x e in
+    let b_loc = bind_ok (lawful p (coded_location seen type b_place.0.0)) (λ loc. number_at w32 b_place.0.1 >>= λ first. lawful p (initial_of type loc first.0) >>= λ value. Ok (record { name = name; ty = type; location = loc; initial = value }, first.1)) x b_place.2 in
     let b_first = bind_ok (number_at w32 b_place.0.1) (λ first. lawful p (initial_of type b_loc.0 first.0) >>= λ value. Ok (record { name = name; ty = type; location = b_loc.0; initial = value }, first.1)) x b_loc.2 in
     let b_value = bind_ok (lawful p (initial_of type b_loc.0 b_first.0.0)) (λ value. Ok (record { name = name; ty = type; location = b_loc.0; initial = value }, b_first.0.1)) x b_first.2 in
     let t2 = number_takes w16 (2 ^ 16) wide16 r1 b_place.0.0 b_place.0.1 t1.rest_fits b_place.1 in
     let t3 = number_takes w32 (2 ^ 32) wide32 b_place.0.1 b_first.0.0 b_first.0.1 t2.0.rest_fits b_first.1 in
-    let loc-ok = lawful_ok p (location_of seen type b_place.0.0) b_loc.0 b_loc.1 in
+    let loc-ok = lawful_ok p (coded_location seen type b_place.0.0) b_loc.0 b_loc.1 in
     let value-ok = lawful_ok p (initial_of type b_loc.0 b_first.0.0) b_value.0 b_value.1 in
     variable_ends seen bytes r0 r1 b_place.0.1 b_first.0.1 (record { name = name; ty = type; location = b_loc.0; initial = b_value.0 }) code b_place.0.0 b_first.0.0 x t0 t1 t2.0 t3.0 named ty-ok loc-ok t2.1 value-ok t3.1 b_value.2
 
@@ -136,9 +136,9 @@ pub variable_takes : (total : ℕ) (seen : List Variable) (bytes : List ℕ) (x 
 unfolding variable_at
 variable_takes total seen bytes x fits e =
     let p = total - length bytes in
-    let b_name = bind_ok (name_at p (is_new_name seen) bytes) (λ name. number_at w8 name.1 >>= λ code. lawful p (type_of code.0) >>= λ type. number_at w16 code.1 >>= λ place. lawful p (location_of seen type place.0) >>= λ loc. number_at w32 place.1 >>= λ first. lawful p (initial_of type loc first.0) >>= λ value. Ok (record { name = name.0; ty = type; location = loc; initial = value }, first.1)) x e in
-    let b_code = bind_ok (number_at w8 b_name.0.1) (λ code. lawful p (type_of code.0) >>= λ type. number_at w16 code.1 >>= λ place. lawful p (location_of seen type place.0) >>= λ loc. number_at w32 place.1 >>= λ first. lawful p (initial_of type loc first.0) >>= λ value. Ok (record { name = b_name.0.0; ty = type; location = loc; initial = value }, first.1)) x b_name.2 in
-    let b_type = bind_ok (lawful p (type_of b_code.0.0)) (λ type. number_at w16 b_code.0.1 >>= λ place. lawful p (location_of seen type place.0) >>= λ loc. number_at w32 place.1 >>= λ first. lawful p (initial_of type loc first.0) >>= λ value. Ok (record { name = b_name.0.0; ty = type; location = loc; initial = value }, first.1)) x b_code.2 in
+    let b_name = bind_ok (name_at p (is_new_name seen) bytes) (λ name. number_at w8 name.1 >>= λ code. lawful p (type_of code.0) >>= λ type. number_at w16 code.1 >>= λ place. lawful p (coded_location seen type place.0) >>= λ loc. number_at w32 place.1 >>= λ first. lawful p (initial_of type loc first.0) >>= λ value. Ok (record { name = name.0; ty = type; location = loc; initial = value }, first.1)) x e in
+    let b_code = bind_ok (number_at w8 b_name.0.1) (λ code. lawful p (type_of code.0) >>= λ type. number_at w16 code.1 >>= λ place. lawful p (coded_location seen type place.0) >>= λ loc. number_at w32 place.1 >>= λ first. lawful p (initial_of type loc first.0) >>= λ value. Ok (record { name = b_name.0.0; ty = type; location = loc; initial = value }, first.1)) x b_name.2 in
+    let b_type = bind_ok (lawful p (type_of b_code.0.0)) (λ type. number_at w16 b_code.0.1 >>= λ place. lawful p (coded_location seen type place.0) >>= λ loc. number_at w32 place.1 >>= λ first. lawful p (initial_of type loc first.0) >>= λ value. Ok (record { name = b_name.0.0; ty = type; location = loc; initial = value }, first.1)) x b_code.2 in
     let t0 = name_takes p (is_new_name seen) bytes b_name.0 fits b_name.1 in
     let t1 = number_takes w8 (2 ^ 8) wide8 b_name.0.1 b_code.0.0 b_code.0.1 t0.0.rest_fits b_code.1 in
     let ty-ok = lawful_ok p (type_of b_code.0.0) b_type.0 b_type.1 in

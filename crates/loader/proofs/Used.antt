@@ -11,7 +11,7 @@ use Rattle.il_model.specs.declared.coded_operand.CodedOperand.{CodedOperand}
 use Rattle.il_model.specs.declared.coded_operand.CodedOperand.TheVariants as coded
 use Rattle.il_model.specs.Text.{Text, Declarations}
 use Rattle.il_model.specs.Marks.{Mark}
-use Rattle.il_model.specs.Constants.{same_value, literal_of, joined_constants, constants_from, step_used}
+use Rattle.il_model.specs.Constants.{same_value, operand_literal, joined_constants, constants_from, step_used}
 use Rattle.il_model.specs.CodedOperands.{code_of, with_code, HasOwnCode}
 use Rattle.il_model.specs.Image.{numbered, coded_literal, operand_code}
 use Rattle.il_model.specs.Fits.{AreItems}
@@ -43,7 +43,7 @@ with_ok n (Some u) go x e = (u, refl, e)
 unused : (same : Value → Value → Bool) (cs : List Value) (u v : ℕ) → (let o : Option ℕ = Some u in o ≡ Some v) → joined_constants same (take u cs) None ≡ take v cs
 unused same cs u v e = let is : u ≡ v = cc in ap (λ (n : ℕ). take n cs) is
 
-step_takes : (cs : List Value) (o : Operand) (code u v : ℕ) → AreApart same_value cs → ((x : Value) → o ≡ operands.Literal x → IsConstantAt cs code x) → step_used (constant_in o code) u ≡ Some v → joined_constants same_value (take u cs) (literal_of o) ≡ take v cs
+step_takes : (cs : List Value) (o : Operand) (code u v : ℕ) → AreApart same_value cs → ((x : Value) → o ≡ operands.Literal x → IsConstantAt cs code x) → step_used (constant_in o code) u ≡ Some v → joined_constants same_value (take u cs) (operand_literal o) ≡ take v cs
 step_takes cs operands.Absent code u v apart there e = unused same_value cs u v e
 step_takes cs (operands.Literal x) code u v apart there e =
     let at = there x refl in
@@ -104,7 +104,7 @@ literal_step (Some k) cs seen v os few e is =
     let all : cs ≡ seen ++ m.more = is ∙ m.is in
     ap (λ (all : List Value). step_used (constant_number (with_code (code_of (coded_literal all v)))) (length seen)) all ∙ known_step seen m.more v k (subst (λ (xs : List Value). length xs ≤ 20480) all few) e
 
-step_again : (Q : Text) (cs seen : List Value) (o : Operand) (os : List Operand) → length cs ≤ 20480 → cs ≡ constants_from same_value (joined_constants same_value seen (literal_of o)) os → step_used (constant_in o (operand_code Q cs o)) (length seen) ≡ Some (length (joined_constants same_value seen (literal_of o)))
+step_again : (Q : Text) (cs seen : List Value) (o : Operand) (os : List Operand) → length cs ≤ 20480 → cs ≡ constants_from same_value (joined_constants same_value seen (operand_literal o)) os → step_used (constant_in o (operand_code Q cs o)) (length seen) ≡ Some (length (joined_constants same_value seen (operand_literal o)))
 step_again Q cs seen operands.Absent os few is = refl
 step_again Q cs seen (operands.Literal v) os few is = literal_step (position (same_value v) seen) cs seen v os few refl is
 step_again Q cs seen (operands.Bare z) os few is = refl
@@ -123,7 +123,7 @@ pub used_again_all : (Q : Text) (cs seen : List Value) (ws : List Word) (n : ℕ
 used_again_all Q cs seen [] n few fits is = ap (λ (k : ℕ). let r : Result ℕ ℕ = Ok k in r) (ap length (sym is))
 used_again_all Q cs seen (w ∷ ws) n few fits is =
     let o = operand_in w.content in
-    let next = joined_constants same_value seen (literal_of o) in
+    let next = joined_constants same_value seen (operand_literal o) in
     let go = λ (u : ℕ). used_from (suc n) u ws in
     ap (λ (code : ℕ). with_used n (step_used (constant_in o code) (length seen)) go) fits.0
     ∙ ap (λ (p : Option ℕ). with_used n p go) (step_again Q cs seen o (word_operands ws) few is)

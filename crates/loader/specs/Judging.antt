@@ -10,7 +10,7 @@ use Rattle.il_model.specs.declared.typing.TypeFault.{TypeFault}
 use Rattle.il_model.specs.declared.typing.TypeFault.TheVariants.{UnknownLabel}
 use Rattle.il_model.specs.Text.{Text}
 use Rattle.il_model.specs.Limits.{program_of}
-use Rattle.il_model.specs.Typing.{judged}
+use Rattle.il_model.specs.Typing.{judgement_of}
 use Rattle.il_model.specs.Marks.{Mark, address_of}
 use Rattle.il_model.specs.Faulty.{faulty_word}
 use Rattle.il_model.specs.Constants.{step_used}
@@ -129,7 +129,7 @@ unfoldable pub judged_tables : ℕ → Tables → Result Text LoadFault
 judged_tables total t = do
   Q ← small (program_of t.variables t.instances (lines_of t.instances t.words))
   rising ← risen (constant_place total (length t.words) (length t.constants) 0) 0 t.words t.labels
-  fine ← words_fine total (length t.words) (misspelled t.words (used_from 0 0 t.words)) (at_word Q (judged Q))
+  fine ← words_fine total (length t.words) (misspelled t.words (used_from 0 0 t.words)) (at_word Q (judgement_of Q))
   used ← all_used total (length t.words) (length t.constants) (used_from 0 0 t.words)
   Ok Q
 

@@ -10,7 +10,7 @@ use Rattle.il_model.specs.Kinds.{kind_of_code}
 use Rattle.loader.specs.declared.word.Content.TheVariants as contents
 use Rattle.il_model.specs.declared.value.Value.{Value}
 use Rattle.il_model.specs.Marks.{Mark}
-use Rattle.il_model.specs.Codes.{is_new_name, is_new_instance, is_new_label, length_of, type_of, location_of, initial_of, constant_of, op_of, letters_of, label_there, word_operand, side_of, argument_number, argument_operand}
+use Rattle.il_model.specs.Codes.{is_new_name, is_new_instance, is_new_label, length_of, type_of, coded_location, initial_of, constant_of, op_of, letters_of, label_there, word_operand, side_of, argument_number, argument_operand}
 use Rattle.loader.specs.declared.counts.Counts.{Counts}
 use Rattle.loader.specs.declared.word.Word.{Word}
 use Rattle.loader.specs.Tables.{Tables}
@@ -96,7 +96,7 @@ variable_at total seen bytes = do
   code ← number_at w8 name.1
   type ← lawful (total - length bytes) (type_of code.0)
   place ← number_at w16 code.1
-  loc ← lawful (total - length bytes) (location_of seen type place.0)
+  loc ← lawful (total - length bytes) (coded_location seen type place.0)
   first ← number_at w32 place.1
   value ← lawful (total - length bytes) (initial_of type loc first.0)
   Ok (record { name = name.0; ty = type; location = loc; initial = value }, first.1)

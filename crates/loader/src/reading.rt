@@ -2,7 +2,7 @@
 
 ghost use Rattle.std.specs.Prelude.{◌≡◌, [], IfOk};
 ghost use Rattle.std.specs.Int.{w8, w16, w32};
-ghost use Rattle.il_model.specs.Codes.{is_new_name, is_new_instance, is_new_label, argument_number, constant_of, is_free, location_of};
+ghost use Rattle.il_model.specs.Codes.{is_new_name, is_new_instance, is_new_label, argument_number, constant_of, is_free, coded_location};
 ghost use Rattle.loader.specs.Reading.{Gives, number_at, lawful, agrees, items_from, count_at, counts_at, header_at, spelled_name_at, name_at, variable_at, instance_at, mark_at, constant_at, instruction_at, argument_at, word_at, next_word};
 
 use crate::counts::Counts;
@@ -190,7 +190,7 @@ fn is_free(seen: &Variables, ty: Ty, loc: Loc) -> bool
 
 /// The location with a code, where it is free; none at the code for none.
 fn location_of(seen: &Variables, ty: Ty, n: u16) -> Option<Option<Loc>>
-    ensures { result ≡ location_of seen.now ty n }
+    ensures { result ≡ coded_location seen.now ty n }
 {
     match CodedOperand::of_code(n)? {
         CodedOperand::Unused => Some(None),

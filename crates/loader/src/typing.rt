@@ -2,7 +2,7 @@
 
 ghost use Rattle.std.specs.Prelude.{◌≡◌, ◌<◌, ◌^◌, IfOk};
 ghost use Rattle.il_model.specs.Marks.{word_count, words_in, address_of};
-ghost use Rattle.il_model.specs.Typing.{judged};
+ghost use Rattle.il_model.specs.Typing.{judgement_of};
 ghost use Rattle.loader.specs.Judging.{at_word};
 
 use il_model::check::check;
@@ -57,7 +57,7 @@ fn at_word(
 /// Whether a program is typed, or its first fault with the number of the word where that stands.
 pub fn typed(alloc: Global, program: &Program) -> Result<Result<(), (TypeFault, usize)>, AllocError>
     requires { words_in program.now.code < 2 ^ 63 }
-    ensures { IfOk result (λ r. r ≡ at_word program.now (judged program.now)) }
+    ensures { IfOk result (λ r. r ≡ at_word program.now (judgement_of program.now)) }
 {
     let indexed = IndexedProgram::new(alloc, program)?;
     Ok(at_word(&indexed, check(&indexed)))

@@ -1,11 +1,9 @@
 -- Words that are no state, and what a machine of a snapshot's parts is.
-use Rattle.std.proofs.Common.{◌≡◌, ℕ, zero, suc, ◌<◌, ◌≤◌, true, List, [], ◌∷◌, length, map, reverse, get_or, Option, Some, None, refl, sym, ap, subst, ◌∙◌, arith}
+use Rattle.std.proofs.Common.{◌≡◌, ℕ, zero, suc, ◌<◌, ◌≤◌, List, [], ◌∷◌, length, map, reverse, get_or, Option, Some, None, sym, ap, subst, ◌∙◌, arith}
 use Rattle.std.specs.Prelude.{IfSome}
 use Rattle.std.specs.Option.{option_map}
 use Rattle.std.proofs.lemmas.List.{reverse-reverse, length-reverse, length-map}
 use Rattle.il_model.specs.declared.program.Place.{Place}
-use Rattle.il_model.specs.declared.program.Variable.{Variable}
-use Rattle.il_model.specs.declared.value.Value.{Value}
 use Rattle.il_model.specs.declared.fetched.Deferred.{Deferred}
 use Rattle.il_model.specs.declared.cells.Cells.{Cells}
 use Rattle.il_model.specs.Snapshots.{SavedBlock, SavedController}
@@ -15,12 +13,12 @@ use Rattle.il_model.specs.Typing.{shape_at}
 use Rattle.il_model.specs.Values.{ty_of}
 use Rattle.controller_model.specs.State.{State}
 use Rattle.controller_model.specs.Slots.{places_of}
-use Rattle.controller_model.specs.Suits.{AreCells, AreInstances, KeepFirsts, HasValues, held_of, Suits}
-use Rattle.controller_model.specs.Snapshots.{saved_instance, are_types, fit_instances, fits_types}
+use Rattle.controller_model.specs.Suits.{AreCells, KeepFirsts, held_of, Suits}
+use Rattle.controller_model.specs.Snapshots.{fit_instances}
 use Rattle.controller_model.proofs.ColdSuits.{firsts_typed}
 use Rattle.controller_model.proofs.Fitting.{instances_of, typed_so, few_deferred}
 use Rattle.machine.proofs.Values.{are_all}
-use Rattle.machine.specs.Kept.{Kept, IsMachineOf}
+use Rattle.machine.specs.Kept.{IsMachineOf}
 use Rattle.machine.specs.Parts.{HasState, all_values, FitsMachine, RestoresState, HasNoBlock, HasNoState, Here, Later}
 
 pub lost_at : (xs : List SavedBlock) (i : ℕ) (x : SavedBlock) → i < length xs → x ≡ get_or xs i x → HasNoBlock x → HasNoState xs

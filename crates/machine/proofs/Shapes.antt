@@ -9,8 +9,6 @@ use Rattle.il_model.specs.declared.program.Variable.{Variable}
 use Rattle.il_model.specs.declared.program.Instance.{Instance}
 use Rattle.il_model.specs.declared.fetched.Deferred.{Deferred}
 use Rattle.il_model.specs.declared.typing.Held.{Held}
-use Rattle.il_model.specs.Values.{ty_of}
-use Rattle.il_model.specs.Row.{same_type}
 use Rattle.il_model.specs.Snapshots.{SavedBlock}
 use Rattle.controller_model.specs.Suits.{held_of}
 use Rattle.controller_model.specs.Snapshots.{own_types, are_types, fits_instance, fit_instances, same_held, all_held}

@@ -3,7 +3,7 @@
 ghost use Rattle.std.specs.Prelude.{◌≡◌, unwrap_or, option_map};
 ghost use Rattle.il_model.specs.Areas.{area_of};
 ghost use Rattle.controller_model.specs.Cold.{same_area, with_first, first_cells};
-ghost use Rattle.controller_model.specs.State.{value_in, written_in};
+ghost use Rattle.controller_model.specs.State.{value_in, with_value_in};
 
 use il_model::{Area, Cells, Loc, Value, Variable};
 
@@ -34,7 +34,7 @@ pub fn read_cells(cells: &Cells, loc: Loc) -> Option<Value>
 /// Writes a value at a location of an area.
 #[inline(always)]
 pub fn write_cells(cells: &mut Cells, loc: Loc, v: Value) -> Option<()>
-    ensures { written_in cells.old loc v ≡ option_map (λ _. cells.new) result }
+    ensures { with_value_in cells.old loc v ≡ option_map (λ _. cells.new) result }
 {
     match (loc, v) {
         (Loc::Bit(_, n), Value::Bool(b)) => {
@@ -65,7 +65,7 @@ fn lies_in(loc: Loc, area: Area) -> bool
 
 /// The cells with a value written, or as they are where it can't be.
 fn written_or_same(cells: Cells, loc: Loc, v: Value) -> Cells
-    ensures { result ≡ unwrap_or (written_in cells loc v) cells }
+    ensures { result ≡ unwrap_or (with_value_in cells loc v) cells }
 {
     let mut changed = cells;
     match write_cells(&mut changed, loc, v) {

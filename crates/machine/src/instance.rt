@@ -2,13 +2,13 @@
 
 ghost use Rattle.std.specs.Prelude.{◌≡◌, ◌≤◌, length, IfOk, option_map};
 ghost use Rattle.controller_model.specs.State.{field_value, with_input};
-ghost use Rattle.controller_model.specs.Step.{called};
+ghost use Rattle.controller_model.specs.Step.{instance_after};
 ghost use Rattle.controller_model.specs.Cold.{cold_inputs, cold_instance};
 ghost use Rattle.controller_model.specs.Snapshots.{saved_instance};
 ghost use Rattle.machine.specs.Parts.{IsLawful, HasFewInputs, Restores};
 
 use arrayvec::ArrayVec;
-use function_blocks::any::Block;
+use function_blocks::block::Block;
 use il_model::{BlockKind, Instance, SavedInstance, Value};
 use std::alloc::{AllocError, Global};
 use std::marker::Model;
@@ -88,7 +88,7 @@ impl InstanceState {
 
     /// Calls the block with the values of the inputs.
     pub fn call(&mut self, now: u64)
-        ensures { self.new ≡ called now self.old }
+        ensures { self.new ≡ instance_after now self.old }
     {
         self.block.call(self.inputs.as_slice(), now);
     }

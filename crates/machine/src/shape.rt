@@ -6,7 +6,7 @@ ghost use Rattle.controller_model.specs.Snapshots.{own_types, are_types, fits_in
 ghost use Rattle.machine.specs.Parts.{HasBlock, HaveBlocks, HasNoBlock, HasNoState};
 
 use crate::arrival::{are_of, has_type, types_at};
-use function_blocks::any::Block;
+use function_blocks::block::Block;
 use il_model::{BlockKind, Instance, SavedInstance, Snapshot, Value, Variable};
 use loader::Image;
 

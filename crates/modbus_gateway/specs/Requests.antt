@@ -46,19 +46,19 @@ is_lawful WriteBits pdu = nat_le 6 (length pdu) && (is_quantity 1968 pdu && has_
 is_lawful WriteWords pdu = nat_le 6 (length pdu) && (is_quantity 123 pdu && has_bytes (2 * number_at pdu 3) pdu)
 
 -- how many cells its area has
-abbrev pub area_of : Function → ℕ
-area_of (ReadBits image) = 512
-area_of (ReadWords image) = 64
-area_of WriteBit = 512
-area_of WriteWord = 64
-area_of WriteBits = 512
-area_of WriteWords = 64
+abbrev pub area_length : Function → ℕ
+area_length (ReadBits image) = 512
+area_length (ReadWords image) = 64
+area_length WriteBit = 512
+area_length WriteWord = 64
+area_length WriteBits = 512
+area_length WriteWords = 64
 
 abbrev pub judged : Option Function → List ℕ → Result Request Exception
 judged None pdu = Err IllegalFunction
 judged (Some function) pdu =
     if not (is_lawful function pdu) then Err IllegalDataValue
-    else (if not (nat_le (number_at pdu 1 + quantity_of function pdu) (area_of function)) then Err IllegalDataAddress
+    else (if not (nat_le (number_at pdu 1 + quantity_of function pdu) (area_length function)) then Err IllegalDataAddress
     else Ok (record { function = function; address = number_at pdu 1; quantity = quantity_of function pdu }))
 
 abbrev pub request_of : List ℕ → Result Request Exception
@@ -77,4 +77,4 @@ HasLength WriteWords pdu = length pdu ≡ 6 + 2 * number_at pdu 3
 pub record IsSound (pdu : List ℕ) (r : Request) : Type 0 where
   pub shape : HasLength r.function pdu
   pub quantity : r.quantity ≡ quantity_of r.function pdu
-  pub within : r.address + r.quantity ≤ area_of r.function
+  pub within : r.address + r.quantity ≤ area_length r.function

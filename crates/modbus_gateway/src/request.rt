@@ -1,7 +1,7 @@
 //! What a request asks for, by its function (V1.1b3, section 6).
 ghost use Rattle.std.specs.Prelude.{◌≡◌, ◌+◌, ◌<◌, ◌≤◌, length, IfOk};
 ghost use Rattle.std.specs.Bool.{OnTrue};
-ghost use Rattle.modbus_gateway.specs.Requests.{function_of, quantity_of, is_quantity, has_bytes, is_lawful, area_of, request_of as asked, HasLength, IsSound};
+ghost use Rattle.modbus_gateway.specs.Requests.{function_of, quantity_of, is_quantity, has_bytes, is_lawful, area_length, request_of as asked, HasLength, IsSound};
 
 use crate::header::number_at;
 
@@ -111,7 +111,7 @@ impl Function {
 
     /// How many cells its area has.
     fn area(self) -> usize
-        ensures { result ≡ area_of self }
+        ensures { result ≡ area_length self }
     {
         match self {
             Function::ReadBits(_) | Function::WriteBit | Function::WriteBits => 512,

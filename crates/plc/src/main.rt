@@ -1,18 +1,11 @@
 //! The program `plc`: the words of its call, the files that they name, and the status it ends with.
 #![tactic(auto)]
 
-mod new_file;
-
-ghost use Rattle.std.specs.Prelude.{◌≡◌, vec_len};
-ghost use Rattle.vr_model.specs.Groups.{group_size};
-
 use il_model::{Budget, Counted, CountedWrite};
-use new_file::NewFile;
-use plc_serve::Settings;
-use plc_tool::Fault;
+use plc_serve::{Service, Settings};
+use plc_tool::{Fault, NewFile};
 use plc_words::{Words, WordsError, read_words};
 use process_image::NewList;
-use replicas::FileStore;
 use std::io::{BufWriter, Write};
 use std::marker::Brand;
 use std::process::ExitCode;
@@ -24,17 +17,8 @@ use vr_model::Config;
 enum Outcome {
     /// It's done, with this status.
     Done(u8),
-    Serve(Service),
-}
-
-/// A controller that is to be served.
-#[derive(Drop)]
-struct Service {
-    source: Vec<u8>,
-    directory: String,
-    stores: Vec<FileStore<HostRuntime>>,
-    settings: Settings,
-    ghost one_each: { vec_len stores ≡ group_size settings.config.f },
+    /// A controller is to be served.
+    Serve(Service<HostRuntime>),
 }
 
 /// Threads and sockets are used here alone.
@@ -115,7 +99,7 @@ fn perform<W: Write, E: CountedWrite>(
                 period,
                 scans,
             };
-            match service_of(rt, source, store, settings) {
+            match Service::new(*rt, source, store, settings) {
                 Ok(service) => return Outcome::Serve(service),
                 Err(fault) => plc_tool::tell(fault, err),
             }
@@ -221,22 +205,6 @@ fn sim<W: Write, E: CountedWrite>(
         err,
     );
     flushed(status, out, err)
-}
-
-/// A file that holds the text, and a directory for the stores.
-fn service_of(
-    rt: &HostRuntime,
-    source: &str,
-    directory: &str,
-    settings: Settings,
-) -> Result<Service, Fault> {
-    let alloc = rt.alloc();
-    Ok(Service {
-        source: file(rt, source)?,
-        directory: format!(in alloc; "{directory}")?,
-        stores: plc_serve::stores(*rt, alloc, settings.config, directory)?,
-        settings,
-    })
 }
 
 /// The status of what was written, once it is flushed.

@@ -4,8 +4,8 @@ use Rattle.std.specs.Fmt.{decimal}
 use Rattle.il_model.specs.declared.counted.CountedWrite.{Ghosts as CountedWriter}
 use Rattle.plc_tool.specs.declared.fault.Fault.{Fault}
 use Rattle.plc_tool.specs.declared.fault.Fault.TheVariants.{Store}
-use Rattle.plc_tool.specs.Meaning.{Tells, program_of_text}
-use Rattle.plc_tool.specs.Telling.{IsTold}
+use Rattle.plc_tool.specs.Meaning.{IsTextFault}
+use Rattle.plc_tool.specs.Telling.{IsTold, WentOut}
 
 -- the line that tells how many scans there were
 abbrev pub scans_line : ℕ → List ℕ
@@ -15,10 +15,21 @@ scans_line scans = (codes "scans " ++ decimal scans) ++ codes "\n"
 abbrev pub port_line : ℕ → List ℕ
 port_line port = (codes "serving on 127.0.0.1:" ++ decimal port) ++ codes "\n"
 
+-- the line of a port went out, and nothing else was told
+pub record IsPortTold {W : Type 0} (w : CountedWriter W) (old new : W) : Type 0 where
+  pub port : ℕ
+  pub line : WentOut w (port_line port) old new
+
+-- nothing was told, or that line
+abbrev pub IsAtMostPortTold : {W : Type 0} → CountedWriter W → W → W → Type 0
+IsAtMostPortTold w old new = (new ≡ old) ⊎ IsPortTold w old new
+
 -- why nothing is started: a fault of the text, or the directory holds the file of a replica
 abbrev pub IsWhyRefused : List ℕ → Fault → Type 0
-IsWhyRefused text fault = Tells fault (program_of_text text) ⊎ (fault ≡ Store)
+IsWhyRefused text fault = IsTextFault text fault ⊎ (fault ≡ Store)
 
--- the last that was told is the line of a fault of a device or of memory
-abbrev pub IsToldAtLast : {W : Type 0} → CountedWriter W → ℕ → W → Type 0
-IsToldAtLast {W = W} w status new = (before : W) × IsTold w (λ fault. ⊥) status before new
+-- the last that was told is the line of a fault of a device or of memory; before it the line of a port was, or nothing
+pub record IsToldAtLast {W : Type 0} (w : CountedWriter W) (status : ℕ) (old new : W) : Type 0 where
+  pub before : W
+  pub at_most : IsAtMostPortTold w old before
+  pub told : IsTold w (λ fault. ⊥) status before new

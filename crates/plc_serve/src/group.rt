@@ -36,7 +36,7 @@ impl Gate for OpenGate {
 pub(crate) type GroupSeat<R, S> = Seat<ChannelLink<R>, S, MachineClock<R>, OpenGate>;
 
 /// The stores of a group, in files of a directory: none is opened yet.
-pub fn stores<R: Files + Copy + Drop>(
+pub(crate) fn stores<R: Files + Copy + Drop>(
     rt: R,
     alloc: Global,
     config: Config,

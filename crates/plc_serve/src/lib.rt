@@ -8,9 +8,10 @@ mod driving;
 mod group;
 mod pace;
 mod places;
+mod service;
 mod serving;
 mod sessions;
 
-pub use group::stores;
 pub use pace::worked_dues;
+pub use service::Service;
 pub use serving::{Settings, serve};

@@ -1,32 +1,31 @@
 //! The controller from its text to its end.
 
-ghost use Rattle.std.specs.Prelude.{◌≡◌, ◌≤◌, IfErr, IfOk, OnErr, OnOk, vec_len};
+ghost use Rattle.std.specs.Prelude.{◌≡◌, ◌+◌, ◌≤◌, IfErr, OnOk, length, vec_len};
 ghost use Rattle.vr_model.specs.Groups.{group_size};
 ghost use Rattle.std.specs.Io.KnownBytes.{Appends};
-ghost use Rattle.std.specs.String.{string_bytes};
 ghost use Rattle.plc_tool.specs.Status.{status_of};
-ghost use Rattle.plc_tool.specs.Telling.{IsTold, WentOut};
-ghost use Rattle.plc_serve.specs.Serving.{scans_line, port_line, IsWhyRefused, IsToldAtLast};
+ghost use Rattle.plc_tool.specs.Telling.{IsTold};
+ghost use Rattle.plc_serve.specs.Serving.{scans_line, IsPortTold, IsAtMostPortTold, IsWhyRefused, IsToldAtLast};
 
 use crate::door::Door;
 use crate::driving::Drive;
 use crate::group::{fault_of, file_count, link_of, seats};
 use crate::pace::Pace;
 use crate::places::Places;
-use crate::sessions::accept_all;
-use il_model::{Budget, CountedWrite, write_all};
+use crate::sessions::{OpenServer, Server};
+use il_model::{Budget, CountedWrite};
 use loader::Image;
 use plc_tool::{Fault, ended, image};
-use process_image::{Naming, NewList, Pen, ScanDriver, Stage, StageBook, released};
+use process_image::{Naming, NewList, Pen, ScanDriver, released};
 use replicas::{Cluster, Link, Starts, Switchboard};
-use std::alloc::{AllocError, Global};
+use std::alloc::Global;
+use std::fs;
 use std::io::Write;
 use std::net::{Net, TcpListener, TcpStream};
 use std::rt::Files;
 use std::sync::{Arc, Wait};
 use std::thread::Threads;
 use std::time::{Clock, Instant};
-use std::{fs, thread};
 use vr_model::{ClientNumber, Config, Party};
 
 /// So many sessions are served at once.
@@ -63,7 +62,7 @@ pub fn serve<J, R, S, W: Write, E: CountedWrite>(
     err: &mut E,
 ) -> u8
 where
-    J: Naming + Send + Sync,
+    J: Naming + Send + Sync + 'static,
     R: Threads + Wait + Net<Listener = TcpListener, Stream = TcpStream> + Clock + Files,
     R: Copy + Send + Sync + Drop + 'static,
     S: Starts + Send + Drop + 'static,
@@ -71,10 +70,12 @@ where
     requires stores { vec_len stores ≡ group_size settings.config.f }
     ensures status { result ≤ 2 }
     ensures served { result ≡ 0 → Appends (W.contents out.old) (W.contents out.new) (scans_line settings.scans) }
+    // On `err` there is the line of a port, and nothing else.
+    ensures told { result ≡ 0 → IsPortTold E.CountedWrite err.old err.new }
     // Nothing is started then.
     ensures refused { result ≡ 1 → IsTold E.CountedWrite (IsWhyRefused source.now) result err.old err.new × (out.new ≡ out.old) }
-    // Behind what was told before, as the port.
-    ensures failed { result ≡ 2 → IsToldAtLast E.CountedWrite result err.new }
+    // Before it the line of a port was told, or nothing.
+    ensures failed { result ≡ 2 → IsToldAtLast E.CountedWrite result err.old err.new }
 {
     ended(
         served::<J, R, S, W, E>(
@@ -104,13 +105,15 @@ fn served<J, R, S, W: Write, E: CountedWrite>(
     err: &mut E,
 ) -> Result<(), Fault>
 where
-    J: Naming + Send + Sync,
+    J: Naming + Send + Sync + 'static,
     R: Threads + Wait + Net<Listener = TcpListener, Stream = TcpStream> + Clock + Files,
     R: Copy + Send + Sync + Drop + 'static,
     S: Starts + Send + Drop + 'static,
     requires list { list ≡ J.book }
     requires stores { vec_len stores ≡ group_size settings.config.f }
     ensures served { OnOk result (Appends (W.contents out.old) (W.contents out.new) (scans_line settings.scans)) }
+    ensures told { OnOk result (IsPortTold E.CountedWrite err.old err.new) }
+    ensures at_most { IsAtMostPortTold E.CountedWrite err.old err.new }
     ensures refused { IfErr result (λ e. status_of e ≡ 1 → IsWhyRefused source.now e × (err.new ≡ err.old) × (out.new ≡ out.old)) }
 {
     let image = image(alloc, source)?;
@@ -136,23 +139,25 @@ fn control<J, R, S, E: CountedWrite>(
     err: &mut E,
 ) -> Result<(), Fault>
 where
-    J: Naming + Send + Sync,
+    J: Naming + Send + Sync + 'static,
     R: Threads + Wait + Net<Listener = TcpListener, Stream = TcpStream> + Clock + Files,
     R: Copy + Send + Sync + Drop + 'static,
     S: Starts + Send + Drop + 'static,
     requires list { list ≡ J.book }
     requires stores { vec_len stores ≡ group_size settings.config.f }
-    ensures { IfErr result (λ e. status_of e ≡ 2) }
+    ensures told { OnOk result (IsPortTold E.CountedWrite err.old err.new) }
+    ensures at_most { IsAtMostPortTold E.CountedWrite err.old err.new }
+    ensures err { IfErr result (λ e. status_of e ≡ 2) }
 {
     let pace = Pace::new(Instant::now(&rt)?, settings.period);
     let door = Door::open(&rt, settings.port)?;
     let Ok((writer, readers)) = released::<J, R>(list, alloc, rt, SESSIONS) else {
         return Err(Fault::Memory);
     };
-    let places = Places::new(alloc, readers)?;
+    let server = Server::new(alloc, door, Places::new(alloc, readers)?);
     let config = settings.config;
     let board = Arc::new(alloc, Switchboard::new(alloc, config.group_size(), 1)?)?;
-    let drive = Drive {
+    let mut drive = Drive {
         driver: ScanDriver::new(&config, 0),
         link: link_of(
             rt,
@@ -174,9 +179,8 @@ where
         alloc,
         config,
         directory,
-        &door,
-        &places,
-        drive,
+        server,
+        &mut drive,
         pace,
         settings.scans,
         err,
@@ -192,103 +196,50 @@ fn attend_started<J, P, L, R, E: CountedWrite>(
     alloc: Global,
     config: Config,
     directory: &str,
-    door: &Door,
-    places: &Places<J>,
-    drive: Drive<L, J, P>,
+    server: Server<J>,
+    drive: &mut Drive<L, J, P>,
     pace: Pace,
     scans: u32,
     err: &mut E,
 ) -> Result<(), Fault>
 where
-    J: Naming + Send + Sync,
+    J: Naming + Send + Sync + 'static,
     P: Pen<J> + Drop,
     L: Link + Drop,
-    R: Threads + Wait + Clock + Files + Copy + Sync + Drop,
-    ensures { IfErr result (λ e. status_of e ≡ 2) }
+    R: Threads + Wait + Clock + Files + Copy + Send + Sync + Drop + 'static,
+    ensures counted { OnOk result (length drive.new.writer ≡ length drive.old.writer + scans) }
+    ensures told { OnOk result (IsPortTold E.CountedWrite err.old err.new) }
+    ensures at_most { IsAtMostPortTold E.CountedWrite err.old err.new }
+    ensures err { IfErr result (λ e. status_of e ≡ 2) }
 {
     if file_count(rt, alloc, config, directory)? != config.group_size() {
         return Err(Fault::Device);
     }
-    attend_all(&rt, alloc, door, places, drive, pace, scans, err)
+    attend_all(&rt, alloc, server, drive, pace, scans, err)
 }
 
 /// Has the group scan while connections are served, until so many scans are released, and ends the sessions.
 fn attend_all<J, P, L, R, E: CountedWrite>(
     rt: &R,
     alloc: Global,
-    door: &Door,
-    places: &Places<J>,
-    mut drive: Drive<L, J, P>,
+    server: Server<J>,
+    drive: &mut Drive<L, J, P>,
     mut pace: Pace,
     scans: u32,
     err: &mut E,
 ) -> Result<(), Fault>
 where
-    J: Naming + Send + Sync,
+    J: Naming + Send + Sync + 'static,
     P: Pen<J> + Drop,
     L: Link + Drop,
-    R: Threads + Wait + Clock + Sync,
-    ensures { IfErr result (λ e. status_of e ≡ 2) }
-{
-    let port = door.port()?;
-    let stage = Stage::new(StageBook::new(alloc));
-    let inputs = &stage;
-    thread::scope(thread::scope_env(), rt, |scope| {
-        if scope
-            .spawn(move || accept_all(rt, alloc, inputs, door, places))
-            .is_err()
-        {
-            return Err(Fault::Device);
-        }
-        let done = scan_all(rt, alloc, port, inputs, &mut drive, &mut pace, scans, err);
-        door.shut();
-        places.close(rt);
-        done
-    })
-}
-
-/// Tells the port, and has the group scan.
-fn scan_all<J, P, L, R, E: CountedWrite>(
-    rt: &R,
-    alloc: Global,
-    port: u16,
-    stage: &Stage,
-    drive: &mut Drive<L, J, P>,
-    pace: &mut Pace,
-    scans: u32,
-    err: &mut E,
-) -> Result<(), Fault>
-where
-    J: Naming,
-    P: Pen<J> + Drop,
-    L: Link + Drop,
-    R: Wait + Clock,
-    ensures told { OnOk result (WentOut E.CountedWrite (port_line port) err.old err.new) }
+    R: Threads + Wait + Clock + Copy + Send + Sync + 'static,
+    ensures counted { OnOk result (length drive.new.writer ≡ length drive.old.writer + scans) }
+    ensures told { OnOk result (IsPortTold E.CountedWrite err.old err.new) }
+    ensures at_most { IsAtMostPortTold E.CountedWrite err.old err.new }
     ensures err { IfErr result (λ e. status_of e ≡ 2) }
 {
-    tell_port(alloc, port, err)?;
-    drive.run(rt, alloc, &mut stage.handle(rt), pace, scans)
-}
-
-/// Tells a port by its line. Where standard error fails, clients come all the same.
-fn tell_port<E: CountedWrite>(alloc: Global, port: u16, err: &mut E) -> Result<(), AllocError>
-    ensures told { OnOk result (WentOut E.CountedWrite (port_line port) err.old err.new) }
-    ensures same { OnErr result (err.new ≡ err.old) }
-{
-    let line = line_of(alloc, port)?;
-    tell_line(line.as_str().as_bytes(), err);
-    Ok(())
-}
-
-/// The line that tells a port.
-fn line_of(alloc: Global, port: u16) -> Result<String, AllocError>
-    ensures { IfOk result (λ line. string_bytes line ≡ port_line port) }
-{
-    format!(in alloc; "serving on 127.0.0.1:{port}\n")
-}
-
-fn tell_line<E: CountedWrite>(line: &[u8], err: &mut E)
-    ensures { WentOut E.CountedWrite line.now err.old err.new }
-{
-    let _ = write_all(err, line);
+    let open = OpenServer::new(rt, alloc, server, err)?;
+    let done = drive.run(rt, alloc, &mut open.stage().handle(rt), &mut pace, scans);
+    open.close(rt);
+    done
 }

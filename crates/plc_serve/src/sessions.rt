@@ -1,15 +1,21 @@
 //! Connections and their sessions.
 
+ghost use Rattle.std.specs.Prelude.{◌≡◌, IfErr, IfOk, OnErr, OnOk};
+ghost use Rattle.std.specs.String.{string_bytes};
+ghost use Rattle.plc_tool.specs.Status.{status_of};
+ghost use Rattle.plc_serve.specs.Serving.{port_line, IsPortTold};
+
 use crate::door::Door;
 use crate::places::Places;
-use il_model::Counted;
+use il_model::{Counted, CountedWrite};
 use modbus_gateway::serve_session;
-use process_image::{Naming, Stage};
-use std::alloc::Global;
+use plc_tool::{Fault, put};
+use process_image::{Naming, Stage, StageBook};
+use std::alloc::{AllocError, Global};
 use std::net::TcpStream;
-use std::sync::Wait;
+use std::sync::{Arc, Wait};
 use std::thread;
-use std::thread::Threads;
+use std::thread::{JoinHandle, Threads};
 use std::time::{Clock, Duration};
 
 /// For so many pauses a connection waits for a place: one whose client has just gone is free in a moment.
@@ -17,6 +23,25 @@ const PATIENCE: u32 = 10;
 
 /// In milliseconds.
 const PAUSE: u64 = 1;
+
+/// What the sessions share: where connections come in, the places, and the inputs that are staged.
+#[derive(Drop)]
+pub(crate) struct Server<J: Naming> {
+    door: Door,
+    places: Places<J>,
+    stage: Stage,
+}
+
+impl<J: Naming> Server<J> {
+    /// No input is staged yet.
+    pub(crate) fn new(alloc: Global, door: Door, places: Places<J>) -> Server<J> {
+        Server {
+            door,
+            places,
+            stage: Stage::new(StageBook::new(alloc)),
+        }
+    }
+}
 
 /// Serves one connection to its end, whichever it is, and frees its place.
 fn attend<R: Wait, J: Naming>(
@@ -57,15 +82,18 @@ fn place_for<R: Wait + Clock, J: Naming>(
     None
 }
 
-/// Gives each connection a session, in a thread of its own, until the door is shut and each session ended. Where no place is free, or no
+/// Gives each connection a session, in a thread of its own, until the server is closed and each session ended. Where no place is free, or no
 /// thread is to be had, the connection is closed unanswered.
-pub(crate) fn accept_all<R: Wait + Threads + Clock + Sync, J: Naming + Send + Sync>(
+fn accept_all<R: Wait + Threads + Clock + Sync, J: Naming + Send + Sync>(
     rt: &R,
     alloc: Global,
-    stage: &Stage,
-    door: &Door,
-    places: &Places<J>,
+    server: &Server<J>,
 ) {
+    let Server {
+        door,
+        places,
+        stage,
+    } = server;
     thread::scope(thread::scope_env(), rt, |scope| {
         for _ in 0..u64::MAX {
             let Some(stream) = door.next(rt) else {
@@ -81,4 +109,68 @@ pub(crate) fn accept_all<R: Wait + Threads + Clock + Sync, J: Naming + Send + Sy
             }
         }
     });
+}
+
+/// The thread that gives connections their sessions: it ends once the server is closed.
+fn accepting<R, J>(rt: &R, alloc: Global, server: &Arc<Server<J>>) -> Result<JoinHandle<()>, Fault>
+where
+    R: Wait + Threads + Clock + Copy + Send + Sync + 'static,
+    J: Naming + Send + Sync + 'static,
+    ensures { IfErr result (λ e. status_of e ≡ 2) }
+{
+    let theirs = *rt;
+    let shared = Arc::try_clone(server)?;
+    match thread::spawn(rt, move || accept_all(&theirs, alloc, &shared)) {
+        Ok(acceptor) => Ok(acceptor),
+        Err(_) => Err(Fault::Device),
+    }
+}
+
+/// The line that tells a port.
+fn line_of(alloc: Global, port: u16) -> Result<String, AllocError>
+    ensures { IfOk result (λ line. string_bytes line ≡ port_line port) }
+{
+    format!(in alloc; "serving on 127.0.0.1:{port}\n")
+}
+
+/// A server that takes connections, and whose port was told. It can't be let go of but by `close`, which joins its thread.
+pub(crate) struct OpenServer<J: Naming> {
+    server: Arc<Server<J>>,
+    acceptor: JoinHandle<()>,
+}
+
+impl<J: Naming + Send + Sync + 'static> OpenServer<J> {
+    /// Tells the port once connections are taken. Where standard error fails, clients come all the same.
+    pub(crate) fn new<R, E: CountedWrite>(
+        rt: &R,
+        alloc: Global,
+        server: Server<J>,
+        err: &mut E,
+    ) -> Result<OpenServer<J>, Fault>
+    where
+        R: Wait + Threads + Clock + Copy + Send + Sync + 'static,
+        ensures told { OnOk result (IsPortTold E.CountedWrite err.old err.new) }
+        ensures same { OnErr result (err.new ≡ err.old) }
+        ensures err { IfErr result (λ e. status_of e ≡ 2) }
+    {
+        let port = server.door.port()?;
+        let line = line_of(alloc, port)?;
+        let server = Arc::new(alloc, server)?;
+        let acceptor = accepting(rt, alloc, &server)?;
+        let _ = put(err, line.as_str().as_bytes());
+        Ok(OpenServer { server, acceptor })
+    }
+
+    /// The inputs that the sessions stage.
+    pub(crate) fn stage(&self) -> &Stage {
+        &self.server.stage
+    }
+
+    /// Takes no connection any more, and ends each session and the thread.
+    pub(crate) fn close<R: Threads + Wait>(self, rt: &R) {
+        let OpenServer { server, acceptor } = self;
+        server.door.shut();
+        server.places.close(rt);
+        acceptor.join(rt);
+    }
 }

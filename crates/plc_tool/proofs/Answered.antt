@@ -8,7 +8,7 @@ use Rattle.debugger.specs.Owned.{Owned, cold_owned}
 use Rattle.plc_json.specs.declared.command.NamedCommand.{NamedCommand}
 use Rattle.plc_tool.specs.declared.fault.Fault.{Fault}
 use Rattle.plc_tool.specs.Lines.{lines_of}
-use Rattle.plc_tool.specs.Meaning.{IsTypedProgramOfText, IsAnswered, Tells, program_of_text}
+use Rattle.plc_tool.specs.Meaning.{IsTypedProgramOfText, IsAnswered, IsTextFault, OrMemory}
 use Rattle.plc_tool.specs.Named.{answers_by}
 use Rattle.plc_tool.specs.Putting.{Puts, IsRun, IsRunCutShort, IsWhyStopped}
 
@@ -26,6 +26,6 @@ module _ {W : Type 0} (w : CountedWriter W) (text : List ℕ) (budget : ℕ) (co
   is_run (Err e) h = tt
 
   pub is_cut_short : (r : Result (Unit {0}) Fault) → Puts w (lines_of (answers_by c commands)) old new r
-      → IfErr r (λ e. IsWhyStopped e (w.faults old) (w.faults new) × IsRunCutShort w text budget commands old new ⊎ Tells e (program_of_text text) × new ≡ old)
+      → IfErr r (λ e. IsWhyStopped e (w.faults old) (w.faults new) × IsRunCutShort w text budget commands old new ⊎ OrMemory (IsTextFault text) e × new ≡ old)
   is_cut_short (Ok x) h = tt
   is_cut_short (Err e) h = inl (h.why, record { answers = answers_by c commands; are = are; written = h.sent })

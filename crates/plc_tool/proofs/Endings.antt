@@ -10,25 +10,11 @@ use Rattle.plc_json.specs.Commands.{HasNoCommands}
 use Rattle.plc_json.specs.Events.{HasSchedule, HasNoSchedule}
 use Rattle.plc_tool.specs.declared.fault.Fault.{Fault}
 use Rattle.plc_tool.specs.declared.fault.Fault.TheVariants as faults
-use Rattle.plc_tool.specs.Meaning.{Tells, IsRefused, IsFirstFault, program_of_text}
-use Rattle.plc_tool.specs.Putting.{IsWhyStopped}
-use Rattle.plc_tool.specs.Simulated.{IsToldOf, IsRefusedInput, IsBadSchedule, IsFaultOfSchedule}
+use Rattle.plc_tool.specs.Meaning.{IsTextFault, IsGoodText, OrMemory, IsRefused, IsFirstFault}
+use Rattle.plc_tool.specs.Putting.{IsWhyStopped, IsFaultOfRun}
+use Rattle.plc_tool.specs.Simulated.{IsToldOf, IsFaultOfSchedule}
 use Rattle.plc_tool.specs.Status.{status_of, fault_of}
 use Rattle.plc_tool.specs.Telling.{Ends, EndsTold, StopsShort, WentOut, fault_line}
-
--- a fault is told of what has it
-tells_itself : (Y : Type 0) (f : Fault) → Tells {Y = Y} f (Err f)
-tells_itself Y (faults.Read number line column) = refl
-tells_itself Y (faults.Declaration number line column) = refl
-tells_itself Y (faults.Assembly number instruction) = refl
-tells_itself Y (faults.Load number) = refl
-tells_itself Y (faults.LoadAt number position) = refl
-tells_itself Y faults.Commands = refl
-tells_itself Y faults.Schedule = refl
-tells_itself Y (faults.ScheduleAt index reason) = refl
-tells_itself Y faults.Store = refl
-tells_itself Y faults.Device = refl
-tells_itself Y faults.Memory = tt
 
 -- a device's fault and want of memory are no refusal of input
 no_input : {Y : Type 0} (e : Fault) → (e ≡ faults.Device) ⊎ (e ≡ faults.Memory) → status_of e ≡ 1 → Y
@@ -40,11 +26,16 @@ why_stopped before after e (inl device) = inl device.0
 why_stopped before after e (inr memory) = inr memory
 
 module _ {W : Type 0} (w : CountedWriter W) (F : Fault → Type 0) (status : ℕ) (old new : W) where
+  -- what was told at a status of 1 is such a fault
+  input_told : (e : Fault) → OrMemory F e → status_of e ≡ 1 → F e
+  input_told e (inl told) one = told
+  input_told e (inr memory) one = no_input e (inr memory) one
+
   -- it stopped for a device or for memory, or at a fault
   pub by_end : (A B : Type 0) (Why : Fault → Type 0) → ((e : Fault) → Why e → (e ≡ faults.Device) ⊎ (e ≡ faults.Memory)) → (r : Result (Unit {0}) Fault)
-      → IfErr r (λ e. Why e × A ⊎ F e × B) → Ends w r status old new → EndsTold w F status old new
+      → IfErr r (λ e. Why e × A ⊎ OrMemory F e × B) → Ends w r status old new → EndsTold w F status old new
   by_end A B Why stops (Ok x) h ends = inl ends
-  by_end A B Why stops (Err e) h ends = inr (record { fault = e; answered = ends.0; is = λ one. elim h [ inl why ↦ no_input e (stops e why.0) one | inr told ↦ told.0 ]; line = ends.1 })
+  by_end A B Why stops (Err e) h ends = inr (record { fault = e; answered = ends.0; is = λ one. elim h [ inl why ↦ no_input e (stops e why.0) one | inr told ↦ input_told e told.0 one ]; line = ends.1 })
 
   -- at a status of 1 the fault that was told is one of these
   pub told_at_1 : EndsTold w F status old new → status ≡ 1 → (e : Fault) × (status_of e ≡ 1) × F e
@@ -56,37 +47,35 @@ module _ {W : Type 0} (w : CountedWriter W) (F : Fault → Type 0) (status : ℕ
   wider G more (inl good) = inl good
   wider G more (inr told) = inr (record { fault = told.fault; answered = told.answered; is = λ one. more told.fault (told.is one); line = told.line })
 
--- what is told first is the program's fault, or the other
-pub first_told : {Y : Type 0} (m : Result Y Fault) (G : Fault → Type 0) (fault first : Fault) → IsFirstFault m fault first → (status_of fault ≡ 1 → G fault) → status_of first ≡ 1 → Tells first m ⊎ G first
-first_told (Ok y) G fault first (inl e) g one = inr (subst G (sym e) (g (ap status_of (sym e) ∙ one)))
-first_told (Ok y) G fault first (inr memory) g one = no_input first (inr memory) one
-first_told {Y = Y} (Err f) G fault first (inl e) g one = inl (subst (λ (x : Fault). Tells {Y = Y} x (Err f)) (sym e) (tells_itself Y f))
-first_told (Err f) G fault first (inr memory) g one = no_input first (inr memory) one
+-- what is told first is the text's fault, or the other of a good text
+pub first_told : (text : List ℕ) (G : Fault → Type 0) (fault first : Fault) → IsFirstFault text fault first → (status_of fault ≡ 1 → G fault) → status_of first ≡ 1
+    → IsTextFault text first ⊎ G first × IsGoodText text
+first_told text G fault first (inl (inl told)) g one = inl told
+first_told text G fault first (inl (inr other)) g one = inr (subst G (sym other.0) (g (ap status_of (sym other.0) ∙ one)), other.1)
+first_told text G fault first (inr memory) g one = no_input first (inr memory) one
 
 -- the bytes of a file gave no commands
 pub no_commands : (file : List ℕ) (json : JsonFault) (fault : Fault) → fault ≡ fault_of json → (json ≡ Shape → HasNoCommands file) → status_of fault ≡ 1 → (fault ≡ faults.Commands) × HasNoCommands file
 no_commands file Shape fault is none one = (is, none refl)
 no_commands file Memory fault is none one = no_input fault (inr is) one
 
+pub of_run : (text file : List ℕ) (e : Fault) → IsTextFault text e ⊎ ((e ≡ faults.Commands) × HasNoCommands file) × IsGoodText text → IsFaultOfRun text file e
+of_run text file e (inl told) = inl told
+of_run text file e (inr none) = inr (none.0.0, none.0.1, none.1)
+
 -- the events that the bytes of a file have are refused
 pub of_events : (text : List ℕ) (f budget : ℕ) (file : List ℕ) (named : List NamedEvent) → HasSchedule file named → (e : Fault) → IsToldOf text f budget named e → IsFaultOfSchedule text f budget file e
 of_events text f budget file named has e (inl told) = inl told
 of_events text f budget file named has e (inr refused) = inr (inr (named, has, refused))
 
-pub bad_schedule : (text : List ℕ) (f budget : ℕ) (file : List ℕ) (named : List NamedEvent) → HasSchedule file named → IsRefusedInput text f budget named → IsRefused (program_of_text text) ⊎ IsBadSchedule text f budget file
-bad_schedule text f budget file named has h = elim h.is [
-  | inl told ↦ inl (record { fault = h.fault; input = h.input; is = told })
-  | inr refused ↦ inr (inr (record { named = named; has = has; fault = h.fault; refused = refused }))
-]
-
 -- the bytes of a file gave no schedule
-pub no_schedule : (text : List ℕ) (f budget : ℕ) (file : List ℕ) (e : Fault) → Tells e (program_of_text text) ⊎ (e ≡ faults.Schedule) × HasNoSchedule file → IsFaultOfSchedule text f budget file e
+pub no_schedule : (text : List ℕ) (f budget : ℕ) (file : List ℕ) (e : Fault) → IsTextFault text e ⊎ ((e ≡ faults.Schedule) × HasNoSchedule file) × IsGoodText text → IsFaultOfSchedule text f budget file e
 no_schedule text f budget file e (inl told) = inl told
-no_schedule text f budget file e (inr none) = inr (inl none)
+no_schedule text f budget file e (inr none) = inr (inl (none.0.0, none.0.1, none.1))
 
 -- memory ran out for what the bytes of a file are
-pub no_memory : (text : List ℕ) (f budget : ℕ) (file : List ℕ) (first : Fault) → IsFirstFault (program_of_text text) faults.Memory first → status_of first ≡ 1 → IsFaultOfSchedule text f budget file first
-no_memory text f budget file first told one = elim (first_told (program_of_text text) (λ (f : Fault). ⊥) faults.Memory first told (no_input faults.Memory (inr refl)) one) [ inl t ↦ inl t | inr x ↦ absurd x ]
+pub no_memory : (text : List ℕ) (f budget : ℕ) (file : List ℕ) (first : Fault) → IsFirstFault text faults.Memory first → status_of first ≡ 1 → IsFaultOfSchedule text f budget file first
+no_memory text f budget file first told one = elim (first_told text (λ (f : Fault). ⊥) faults.Memory first told (no_input faults.Memory (inr refl)) one) [ inl t ↦ inl t | inr x ↦ absurd x.0 ]
 
 -- a status of 1 is that of a fault of the input: the call stopped before it wrote
 pub unwritten : (A B : Type 0) (Why F : Fault → Type 0) → ((e : Fault) → Why e → (e ≡ faults.Device) ⊎ (e ≡ faults.Memory)) → (r : Result (Unit {0}) Fault) (status : ℕ) → status ≡ 1 → OnOk r (status ≡ 0)
@@ -95,43 +84,33 @@ unwritten A B Why F stops (Ok x) status one none told h = absurd (omega arith)
 unwritten A B Why F stops (Err e) status one none told (inl why) = no_input e (stops e why.0) (sym told ∙ one)
 unwritten A B Why F stops (Err e) status one none told (inr h) = h.1
 
--- the program is refused by the fault that was told
-pub refused : {Y : Type 0} (m : Result Y Fault) → (e : Fault) × (status_of e ≡ 1) × Tells e m → IsRefused m
-refused m told = record { fault = told.0; input = told.1; is = told.2 }
+-- input is refused by the fault that was told
+pub refused : (F : Fault → Type 0) → (e : Fault) × (status_of e ≡ 1) × F e → IsRefused F
+refused F told = record { fault = told.0; input = told.1; is = told.2 }
 
--- the one fault of status 2 that is none of a device
-is_memory : (e : Fault) → status_of e ≡ 2 → (e ≡ faults.Device → ⊥) → e ≡ faults.Memory
-is_memory (faults.Read number line column) two other = absurd (omega (arith, two))
-is_memory (faults.Declaration number line column) two other = absurd (omega (arith, two))
-is_memory (faults.Assembly number instruction) two other = absurd (omega (arith, two))
-is_memory (faults.Load number) two other = absurd (omega (arith, two))
-is_memory (faults.LoadAt number position) two other = absurd (omega (arith, two))
-is_memory faults.Commands two other = absurd (omega (arith, two))
-is_memory faults.Schedule two other = absurd (omega (arith, two))
-is_memory (faults.ScheduleAt index reason) two other = absurd (omega (arith, two))
-is_memory faults.Store two other = absurd (omega (arith, two))
-is_memory faults.Device two other = absurd (other refl)
-is_memory faults.Memory two other = refl
+-- of the faults that are told at a status of 2 that of input is none
+is_memory : (F : Fault → Type 0) → ((e : Fault) → F e → status_of e ≡ 1) → (e : Fault) → OrMemory F e → status_of e ≡ 2 → e ≡ faults.Memory
+is_memory F input e (inl told) two = absurd (omega (arith, input e told, two))
+is_memory F input e (inr memory) two = memory
 
 module _ {W : Type 0} (w : CountedWriter W) (old new : W) where
   told_as : (e f : Fault) → e ≡ f → WentOut w (fault_line e) old new → WentOut w (fault_line f) old new
   told_as e f is line = subst (λ (x : Fault). WentOut w (fault_line x) old new) is line
 
   -- at a status of 2 a device failed in the call, or memory ran out before it wrote
-  pub stops_short : (F : Fault → Type 0) (A B : Type 0) (r : Result (Unit {0}) Fault) (status : ℕ) → (F faults.Device → ⊥) → status ≡ 2
-      → IfErr r (λ e. (e ≡ faults.Device) × A ⊎ F e × B) → Ends w r status old new → StopsShort w A B old new
-  stops_short F A B (Ok x) status other two h ends = absurd (omega (arith, ends.0, two))
-  stops_short F A B (Err e) status other two (inl h) ends = inl (h.1, told_as e faults.Device h.0 ends.1)
-  stops_short F A B (Err e) status other two (inr h) ends =
-      inr (h.1, told_as e faults.Memory (is_memory e (sym ends.0 ∙ two) (λ device. other (subst F device h.0))) ends.1)
+  pub stops_short : (F : Fault → Type 0) (A B : Type 0) (r : Result (Unit {0}) Fault) (status : ℕ) → ((e : Fault) → F e → status_of e ≡ 1) → status ≡ 2
+      → IfErr r (λ e. (e ≡ faults.Device) × A ⊎ OrMemory F e × B) → Ends w r status old new → StopsShort w A B old new
+  stops_short F A B (Ok x) status input two h ends = absurd (omega (arith, ends.0, two))
+  stops_short F A B (Err e) status input two (inl h) ends = inl (h.1, told_as e faults.Device h.0 ends.1)
+  stops_short F A B (Err e) status input two (inr h) ends = inr (h.1, told_as e faults.Memory (is_memory F input e h.0 (sym ends.0 ∙ two)) ends.1)
 
   -- at a status of 2 a device failed in the call, or memory ran out in it
-  pub stops_late : (F : Fault → Type 0) (A B : Type 0) (before after : ℕ) (r : Result (Unit {0}) Fault) (status : ℕ) → (F faults.Device → ⊥) → status ≡ 2
-      → IfErr r (λ e. IsWhyStopped e before after × A ⊎ F e × B) → Ends w r status old new → StopsShort w (A × Failed before after) (A ⊎ B) old new
-  stops_late F A B before after (Ok x) status other two h ends = absurd (omega (arith, ends.0, two))
-  stops_late F A B before after (Err e) status other two (inl h) ends = elim h.0 [
+  pub stops_late : (F : Fault → Type 0) (A B : Type 0) (before after : ℕ) (r : Result (Unit {0}) Fault) (status : ℕ) → ((e : Fault) → F e → status_of e ≡ 1) → status ≡ 2
+      → IfErr r (λ e. IsWhyStopped e before after × A ⊎ OrMemory F e × B) → Ends w r status old new → StopsShort w (A × Failed before after) (A ⊎ B) old new
+  stops_late F A B before after (Ok x) status input two h ends = absurd (omega (arith, ends.0, two))
+  stops_late F A B before after (Err e) status input two (inl h) ends = elim h.0 [
     | inl device ↦ inl ((h.1, device.1), told_as e faults.Device device.0 ends.1)
     | inr memory ↦ inr (inl h.1, told_as e faults.Memory memory ends.1)
   ]
-  stops_late F A B before after (Err e) status other two (inr h) ends =
-      inr (inr h.1, told_as e faults.Memory (is_memory e (sym ends.0 ∙ two) (λ device. other (subst F device h.0))) ends.1)
+  stops_late F A B before after (Err e) status input two (inr h) ends =
+      inr (inr h.1, told_as e faults.Memory (is_memory F input e h.0 (sym ends.0 ∙ two)) ends.1)

@@ -7,4 +7,5 @@ mod Items
 mod Known
 mod Reported
 mod Endings
-mod NoDevice
+mod Inputs
+mod OneMeaning

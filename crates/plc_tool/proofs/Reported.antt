@@ -9,7 +9,7 @@ use Rattle.schedules.specs.declared.event.WorldEvent.{WorldEvent}
 use Rattle.schedules.specs.declared.trace.Trace.{Trace}
 use Rattle.schedules.specs.Traces.{IsTraced}
 use Rattle.plc_tool.specs.declared.fault.Fault.{Fault}
-use Rattle.plc_tool.specs.Meaning.{IsTypedProgramOfText}
+use Rattle.plc_tool.specs.Meaning.{IsTypedProgramOfText, OrMemory}
 use Rattle.plc_tool.specs.Putting.{Puts, IsWhyStopped}
 use Rattle.plc_tool.specs.Simulated.{AreKnown, IsSimulated, IsReportCutShort, IsToldOf, report_line}
 
@@ -23,7 +23,7 @@ module _ {W : Type 0} (w : CountedWriter W) (trace : Trace) (old new : W) where
 
   pub is_cut_short : (text : List ℕ) (f budget : ℕ) (Q : Text) (named : List NamedEvent) (events : List WorldEvent) → IsTypedProgramOfText text Q → AreKnown Q named events
       → IsTraced f (answer_to Q budget) events trace → trace.lost.items ≡ [] → (r : Result (Unit {0}) Fault) → Puts w (report_line trace) old new r
-      → IfErr r (λ e. IsWhyStopped e (w.faults old) (w.faults new) × IsReportCutShort text f budget named (w.held old) (w.held new) ⊎ IsToldOf text f budget named e × new ≡ old)
+      → IfErr r (λ e. IsWhyStopped e (w.faults old) (w.faults new) × IsReportCutShort text f budget named (w.held old) (w.held new) ⊎ OrMemory (IsToldOf text f budget named) e × new ≡ old)
   is_cut_short text f budget Q named events is known traced none (Ok x) h = tt
   is_cut_short text f budget Q named events is known traced none (Err e) h =
       inl (h.why, record { program = Q; is = is; events = events; known = known; trace = trace; traced = traced; none_lost = none; written = h.sent })

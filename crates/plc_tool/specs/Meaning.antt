@@ -1,32 +1,32 @@
 -- What a text means: its program, and the answers to commands.
-use Rattle.std.specs.Prelude.{◌≡◌, ◌⊎◌, ℕ, List, ◌++◌, map, take, codes, Option, Result, Ok, Err}
+use Rattle.std.specs.Prelude.{◌≡◌, ◌⊎◌, ℕ, List, ◌++◌, map, take, codes, Option, Ok, Err}
 use Rattle.std.specs.Fmt.{decimal}
 use Rattle.std.specs.Io.KnownBytes.{Appends}
 use Rattle.il_model.specs.declared.command.Answer.{Answer}
 use Rattle.il_model.specs.Text.{Text}
 use Rattle.il_model.specs.declared.typing.TypeFault.{TypeFault}
-use Rattle.il_model.specs.Typing.{IsTyped, fault_number}
-use Rattle.il_model.specs.Settled.{settled}
+use Rattle.il_model.specs.Typing.{IsTyped}
+use Rattle.il_model.specs.Settled.{typed_program_of}
 use Rattle.il_model.specs.Marks.{words_in}
 use Rattle.il_model.specs.Image.{spelling}
 use Rattle.il_model.specs.Fits.{IsImage}
 use Rattle.il_model.specs.Counted.{Failed}
 use Rattle.il_model.specs.declared.counted.CountedWrite.{Ghosts as CountedWriter}
 use Rattle.controller_model.specs.Commands.{answers_of}
-use Rattle.il_reader.specs.Faults as Read
 use Rattle.il_reader.specs.Texts.{SourceText, Reads, source_of}
 use Rattle.il_reader.specs.declared.fault.Fault as read_faults
-use Rattle.declarations.specs.Faults as Declared
+use Rattle.il_reader.specs.declared.fault.ReadError.TheVariants as read_errors
 use Rattle.declarations.specs.Declaring as Declaring
-use Rattle.declarations.specs.FirstFault.{HasNoFault}
-use Rattle.declarations.specs.Resolution.{resolution_of}
+use Rattle.declarations.specs.FirstFault.{HasNoFault, IsRefused as IsRefusedSource}
 use Rattle.declarations.specs.declared.fault.Fault as declaration_faults
+use Rattle.declarations.specs.declared.fault.DeclError.TheVariants as declaration_errors
+use Rattle.assembler.specs.declared.fault.AsmError.TheVariants as assembly_errors
 use Rattle.loader.specs.declared.fault.LoadFault.{LoadFault}
 use Rattle.loader.specs.Judging.{image_of}
 use Rattle.lister.specs.Listing.{listing}
 use Rattle.plc_json.specs.declared.command.NamedCommand.{NamedCommand}
 use Rattle.plc_tool.specs.Named.{meant}
-use Rattle.plc_tool.specs.Told.{of_bytes}
+use Rattle.plc_tool.specs.Told.{of_read, of_declaration, of_assembly, of_bytes}
 use Rattle.plc_tool.specs.declared.fault.Fault.{Fault}
 use Rattle.plc_tool.specs.declared.fault.Fault.TheVariants as faults
 use Rattle.plc_tool.specs.Status.{status_of}
@@ -42,12 +42,12 @@ pub record IsProgramOf (text : List ℕ) (program : Text) : Type 0 where
 pub record IsTypedProgramOfText (text : List ℕ) (typed : Text) : Type 0 where
   pub program : Text
   pub is : IsProgramOf text program
-  pub settled : settled program ≡ Ok typed
+  pub settled : typed_program_of program ≡ Ok typed
 
 -- the bytes spell the program's typed program
 pub record IsSpelled (program : Text) (bytes : List ℕ) : Type 0 where
   pub typed : Text
-  pub settled : settled program ≡ Ok typed
+  pub settled : typed_program_of program ≡ Ok typed
   pub spelled : bytes ≡ spelling typed
 
 -- the bytes are the image of the program that the text says
@@ -65,6 +65,7 @@ words_line Q = (codes "words " ++ decimal (words_in Q.code)) ++ codes "\n"
 pub record IsAssembled (text : List ℕ) (image image_after out out_after : Option (List ℕ)) : Type 0 where
   pub program : Text
   pub is : IsTypedProgramOfText text program
+  pub has_image : IsImage program
   pub image_written : Appends image image_after (spelling program)
   pub line_written : Appends out out_after (words_line program)
 
@@ -92,8 +93,7 @@ pub record IsCutShort {W : Type 0} (w : CountedWriter W) (bytes : List ℕ) (old
   pub program : Text
   pub image : IsImage program
   pub spelled : bytes ≡ spelling program
-  pub written : (n : ℕ) × Appends (w.held old) (w.held new) (take n (listing program))
-  pub device : Failed (w.faults old) (w.faults new)
+  pub cut : IsCutOff w (listing program) old new
 
 -- what a controller of the program answers to commands with names, at so many instructions a scan
 abbrev pub answers_to : Text → ℕ → List NamedCommand → List Answer
@@ -106,73 +106,63 @@ pub record IsAnswered (text : List ℕ) (budget : ℕ) (commands : List NamedCom
   pub typed : IsTyped program
   pub answers_are : answers ≡ answers_to program budget commands
 
--- ---- the same as a function, with the first fault that is told
+-- ---- the first fault of a text
 
-abbrev pub settled_by : Result Text (TypeFault × ℕ) → Result Text Fault
-settled_by (Ok Q) = Ok Q
-settled_by (Err f) = Err (faults.Assembly (fault_number f.0) f.1)
+-- the text is no source, and this is told of it
+pub record IsReadFault (text : List ℕ) (told : Fault) : Type 0 where
+  pub fault : read_faults.Fault
+  pub unread : source_of text ≡ Err fault
+  pub is : told ≡ of_read (read_errors.Fault fault)
 
--- the typed program of a program
-abbrev pub typed_program : Text → Result Text Fault
-typed_program P = settled_by (settled P)
+-- it is a source, and this is told of the first fault of what it declares
+pub record IsDeclarationFault (text : List ℕ) (told : Fault) : Type 0 where
+  pub source : SourceText
+  pub read : Reads text source
+  pub fault : declaration_faults.Fault
+  pub undeclared : IsRefusedSource source fault
+  pub is : told ≡ of_declaration (declaration_errors.Fault fault)
 
-abbrev pub resolved_by : Result Text declaration_faults.Fault → Result Text Fault
-resolved_by (Ok P) = typed_program P
-resolved_by (Err f) = Err (faults.Declaration (Declared.kind_number f.kind) f.place.line f.place.column)
+-- the program has no typed program, and this is told of its first fault
+pub record IsUntyped (program : Text) (told : Fault) : Type 0 where
+  pub fault : TypeFault
+  pub instruction : ℕ
+  pub untyped : typed_program_of program ≡ Err (fault, instruction)
+  pub is : told ≡ of_assembly (assembly_errors.Fault fault instruction)
 
-abbrev pub read_by : Result SourceText read_faults.Fault → Result Text Fault
-read_by (Ok s) = resolved_by (resolution_of s)
-read_by (Err f) = Err (faults.Read (Read.kind_number f.kind) f.place.line f.place.column)
+-- it says a program, and this is told of that one's first fault
+pub record IsTypingFault (text : List ℕ) (told : Fault) : Type 0 where
+  pub program : Text
+  pub is : IsProgramOf text program
+  pub untyped : IsUntyped program told
 
--- the typed program of a text, or the first fault of the first layer that refuses it
-abbrev pub program_of_text : List ℕ → Result Text Fault
-program_of_text text = read_by (source_of text)
+-- the text says no program, and this is told of it
+abbrev pub IsProgramFault : List ℕ → Fault → Type 0
+IsProgramFault text told = IsReadFault text told ⊎ IsDeclarationFault text told
 
-abbrev pub spelled_by : Result Text Fault → Result (List ℕ) Fault
-spelled_by (Ok Q) = Ok (spelling Q)
-spelled_by (Err f) = Err f
+-- what is told of a text that has no typed program: its first fault, in the first layer that refuses it
+abbrev pub IsTextFault : List ℕ → Fault → Type 0
+IsTextFault text told = IsProgramFault text told ⊎ IsTypingFault text told
 
--- the bytes of the image of a text, or that fault
-abbrev pub image_of_text : List ℕ → Result (List ℕ) Fault
-image_of_text text = spelled_by (program_of_text text)
+-- what is told of bytes that are no image: their first fault
+pub record IsImageFault (bytes : List ℕ) (told : Fault) : Type 0 where
+  pub fault : LoadFault
+  pub unloaded : image_of bytes ≡ Err fault
+  pub is : told ≡ of_bytes fault
 
-abbrev pub loaded_by : Result Text LoadFault → Result Text Fault
-loaded_by (Ok Q) = Ok Q
-loaded_by (Err f) = Err (of_bytes f)
+-- such a fault is told, or that memory ran out
+abbrev pub OrMemory : (Fault → Type 0) → Fault → Type 0
+OrMemory IsFault told = IsFault told ⊎ (told ≡ faults.Memory)
 
--- the program that bytes spell, or the first fault of bytes that are no image
-abbrev pub program_of_bytes : List ℕ → Result Text Fault
-program_of_bytes bytes = loaded_by (image_of bytes)
-
-abbrev pub answered_by : ℕ → List NamedCommand → Result Text Fault → Result (List Answer) Fault
-answered_by budget commands (Ok P) = Ok (answers_to P budget commands)
-answered_by budget commands (Err f) = Err f
-
--- what a text answers to commands
-abbrev pub meaning : List ℕ → ℕ → List NamedCommand → Result (List Answer) Fault
-meaning text budget commands = answered_by budget commands (program_of_text text)
-
--- What a call answered, seen by view, is this, unless memory ran out.
-abbrev pub Tells : {Y : Type 0} → Fault → Result Y Fault → Type 0
-Tells faults.Memory m = Unit {0}
-Tells f m = m ≡ Err f
-
-abbrev pub Gives : {X Y : Type 0} → (X → Y) → Result X Fault → Result Y Fault → Type 0
-Gives view (Ok x) m = m ≡ Ok (view x)
-Gives view (Err f) m = Tells f m
-
--- What a call that looks for a program found, unless memory ran out: one whose typed program this is, or its fault.
-abbrev pub Says : Result Text Fault → Result Text Fault → Type 0
-Says (Ok P) m = m ≡ typed_program P
-Says (Err f) m = Tells f m
-
--- A program is refused: its first fault is one of input.
-pub record IsRefused {Y : Type 0} (m : Result Y Fault) : Type 0 where
+-- input is refused: it has a fault
+pub record IsRefused (IsFault : Fault → Type 0) : Type 0 where
   pub fault : Fault
   pub input : status_of fault ≡ 1
-  pub is : Tells fault m
+  pub is : IsFault fault
 
--- The fault that is told: that of the program, and else this one; or that memory ran out.
-abbrev pub IsFirstFault : {Y : Type 0} → Result Y Fault → Fault → Fault → Type 0
-IsFirstFault (Ok y) fault told = (told ≡ fault) ⊎ (told ≡ faults.Memory)
-IsFirstFault (Err f) fault told = (told ≡ f) ⊎ (told ≡ faults.Memory)
+-- no layer refuses the text: it has a typed program
+abbrev pub IsGoodText : List ℕ → Type 0
+IsGoodText text = (typed : Text) × IsTypedProgramOfText text typed
+
+-- the fault that is told where another file has one: that of the text, and of a good text that one; or that memory ran out
+abbrev pub IsFirstFault : List ℕ → Fault → Fault → Type 0
+IsFirstFault text fault = OrMemory (λ told. IsTextFault text told ⊎ ((told ≡ fault) × IsGoodText text))

@@ -7,7 +7,7 @@ use Rattle.il_model.specs.declared.command.Answer.{Answer}
 use Rattle.plc_json.specs.declared.command.NamedCommand.{NamedCommand}
 use Rattle.plc_tool.specs.Lines.{lines_of}
 use Rattle.plc_json.specs.Commands.{HasNoCommands}
-use Rattle.plc_tool.specs.Meaning.{IsAnswered, Tells, program_of_text}
+use Rattle.plc_tool.specs.Meaning.{IsAnswered, IsTextFault, IsGoodText}
 use Rattle.plc_tool.specs.declared.fault.Fault.{Fault}
 use Rattle.plc_tool.specs.declared.fault.Fault.TheVariants as faults
 
@@ -33,6 +33,6 @@ pub record IsRunCutShort {W : Type 0} (w : CountedWriter W) (text : List ℕ) (b
 abbrev pub IsWhyStopped : Fault → ℕ → ℕ → Type 0
 IsWhyStopped fault before after = ((fault ≡ faults.Device) × Failed before after) ⊎ (fault ≡ faults.Memory)
 
--- why a run is refused: by the first fault of its text; else the bytes of a file are no list of commands
+-- What is told of a run that is refused: the first fault of the text; or the text is good, and the bytes of the file are no list of commands.
 abbrev pub IsFaultOfRun : List ℕ → List ℕ → Fault → Type 0
-IsFaultOfRun text file fault = Tells fault (program_of_text text) ⊎ ((fault ≡ faults.Commands) × HasNoCommands file)
+IsFaultOfRun text file fault = IsTextFault text fault ⊎ ((fault ≡ faults.Commands) × HasNoCommands file × IsGoodText text)

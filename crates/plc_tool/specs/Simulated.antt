@@ -18,9 +18,8 @@ use Rattle.plc_json.specs.declared.command.NamedCommand.TheVariants as named
 use Rattle.plc_json.specs.declared.event.NamedEvent.{NamedEvent}
 use Rattle.plc_json.specs.declared.event.NamedEvent.TheVariants as asked
 use Rattle.plc_json.specs.Events.{HasSchedule, HasNoSchedule}
-use Rattle.plc_tool.specs.Meaning.{IsTypedProgramOfText, Tells, program_of_text}
+use Rattle.plc_tool.specs.Meaning.{IsTypedProgramOfText, IsTextFault, IsGoodText}
 use Rattle.plc_tool.specs.Reports.{report_text}
-use Rattle.plc_tool.specs.Status.{status_of}
 use Rattle.plc_tool.specs.declared.fault.Fault.{Fault}
 use Rattle.plc_tool.specs.declared.fault.Fault.TheVariants as faults
 
@@ -109,27 +108,11 @@ pub record IsScheduleRefused (text : List ℕ) (f budget : ℕ) (named : List Na
 
 -- what is told of input that is refused: the first fault of the text, or that of the schedule
 abbrev pub IsToldOf : List ℕ → ℕ → ℕ → List NamedEvent → Fault → Type 0
-IsToldOf text f budget named told = Tells told (program_of_text text) ⊎ IsScheduleRefused text f budget named told
+IsToldOf text f budget named told = IsTextFault text told ⊎ IsScheduleRefused text f budget named told
 
--- the text or the schedule is refused
-pub record IsRefusedInput (text : List ℕ) (f budget : ℕ) (named : List NamedEvent) : Type 0 where
-  pub fault : Fault
-  pub input : status_of fault ≡ 1
-  pub is : IsToldOf text f budget named fault
-
--- the bytes of a file have these events, and they are refused for the program of a text
-pub record HasRefusedSchedule (text : List ℕ) (f budget : ℕ) (file : List ℕ) : Type 0 where
-  pub named : List NamedEvent
-  pub has : HasSchedule file named
-  pub fault : Fault
-  pub refused : IsScheduleRefused text f budget named fault
-
--- the bytes of a file have no events, or events that are refused
-abbrev pub IsBadSchedule : List ℕ → ℕ → ℕ → List ℕ → Type 0
-IsBadSchedule text f budget file = HasNoSchedule file ⊎ HasRefusedSchedule text f budget file
-
--- why a schedule is refused that the bytes of a file are to be: by the first fault of the text; else they are none, or its names or its events are refused
+-- What is told of a schedule that is refused: the first fault of the text; or the text is good, and the bytes of the file are no schedule, or
+-- they are one, and a name in it is unknown or an event can't take place.
 abbrev pub IsFaultOfSchedule : List ℕ → ℕ → ℕ → List ℕ → Fault → Type 0
 IsFaultOfSchedule text f budget file fault =
-    Tells fault (program_of_text text)
-    ⊎ (((fault ≡ faults.Schedule) × HasNoSchedule file) ⊎ ((named : List NamedEvent) × HasSchedule file named × IsScheduleRefused text f budget named fault))
+    IsTextFault text fault
+    ⊎ (((fault ≡ faults.Schedule) × HasNoSchedule file × IsGoodText text) ⊎ ((named : List NamedEvent) × HasSchedule file named × IsScheduleRefused text f budget named fault))

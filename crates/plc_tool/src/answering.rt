@@ -2,8 +2,8 @@
 
 ghost use Rattle.std.specs.Prelude.{◌≡◌, Ok, IfOk, IfErr};
 ghost use Rattle.il_model.specs.Declarable.{IsDeclared};
-ghost use Rattle.il_model.specs.Settled.{settled};
-ghost use Rattle.plc_tool.specs.Meaning.{IsSpelled, IsProgramOf, IsTypedProgramOfText, IsImageOfText, IsAnswered, Says, Gives, typed_program, program_of_text, image_of_text, meaning};
+ghost use Rattle.il_model.specs.Settled.{typed_program_of};
+ghost use Rattle.plc_tool.specs.Meaning.{IsSpelled, IsProgramOf, IsTypedProgramOfText, IsImageOfText, IsAnswered, IsProgramFault, IsUntyped, IsTextFault, OrMemory};
 
 use crate::fault::Fault;
 use crate::naming::answers_of;
@@ -20,7 +20,7 @@ use std::alloc::Global;
 fn loaded(alloc: Global, program: &Program, bytes: &[u8]) -> Result<Image, Fault>
     requires declared { IsDeclared program.now }
     requires spelled { IsSpelled program.now bytes.now }
-    ensures settled { IfOk result (λ i. settled program.now ≡ Ok i) }
+    ensures settled { IfOk result (λ i. typed_program_of program.now ≡ Ok i) }
     ensures fault { IfErr result (λ e. e ≡ Fault.Memory) }
 {
     match load(alloc, bytes) {
@@ -33,8 +33,8 @@ fn loaded(alloc: Global, program: &Program, bytes: &[u8]) -> Result<Image, Fault
 /// The image of a program: that of its typed program.
 fn image_of(alloc: Global, program: &Program) -> Result<Image, Fault>
     requires { IsDeclared program.now }
-    ensures settled { IfOk result (λ i. settled program.now ≡ Ok i) }
-    ensures exact { Gives (λ i. i) result (typed_program program.now) }
+    ensures settled { IfOk result (λ i. typed_program_of program.now ≡ Ok i) }
+    ensures refused { IfErr result (OrMemory (IsUntyped program.now)) }
 {
     let bytes = assemble(alloc, program)?;
     loaded(alloc, program, bytes.as_slice())
@@ -44,7 +44,7 @@ fn image_of(alloc: Global, program: &Program) -> Result<Image, Fault>
 fn program(alloc: Global, text: &[u8]) -> Result<Program, Fault>
     ensures declared { IfOk result (λ p. IsDeclared p) }
     ensures found { IfOk result (λ p. IsProgramOf text.now p) }
-    ensures exact { Says result (program_of_text text.now) }
+    ensures refused { IfErr result (OrMemory (IsProgramFault text.now)) }
 {
     let source = read(alloc, text)?;
     Ok(resolve(alloc, source)?)
@@ -52,8 +52,10 @@ fn program(alloc: Global, text: &[u8]) -> Result<Program, Fault>
 
 /// The image of the program of a text, or the first fault of the first layer that refuses it.
 pub fn image(alloc: Global, text: &[u8]) -> Result<Image, Fault>
+    // The image is that of the typed program that the text says.
     ensures found { IfOk result (λ i. IsTypedProgramOfText text.now i) }
-    ensures exact { Gives (λ i. i) result (program_of_text text.now) }
+    // What is told is the text's first fault, or that memory ran out.
+    ensures refused { IfErr result (OrMemory (IsTextFault text.now)) }
 {
     let program = program(alloc, text)?;
     image_of(alloc, &program)
@@ -63,8 +65,8 @@ pub fn image(alloc: Global, text: &[u8]) -> Result<Image, Fault>
 pub fn image_bytes(alloc: Global, text: &[u8]) -> Result<Vec<u8>, Fault>
     // They spell the text's typed program.
     ensures found { IfOk result (λ v. IsImageOfText text.now v.items) }
-    // Which bytes or which fault it is, unless memory runs out.
-    ensures exact { Gives (λ v. v.items) result (image_of_text text.now) }
+    // What is told is the text's first fault, or that memory ran out.
+    ensures refused { IfErr result (OrMemory (IsTextFault text.now)) }
 {
     let program = program(alloc, text)?;
     Ok(assemble(alloc, &program)?)
@@ -79,8 +81,8 @@ pub fn answers(
 ) -> Result<Vec<Answer>, Fault>
     // What is answered is what the definitions give for the text's program.
     ensures found { IfOk result (λ v. IsAnswered text.now budget.instructions commands.now v.items) }
-    // Which answers or which fault it is, unless memory runs out.
-    ensures exact { Gives (λ v. v.items) result (meaning text.now budget.instructions commands.now) }
+    // What is told is the text's first fault, or that memory ran out.
+    ensures refused { IfErr result (OrMemory (IsTextFault text.now)) }
 {
     let image = image(alloc, text)?;
     image.lawful();

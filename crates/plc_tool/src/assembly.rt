@@ -4,7 +4,7 @@ ghost use Rattle.std.specs.Prelude.{◌≡◌, ◌⊎◌, ◌<◌, ◌≤◌, �
 ghost use Rattle.il_model.specs.Text.{Text};
 ghost use Rattle.il_model.specs.Marks.{words_in};
 ghost use Rattle.il_model.specs.Image.{spelling};
-ghost use Rattle.plc_tool.specs.Meaning.{IsAssembled, IsAssemblyCutShort, Tells, image_of_text, words_line};
+ghost use Rattle.plc_tool.specs.Meaning.{IsAssembled, IsAssemblyCutShort, IsTextFault, OrMemory, words_line};
 
 use crate::answering::image_bytes;
 use crate::fault::Fault;
@@ -41,7 +41,7 @@ pub fn put_image<I: CountedWrite, W: CountedWrite>(
         (I.held image_out.old) (I.held image_out.new) (W.held out.old) (W.held out.new)) }
     ensures err { IfErr result (λ e. ((e ≡ Fault.Device)
         × IsAssemblyCutShort I.CountedWrite W.CountedWrite text.now image_out.old image_out.new out.old out.new)
-        ⊎ (Tells e (image_of_text text.now) × ((image_out.new ≡ image_out.old) × (out.new ≡ out.old)))) }
+        ⊎ (OrMemory (IsTextFault text.now) e × ((image_out.new ≡ image_out.old) × (out.new ≡ out.old)))) }
 {
     let image = image_bytes(alloc, text)?;
     let line = words_line(alloc, image.as_slice())?;

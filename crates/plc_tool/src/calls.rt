@@ -2,13 +2,13 @@
 
 ghost use Rattle.std.specs.Prelude.{◌≡◌, ◌≤◌, ◌⊎◌, List, IfErr, IsErr, IsOk, OnOk};
 ghost use Rattle.il_model.specs.Counted.{Failed};
-ghost use Rattle.plc_tool.specs.Meaning.{IsAssembled, IsAssemblyCutShort, IsListed, IsCutShort, IsRefused, IsFirstFault, Tells, image_of_text, program_of_text, program_of_bytes};
+ghost use Rattle.plc_tool.specs.Meaning.{IsAssembled, IsAssemblyCutShort, IsListed, IsCutShort, IsTextFault, IsImageFault, IsRefused, IsFirstFault};
 ghost use Rattle.plc_json.specs.declared.command.NamedCommand.{NamedCommand};
 ghost use Rattle.plc_json.specs.declared.event.NamedEvent.{NamedEvent};
-ghost use Rattle.plc_json.specs.Commands.{HasCommands, HasNoCommands};
+ghost use Rattle.plc_json.specs.Commands.{HasCommands};
 ghost use Rattle.plc_json.specs.Events.{HasSchedule};
 ghost use Rattle.plc_tool.specs.Putting.{IsRun, IsRunCutShort, IsFaultOfRun};
-ghost use Rattle.plc_tool.specs.Simulated.{IsSimulated, IsReportCutShort, IsRefusedInput, IsBadSchedule, IsToldOf, IsFaultOfSchedule};
+ghost use Rattle.plc_tool.specs.Simulated.{IsSimulated, IsReportCutShort, IsToldOf, IsFaultOfSchedule};
 ghost use Rattle.plc_tool.specs.Status.{status_of as status_told};
 ghost use Rattle.plc_tool.specs.Telling.{Ends, EndsTold, StopsShort, WentOut, fault_line};
 ghost use Rattle.plc_tool.specs.declared.fault.Fault as told;
@@ -39,12 +39,12 @@ pub fn asm<I: CountedWrite, W: CountedWrite, E: CountedWrite>(
     ensures status { result ≤ 2 }
     ensures assembled { result ≡ 0 → IsAssembled source.now
         (I.held image_out.old) (I.held image_out.new) (W.held out.old) (W.held out.new) }
-    ensures refused { result ≡ 1 → IsRefused (image_of_text source.now) × (image_out.new ≡ image_out.old) × (out.new ≡ out.old) }
-    // Where nothing was written, memory ran out before the first byte, and that is told; else a writer failed in this call.
+    ensures refused { result ≡ 1 → IsRefused (IsTextFault source.now) × (image_out.new ≡ image_out.old) × (out.new ≡ out.old) }
+    // A device is told only where a writer failed in this call. Where memory ran out, nothing was written.
     ensures cut { result ≡ 2 → StopsShort E.CountedWrite
         (IsAssemblyCutShort I.CountedWrite W.CountedWrite source.now image_out.old image_out.new out.old out.new)
         ((image_out.new ≡ image_out.old) × (out.new ≡ out.old)) err.old err.new }
-    ensures told { EndsTold E.CountedWrite (λ fault. Tells fault (image_of_text source.now)) result err.old err.new }
+    ensures told { EndsTold E.CountedWrite (IsTextFault source.now) result err.old err.new }
 {
     ended(put_image(alloc, source, image_out, out), err)
 }
@@ -59,10 +59,10 @@ pub fn list<W: CountedWrite, E: CountedWrite>(
 ) -> u8
     ensures status { result ≤ 2 }
     ensures listed { result ≡ 0 → IsListed image.now (W.held out.old) (W.held out.new) }
-    ensures refused { result ≡ 1 → IsRefused (program_of_bytes image.now) × (out.new ≡ out.old) }
-    // Where nothing was written, memory ran out before the first line, and that is told; else `out` failed in this call.
+    ensures refused { result ≡ 1 → IsRefused (IsImageFault image.now) × (out.new ≡ out.old) }
+    // A device is told only where `out` failed in this call. Where memory ran out, nothing was written.
     ensures cut { result ≡ 2 → StopsShort E.CountedWrite (IsCutShort W.CountedWrite image.now out.old out.new) (out.new ≡ out.old) err.old err.new }
-    ensures told { EndsTold E.CountedWrite (λ fault. Tells fault (program_of_bytes image.now)) result err.old err.new }
+    ensures told { EndsTold E.CountedWrite (IsImageFault image.now) result err.old err.new }
 {
     ended(put_listing(alloc, image, out), err)
 }
@@ -81,9 +81,9 @@ pub fn run<W: CountedWrite, E: CountedWrite>(
     ensures status { result ≤ 2 }
     ensures answered { result ≡ 0 → (named : List NamedCommand) × HasCommands commands.now named
         × IsRun source.now budget.instructions named (W.held out.old) (W.held out.new) }
-    ensures refused { result ≡ 1 → IsRefused (program_of_text source.now) ⊎ HasNoCommands commands.now }
+    ensures refused { result ≡ 1 → IsRefused (IsFaultOfRun source.now commands.now) }
     ensures unwritten { result ≡ 1 → out.new ≡ out.old }
-    // A device is told only where `out` failed in this call. Where nothing was written, memory ran out before the first command.
+    // A device is told only where `out` failed in this call. Where memory ran out, a beginning was written, or nothing.
     ensures cut { result ≡ 2 → StopsShort E.CountedWrite
         ((named : List NamedCommand) × HasCommands commands.now named
         × IsRunCutShort W.CountedWrite source.now budget.instructions named out.old out.new × Failed (W.faults out.old) (W.faults out.new))
@@ -109,12 +109,12 @@ pub fn run_commands<W: CountedWrite, E: CountedWrite>(
 ) -> u8
     ensures status { result ≤ 2 }
     ensures answered { result ≡ 0 → IsRun source.now budget.instructions commands.now (W.held out.old) (W.held out.new) }
-    ensures refused { result ≡ 1 → IsRefused (program_of_text source.now) × (out.new ≡ out.old) }
-    // A device is told only where `out` failed in this call. Where nothing was written, memory ran out before the first command.
+    ensures refused { result ≡ 1 → IsRefused (IsTextFault source.now) × (out.new ≡ out.old) }
+    // A device is told only where `out` failed in this call. Where memory ran out, a beginning was written, or nothing.
     ensures cut { result ≡ 2 → StopsShort E.CountedWrite
         (IsRunCutShort W.CountedWrite source.now budget.instructions commands.now out.old out.new × Failed (W.faults out.old) (W.faults out.new))
         (IsRunCutShort W.CountedWrite source.now budget.instructions commands.now out.old out.new ⊎ (out.new ≡ out.old)) err.old err.new }
-    ensures told { EndsTold E.CountedWrite (λ fault. Tells fault (program_of_text source.now)) result err.old err.new }
+    ensures told { EndsTold E.CountedWrite (IsTextFault source.now) result err.old err.new }
 {
     ended(put_run(alloc, source, budget, commands, out), err)
 }
@@ -122,8 +122,8 @@ pub fn run_commands<W: CountedWrite, E: CountedWrite>(
 /// As `run` or `sim` where the other file couldn't be read, by this fault: a source that is refused is still answered before it.
 pub fn run_unread<E: CountedWrite>(alloc: Global, source: &[u8], fault: Fault, err: &mut E) -> u8
     ensures status { (result ≡ 1) ⊎ (result ≡ 2) }
-    ensures refused { result ≡ 1 → IsRefused (program_of_text source.now) ⊎ (status_told fault ≡ 1) }
-    ensures told { (first : told.Fault) × IsFirstFault (program_of_text source.now) fault first × (result ≡ status_told first) × WentOut E.CountedWrite (fault_line first) err.old err.new }
+    ensures refused { result ≡ 1 → IsRefused (IsTextFault source.now) ⊎ (status_told fault ≡ 1) }
+    ensures told { (first : told.Fault) × IsFirstFault source.now fault first × (result ≡ status_told first) × WentOut E.CountedWrite (fault_line first) err.old err.new }
 {
     tell(first_fault(alloc, source, fault), err)
 }
@@ -143,9 +143,9 @@ pub fn sim<W: CountedWrite, E: CountedWrite>(
     ensures status { result ≤ 2 }
     ensures simulated { result ≡ 0 → (named : List NamedEvent) × HasSchedule schedule.now named
         × IsSimulated source.now config.now.f budget.instructions named (W.held out.old) (W.held out.new) }
-    ensures refused { result ≡ 1 → IsRefused (program_of_text source.now) ⊎ IsBadSchedule source.now config.now.f budget.instructions schedule.now }
+    ensures refused { result ≡ 1 → IsRefused (IsFaultOfSchedule source.now config.now.f budget.instructions schedule.now) }
     ensures unwritten { result ≡ 1 → out.new ≡ out.old }
-    // A device is told only where `out` failed in this call. Where nothing was written, memory ran out before there was a report.
+    // A device is told only where `out` failed in this call. Where memory ran out, a beginning was written, or nothing.
     ensures cut { result ≡ 2 → StopsShort E.CountedWrite
         ((named : List NamedEvent) × HasSchedule schedule.now named
         × IsReportCutShort source.now config.now.f budget.instructions named (W.held out.old) (W.held out.new) × Failed (W.faults out.old) (W.faults out.new))
@@ -172,8 +172,8 @@ pub fn sim_events<W: CountedWrite, E: CountedWrite>(
 ) -> u8
     ensures status { result ≤ 2 }
     ensures simulated { result ≡ 0 → IsSimulated source.now config.now.f budget.instructions named.now (W.held out.old) (W.held out.new) }
-    ensures refused { result ≡ 1 → IsRefusedInput source.now config.now.f budget.instructions named.now × (out.new ≡ out.old) }
-    // A device is told only where `out` failed in this call. Where nothing was written, memory ran out before there was a report.
+    ensures refused { result ≡ 1 → IsRefused (IsToldOf source.now config.now.f budget.instructions named.now) × (out.new ≡ out.old) }
+    // A device is told only where `out` failed in this call. Where memory ran out, a beginning was written, or nothing.
     ensures cut { result ≡ 2 → StopsShort E.CountedWrite
         (IsReportCutShort source.now config.now.f budget.instructions named.now (W.held out.old) (W.held out.new) × Failed (W.faults out.old) (W.faults out.new))
         (IsReportCutShort source.now config.now.f budget.instructions named.now (W.held out.old) (W.held out.new) ⊎ (out.new ≡ out.old)) err.old err.new }
@@ -184,7 +184,7 @@ pub fn sim_events<W: CountedWrite, E: CountedWrite>(
 
 /// A fault of the source comes before that of the commands.
 fn first_fault(alloc: Global, source: &[u8], fault: Fault) -> Fault
-    ensures { IsFirstFault (program_of_text source.now) fault result }
+    ensures { IsFirstFault source.now fault result }
 {
     match image(alloc, source) {
         Ok(_) => fault,

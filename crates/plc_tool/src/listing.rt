@@ -3,7 +3,7 @@
 ghost use Rattle.std.specs.Prelude.{◌≡◌, ◌≤◌, ◌⊎◌, IfErr, IfOk, OnOk};
 ghost use Rattle.il_model.specs.Fits.{IsImage};
 ghost use Rattle.il_model.specs.Image.{spelling};
-ghost use Rattle.plc_tool.specs.Meaning.{IsListed, IsCutShort, Gives, Tells, program_of_bytes};
+ghost use Rattle.plc_tool.specs.Meaning.{IsListed, IsCutShort, IsImageFault, OrMemory};
 
 use crate::fault::Fault;
 use il_model::CountedWrite;
@@ -14,7 +14,7 @@ use std::alloc::Global;
 /// The image that bytes are, or the first fault of bytes that are none.
 fn image_in(alloc: Global, bytes: &[u8]) -> Result<Image, Fault>
     ensures found { IfOk result (λ i. IsImage i × (bytes.now ≡ spelling i)) }
-    ensures exact { Gives (λ i. i) result (program_of_bytes bytes.now) }
+    ensures refused { IfErr result (OrMemory (IsImageFault bytes.now)) }
 {
     Ok(load(alloc, bytes)?)
 }
@@ -24,7 +24,7 @@ fn image_in(alloc: Global, bytes: &[u8]) -> Result<Image, Fault>
 pub fn put_listing<W: CountedWrite>(alloc: Global, bytes: &[u8], out: &mut W) -> Result<(), Fault>
     ensures ok { OnOk result (IsListed bytes.now (W.held out.old) (W.held out.new)) }
     ensures err { IfErr result (λ e. ((e ≡ Fault.Device) × IsCutShort W.CountedWrite bytes.now out.old out.new)
-        ⊎ (Tells e (program_of_bytes bytes.now) × (out.new ≡ out.old))) }
+        ⊎ (OrMemory (IsImageFault bytes.now) e × (out.new ≡ out.old))) }
     ensures counts { W.faults out.old ≤ W.faults out.new }
 {
     let image = image_in(alloc, bytes)?;

@@ -2,7 +2,7 @@
 
 ghost use Rattle.std.specs.Prelude.{◌≡◌, ◌≤◌, ◌⊎◌, IfErr, OnOk};
 ghost use Rattle.plc_tool.specs.Lines.{lines_of};
-ghost use Rattle.plc_tool.specs.Meaning.{Tells, program_of_text};
+ghost use Rattle.plc_tool.specs.Meaning.{IsTextFault, OrMemory};
 ghost use Rattle.plc_tool.specs.Named.{answers_by};
 ghost use Rattle.plc_tool.specs.Putting.{Puts, IsRun, IsRunCutShort, IsWhyStopped};
 
@@ -45,7 +45,7 @@ pub fn put_run<W: CountedWrite>(
     ensures ok { OnOk result (IsRun text.now budget.instructions commands.now (W.held out.old) (W.held out.new)) }
     ensures err { IfErr result (λ e. (IsWhyStopped e (W.faults out.old) (W.faults out.new)
         × IsRunCutShort W.CountedWrite text.now budget.instructions commands.now out.old out.new)
-        ⊎ (Tells e (program_of_text text.now) × (out.new ≡ out.old))) }
+        ⊎ (OrMemory (IsTextFault text.now) e × (out.new ≡ out.old))) }
     ensures counts { W.faults out.old ≤ W.faults out.new }
 {
     let image = image(alloc, text)?;

@@ -3,6 +3,7 @@
 ghost use Rattle.std.specs.Prelude.{◌≡◌, ◌⊎◌, [], IfOk, IfErr, OnOk, string_bytes};
 ghost use Rattle.vr_core.specs.Answers.{answer_to};
 ghost use Rattle.schedules.specs.Traces.{IsTraced};
+ghost use Rattle.plc_tool.specs.Meaning.{OrMemory};
 ghost use Rattle.plc_tool.specs.Putting.{Puts, IsWhyStopped};
 ghost use Rattle.plc_tool.specs.Simulated.{IsSimulated, IsReportCutShort, IsWhyNoReport, IsToldOf, report_line};
 
@@ -83,7 +84,7 @@ pub fn put_report<W: CountedWrite>(
     ensures simulated { OnOk result (IsSimulated text.now config.now.f budget.instructions named.now (W.held out.old) (W.held out.new)) }
     ensures err { IfErr result (λ e. (IsWhyStopped e (W.faults out.old) (W.faults out.new)
         × IsReportCutShort text.now config.now.f budget.instructions named.now (W.held out.old) (W.held out.new))
-        ⊎ (IsToldOf text.now config.now.f budget.instructions named.now e × (out.new ≡ out.old))) }
+        ⊎ (OrMemory (IsToldOf text.now config.now.f budget.instructions named.now) e × (out.new ≡ out.old))) }
 {
     let image = image(alloc, text)?;
     let events = all_known(alloc, &image, named)?;

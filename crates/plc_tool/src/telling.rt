@@ -15,7 +15,8 @@ use std::io::Write;
 /// The status of words that are no call of the program.
 const BAD_WORDS: u8 = 3;
 
-fn put<E: CountedWrite>(err: &mut E, text: &[u8]) -> Result<(), DeviceFault>
+/// Writes a text, which tells something. An error says that the writer failed.
+pub fn put<E: CountedWrite>(err: &mut E, text: &[u8]) -> Result<(), DeviceFault>
     ensures { Sends E.CountedWrite text.now err.old err.new result }
 {
     write_all(err, text)

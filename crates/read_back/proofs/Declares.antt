@@ -15,7 +15,7 @@ use Rattle.il_model.specs.declared.program.Instance.{Instance}
 use Rattle.il_model.specs.declared.kind.BlockKind.{BlockKind}
 use Rattle.il_model.specs.declared.kind.BlockKind.TheVariants as kinds
 use Rattle.il_model.specs.Text.{Text, Declarations, declared_by}
-use Rattle.il_model.specs.Values.{ty_of, zero_of, number_of, made}
+use Rattle.il_model.specs.Values.{ty_of, zero_of, number_of, typed_value}
 use Rattle.il_model.specs.Operators.{is_zero}
 use Rattle.il_model.specs.Words.{spells}
 use Rattle.il_model.specs.Names.{is_lawful_name}
@@ -27,7 +27,7 @@ use Rattle.il_model.specs.declared.coded_operand.CodedOperand.TheVariants as cod
 use Rattle.il_model.specs.CodedOperands.{loc_code, IsCell, HasOwnCode, with_code}
 use Rattle.il_model.proofs.CodedOperands.{coded_back}
 use Rattle.il_model.specs.Image.{location_code}
-use Rattle.il_model.specs.Typing.{loc_type, is_output}
+use Rattle.il_model.specs.Typing.{loc_type, is_writable_area}
 use Rattle.il_model.specs.Resolved.{instance_in}
 use Rattle.il_model.specs.Codes.{is_number, is_new_name, is_taken, is_type, is_free, may_start_with}
 use Rattle.il_model.specs.Codes as codes_of
@@ -36,7 +36,8 @@ use Rattle.il_reader.specs.declared.lexeme.Sign.TheVariants as signs
 use Rattle.declarations.specs.declared.fault.Refusal.{Refusal}
 use Rattle.declarations.specs.declared.variables.DeclaredType.{DeclaredType}
 use Rattle.declarations.specs.declared.variables.DeclaredType.TheVariants.{Elementary, Block}
-use Rattle.declarations.specs.Resolution.{◌>>=◌, each, declared_type, nothing, has_name, has_instance, is_full, new_name, free_location, same_type, is_input, written_value, elementary_value, planned_value, with_variable, with_instance, variable, declare_name, declare_located, declare_listed, declare, declare_block, program_at, told, resolution_of}
+use Rattle.declarations.specs.Resolution.{declared_type, same_type, is_input, written_value, variable}
+use Rattle.declarations.specs.Walk.{◌>>=◌, each, nothing, has_name, has_instance, is_full, new_name, free_location, elementary_value, planned_value, with_variable, with_instance, declare_name, declare_located, declare_listed, declare, declare_block, program_at, told, resolution_of}
 use Rattle.lister.specs.Listing.{location_text, type_name, variable_text, instance_text}
 use Rattle.read_back.proofs.Fronts.{both_true, not_true}
 use Rattle.il_model.proofs.LiteralLaws.{IsValue}
@@ -75,7 +76,7 @@ record IsFirst (type : Ty) (loc : Option Loc) (v : Value) : Type 0 where
 first_is : (type : Ty) (loc : Option Loc) (v : Value) → codes_of.initial_of type loc (cast_unsigned w32 (number_of v)) ≡ Some v → IsFirst type loc v
 first_is type loc v e =
     let z = cast_signed w32 (cast_unsigned w32 (number_of v)) in
-    let t = tested_is (may_start_with loc) (made type z) v e in
+    let t = tested_is (may_start_with loc) (typed_value type z) v e in
     record { of = of_type type z v t.0; may = t.1 }
 
 same_self : (type : Ty) → same_type type type ≡ true
@@ -86,14 +87,14 @@ same_self types.Time = refl
 
 no_input : (loc : Option Loc) (v : Value) → may_start_with loc v ≡ true → is_zero (number_of v) ≡ false → is_input loc ≡ false
 no_input None v may some = refl
-no_input (Some loc) v may some = by_area (is_output (area_of loc)) (is_zero (number_of v)) some may
+no_input (Some loc) v may some = by_area (is_writable_area (area_of loc)) (is_zero (number_of v)) some may
   where
     by_area : (p q : Bool) → q ≡ false → (p || q) ≡ true → not p ≡ false
     by_area true q e h = refl
     by_area false q e h = let clash : false ≡ true = sym e ∙ h in absurd cc
 
 own_value : (v : Value) (type : Ty) → IsOfType type v → IsValue v
-own_value v type of = subst (λ (t : Ty). made t (number_of v) ≡ Some v) (sym of.is) of.made_again
+own_value v type of = subst (λ (t : Ty). typed_value t (number_of v) ≡ Some v) (sym of.is) of.made_again
 
 written_back : (type : Ty) (loc : Option Loc) (v : Value) (rest : List ℕ) → IsFirst type loc v → is_zero (number_of v) ≡ false → written_value type loc (literal_at v rest) ≡ Some v
 written_back type loc v rest first some =
@@ -146,7 +147,7 @@ record IsLocated (seen : List Variable) (type : Ty) (loc : Loc) : Type 0 where
   suits : is_type type (loc_type loc) ≡ true
   free : is_taken seen (loc_code loc) ≡ false
 
-located_is : (seen : List Variable) (type : Ty) (loc : Loc) → codes_of.location_of seen type (loc_code loc) ≡ Some (Some loc) → IsLocated seen type loc
+located_is : (seen : List Variable) (type : Ty) (loc : Loc) → codes_of.coded_location seen type (loc_code loc) ≡ Some (Some loc) → IsLocated seen type loc
 located_is seen type loc e = by_code (with_code (loc_code loc)) refl e
   where
     by_operand : (x : CodedOperand) → HasOwnCode x → codes_of.free_loc seen type x ≡ Some (Some loc) → IsLocated seen type loc
@@ -202,7 +203,7 @@ pub record IsListedVariable (v : Variable) : Type 0 where
 variable_listed : (seen : List Variable) (v : Variable) → IsVariable seen v → IsListedVariable v
 variable_listed seen v is = record { name = variable_free seen v is; value = own_value v.initial v.ty (first_is v.ty v.location v.initial is.initial).of; place = by_location v.location is.location }
   where
-    by_location : (o : Option Loc) → codes_of.location_of seen v.ty (location_code o) ≡ Some o → (loc : Loc) → o ≡ Some loc → IsCell loc
+    by_location : (o : Option Loc) → codes_of.coded_location seen v.ty (location_code o) ≡ Some o → (loc : Loc) → o ≡ Some loc → IsCell loc
     by_location None e loc none = absurd cc
     by_location (Some l) e loc some = subst IsCell (some_is l loc some) (located_is seen v.ty l e).place
 

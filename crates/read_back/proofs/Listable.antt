@@ -1,5 +1,5 @@
 -- What a program that has an image is made of, as far as its listing goes: names, values and places that are there, and operators that take what they are given.
-use Rattle.std.proofs.Common.{◌≡◌, ℕ, zero, suc, ◌+◌, ◌-◌, Bool, true, false, cond, ltb, List, [], ◌∷◌, ◌++◌, length, Option, Some, None, refl, sym, ap, ◌∙◌, subst, ◌||◌, not}
+use Rattle.std.proofs.Common.{◌≡◌, ℕ, zero, suc, ◌+◌, Bool, true, false, cond, ltb, List, [], ◌∷◌, ◌++◌, length, Option, Some, None, refl, sym, ap, ◌∙◌, subst, ◌||◌, not}
 use Rattle.std.specs.Prelude.{is_some, slice_get, nat_eq, ◌^◌, ℤ, pos, negsuc}
 use Rattle.std.specs.List.{AllByRecursion, position}
 use Rattle.std.specs.Option.{option_map, option_and_then}
@@ -19,14 +19,14 @@ use Rattle.il_model.specs.declared.program.Argument.{Argument}
 use Rattle.il_model.specs.declared.program.Operand.{Operand}
 use Rattle.il_model.specs.declared.program.Operand.TheVariants as operands
 use Rattle.il_model.specs.declared.program.Instr.{Instr}
-use Rattle.il_model.specs.declared.codes.Form.TheVariants as forms
+use Rattle.il_model.specs.declared.codes.OperandForm.TheVariants as forms
 use Rattle.il_model.specs.declared.fetched.Source.{Source}
 use Rattle.il_model.specs.declared.fetched.Source.TheVariants as sources
 use Rattle.il_model.specs.Text.{Text, Declarations, declared_by}
-use Rattle.il_model.specs.Values.{ty_of, number_of, is_within, truth_made, made}
+use Rattle.il_model.specs.Values.{ty_of, number_of, is_within, truth_made, typed_value}
 use Rattle.il_model.specs.Names.{same_name, is_lawful_name}
 use Rattle.il_model.specs.Kinds.{kind_fields, field_name, field_number}
-use Rattle.il_model.specs.Resolved.{placed, place_of, source_of, instance_in, numbered_field, field_of, has_label, target_of, called_kind}
+use Rattle.il_model.specs.Resolved.{variable_place, place_of, source_of, instance_in, numbered_field, field_of, has_label, target_of, called_kind}
 use Rattle.il_model.specs.Typing.{arguments_fault}
 use Rattle.il_model.specs.Marks.{Mark, with_mark, marks_from, word_count}
 use Rattle.il_model.specs.Constants.{constants_of}
@@ -35,13 +35,13 @@ use Rattle.il_model.specs.declared.coded_operand.CodedOperand.{CodedOperand}
 use Rattle.il_model.specs.declared.coded_operand.CodedOperand.TheVariants as coded
 use Rattle.il_model.specs.CodedOperands.{IsCell, HasOwnCode, with_code}
 use Rattle.il_model.proofs.CodedOperands.{coded_back}
-use Rattle.il_model.specs.Codes.{tested, is_new_name, is_number, usage_of, has_form, allowed_by, formed_by, is_jump, is_call, modifier_of, variable_named, instance_named, field_named, named_operand, value_operand, numbered_operand, is_pointless, is_known, target_name, label_there}
+use Rattle.il_model.specs.Codes.{if_passes, is_new_name, is_number, usage_of, has_form, allowed_by, formed_by, is_jump, is_call, modifier_of, variable_named, instance_named, field_named, named_operand, value_operand, numbered_operand, is_pointless, is_known, target_name, label_there}
 use Rattle.il_model.specs.Fits.{IsVariable, IsInstance, IsMark, IsConstant, IsPassing, IsWord, AreItems, IsText, IsImage}
 use Rattle.il_model.proofs.Positions.{position_later}
 use Rattle.il_model.proofs.Declared.{field_so}
 use Rattle.il_model.proofs.TypedLines.{IsArgumentOf, arguments_typed, no_arguments}
 use Rattle.il_model.proofs.Calls.{IsTypedLine, typed_lines}
-use Rattle.declarations.specs.Resolution.{has_name, has_instance}
+use Rattle.declarations.specs.Walk.{has_name, has_instance}
 use Rattle.read_back.proofs.Fronts.{both_true}
 use Rattle.il_model.proofs.LiteralLaws.{IsValue}
 use Rattle.read_back.proofs.NameTexts.{IsFreeName, IsFieldName, lawful_free, field_is}
@@ -97,7 +97,7 @@ map_is None f y e = absurd cc
 map_is (Some x) f y e = (x, refl, some_is (f x) y e)
 
 -- what passed a test is what was there
-pub tested_is : {A : Type 0} (test : A → Bool) (o : Option A) (x : A) → option_and_then (tested test) o ≡ Some x → (o ≡ Some x) × (test x ≡ true)
+pub tested_is : {A : Type 0} (test : A → Bool) (o : Option A) (x : A) → option_and_then (if_passes test) o ≡ Some x → (o ≡ Some x) × (test x ≡ true)
 tested_is test None x e = absurd cc
 tested_is {A} test (Some y) x e = by_test (test y) refl e
   where
@@ -254,7 +254,7 @@ stands_for Q (operands.Literal v) src has e = tt
 stands_for Q (operands.Bare z) src has e = absurd cc
 stands_for Q (operands.Variable name) src has e =
     let m = map_is (place_of Q name) sources.Of src e in
-    let i = and_then_is (is_number Q.variables name) (λ i. option_map (placed i) (slice_get Q.variables i)) m.0 m.1 in
+    let i = and_then_is (is_number Q.variables name) (λ i. option_map (variable_place i) (slice_get Q.variables i)) m.0 m.1 in
     (found_free (λ (v : Variable). v.name) Q.variables name i.0 i.1 has.variables, found_some (is_number Q.variables name) i.0 i.1)
 stands_for Q (operands.Direct loc) src has e = tt
 stands_for Q (operands.Label name) src has e =
@@ -341,7 +341,7 @@ all_lines Q (line ∷ code) has values labels words typed = (line_listed Q line 
 -- a value of a type, within its range
 pub record IsOfType (type : Ty) (v : Value) : Type 0 where
   pub is : ty_of v ≡ type
-  pub made_again : made type (number_of v) ≡ Some v
+  pub made_again : typed_value type (number_of v) ≡ Some v
 
 pub if_some : {A : Type 0} (b : Bool) (x y : A) → cond b (Some x) None ≡ Some y → (b ≡ true) × (x ≡ y)
 if_some true x y e = (refl, some_is x y e)
@@ -356,7 +356,7 @@ truth_of_type (pos n) v e = by_tests (ltb n 1) (ltb n 2) e
     by_tests false true h = subst (IsOfType types.Bool) (some_is (values.Bool true) v h) (record { is = refl; made_again = refl })
     by_tests false false h = absurd cc
 
-pub of_type : (type : Ty) (z : ℤ) (v : Value) → made type z ≡ Some v → IsOfType type v
+pub of_type : (type : Ty) (z : ℤ) (v : Value) → typed_value type z ≡ Some v → IsOfType type v
 of_type types.Bool z v e = truth_of_type z v e
 of_type types.Int z v e =
     let m = if_some (is_within (2 ^ 15) z) (values.Int z) v e in
@@ -370,7 +370,7 @@ of_type types.Time z v e =
 
 constant_value : (seen : List Value) (v : Value) → IsConstant seen v → IsValue v
 constant_value seen v is =
-    let t = tested_is (λ w. not (is_known seen w)) (made (ty_of v) (cast_signed w32 (cast_unsigned w32 (number_of v)))) v is.value in
+    let t = tested_is (λ w. not (is_known seen w)) (typed_value (ty_of v) (cast_signed w32 (cast_unsigned w32 (number_of v)))) v is.value in
     (of_type (ty_of v) (cast_signed w32 (cast_unsigned w32 (number_of v))) v t.0).made_again
 
 -- ---- the whole

@@ -12,8 +12,8 @@ use Rattle.il_model.specs.declared.value.Value.TheVariants as values
 use Rattle.il_model.specs.declared.literal.Literal.TheVariants.{Typed}
 use Rattle.il_model.specs.Words.{spells}
 use Rattle.il_model.specs.Literal.{integer_of}
-use Rattle.il_model.specs.Durations.{is_digit_byte, digits_len, behind_number, part_by, added, parts_by, duration_by}
-use Rattle.il_model.specs.Literals.{is_no_hash, hash_at, positive, minus, signed_by, whole_by, time_by, typed, literal_of}
+use Rattle.il_model.specs.Durations.{is_digit_byte, digits_len, behind_number, part_by, sum_of_parts, parts_by, duration_by}
+use Rattle.il_model.specs.Literals.{is_no_hash, hash_at, positive, minus, signed_by, whole_by, time_by, typed_literal, literal_of}
 use Rattle.il_model.proofs.LiteralLaws.{IsValue}
 use Rattle.lister.specs.Listing.{decimal, number_text, literal_text}
 use Rattle.read_back.proofs.Fronts.{both_true, prefix_whole, all_weaker}
@@ -70,7 +70,7 @@ digits_front : (n : ℕ) (w : List ℕ) → IsNumeral n w → digits_len (w ++ m
 digits_front n w is = prefix_whole is_digit_byte w ms (all_weaker is_digit is_digit_byte duration_digit w is.bytes) refl
 
 abbrev in_milliseconds : ℕ → Option ℕ
-in_milliseconds n = option_and_then (added (parts_by integer_of 4) 5) (behind_number ms n)
+in_milliseconds n = option_and_then (sum_of_parts (parts_by integer_of 4) 5) (behind_number ms n)
 
 at_ms : (n : ℕ) → in_milliseconds n ≡ Some (n * 1)
 unfolding spells
@@ -92,15 +92,15 @@ time_number (negsuc n) = ap (option_map minus) (duration_number (suc n) (decimal
 
 -- ---- literals
 
-behind_int : (t : List ℕ) → literal_of (codes "INT#" ++ t) ≡ typed types.Int (whole_by integer_of t)
+behind_int : (t : List ℕ) → literal_of (codes "INT#" ++ t) ≡ typed_literal types.Int (whole_by integer_of t)
 unfolding literal_of spells
 behind_int t = let e : ltb 3 (length (codes "INT#" ++ t)) ≡ true = lt-ltb 3 (length (codes "INT#" ++ t)) (omega arith) in rw e refl
 
-behind_dint : (t : List ℕ) → literal_of (codes "DINT#" ++ t) ≡ typed types.Dint (whole_by integer_of t)
+behind_dint : (t : List ℕ) → literal_of (codes "DINT#" ++ t) ≡ typed_literal types.Dint (whole_by integer_of t)
 unfolding literal_of spells
 behind_dint t = let e : ltb 4 (length (codes "DINT#" ++ t)) ≡ true = lt-ltb 4 (length (codes "DINT#" ++ t)) (omega arith) in rw e refl
 
-behind_time : (t : List ℕ) → literal_of (codes "T#" ++ t) ≡ typed types.Time (time_by integer_of t)
+behind_time : (t : List ℕ) → literal_of (codes "T#" ++ t) ≡ typed_literal types.Time (time_by integer_of t)
 unfolding literal_of spells
 behind_time t = let e : ltb 1 (length (codes "T#" ++ t)) ≡ true = lt-ltb 1 (length (codes "T#" ++ t)) (omega arith) in rw e refl
 
@@ -108,6 +108,6 @@ pub literal_again : (v : Value) → IsValue v → literal_of (literal_text v) �
 unfolding literal_of spells
 literal_again (values.Bool true) is = refl
 literal_again (values.Bool false) is = refl
-literal_again (values.Int z) is = behind_int (number_text z) ∙ ap (typed types.Int) (whole_number z) ∙ ap (option_map Typed) is
-literal_again (values.Dint z) is = behind_dint (number_text z) ∙ ap (typed types.Dint) (whole_number z) ∙ ap (option_map Typed) is
-literal_again (values.Time z) is = behind_time (number_text z ++ ms) ∙ ap (typed types.Time) (time_number z) ∙ ap (option_map Typed) is
+literal_again (values.Int z) is = behind_int (number_text z) ∙ ap (typed_literal types.Int) (whole_number z) ∙ ap (option_map Typed) is
+literal_again (values.Dint z) is = behind_dint (number_text z) ∙ ap (typed_literal types.Dint) (whole_number z) ∙ ap (option_map Typed) is
+literal_again (values.Time z) is = behind_time (number_text z ++ ms) ∙ ap (typed_literal types.Time) (time_number z) ∙ ap (option_map Typed) is

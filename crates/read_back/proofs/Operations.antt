@@ -9,7 +9,7 @@ use Rattle.il_model.specs.declared.program.Operand.{Operand}
 use Rattle.il_model.specs.declared.program.Operand.TheVariants as operands
 use Rattle.il_model.specs.declared.program.Argument.{Argument}
 use Rattle.il_model.specs.declared.program.Instr.{Instr}
-use Rattle.il_model.specs.declared.codes.Form.TheVariants as usages
+use Rattle.il_model.specs.declared.codes.OperandForm.TheVariants as usages
 use Rattle.il_model.specs.declared.codes.LetterSet.TheVariants as sets
 use Rattle.il_model.specs.Text.{Declarations}
 use Rattle.il_model.specs.Words.{spells, look, mnemonic_of}

@@ -16,7 +16,8 @@ use Rattle.il_model.specs.Codes.{usage_of, allowed_by, formed_by, is_call, is_em
 use Rattle.il_reader.specs.declared.lexeme.Sign.TheVariants as signs
 use Rattle.il_reader.specs.Grammar.{BehindText}
 use Rattle.declarations.specs.declared.fault.Refusal.{Refusal}
-use Rattle.declarations.specs.Resolution.{each, operand_of, behind_of, behind_arguments, argument_of, pushed_argument, opens, plain, instruction_of, room, label_of, instruct_labelled, instruct_plain, instruct}
+use Rattle.declarations.specs.Resolution.{opens, plain}
+use Rattle.declarations.specs.Walk.{each, operand_of, behind_of, behind_arguments, argument_of, pushed_argument, instruction_of, room, label_of, instruct_labelled, instruct_plain, instruct}
 use Rattle.lister.specs.Listing.{next_argument_text, operation_text, line_text}
 use Rattle.read_back.proofs.Fronts.{both_true}
 use Rattle.read_back.proofs.LiteralTexts.{literal_again}

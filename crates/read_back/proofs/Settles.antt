@@ -1,10 +1,10 @@
 -- A typed program has no bare numbers, so it is its own typed program.
-use Rattle.std.proofs.Common.{◌≡◌, ℕ, Bool, Result, Ok, ap, ◌∙◌}
+use Rattle.std.proofs.Common.{◌≡◌, ℕ, Result, Ok, ap, ◌∙◌}
 use Rattle.il_model.specs.declared.typing.TypeFault.{TypeFault}
 use Rattle.il_model.specs.Text.{Text}
 use Rattle.il_model.specs.Typing.{◌>>=◌, IsTyped}
-use Rattle.il_model.specs.Settled.{settled}
+use Rattle.il_model.specs.Settled.{typed_program_of}
 use Rattle.il_model.proofs.Settling.{typed_plain, settled_plain}
 
-pub typed_settles : (Q : Text) → IsTyped Q → settled Q ≡ Ok Q
+pub typed_settles : (Q : Text) → IsTyped Q → typed_program_of Q ≡ Ok Q
 typed_settles Q typed = settled_plain Q (typed_plain Q typed) ∙ ap (λ (r : Result (Unit {0}) (TypeFault × ℕ)). r >>= λ _. Ok Q) typed

@@ -1,7 +1,7 @@
 -- A program whose listing is read as the same program.
 use Rattle.std.specs.Prelude.{◌≡◌, Ok}
 use Rattle.il_model.specs.Text.{Text}
-use Rattle.il_model.specs.Settled.{settled}
+use Rattle.il_model.specs.Settled.{typed_program_of}
 use Rattle.il_reader.specs.Texts.{SourceText, Reads}
 use Rattle.declarations.specs.Declaring.{IsProgramOf}
 use Rattle.declarations.specs.FirstFault.{HasNoFault}
@@ -13,4 +13,4 @@ pub record ReadsBack (Q : Text) : Type 0 where
   pub read : Reads (listing Q) source
   pub declared : IsProgramOf source.says Q
   pub faultless : HasNoFault source.says
-  pub settled : settled Q ≡ Ok Q
+  pub settled : typed_program_of Q ≡ Ok Q

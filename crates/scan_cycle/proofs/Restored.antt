@@ -1,9 +1,8 @@
 -- Forces to slots, and back, one at a time.
-use Rattle.std.proofs.Common.{◌≡◌, ℕ, zero, suc, ◌+◌, ◌<◌, ◌≤◌, Bool, true, false, List, [], ◌∷◌, ◌++◌, length, take, drop, get_or, Option, Some, None, refl, sym, ap, subst, ◌∙◌, arith, append_assoc}
+use Rattle.std.proofs.Common.{◌≡◌, ℕ, zero, suc, ◌+◌, ◌<◌, ◌≤◌, Bool, true, List, [], ◌∷◌, ◌++◌, length, take, drop, get_or, Option, Some, None, refl, sym, ap, subst, ◌∙◌, arith, append_assoc}
 use Rattle.std.specs.Prelude.{◌&&◌, nat_le, unwrap_or, ℤ}
 use Rattle.std.proofs.Math.Seq.{drop-cons}
 use Rattle.std.proofs.lemmas.Bool.{leb-true}
-use Rattle.std.proofs.lemmas.List.{append-nil}
 use Rattle.il_model.specs.declared.value.Value.{Value}
 use Rattle.il_model.specs.declared.value.Value.TheVariants as values
 use Rattle.il_model.specs.declared.program.Loc.{Loc}
@@ -11,11 +10,12 @@ use Rattle.il_model.specs.declared.snapshot.ForcedSlot.{ForcedSlot}
 use Rattle.il_model.specs.CodedOperands.{any_loc}
 use Rattle.il_model.proofs.RowTypes.{and_yes}
 use Rattle.controller_model.specs.declared.forces.Forces.{Forces}
-use Rattle.controller_model.specs.Forces.{forced, no_forces}
+use Rattle.controller_model.specs.Forces.{put_force, no_forces}
 use Rattle.controller_model.specs.Commands.{forcible_at}
 use Rattle.controller_model.specs.Snapshots.{forced_bits, forced_words, forced_slots, fits_location, fit_forces}
+use Rattle.controller_model.proofs.Rising.{forces_from, forces_fit}
 use Rattle.scan_cycle.specs.Parts.{forced_word}
-use Rattle.controller_model.proofs.ForcedSlots.{slot_as, listed, bits_listed, words_listed, AreFree, IsTaken, forcible_by, taken, no_forces_free, no_forces_slots}
+use Rattle.controller_model.proofs.ForcedSlots.{slot_as, listed, bits_listed, words_listed, AreFree, IsTaken, forcible_by, taken, no_forces_free}
 
 -- ---- to slots
 
@@ -83,14 +83,14 @@ word_free before now n i p ms d o lt is none h = words_same before now n i ms d 
 pub record IsNext (f : Forces) (rest : List ForcedSlot) : Type 0 where
   pub least : ℕ
   pub free : AreFree least f
-  pub fits : fit_forces least rest ≡ true
+  pub fits : forces_from least rest ≡ true
 
 pub record IsStep (f : Forces) (all : List ForcedSlot) (i : ℕ) : Type 0 where
   pub slots : forced_slots f ≡ take i all
   pub next : IsNext f (drop i all)
 
-pub begins : (slots : List ForcedSlot) → fit_forces 0 slots ≡ true → IsNext no_forces slots
-begins slots h = record { least = 0; free = no_forces_free; fits = h }
+pub begins : (slots : List ForcedSlot) → fit_forces slots ≡ true → IsNext no_forces slots
+begins slots h = record { least = 0; free = no_forces_free; fits = forces_fit slots ∙ h }
 
 take_suc : (xs : List ForcedSlot) (i : ℕ) (d : ForcedSlot) → i < length xs → take (suc i) xs ≡ take i xs ++ get_or xs i d ∷ []
 take_suc [] i d lt = absurd (omega (arith, lt))
@@ -103,18 +103,18 @@ record IsHere (f : Forces) (later : List ForcedSlot) (x : ForcedSlot) : Type 0 w
   free : AreFree least f
   above : least ≤ x.slot.0
   taken : IsTaken f x.slot.0 x.value
-  rest : fit_forces (suc x.slot.0) later ≡ true
+  rest : forces_from (suc x.slot.0) later ≡ true
 
-here_by : (f : Forces) (least : ℕ) (x : ForcedSlot) (rest : List ForcedSlot) → AreFree least f → fit_forces least (x ∷ rest) ≡ true → IsHere f rest x
+here_by : (f : Forces) (least : ℕ) (x : ForcedSlot) (rest : List ForcedSlot) → AreFree least f → forces_from least (x ∷ rest) ≡ true → IsHere f rest x
 here_by f least x rest free h =
-    let a = and_yes (nat_le least x.slot.0) (fits_location x.value (forcible_at x.slot.0) && fit_forces (suc x.slot.0) rest) h in
-    let b = and_yes (fits_location x.value (forcible_at x.slot.0)) (fit_forces (suc x.slot.0) rest) a.1 in
+    let a = and_yes (nat_le least x.slot.0) (fits_location x.value (forcible_at x.slot.0) && forces_from (suc x.slot.0) rest) h in
+    let b = and_yes (fits_location x.value (forcible_at x.slot.0)) (forces_from (suc x.slot.0) rest) a.1 in
     let le : least ≤ x.slot.0 = leb-true least x.slot.0 a.0 in
     record { least = least; free = free; above = le; taken = taken f least x.slot.0 x.value free le (forcible_by x.slot.0 x.value b.0); rest = b.1 }
 
 here : (f : Forces) (slots : List ForcedSlot) (i : ℕ) (x d : ForcedSlot) → i < length slots → get_or slots i d ≡ x → IsNext f (drop i slots) → IsHere f (drop (suc i) slots) x
 here f slots i x d lt is next =
-    here_by f next.least x (drop (suc i) slots) next.free (ap (fit_forces next.least) (ap (λ (y : ForcedSlot). y ∷ drop (suc i) slots) (sym is) ∙ sym (drop-cons slots i d lt)) ∙ next.fits)
+    here_by f next.least x (drop (suc i) slots) next.free (ap (forces_from next.least) (ap (λ (y : ForcedSlot). y ∷ drop (suc i) slots) (sym is) ∙ sym (drop-cons slots i d lt)) ∙ next.fits)
 
 no_both : (l : Loc) → None ≡ Some l → ⊥
 no_both l e = cc
@@ -122,18 +122,18 @@ no_both l e = cc
 some_same : {A : Type 0} (a b : A) → Some a ≡ Some b → a ≡ b
 some_same a b e = cc
 
-pub goes_on : (f new : Forces) (slots : List ForcedSlot) (i : ℕ) (x d : ForcedSlot) (loc : Loc) → i < length slots → get_or slots i d ≡ x → forced_slots f ≡ take i slots → IsNext f (drop i slots) → any_loc x.slot.0 ≡ Some loc → new ≡ unwrap_or (forced f loc x.value) f → IsStep new slots (i + 1)
+pub goes_on : (f new : Forces) (slots : List ForcedSlot) (i : ℕ) (x d : ForcedSlot) (loc : Loc) → i < length slots → get_or slots i d ≡ x → forced_slots f ≡ take i slots → IsNext f (drop i slots) → any_loc x.slot.0 ≡ Some loc → new ≡ unwrap_or (put_force f loc x.value) f → IsStep new slots (i + 1)
 goes_on f new slots i x d loc lt is done next at becomes =
     let h = here f slots i x d lt is next in
     let one : i + 1 ≡ suc i = omega arith in
     let same = some_same loc h.taken.loc (sym at ∙ h.taken.at) in
-    let result : new ≡ h.taken.forced.next = becomes ∙ ap (λ (l : Loc). unwrap_or (forced f l x.value) f) same ∙ ap (λ (o : Option Forces). unwrap_or o f) h.taken.forced.is in
+    let result : new ≡ h.taken.forced.next = becomes ∙ ap (λ (l : Loc). unwrap_or (put_force f l x.value) f) same ∙ ap (λ (o : Option Forces). unwrap_or o f) h.taken.forced.is in
     record {
       slots = ap forced_slots result ∙ h.taken.forced.slots ∙ ap (λ ys. ys ++ x ∷ []) done ∙ ap (λ (y : ForcedSlot). take i slots ++ y ∷ []) (sym is) ∙ sym (take_suc slots i d lt) ∙ ap (λ n. take n slots) (sym one);
       next = record {
         least = suc x.slot.0;
         free = subst (AreFree (suc x.slot.0)) (sym result) h.taken.forced.free;
-        fits = ap (λ n. fit_forces (suc x.slot.0) (drop n slots)) one ∙ h.rest;
+        fits = ap (λ n. forces_from (suc x.slot.0) (drop n slots)) one ∙ h.rest;
       };
     }
 

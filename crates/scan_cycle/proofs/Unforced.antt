@@ -1,12 +1,12 @@
 -- Where nothing is forced, cells stay as they are.
-use Rattle.std.proofs.Common.{◌≡◌, ℕ, zero, suc, Bool, false, List, [], ◌∷◌, Option, None, refl, sym, ap, ◌∙◌}
+use Rattle.std.proofs.Common.{◌≡◌, ℕ, zero, suc, Bool, false, List, [], ◌∷◌, None, refl, sym, ap, ◌∙◌}
 use Rattle.std.specs.Prelude.{replicate}
 use Rattle.il_model.specs.declared.cells.Cells.{Cells}
 use Rattle.controller_model.specs.declared.forces.Forces.{Forces}
-use Rattle.controller_model.specs.Forces.{laid, with_forces, no_mask, no_forces}
+use Rattle.controller_model.specs.Forces.{overlay, with_forces, no_mask}
 use Rattle.scan_cycle.specs.Parts.{MayForce}
 
-none_laid : {A : Type 0} (n : ℕ) (xs : List A) → laid (replicate n None) xs ≡ xs
+none_laid : {A : Type 0} (n : ℕ) (xs : List A) → overlay (replicate n None) xs ≡ xs
 none_laid zero xs = refl
 none_laid (suc n) [] = refl
 none_laid (suc n) (x ∷ xs) = ap (λ ys. x ∷ ys) (none_laid n xs)

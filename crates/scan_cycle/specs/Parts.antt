@@ -1,8 +1,7 @@
 -- What a snapshot has of a scan cycle.
-use Rattle.std.specs.Prelude.{◌≡◌, ℕ, ℤ, Bool, false, List, length, Option, Some, None}
+use Rattle.std.specs.Prelude.{◌≡◌, ℕ, ℤ, Bool, false, length, Option, Some, None}
 use Rattle.controller_model.specs.Forces.{no_forces}
 use Rattle.il_model.specs.declared.value.Value.TheVariants as values
-use Rattle.il_model.specs.declared.slot.Slot.{Slot}
 use Rattle.il_model.specs.declared.snapshot.ForcedSlot.{ForcedSlot}
 use Rattle.il_model.specs.declared.snapshot.SavedPhase.{SavedPhase}
 use Rattle.il_model.specs.declared.snapshot.SavedPhase.TheVariants as saved_phases

@@ -1,18 +1,18 @@
 //! What is kept from scan to scan, and the calls of a scan.
 
-ghost use Rattle.std.specs.Prelude.{◌≡◌, ◌<◌, true, is_some, unwrap_or, IfOk, IfSome, option_map};
+ghost use Rattle.std.specs.Prelude.{◌≡◌, ◌<◌, ℕ, true, is_some, unwrap_or, IfOk, IfSome, option_map};
 ghost use Rattle.il_model.specs.Text.{Text};
 ghost use Rattle.controller_model.specs.Forces.{with_forces};
-ghost use Rattle.controller_model.specs.Slots.{peeked};
-ghost use Rattle.controller_model.specs.Scan.{begun, ran_to, stepped_over, seen, with_force, without_force, cold_again};
+ghost use Rattle.controller_model.specs.Slots.{slot_value};
+ghost use Rattle.controller_model.specs.Scan.{scan_start, scan_run, scan_run_over, scan_step, scan_result, with_force, without_force, cold_again};
 ghost use Rattle.controller_model.specs.Snapshots.{fit_forces};
 ghost use Rattle.machine.specs.Parts.{FitsMachine, AreLawful};
 ghost use Rattle.scan_cycle.specs.Kept.{cold_kept, IsCycleOf};
 ghost use Rattle.scan_cycle.specs.Parts.{HasCycle, performed_in, RestoresCycle, AreMasks};
-ghost use Rattle.scan_cycle.specs.Told.{came_to, IsLeft};
+ghost use Rattle.scan_cycle.specs.Told.{came_to, IsWithin};
 
 use crate::force_table::ForceTable;
-use crate::run::{Came, run, run_over};
+use crate::run::{Came, run, run_one, run_over};
 use controller_model::ScanOut;
 use il_model::{Budget, InImage, Loc, OutImage, SavedPhase, Slot, Snapshot, Value};
 use loader::Image;
@@ -84,7 +84,7 @@ impl ScanCycle {
         parts: &Snapshot,
     ) -> Result<Option<ScanCycle>, AllocError>
         requires machine { FitsMachine image.now parts.now }
-        requires forces { fit_forces 0 parts.now.forces ≡ true }
+        requires forces { fit_forces parts.now.forces ≡ true }
         ensures cycle { IfOk result (λ o. RestoresCycle image.now parts.now (option_map (λ c. c.cycle) o)) }
         ensures kept { IfOk result (λ o. IfSome o (IsCycleOf image.now)) }
     {
@@ -117,7 +117,7 @@ impl ScanCycle {
     /// Begins a scan: it is counted, up to the greatest number of 64 bits; its moment, in milliseconds, is no less than the
     /// last one's; the inputs are latched with the forces over them; the run is at position 0. A scan that is open is given up.
     pub fn begin(&mut self, inputs: &InImage, moment: u64)
-        ensures begun { self.new ≡ record self.old { cycle = begun self.old.cycle inputs.now moment } }
+        ensures begun { self.new ≡ record self.old { cycle = scan_start self.old.cycle inputs.now moment } }
         ensures kept { (Q : Text) → IsCycleOf Q self.old → IsCycleOf Q self.new }
     {
         let latched = InImage {
@@ -135,46 +135,76 @@ impl ScanCycle {
     /// Stopped leave it at the instruction that comes next or was refused, and only Held keeps how many were performed.
     pub fn run_to(&mut self, image: &Image, breaks: &[bool], budget: Budget) -> ScanOut
         requires { IsCycleOf image.now self.old }
-        ensures run { (result, self.new.cycle) ≡ ran_to image.now breaks.now budget.instructions self.old.cycle }
+        ensures run { (result, self.new.cycle) ≡ scan_run image.now breaks.now budget.instructions self.old.cycle }
         ensures kept { IsCycleOf image.now self.new }
         ensures performed { self.new.cycle.performed < budget.instructions }
     {
-        let left = budget.instructions.saturating_sub(self.performed);
-        let came = run(&mut self.machine, image, self.moment, breaks, left);
-        self.tell(came, budget)
+        let came = run(
+            &mut self.machine,
+            image,
+            self.moment,
+            breaks,
+            budget.instructions,
+            self.performed,
+        );
+        self.tell(came)
     }
 
-    /// Performs the instruction that a scan is held at, and runs on as `run_to` does; a budget used up before is Stopped.
+    /// Performs the instruction that a scan is held at, and runs on as `run_to` does.
     pub fn step_over(&mut self, image: &Image, breaks: &[bool], budget: Budget) -> ScanOut
-        requires { IsCycleOf image.now self.old }
-        ensures run { (result, self.new.cycle) ≡ stepped_over image.now breaks.now budget.instructions self.old.cycle }
+        requires kept { IsCycleOf image.now self.old }
+        requires left { self.old.cycle.performed < budget.instructions }
+        ensures run { (result, self.new.cycle) ≡ scan_run_over image.now breaks.now budget.instructions self.old.cycle }
         ensures kept { IsCycleOf image.now self.new }
         ensures performed { self.new.cycle.performed < budget.instructions }
     {
-        let left = budget.instructions.saturating_sub(self.performed);
-        let came = run_over(&mut self.machine, image, self.moment, breaks, left);
-        self.tell(came, budget)
+        let came = run_over(
+            &mut self.machine,
+            image,
+            self.moment,
+            breaks,
+            budget.instructions,
+            self.performed,
+        );
+        self.tell(came)
+    }
+
+    /// Performs the instruction that a scan is held at, and no other: the scan is then Done, Stopped, or Held at the next one.
+    pub fn step(&mut self, image: &Image, budget: Budget) -> ScanOut
+        requires kept { IsCycleOf image.now self.old }
+        requires left { self.old.cycle.performed < budget.instructions }
+        ensures run { (result, self.new.cycle) ≡ scan_step image.now budget.instructions self.old.cycle }
+        ensures kept { IsCycleOf image.now self.new }
+        ensures performed { self.new.cycle.performed < budget.instructions }
+    {
+        let came = run_one(
+            &mut self.machine,
+            image,
+            self.moment,
+            budget.instructions,
+            self.performed,
+        );
+        self.tell(came)
     }
 
     /// What a run comes to, seen from outside; its end brings the machine to rest.
-    fn tell(&mut self, came: Came, budget: Budget) -> ScanOut
-        requires { IsLeft budget.instructions came }
-        ensures seen { (result, self.new.cycle) ≡ seen budget.instructions self.old.cycle (came_to came self.old.cycle.state) }
+    fn tell(&mut self, came: Came) -> ScanOut
+        ensures seen { (result, self.new.cycle) ≡ scan_result self.old.cycle (came_to came self.old.cycle.state) }
         ensures kept { (Q : Text) → IsCycleOf Q self.old → IsCycleOf Q self.new }
-        ensures performed { self.new.cycle.performed < budget.instructions }
+        ensures performed { (budget : ℕ) → 0 < budget → IsWithin budget came → self.new.cycle.performed < budget }
     {
         match came {
-            Came::Ended => {
+            Came::Done => {
                 let outputs = self.released();
                 self.machine.rest();
                 self.performed = 0;
                 ScanOut::Done(outputs)
             }
-            Came::Paused(left) => {
-                self.performed = budget.instructions - left;
+            Came::Held(performed) => {
+                self.performed = performed;
                 ScanOut::Held(self.machine.pos())
             }
-            Came::Halted(stop) => {
+            Came::Stopped(stop) => {
                 self.performed = 0;
                 ScanOut::Stopped(stop, self.machine.pos())
             }
@@ -223,7 +253,7 @@ impl ScanCycle {
 
     /// The value of a location, a variable or a field; none where the slot is none of these.
     pub fn peek(&self, slot: Slot) -> Option<Value>
-        ensures { result ≡ peeked self.now.places self.now.cycle.state slot.0 }
+        ensures { result ≡ slot_value self.now.places self.now.cycle.state slot.0 }
     {
         self.machine.peek(slot)
     }

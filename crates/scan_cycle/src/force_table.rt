@@ -1,7 +1,7 @@
 //! The forces that a scan cycle keeps.
 
 ghost use Rattle.std.specs.Prelude.{◌≡◌, true, is_some, unwrap_or, IfOk};
-ghost use Rattle.controller_model.specs.Forces.{with_forces, no_forces, forced, unforced};
+ghost use Rattle.controller_model.specs.Forces.{with_forces, no_forces, put_force, lift_force};
 ghost use Rattle.controller_model.specs.Snapshots.{forced_slots, fit_forces};
 ghost use Rattle.scan_cycle.specs.Parts.{AreMasks};
 
@@ -44,7 +44,7 @@ impl ForceTable {
 
     /// The forces of slots that rise and have values of their types.
     pub fn restored(slots: &[ForcedSlot]) -> ForceTable
-        requires { fit_forces 0 slots.now ≡ true }
+        requires { fit_forces slots.now ≡ true }
         ensures { forced_slots result ≡ slots.now }
     {
         ForceTable {
@@ -92,8 +92,8 @@ impl ForceTable {
     /// Forces a location of the inputs or outputs; false, and nothing changed, where it is of another area, or the value isn't
     /// of its type.
     pub fn force(&mut self, loc: Loc, v: Value) -> bool
-        ensures told { result ≡ is_some (forced self.old loc v) }
-        ensures forced { self.new ≡ unwrap_or (forced self.old loc v) self.old }
+        ensures told { result ≡ is_some (put_force self.old loc v) }
+        ensures forced { self.new ≡ unwrap_or (put_force self.old loc v) self.old }
     {
         self.may_force = true;
         force(&mut self.forces, loc, v)
@@ -101,8 +101,8 @@ impl ForceTable {
 
     /// Frees a location of the inputs or outputs; false, and nothing changed, where it is of another area.
     pub fn unforce(&mut self, loc: Loc) -> bool
-        ensures told { result ≡ is_some (unforced self.old loc) }
-        ensures unforced { self.new ≡ unwrap_or (unforced self.old loc) self.old }
+        ensures told { result ≡ is_some (lift_force self.old loc) }
+        ensures unforced { self.new ≡ unwrap_or (lift_force self.old loc) self.old }
     {
         self.may_force = true;
         unforce(&mut self.forces, loc)

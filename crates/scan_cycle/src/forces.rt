@@ -1,7 +1,7 @@
 //! Values forced in place of the cells of an area.
 
 ghost use Rattle.std.specs.Prelude.{◌≡◌, ◌≤◌, ◌+◌, ◌++◌, true, length, is_some, unwrap_or, nat_lt, slice_set, OnOk, IfOk};
-ghost use Rattle.controller_model.specs.Forces.{laid, with_forces, no_mask, no_forces, masked, unmasked, forced, unforced};
+ghost use Rattle.controller_model.specs.Forces.{overlay, with_forces, no_mask, no_forces, with_forced, with_freed, put_force, lift_force};
 ghost use Rattle.controller_model.specs.Snapshots.{forced_bits, forced_words, forced_in, forced_slots, fit_forces};
 ghost use Rattle.scan_cycle.specs.Parts.{forced_word, IsMask, AreMasks};
 
@@ -40,7 +40,7 @@ pub fn with_forces(mask: &Mask, cells: &Cells) -> Cells
 
 fn lay<T: Copy>(mask: &[Option<T>], cells: &mut [T])
     requires { length mask.now ≡ length cells.old }
-    ensures { cells.new ≡ laid mask.now cells.old }
+    ensures { cells.new ≡ overlay mask.now cells.old }
 {
     for i in 0..mask.len() {
         if let Some(x) = mask[i] {
@@ -52,8 +52,8 @@ fn lay<T: Copy>(mask: &[Option<T>], cells: &mut [T])
 /// Forces a location of the inputs or outputs; false, and nothing changed, where it is of another area, or the value isn't of
 /// its type.
 pub fn force(forces: &mut Forces, loc: Loc, v: Value) -> bool
-    ensures told { result ≡ is_some (forced forces.old loc v) }
-    ensures forced { forces.new ≡ unwrap_or (forced forces.old loc v) forces.old }
+    ensures told { result ≡ is_some (put_force forces.old loc v) }
+    ensures forced { forces.new ≡ unwrap_or (put_force forces.old loc v) forces.old }
 {
     match loc.area() {
         Area::Input => force_in(&mut forces.input, loc, v),
@@ -64,8 +64,8 @@ pub fn force(forces: &mut Forces, loc: Loc, v: Value) -> bool
 
 /// Frees a location of the inputs or outputs; false, and nothing changed, where it is of another area.
 pub fn unforce(forces: &mut Forces, loc: Loc) -> bool
-    ensures told { result ≡ is_some (unforced forces.old loc) }
-    ensures unforced { forces.new ≡ unwrap_or (unforced forces.old loc) forces.old }
+    ensures told { result ≡ is_some (lift_force forces.old loc) }
+    ensures unforced { forces.new ≡ unwrap_or (lift_force forces.old loc) forces.old }
 {
     match loc.area() {
         Area::Input => unforce_in(&mut forces.input, loc),
@@ -75,8 +75,8 @@ pub fn unforce(forces: &mut Forces, loc: Loc) -> bool
 }
 
 fn force_in(mask: &mut Mask, loc: Loc, v: Value) -> bool
-    ensures told { result ≡ is_some (masked mask.old loc v) }
-    ensures forced { mask.new ≡ unwrap_or (masked mask.old loc v) mask.old }
+    ensures told { result ≡ is_some (with_forced mask.old loc v) }
+    ensures forced { mask.new ≡ unwrap_or (with_forced mask.old loc v) mask.old }
 {
     match (loc, v) {
         (Loc::Bit(_, n), Value::Bool(b)) => set(&mut mask.bits, n, Some(b)),
@@ -86,8 +86,8 @@ fn force_in(mask: &mut Mask, loc: Loc, v: Value) -> bool
 }
 
 fn unforce_in(mask: &mut Mask, loc: Loc) -> bool
-    ensures told { result ≡ is_some (unmasked mask.old loc) }
-    ensures unforced { mask.new ≡ unwrap_or (unmasked mask.old loc) mask.old }
+    ensures told { result ≡ is_some (with_freed mask.old loc) }
+    ensures unforced { mask.new ≡ unwrap_or (with_freed mask.old loc) mask.old }
 {
     match loc {
         Loc::Bit(_, n) => set(&mut mask.bits, n, None),
@@ -196,7 +196,7 @@ pub fn whole_forces(forces: &Forces)
 
 /// The forces of slots that rise and have values of their types.
 pub fn restored_forces(slots: &[ForcedSlot]) -> Forces
-    requires { fit_forces 0 slots.now ≡ true }
+    requires { fit_forces slots.now ≡ true }
     ensures { forced_slots result ≡ slots.now }
 {
     let mut forces = no_forces();

@@ -6,7 +6,7 @@ use Rattle.std.proofs.lemmas.Option.{slice_get_within, get_or_from_slice_get}
 use Rattle.std.proofs.lemmas.List.{take_more, get_or-set_same, get_or-set_other, length-set, map-append}
 use Rattle.il_model.specs.declared.command.Command.{Command}
 use Rattle.il_model.specs.declared.command.Answer.{Answer}
-use Rattle.controller_model.specs.Commands.{applied}
+use Rattle.controller_model.specs.Commands.{command_outcome}
 use Rattle.debugger.specs.Owned.{Owned}
 use Rattle.vr_model.specs.declared.message.Request as code
 use Rattle.vr_model.specs.declared.message.Message as code_message
@@ -43,13 +43,13 @@ commands_more log m = map-append (λ (x : Request Command). x.command) log (m �
 
 pub executed_more : (o n : Owned) (clients : List known.Client) (given : Answer) (answer : List Command → Answer) (log : List (Request Command)) (k : ℕ) (m : Request Command)
     → length clients ≡ client_count → answer ≡ answer_to o.program o.budget → slice_get log k ≡ Some m
-    → (given, n.control) ≡ applied o.program o.budget o.control m.command → n.program ≡ o.program → n.budget ≡ o.budget
+    → (given, n.control) ≡ command_outcome o.program o.budget o.control m.command → n.program ≡ o.program → n.budget ≡ o.budget
     → HasExecuted o clients answer log k
     → HasExecuted n (set clients m.client (answered (client_at clients m.client) m.number given)) answer log (k + 1) × (given ≡ answer (commands (take (k + 1) log)))
 executed_more o n clients given answer log k m whole its entry gives program budget h = (
   record {
     within = let l : k < length log = slice_get_within log k m entry in omega arith;
-    control = ap (λ p. p.1) gives ∙ ap (λ s. (applied o.program o.budget s m.command).1) h.control
+    control = ap (λ p. p.1) gives ∙ ap (λ s. (command_outcome o.program o.budget s m.command).1) h.control
         ∙ sym (control_more o.program o.budget (commands (take k log)) m.command)
         ∙ ap (control_after o.program o.budget) (sym cs)
         ∙ ap (λ p. control_after p o.budget (commands (take (k + 1) log))) (sym program)
@@ -77,7 +77,7 @@ executed_more o n clients given answer log k m whole its entry gives program bud
     cs = ap commands more ∙ commands_more (take k log) m
 
     is : given ≡ answer (commands (take (k + 1) log))
-    is = ap (λ p. p.0) gives ∙ ap (λ s. (applied o.program o.budget s m.command).0) h.control ∙ sym (answer_more o.program o.budget (commands (take k log)) m.command) ∙ ap (answer_to o.program o.budget) (sym cs)
+    is = ap (λ p. p.0) gives ∙ ap (λ s. (command_outcome o.program o.budget s m.command).0) h.control ∙ sym (answer_more o.program o.budget (commands (take k log)) m.command) ∙ ap (answer_to o.program o.budget) (sym cs)
         ∙ ap (λ a. a (commands (take (k + 1) log))) (sym its)
 
     new : known.Client
@@ -108,7 +108,7 @@ answered_numbers clients log i number given k = record {
 
 -- the core after one more entry is executed
 pub next_executed : (core : Core) (n : Owned) (clients : List known.Client) (given : Answer) (m : code.Request)
-    → slice_get core.log.items core.commit_number ≡ Some m → (given, n.control) ≡ applied core.controller.program core.controller.budget core.controller.control m.command
+    → slice_get core.log.items core.commit_number ≡ Some m → (given, n.control) ≡ command_outcome core.controller.program core.controller.budget core.controller.control m.command
     → n.program ≡ core.controller.program → n.budget ≡ core.controller.budget → clients ≡ set core.clients m.client.number (answered (client_at core.clients m.client.number) m.number given)
     → (reply : code_message.Message) → message_of reply ≡ reply_to core.number m.client.number core.view m.number given
     → ExecutesNext core (record core { controller = n; clients = clients; commit_number = core.commit_number + 1 }) (Some reply)

@@ -1,10 +1,8 @@
 -- Where cells end.
-use Rattle.std.proofs.Common.{◌≡◌, ℕ, zero, suc, ◌+◌, ◌*◌, ◌<◌, ◌≤◌, Bool, true, false, ltb, List, length, drop, Some, None, refl, sym, ap, ◌∙◌, arith, length-drop, inl, inr}
-use Rattle.std.specs.Int.{w16}
+use Rattle.std.proofs.Common.{◌≡◌, ℕ, zero, suc, ◌+◌, ◌*◌, ◌<◌, ◌≤◌, true, false, ltb, List, length, drop, Some, None, refl, ap, ◌∙◌, arith, length-drop, inl, inr}
 use Rattle.std.proofs.lemmas.Bool.{cases_lt, lt-ltb, le-ltb}
 use Rattle.std.proofs.lemmas.List.{drop-drop}
-use Rattle.il_model.specs.declared.cells.Cells.{Cells}
-use Rattle.vr_wire.specs.Reading.{items_at, word_at, bits_at, cells_at, end_of}
+use Rattle.vr_wire.specs.Reading.{items_at, word_at, cells_at, end_of}
 use Rattle.vr_wire.proofs.Items.{past_made, one_past, none_past}
 
 word_short : (bytes : List ℕ) → length bytes < 2 → end_of word_at bytes ≡ None

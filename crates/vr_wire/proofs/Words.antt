@@ -1,5 +1,5 @@
 -- Words and clients, one at a time.
-use Rattle.std.proofs.Common.{◌≡◌, ℕ, zero, suc, ◌<◌, ◌≤◌, Bool, true, false, ap₂, sym, List, [], ◌∷◌, length, get_or, Some, refl, ap, ◌∙◌, arith}
+use Rattle.std.proofs.Common.{◌≡◌, ℕ, ◌<◌, Bool, true, false, ap₂, sym, List, [], ◌∷◌, length, Some, refl, ap, ◌∙◌}
 use Rattle.std.specs.Prelude.{ℤ, ◌&&◌, ◌^◌}
 use Rattle.std.proofs.lemmas.List.{length-map}
 use mathlib.Core.Bool.{beq}

@@ -1,8 +1,8 @@
 -- The frames of messages as a format of frames, and what a feed does with a piece of a stream.
-use Rattle.std.specs.Prelude.{◌≡◌, ℕ, ◌+◌, ◌<◌, ◌≤◌, ◌⊎◌, List, [], ◌++◌, length, Result, Ok, Err}
+use Rattle.std.specs.Prelude.{◌≡◌, ℕ, ◌+◌, ◌≤◌, ◌⊎◌, List, [], ◌++◌, length, Result, Ok, Err}
 use Rattle.il_model.specs.declared.command.Command.{Command}
 use Rattle.il_model.specs.declared.command.Answer.{Answer}
-use Rattle.il_model.specs.Stream.{Format, Ending, Rest, Fault, IsRest, Took}
+use Rattle.il_model.specs.Stream.{Format, Ending, Fault, IsRest, Took}
 use Rattle.vr_model.specs.Messages.{Message}
 use Rattle.vr_wire.specs.declared.fault.WireFault.{WireFault}
 use Rattle.vr_wire.specs.declared.fault.WireError.{WireError}

@@ -8,7 +8,7 @@ use Rattle.il_model.specs.declared.command.Command.{Command}
 use Rattle.il_model.specs.declared.command.Command.TheVariants as commands
 use Rattle.il_model.specs.declared.command.Answer.{Answer}
 use Rattle.il_model.specs.declared.command.Answer.TheVariants as answers
-use Rattle.il_model.specs.Values.{made, ty_of, number_of}
+use Rattle.il_model.specs.Values.{typed_value, ty_of, number_of}
 use Rattle.il_model.specs.Image.{constant_bytes}
 use Rattle.il_model.specs.Numbers.{stop_number, refusal_number}
 use Rattle.il_model.specs.Cells.{safe_image}
@@ -193,7 +193,7 @@ pub record IsLawful (m : Message Command Answer) : Type 0 where
 -- ---- each number is within its field, as those of a message of the code are
 
 abbrev pub FitsValue : Value → Type 0
-FitsValue v = made (ty_of v) (number_of v) ≡ Some v
+FitsValue v = typed_value (ty_of v) (number_of v) ≡ Some v
 
 pub record FitsCells (cells : Cells) : Type 0 where
   pub bits : length cells.bits ≡ 512

@@ -13,7 +13,7 @@ use Rattle.il_model.specs.declared.command.Answer.{Answer}
 use Rattle.il_model.specs.declared.command.Answer.TheVariants as answers
 use Rattle.il_model.specs.declared.command.Refusal.{Refusal}
 use Rattle.il_model.specs.declared.command.Refusal.TheVariants as refusals
-use Rattle.il_model.specs.Values.{made}
+use Rattle.il_model.specs.Values.{typed_value}
 use Rattle.il_model.specs.Codes.{type_of}
 use Rattle.il_model.specs.Cells.{safe_image}
 use Rattle.vr_model.specs.Groups.{client_count}
@@ -48,7 +48,7 @@ number_at w bytes = if nat_lt (length bytes) (byte_len w) then None else Some (f
 
 -- no field, one or more, one behind the other, and what is made of them
 abbrev pub fields_0 : {X : Type 0} → X → Reader X
-fields_0 made bytes = Some (made, bytes)
+fields_0 typed_value bytes = Some (typed_value, bytes)
 
 abbrev pub fields_1 : {A X : Type 0} → (A → X) → Reader A → Reader X
 fields_1 make a bytes = a bytes >>= λ x. Some (make x.0, x.1)
@@ -107,7 +107,7 @@ abbrev pub cells_at : Reader Cells
 cells_at bytes = fields_2 (λ bits words. record { bits = bits; words = words }) bits_at (items_at word_at 64) bytes
 
 abbrev pub value_at : Reader Value
-value_at bytes = lawful type_of (number_at w8) bytes >>= λ t. lawful (λ n. made t.0 (cast_signed w32 n)) (number_at w32) t.1
+value_at bytes = lawful type_of (number_at w8) bytes >>= λ t. lawful (λ n. typed_value t.0 (cast_signed w32 n)) (number_at w32) t.1
 
 abbrev pub slot_at : Reader Slot
 slot_at bytes = fields_1 (λ n. record { 0 = n }) (number_at w16) bytes

@@ -1,10 +1,10 @@
 //! Tables of the standard function blocks, each called through the trait, with the words that it saves at the end.
 
-use function_blocks::any::Block;
 use function_blocks::bistable::{BistableOut, Rs, RsIn, Sr, SrIn};
-use function_blocks::block::{FunctionBlock, saved_again};
+use function_blocks::block::Block;
 use function_blocks::counter::{CounterOut, Ctd, CtdIn, Ctu, CtuIn, Ctud, CtudIn, CtudOut};
 use function_blocks::edge::{EdgeIn, EdgeOut, FTrig, RTrig};
+use function_blocks::function_block::{FunctionBlock, saved_again};
 use function_blocks::timer::{TimerIn, TimerOut, Tof, Ton, Tp};
 use il_model::kind::BlockKind;
 use il_model::value::{Ty, Value};

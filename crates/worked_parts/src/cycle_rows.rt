@@ -1,4 +1,5 @@
 //! One scan after another on an image, without a controller.
+ghost use Rattle.std.specs.Prelude.{◌<◌};
 ghost use Rattle.scan_cycle.specs.Kept.{IsCycleOf};
 
 use crate::images::{WIRE_AND_FIVE, image};
@@ -26,9 +27,20 @@ fn runs(
     wanted: ScanOut,
 )
     requires { IsCycleOf image.now cycle.old }
-    ensures { IsCycleOf image.now cycle.new }
+    ensures kept { IsCycleOf image.now cycle.new }
+    ensures left { cycle.new.cycle.performed < budget.instructions }
 {
     assert_eq!(rt; cycle.run_to(image, breaks, budget), wanted);
+}
+
+/// Wants a cycle that performs one instruction to end so.
+fn steps(rt: &impl Abort, cycle: &mut ScanCycle, image: &Image, budget: Budget, wanted: ScanOut)
+    requires kept { IsCycleOf image.now cycle.old }
+    requires left { cycle.old.cycle.performed < budget.instructions }
+    ensures kept { IsCycleOf image.now cycle.new }
+    ensures left { cycle.new.cycle.performed < budget.instructions }
+{
+    assert_eq!(rt; cycle.step(image, budget), wanted);
 }
 
 /// Wants a cycle that is carried on with these breakpoints to end so.
@@ -40,7 +52,8 @@ fn goes_on(
     budget: Budget,
     wanted: ScanOut,
 )
-    requires { IsCycleOf image.now cycle.old }
+    requires kept { IsCycleOf image.now cycle.old }
+    requires left { cycle.old.cycle.performed < budget.instructions }
     ensures { IsCycleOf image.now cycle.new }
 {
     assert_eq!(rt; cycle.step_over(image, breaks, budget), wanted);
@@ -69,14 +82,7 @@ fn a_cycle_runs_to_a_break_and_on(rt: HostRuntime) -> Result<(), Fail> {
     runs(&rt, &mut cycle, &image, &third, budget, ScanOut::Held(2));
     runs(&rt, &mut cycle, &image, &third, budget, ScanOut::Held(2));
     stands(&rt, &cycle, 2, Some(Value::Bool(true)));
-    goes_on(
-        &rt,
-        &mut cycle,
-        &image,
-        &[true; 4],
-        budget,
-        ScanOut::Held(3),
-    );
+    steps(&rt, &mut cycle, &image, budget, ScanOut::Held(3));
     stands(&rt, &cycle, 3, Some(Value::Int(5)));
     let done = ScanOut::Done(outputs(true, 5));
     goes_on(&rt, &mut cycle, &image, &third, budget, done);

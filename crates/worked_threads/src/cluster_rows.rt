@@ -1,9 +1,9 @@
 //! A group of three, each replica in a thread of its own.
 ghost use Rattle.std.specs.Prelude.{None};
 
-use crate::shelf::{Shelf, WIRE};
+use crate::shelf::{Shelf, WIRE, group_of_three};
 use il_model::cells::InImage;
-use il_model::{Answer, Budget, Command};
+use il_model::{Answer, Command};
 use loader::{Image, load};
 use replicas::{
     ChannelLink, Clock, Cluster, Gate, Input, Link, MachineClock, Seat, Switchboard, Tick,
@@ -16,7 +16,7 @@ use std::test::Fail;
 use std::thread::Threads;
 use std::time::Duration;
 use std::{thread, time};
-use vr_model::{Body, ClientNumber, Config, Message, Party, Request};
+use vr_model::{Body, ClientNumber, Message, Party, Request};
 
 fn wire(alloc: Global) -> Result<Image, Fail> {
     match load(alloc, WIRE) {
@@ -136,8 +136,7 @@ fn meet<R: Threads + Wait + time::Clock + Copy + Send + Drop + 'static>(
     rt: R,
     alloc: Global,
 ) -> Result<u64, Fail> {
-    let config = Config::new(1).ok_or("no config")?;
-    let budget = Budget::new(100).ok_or("no budget")?;
+    let (config, budget) = group_of_three()?;
     let met = Arc::new(alloc, AtomicU64::new(0))?;
     let seats = meeting(rt, alloc, &met)?;
     if seats.len() != usize::from(config.group_size()) {
@@ -259,8 +258,7 @@ fn served<R: Threads + Wait + time::Clock + Copy + Send + Drop + 'static>(
     rt: R,
     alloc: Global,
 ) -> Result<(bool, bool), Fail> {
-    let config = Config::new(1).ok_or("no config")?;
-    let budget = Budget::new(100).ok_or("no budget")?;
+    let (config, budget) = group_of_three()?;
     let client = ClientNumber::new(0).ok_or("no client")?;
     let board = Arc::new(alloc, Switchboard::new(alloc, 3, 1)?)?;
     let recovered = Arc::new(alloc, AtomicBool::new(false))?;

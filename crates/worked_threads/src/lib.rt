@@ -1,9 +1,11 @@
-//! Worked rows of replicas that are served, in threads of their own, over channels, and of stores in files: what no contract says of them. The crate has tests
-//! alone, and no crate uses it.
+//! Worked rows of replicas that are served, in threads of their own, over channels, and of stores and images in files: what no contract says of
+//! them. The crate has tests alone, and no crate uses it.
 #![tactic(auto)]
 
 #[cfg(test)]
 mod cluster_rows;
+#[cfg(test)]
+mod image_rows;
 #[cfg(test)]
 mod serve_rows;
 #[cfg(test)]

@@ -1,17 +1,18 @@
-//! A served controller: what its clients see, and how it ends.
+//! A served controller, from the words of its call: what its clients see, and how it ends.
 ghost use Rattle.std.specs.Prelude.{◌≡◌};
 
-use il_model::{Budget, Counted};
-use plc_serve::{Settings, serve, stores};
+use il_model::Counted;
+use plc_serve::{Service, Settings, serve};
+use plc_words::{Words, read_words};
 use process_image::NewList;
 use std::alloc::Global;
 use std::io::{Read, Write};
 use std::marker::Brand;
 use std::net::{Net, TcpListener, TcpStream};
 use std::process::Abort;
+use std::rt::Files;
 use std::test::Fail;
 use std::{fs, io, str};
-use vr_model::Config;
 
 /// Reads the first two bits of `%I`, and what a new controller answers.
 const REQUEST: [u8; 12] = [0, 7, 0, 0, 0, 6, 1, 1, 0, 0, 0, 2];
@@ -79,20 +80,62 @@ impl<R: Net<Listener = TcpListener, Stream = TcpStream> + Drop> Write for Client
     }
 }
 
-const DIRECTORY: &str = "served/stores";
+/// What the words of a call ask to serve, but at any port that is free, which no word names.
+fn asked<R: Files + Alloc<A = Global> + Copy + Drop>(
+    rt: R,
+    words: &[&str],
+) -> Result<Service<R>, Fail> {
+    let Ok(
+        Words::Serve {
+            source,
+            store,
+            scans,
+            config,
+            port: 5020,
+            period,
+            budget,
+        },
+    ) = read_words(rt.alloc(), words)
+    else {
+        return Err("other words")?;
+    };
+    let settings = Settings {
+        config,
+        budget,
+        port: 0,
+        period,
+        scans,
+    };
+    match Service::new(rt, source, store, settings) {
+        Ok(service) => Ok(service),
+        Err(_) => Err("no service")?,
+    }
+}
+
+const WORDS: [&str; 9] = [
+    "plc",
+    "serve",
+    "served.il",
+    "--store",
+    "served/stores",
+    "--scans",
+    "3",
+    "--period",
+    "1",
+];
 
 /// Serves three scans at any port: the status, and what the output and the clients saw.
 #[test]
 fn clients_are_served(rt: HostRuntime) -> Result<(), Fail> {
     let alloc = rt.alloc();
-    let config = Config::new(1).ok_or("no config")?;
-    let settings = Settings {
-        config,
-        budget: Budget::new(100).ok_or("no budget")?,
-        port: 0,
-        period: 1,
-        scans: 3,
-    };
+    let _ = fs::remove_dir_all(&rt, "served");
+    fs::write(&rt, "served.il", b"LD %IX0.0\nST %QX0.0\n".as_slice())?;
+    let Service {
+        source,
+        directory,
+        stores,
+        settings,
+    } = asked(rt, &WORDS)?;
     let mut out = Vec::new(alloc);
     let mut clients = Clients {
         rt,
@@ -100,19 +143,13 @@ fn clients_are_served(rt: HostRuntime) -> Result<(), Fail> {
         line: Vec::new(alloc),
         seen: None,
     };
-    let source = b"LD %IX0.0\nST %QX0.0\n".as_slice();
-    for replica in 0..3u8 {
-        let path = format!(in alloc; "{DIRECTORY}/replica-{replica}")?;
-        let _ = fs::remove_file(&rt, path.as_str());
-    }
-    let kept = stores(rt, alloc, config, DIRECTORY)?;
     let status = serve::<Brand, _, _, _, _>(
         rt,
         alloc,
         NewList::new(),
-        source,
-        format!(in alloc; "{DIRECTORY}")?,
-        kept,
+        source.as_slice(),
+        directory,
+        stores,
         settings,
         &mut out,
         &mut Counted::new(&mut clients),

@@ -1,15 +1,15 @@
 //! The loop of one replica over scripted ends: what it polls, receives, tells its clock and calls its gate with.
 ghost use Rattle.std.specs.Prelude.{None};
 
-use crate::shelf::{Shelf, WIRE};
-use il_model::{Budget, Command, InImage};
+use crate::shelf::{Shelf, WIRE, group_of_three};
+use il_model::{Command, InImage};
 use loader::load;
 use replica::Replica;
 use replicas::{Clock, Gate, Input, Link, Tick, serve};
 use std::alloc::Global;
 use std::process::Abort;
 use std::test::Fail;
-use vr_model::{Body, ClientNumber, Config, Message, Party, Request};
+use vr_model::{Body, ClientNumber, Message, Party, Request};
 
 /// What a receive gives: the request of this number, from client 0.
 #[derive(Clone, Copy)]
@@ -129,8 +129,7 @@ type Counts = (usize, usize, u64, u64, u64, u64);
 
 /// Replica 0 is served for so many turns.
 fn served(alloc: Global, turns: u64, ticks: &[Tick], inputs: &[Given]) -> Result<Counts, Fail> {
-    let config = Config::new(1).ok_or("no config")?;
-    let budget = Budget::new(100).ok_or("no budget")?;
+    let (config, budget) = group_of_three()?;
     let client = ClientNumber::new(0).ok_or("no client")?;
     let Ok(image) = load(alloc, WIRE) else {
         return Err("no image")?;

@@ -1,8 +1,17 @@
-//! What the served replicas stand on: a store in memory, and the image of a small program.
+//! What the served replicas stand on: a group of three, a store in memory, and the image of a small program.
 
+use il_model::Budget;
 use replica::{StoreFault, ViewStore};
 use replicas::Starts;
-use vr_model::Stored;
+use std::test::Fail;
+use vr_model::{Config, Stored};
+
+/// A group of three, each scan within 100 instructions.
+pub fn group_of_three() -> Result<(Config, Budget), Fail> {
+    let config = Config::new(1).ok_or("no config")?;
+    let budget = Budget::new(100).ok_or("no budget")?;
+    Ok((config, budget))
+}
 
 /// `LD %IX0.0`, `ST %QX0.0`.
 pub const WIRE: &[u8] = b"ILPC\0\x01\0\0\0\0\0\0\0\0\0\x02\x01\0\0\0\x02\0\x10\0";

@@ -1,5 +1,5 @@
 use Rattle.std.proofs.Common.{◌∙◌, ap, sym}
-use Rattle.il_model.specs.Settled.{settled}
+use Rattle.il_model.specs.Settled.{typed_program_of}
 use Rattle.il_model.proofs.Declaring.{declared_image}
 use Rattle.assembler.proofs.Encoding.{settled_spelling}
 use Rattle.assembler.proofs.Literals.{literals_count}
@@ -20,7 +20,7 @@ pub returns-clause-exact : goal.returns-clause-exact
 returns-clause-exact c =
     let is = c.in_ok-literals.ensures in (
       is.0,
-      ap settled (sym c.in_ok-program.ensures) ∙ is.1,
+      ap typed_program_of (sym c.in_ok-program.ensures) ∙ is.1,
       c.in_ok-encode.ensures ∙ settled_spelling c.in_ok-program.program is.0 c.as_slice.result.now is.1 (c.as_slice.ensures.value ∙ is.2),
     )
 
@@ -28,6 +28,6 @@ pub returns-clause-image : goal.returns-clause-image
 returns-clause-image c declared =
     let is = c.in_ok-literals.ensures in (
       is.0,
-      declared_image c.args.program.now is.0 declared (ap settled (sym c.in_ok-program.ensures) ∙ is.1),
+      declared_image c.args.program.now is.0 declared (ap typed_program_of (sym c.in_ok-program.ensures) ∙ is.1),
       c.in_ok-encode.ensures ∙ settled_spelling c.in_ok-program.program is.0 c.as_slice.result.now is.1 (c.as_slice.ensures.value ∙ is.2),
     )

@@ -4,7 +4,7 @@ use Rattle.debugger.proofs.breaks.break_flags.Goals as goal
 
 pub index_mut-requires : goal.index_mut-requires
 index_mut-requires c =
-    let below : get_or c.args.positions.now c.loop-position.position-index 0 < c.args.len = each_below 0 c.args.len c.args.positions.now c.loop-position.position-index 0 c.requires c.loop-position-test.true in
+    let below : get_or c.args.positions.now c.loop-position.position-index 0 < c.args.len = each_below c.args.len c.args.positions.now c.loop-position.position-index 0 c.requires c.loop-position-test.true in
     omega (arith, below, c.loop-position.invariant.each, c.loop-position.flags.ok)
 
 pub returns-clause-listed : goal.returns-clause-listed

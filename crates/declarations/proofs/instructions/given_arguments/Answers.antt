@@ -1,7 +1,7 @@
 use Rattle.std.proofs.Common.{[], map}
 use Rattle.std.proofs.lemmas.Result.{err_from_is_err_and}
 use Rattle.il_reader.specs.Grammar.{argument}
-use Rattle.declarations.specs.Resolution.{pushed_argument, each}
+use Rattle.declarations.specs.Walk.{pushed_argument, each}
 use Rattle.declarations.proofs.Steps.{goes_on, ends, is_done}
 use Rattle.declarations.proofs.instructions.given_arguments.Goals as goal
 

@@ -1,6 +1,6 @@
 use Rattle.std.proofs.Common.{◌≡◌, [], drop, map}
 use Rattle.il_reader.specs.Grammar.{argument}
-use Rattle.declarations.specs.Resolution.{pushed_argument, each}
+use Rattle.declarations.specs.Walk.{pushed_argument, each}
 use Rattle.declarations.proofs.instructions.given_arguments.Given as goal
 
 abbrev pub invariant-loop-written : goal.invariant-loop-written

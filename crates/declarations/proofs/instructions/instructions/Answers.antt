@@ -1,7 +1,7 @@
 use Rattle.std.proofs.Common.{[], map}
 use Rattle.std.proofs.lemmas.Result.{err_from_is_err_and}
 use Rattle.il_reader.specs.Grammar.{line}
-use Rattle.declarations.specs.Resolution.{instruct, each}
+use Rattle.declarations.specs.Walk.{instruct, each}
 use Rattle.declarations.proofs.Steps.{goes_on_item, ends_item, is_done}
 use Rattle.declarations.proofs.instructions.instructions.Goals as goal
 

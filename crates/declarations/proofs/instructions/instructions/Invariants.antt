@@ -1,6 +1,6 @@
 use Rattle.std.proofs.Common.{◌≡◌, [], drop, map}
 use Rattle.il_reader.specs.Grammar.{line}
-use Rattle.declarations.specs.Resolution.{instruct, each}
+use Rattle.declarations.specs.Walk.{instruct, each}
 use Rattle.declarations.proofs.instructions.instructions.Given as goal
 
 abbrev pub invariant-loop-written : goal.invariant-loop-written

@@ -1,6 +1,6 @@
 use Rattle.std.proofs.Common.{◌≡◌, drop, map}
 use Rattle.il_reader.specs.Grammar.{declarations}
-use Rattle.declarations.specs.Resolution.{nothing, declare_block, each}
+use Rattle.declarations.specs.Walk.{nothing, declare_block, each}
 use Rattle.declarations.proofs.resolving.declared.Given as goal
 
 abbrev pub invariant-loop-block : goal.invariant-loop-block

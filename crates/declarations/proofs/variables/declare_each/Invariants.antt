@@ -1,6 +1,6 @@
 use Rattle.std.proofs.Common.{◌≡◌, drop, map}
 use Rattle.il_reader.specs.Grammar.{declaration}
-use Rattle.declarations.specs.Resolution.{declare, each}
+use Rattle.declarations.specs.Walk.{declare, each}
 use Rattle.declarations.proofs.variables.declare_each.Given as goal
 
 abbrev pub invariant-loop-d : goal.invariant-loop-d

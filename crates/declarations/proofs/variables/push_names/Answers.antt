@@ -1,7 +1,7 @@
 use Rattle.std.proofs.Common.{map}
 use Rattle.std.proofs.lemmas.Result.{err_from_is_err_and}
 use Rattle.il_reader.specs.Tokens.{token}
-use Rattle.declarations.specs.Resolution.{declare_name, each}
+use Rattle.declarations.specs.Walk.{declare_name, each}
 use Rattle.declarations.proofs.Steps.{goes_on, ends, is_done}
 use Rattle.declarations.proofs.variables.push_names.Goals as goal
 

@@ -1,6 +1,6 @@
 use Rattle.std.proofs.Common.{◌≡◌, drop, map}
 use Rattle.il_reader.specs.Tokens.{token}
-use Rattle.declarations.specs.Resolution.{declare_name, each}
+use Rattle.declarations.specs.Walk.{declare_name, each}
 use Rattle.declarations.proofs.variables.push_names.Given as goal
 
 abbrev pub invariant-loop-name : goal.invariant-loop-name

@@ -10,5 +10,5 @@ returns-then-is_seen c = sym (is_seen c.args.program.now c.args.kind c.in-Some.k
 pub returns-else-is_seen : goal.returns-else-is_seen
 returns-else-is_seen c =
     c.field_fault.ensures
-    ∙ ap (field_fault c.args.program.now (as_settled c.args.settles c.args.a.now)) c.field_named.ensures
+    ∙ ap (field_fault c.args.program.now (as_settled c.args.settles c.args.a.now)) c.kind_field.ensures
     ∙ sym (is_new c.args.program.now c.args.kind c.in-Some.kind c.args.seen.now c.args.settles c.args.a.now c.in-Some.is (sym c.is_seen.ensures ∙ c.if-is_seen.false))

@@ -1,6 +1,6 @@
 use Rattle.std.proofs.Common.{sym, ap, ◌∙◌, false}
 use Rattle.il_model.specs.declared.value.Ty.{Ty}
-use Rattle.il_model.specs.declared.typing.Kind.TheVariants as kinds
+use Rattle.il_model.specs.declared.typing.OperandKind.TheVariants as kinds
 use Rattle.il_model.specs.Text.{Text}
 use Rattle.il_model.specs.Row.{row}
 use Rattle.il_model.specs.Typing.{source_row}

@@ -1,4 +1,4 @@
-use Rattle.std.proofs.Common.{◌≡◌, rules, sym, ◌∙◌, length, arith}
+use Rattle.std.proofs.Common.{sym, ◌∙◌, arith}
 use Rattle.machine.proofs.Zipped.{zipped_other, zipped_at, zipped_next, zipped_end}
 use Rattle.machine.proofs.Shapes.{is_held, held_zipped}
 use Rattle.machine.proofs.arrival.all_of.Goals as goal

@@ -1,4 +1,4 @@
-use Rattle.std.proofs.Common.{◌≡◌, sym, ap, ◌∙◌, map, reverse, ◌&&◌}
+use Rattle.std.proofs.Common.{sym, ap, ◌∙◌, map, reverse, ◌&&◌}
 use Rattle.std.specs.Option.{option_map}
 use Rattle.il_model.specs.Values.{ty_of}
 use Rattle.controller_model.specs.Suits.{held_of}

@@ -1,7 +1,7 @@
-use Rattle.std.proofs.Common.{◌≡◌, ℕ, ◌+◌, Ok, Err, sym, ap, subst, ◌∙◌, length}
+use Rattle.std.proofs.Common.{◌+◌, Ok, sym, ap, ◌∙◌, length}
 use Rattle.il_model.specs.declared.typing.Effect.{Effect}
 use Rattle.il_model.specs.Text.{Text}
-use Rattle.il_model.specs.Typing.{Shape, top_of, source_kind, arrived, applied}
+use Rattle.il_model.specs.Typing.{Shape, top_of, source_kind, shape_on_arrival, shape_after}
 use Rattle.il_model.proofs.Room.{row_room}
 use Rattle.machine.proofs.Arrivals.{goes_past, row_again, ok_effect, no_fault}
 use Rattle.machine.proofs.arrival.pass.Goals as goal
@@ -25,4 +25,4 @@ returns c =
     let past = goes_past c.args.image.now c.lawful.ensures.typed c.args.n sh c.at-line.result.now c.requires.within c.requires.types c.at-line.ensures in
     let is = row_again sh c.cr.result c.top.result c.depth-depth.result c.at-line.result.now.op c.at-line.result.now.modifier c.kind_of-kind.result (source_kind c.args.image.now c.at-line.result.now.source) c.cr.ensures c.top.ensures c.depth-depth.ensures (c.kind_of-kind.ensures ∙ ap (λ (Q : Text). source_kind Q c.at-line.result.now.source) c.program.ensures) ∙ sym c.row_of.ensures ∙ c.in-Ok.is in
     let same = ok_effect past.effect c.in-Ok.effect (sym past.row ∙ is) in
-    past.next ∙ ap (λ (e : Effect). Ok (arrived c.args.image.now (c.args.n + 1) (applied sh e))) same ∙ sym (ap (λ (s : Shape). Ok (arrived c.args.image.now (c.args.n + 1) s)) c.apply.ensures) ∙ sym (ap (λ (s : Shape). Ok s) (c.arrive.ensures ∙ ap (λ (Q : Text). arrived Q (c.args.n + 1) c.apply.new.self) c.program-in-Ok.ensures))
+    past.next ∙ ap (λ (e : Effect). Ok (shape_on_arrival c.args.image.now (c.args.n + 1) (shape_after sh e))) same ∙ sym (ap (λ (s : Shape). Ok (shape_on_arrival c.args.image.now (c.args.n + 1) s)) c.apply.ensures) ∙ sym (ap (λ (s : Shape). Ok s) (c.arrive.ensures ∙ ap (λ (Q : Text). shape_on_arrival Q (c.args.n + 1) c.apply.new.self) c.program-in-Ok.ensures))

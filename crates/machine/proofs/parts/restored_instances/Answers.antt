@@ -1,6 +1,4 @@
-use Rattle.std.proofs.Common.{◌≡◌, rules, sym, ◌∙◌, subst}
-use Rattle.std.specs.Prelude.{Option}
-use Rattle.controller_model.specs.State.{BlockInstance}
+use Rattle.std.proofs.Common.{subst}
 use Rattle.machine.specs.Parts.{Restores}
 use Rattle.machine.proofs.Restoring.{lost_at}
 use Rattle.machine.proofs.parts.restored_instances.Goals as goal

@@ -1,4 +1,4 @@
-use Rattle.std.proofs.Common.{◌≡◌, rules, sym, ◌∙◌, length, arith}
+use Rattle.std.proofs.Common.{sym, ◌∙◌, arith}
 use Rattle.controller_model.specs.Snapshots.{fits_instance}
 use Rattle.machine.proofs.Zipped.{zipped_other, zipped_end}
 use Rattle.machine.proofs.Shapes.{instances_zipped, zipped_no, zipped_yes}

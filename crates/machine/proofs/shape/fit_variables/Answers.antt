@@ -1,4 +1,4 @@
-use Rattle.std.proofs.Common.{◌≡◌, sym, ◌∙◌}
+use Rattle.std.proofs.Common.{sym, ◌∙◌}
 use Rattle.machine.proofs.Shapes.{variables_end}
 use Rattle.machine.proofs.shape.fit_variables.Goals as goal
 

@@ -1,15 +1,18 @@
-use Rattle.std.proofs.Common.{◌≡◌, ◌⊎◌, inl, inr}
+use Rattle.std.proofs.Common.{◌≡◌, inl, inr}
 use Rattle.plc_json.specs.Commands.{HasNoCommands}
 use Rattle.plc_tool.specs.declared.fault.Fault.{Fault}
 use Rattle.plc_tool.specs.declared.fault.Fault.TheVariants as faults
-use Rattle.plc_tool.specs.Meaning.{Tells, program_of_text}
+use Rattle.plc_tool.specs.Meaning.{IsTextFault}
 use Rattle.plc_tool.specs.Putting.{IsFaultOfRun}
-use Rattle.plc_tool.proofs.Endings.{wider, first_told, no_commands}
+use Rattle.plc_tool.proofs.Endings.{wider, told_at_1, refused, first_told, no_commands, of_run}
 use Rattle.plc_tool.proofs.calls.run.Goals as goal
 
 pub returns-in-Ok-clause-told : goal.returns-in-Ok-clause-told
 returns-in-Ok-clause-told g c =
-    wider g.E.CountedWrite (λ (fault : Fault). Tells fault (program_of_text c.args.source.now)) _ _ _ (IsFaultOfRun c.args.source.now c.args.commands.now) (λ e told. inl told) c.run_commands.ensures.told
+    wider g.E.CountedWrite (IsTextFault c.args.source.now) _ _ _ (IsFaultOfRun c.args.source.now c.args.commands.now) (λ e told. inl told) c.run_commands.ensures.told
+
+pub returns-in-Ok-clause-refused : goal.returns-in-Ok-clause-refused
+returns-in-Ok-clause-refused g c = λ one. refused (IsFaultOfRun c.args.source.now c.args.commands.now) (told_at_1 g.E.CountedWrite _ _ _ _ (returns-in-Ok-clause-told g c) one)
 
 pub returns-in-Err-clause-told : goal.returns-in-Err-clause-told
 returns-in-Err-clause-told g c =
@@ -17,7 +20,11 @@ returns-in-Err-clause-told g c =
     inr (record {
       fault = t.0;
       answered = t.2;
-      is = first_told (program_of_text c.args.source.now) (λ (f : Fault). (f ≡ faults.Commands) × HasNoCommands c.args.commands.now) c.from.result t.0 t.1
-          (no_commands c.args.commands.now c.in-Err.fault c.from.result c.from.ensures c.in-Err.ensures.refused);
+      is = λ one. of_run c.args.source.now c.args.commands.now t.0
+          (first_told c.args.source.now (λ (f : Fault). (f ≡ faults.Commands) × HasNoCommands c.args.commands.now) c.from.result t.0 t.1
+          (no_commands c.args.commands.now c.in-Err.fault c.from.result c.from.ensures c.in-Err.ensures.refused) one);
       line = t.3;
     })
+
+pub returns-in-Err-clause-refused : goal.returns-in-Err-clause-refused
+returns-in-Err-clause-refused g c = λ one. refused (IsFaultOfRun c.args.source.now c.args.commands.now) (told_at_1 g.E.CountedWrite _ _ _ _ (returns-in-Err-clause-told g c) one)

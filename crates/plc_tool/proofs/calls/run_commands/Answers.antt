@@ -1,16 +1,16 @@
 use Rattle.plc_tool.proofs.Endings.{by_end, told_at_1, unwritten, refused, stops_late, why_stopped}
-use Rattle.plc_tool.proofs.NoDevice.{of_text}
-use Rattle.plc_tool.specs.Meaning.{Tells, program_of_text}
+use Rattle.plc_tool.proofs.Inputs.{of_text}
+use Rattle.plc_tool.specs.Meaning.{IsTextFault}
 use Rattle.plc_tool.proofs.calls.run_commands.Goals as goal
 
 pub returns-clause-told : goal.returns-clause-told
-returns-clause-told g c = by_end g.E.CountedWrite (λ fault. Tells fault (program_of_text c.args.source.now)) _ _ _ _ _ _ (why_stopped _ _) _ c.put_run.ensures.err c.ended.ensures.ends
+returns-clause-told g c = by_end g.E.CountedWrite (IsTextFault c.args.source.now) _ _ _ _ _ _ (why_stopped _ _) _ c.put_run.ensures.err c.ended.ensures.ends
 
 pub returns-clause-refused : goal.returns-clause-refused
 returns-clause-refused g c = λ one. (
-  refused (program_of_text c.args.source.now) (told_at_1 g.E.CountedWrite _ _ _ _ (returns-clause-told g c) one),
+  refused (IsTextFault c.args.source.now) (told_at_1 g.E.CountedWrite _ _ _ _ (returns-clause-told g c) one),
   unwritten _ _ _ _ (why_stopped _ _) _ _ one c.ended.ensures.done c.ended.ensures.told c.put_run.ensures.err,
 )
 
 pub returns-clause-cut : goal.returns-clause-cut
-returns-clause-cut g c = λ two. stops_late g.E.CountedWrite _ _ (λ fault. Tells fault (program_of_text c.args.source.now)) _ _ _ _ _ _ (of_text c.args.source.now) two c.put_run.ensures.err c.ended.ensures.ends
+returns-clause-cut g c = λ two. stops_late g.E.CountedWrite _ _ (IsTextFault c.args.source.now) _ _ _ _ _ _ (of_text c.args.source.now) two c.put_run.ensures.err c.ended.ensures.ends

@@ -1,5 +1,5 @@
 use Rattle.std.proofs.Common.{◌≡◌, inl, inr, sym, ◌∙◌}
-use Rattle.plc_tool.specs.Meaning.{program_of_text}
+use Rattle.plc_tool.specs.Meaning.{IsTextFault}
 use Rattle.plc_tool.specs.Status.{status_of}
 use Rattle.plc_tool.proofs.Endings.{first_told, refused}
 use Rattle.plc_tool.proofs.calls.run_unread.Goals as goal
@@ -7,9 +7,9 @@ use Rattle.plc_tool.proofs.calls.run_unread.Goals as goal
 pub returns-clause-refused : goal.returns-clause-refused
 returns-clause-refused g c = λ one.
     let input = sym c.tell.ensures.status ∙ one in
-    elim (first_told (program_of_text c.args.source.now) (λ _. status_of c.args.fault ≡ 1) c.args.fault c.first_fault.result c.first_fault.ensures (λ other. other) input) [
-      | inl told ↦ inl (refused (program_of_text c.args.source.now) (c.first_fault.result, input, told))
-      | inr other ↦ inr other
+    elim (first_told c.args.source.now (λ _. status_of c.args.fault ≡ 1) c.args.fault c.first_fault.result c.first_fault.ensures (λ other. other) input) [
+      | inl told ↦ inl (refused (IsTextFault c.args.source.now) (c.first_fault.result, input, told))
+      | inr other ↦ inr other.0
     ]
 
 pub returns-clause-told : goal.returns-clause-told

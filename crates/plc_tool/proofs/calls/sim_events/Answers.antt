@@ -1,5 +1,5 @@
-use Rattle.plc_tool.proofs.Endings.{by_end, told_at_1, unwritten, stops_late, why_stopped}
-use Rattle.plc_tool.proofs.NoDevice.{of_schedule}
+use Rattle.plc_tool.proofs.Endings.{by_end, told_at_1, unwritten, refused, stops_late, why_stopped}
+use Rattle.plc_tool.proofs.Inputs.{of_schedule}
 use Rattle.plc_tool.specs.Simulated.{IsToldOf}
 use Rattle.plc_tool.proofs.calls.sim_events.Goals as goal
 
@@ -8,11 +8,10 @@ returns-clause-told g c =
     by_end g.E.CountedWrite (IsToldOf c.args.source.now c.args.config.now.f c.args.budget.instructions c.args.named.now) _ _ _ _ _ _ (why_stopped _ _) _ c.put_report.ensures.err c.ended.ensures.ends
 
 pub returns-clause-refused : goal.returns-clause-refused
-returns-clause-refused g c = λ one.
-    let told = told_at_1 g.E.CountedWrite _ _ _ _ (returns-clause-told g c) one in (
-      record { fault = told.0; input = told.1; is = told.2 },
-      unwritten _ _ _ _ (why_stopped _ _) _ _ one c.ended.ensures.done c.ended.ensures.told c.put_report.ensures.err,
-    )
+returns-clause-refused g c = λ one. (
+  refused (IsToldOf c.args.source.now c.args.config.now.f c.args.budget.instructions c.args.named.now) (told_at_1 g.E.CountedWrite _ _ _ _ (returns-clause-told g c) one),
+  unwritten _ _ _ _ (why_stopped _ _) _ _ one c.ended.ensures.done c.ended.ensures.told c.put_report.ensures.err,
+)
 
 pub returns-clause-cut : goal.returns-clause-cut
 returns-clause-cut g c = λ two.

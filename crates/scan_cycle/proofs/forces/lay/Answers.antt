@@ -1,5 +1,5 @@
 use Rattle.std.proofs.Common.{◌≡◌, ◌+◌, take, suc, sym, ap, ◌∙◌, arith, set}
-use Rattle.controller_model.specs.Forces.{laid}
+use Rattle.controller_model.specs.Forces.{overlay}
 use Rattle.scan_cycle.proofs.Laid.{laid_none, laid_some}
 use Rattle.scan_cycle.proofs.forces.lay.Goals as goal
 use Rattle.scan_cycle.proofs.forces.lay.Goals.{in-Some, in_default}
@@ -8,6 +8,6 @@ pub loop-i-preserved : goal.loop-i-preserved
 loop-i-preserved g c =
     let next : c.loop-i.i + 1 ≡ suc c.loop-i.i = omega arith in
     elim c.match-mask-i.branch [
-      | in-Some w ↦ w.cells-is ∙ ap (λ xs. set xs c.loop-i.i w.in-Some.x) c.loop-i.invariant ∙ sym (laid_some c.args.mask.now c.loop-i.i c.args.cells.now w.in-Some.x _ c.loop-i-test.true w.in-Some.is) ∙ ap (λ n. laid (take n c.args.mask.now) c.args.cells.now) (sym next)
-      | in_default w ↦ w.cells-is ∙ c.loop-i.invariant ∙ sym (laid_none c.args.mask.now c.loop-i.i c.args.cells.now _ c.loop-i-test.true w.in_default.is) ∙ ap (λ n. laid (take n c.args.mask.now) c.args.cells.now) (sym next)
+      | in-Some w ↦ w.cells-is ∙ ap (λ xs. set xs c.loop-i.i w.in-Some.x) c.loop-i.invariant ∙ sym (laid_some c.args.mask.now c.loop-i.i c.args.cells.now w.in-Some.x _ c.loop-i-test.true w.in-Some.is) ∙ ap (λ n. overlay (take n c.args.mask.now) c.args.cells.now) (sym next)
+      | in_default w ↦ w.cells-is ∙ c.loop-i.invariant ∙ sym (laid_none c.args.mask.now c.loop-i.i c.args.cells.now _ c.loop-i-test.true w.in_default.is) ∙ ap (λ n. overlay (take n c.args.mask.now) c.args.cells.now) (sym next)
     ]

@@ -1,4 +1,4 @@
-use Rattle.std.proofs.Common.{◌≡◌, ◌+◌, Vec, Global, refl, ap, ◌∙◌}
+use Rattle.std.proofs.Common.{◌+◌, Vec, Global, refl, ap, ◌∙◌}
 use Rattle.il_model.specs.declared.snapshot.ForcedSlot.{ForcedSlot}
 use Rattle.scan_cycle.proofs.Restored.{bits_next, bits_same}
 use Rattle.scan_cycle.proofs.forces.save_bits.Goals.{in-Some+in_ok-push, in_default}

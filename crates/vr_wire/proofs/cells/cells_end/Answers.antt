@@ -1,4 +1,3 @@
-use Rattle.std.proofs.Common.{◌≡◌, rules}
 use Rattle.vr_wire.proofs.Ends.{cells_short, cells_long}
 use Rattle.vr_wire.proofs.cells.cells_end.Goals as goal
 

@@ -1,4 +1,3 @@
-use Rattle.std.proofs.Common.{◌≡◌}
 use Rattle.std.proofs.lemmas.Result.{err_from_is_err_and}
 use Rattle.vr_wire.specs.Reading.{request_at, items_at, end_of}
 use Rattle.vr_wire.proofs.Items.{end_goes_on, end_fails, end_done}

@@ -24,6 +24,6 @@ returns c = (made_so c).restored
 
 pub break_flags-requires : goal.break_flags-requires
 break_flags-requires c =
-    ap (fit_breaks 0 c.len.result) (c.as_slice-2.ensures.value ∙ ap (λ (s : SavedController). s.breaks) c.snapshot.view_is)
-    ∙ ap (λ (n : ℕ). fit_breaks 0 n c.args.snapshot.now.breaks) c.len.ensures.len
+    ap (fit_breaks c.len.result) (c.as_slice-2.ensures.value ∙ ap (λ (s : SavedController). s.breaks) c.snapshot.view_is)
+    ∙ ap (λ (n : ℕ). fit_breaks n c.args.snapshot.now.breaks) c.len.ensures.len
     ∙ fits_breaks c.args.image c.args.budget.instructions c.args.snapshot.now (sym c.fits.ensures ∙ c.if-not-fits.false)

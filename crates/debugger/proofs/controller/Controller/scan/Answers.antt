@@ -1,4 +1,4 @@
-use Rattle.std.proofs.Common.{◌≡◌, sym, subst}
+use Rattle.std.proofs.Common.{sym, subst}
 use Rattle.controller_model.specs.declared.phase.Phase.{Phase}
 use Rattle.debugger.specs.Owned.{IsOpen}
 use Rattle.debugger.proofs.Opened.{run_opens}
@@ -12,5 +12,5 @@ invariant_of-self c =
       cycle = c.run_to-out.ensures.kept;
       breaks = c.self.invariant.breaks;
       performed = c.run_to-out.ensures.performed;
-      scan = subst (λ (p : Phase). IsOpen c.self.inside.image p c.run_to-out.new.self.cycle) (sym c.phase_of-self-inside.ensures) opened;
+      scan = subst (λ (p : Phase). IsOpen c.self.inside.image p c.run_to-out.new.self.cycle) (sym c.tell.ensures.phase) opened;
     }
