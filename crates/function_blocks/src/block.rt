@@ -11,6 +11,7 @@ use crate::counter::{CounterOut, Ctd, CtdIn, Ctu, CtuIn, Ctud, CtudIn, CtudOut};
 use crate::edge::{EdgeIn, EdgeOut, FTrig, RTrig};
 use crate::function_block::FunctionBlock;
 use crate::timer::{TimerIn, TimerOut, Tof, Ton, Tp};
+use arrayvec::ArrayVec;
 use il_model::kind::BlockKind;
 use il_model::value::Value;
 
@@ -129,53 +130,53 @@ fn timer_inputs(values: &[Value]) -> TimerIn
     }
 }
 
-fn bistable_output(o: &BistableOut, n: u8) -> Option<Value>
-    ensures { result ≡ slice_get (bistable_values o.now) n }
+#[inline(always)]
+fn bistable_values(o: &BistableOut) -> ArrayVec<Value, 3>
+    ensures { result.items ≡ bistable_values o.now }
 {
-    match n {
-        0 => Some(Value::Bool(o.q1)),
-        _ => None,
-    }
+    let mut values = ArrayVec::new();
+    values.push(Value::Bool(o.q1));
+    values
 }
 
-fn edge_output(o: &EdgeOut, n: u8) -> Option<Value>
-    ensures { result ≡ slice_get (edge_values o.now) n }
+#[inline(always)]
+fn edge_values(o: &EdgeOut) -> ArrayVec<Value, 3>
+    ensures { result.items ≡ edge_values o.now }
 {
-    match n {
-        0 => Some(Value::Bool(o.q)),
-        _ => None,
-    }
+    let mut values = ArrayVec::new();
+    values.push(Value::Bool(o.q));
+    values
 }
 
-fn counter_output(o: &CounterOut, n: u8) -> Option<Value>
-    ensures { result ≡ slice_get (counter_values o.now) n }
+#[inline(always)]
+fn counter_values(o: &CounterOut) -> ArrayVec<Value, 3>
+    ensures { result.items ≡ counter_values o.now }
 {
-    match n {
-        0 => Some(Value::Bool(o.q)),
-        1 => Some(Value::Int(o.cv)),
-        _ => None,
-    }
+    let mut values = ArrayVec::new();
+    values.push(Value::Bool(o.q));
+    values.push(Value::Int(o.cv));
+    values
 }
 
-fn ctud_output(o: &CtudOut, n: u8) -> Option<Value>
-    ensures { result ≡ slice_get (ctud_values o.now) n }
+#[inline(always)]
+fn ctud_values(o: &CtudOut) -> ArrayVec<Value, 3>
+    ensures { result.items ≡ ctud_values o.now }
 {
-    match n {
-        0 => Some(Value::Bool(o.qu)),
-        1 => Some(Value::Bool(o.qd)),
-        2 => Some(Value::Int(o.cv)),
-        _ => None,
-    }
+    let mut values = ArrayVec::new();
+    values.push(Value::Bool(o.qu));
+    values.push(Value::Bool(o.qd));
+    values.push(Value::Int(o.cv));
+    values
 }
 
-fn timer_output(o: &TimerOut, n: u8) -> Option<Value>
-    ensures { result ≡ slice_get (timer_values o.now) n }
+#[inline(always)]
+fn timer_values(o: &TimerOut) -> ArrayVec<Value, 3>
+    ensures { result.items ≡ timer_values o.now }
 {
-    match n {
-        0 => Some(Value::Bool(o.q)),
-        1 => Some(Value::Time(o.et)),
-        _ => None,
-    }
+    let mut values = ArrayVec::new();
+    values.push(Value::Bool(o.q));
+    values.push(Value::Time(o.et));
+    values
 }
 
 impl Block {
@@ -216,67 +217,48 @@ impl Block {
         }
     }
 
-    /// Calls it at the moment `now`, in ms, with the values of its inputs in the order of the fields. An input without a
-    /// value of its type counts as FALSE or 0.
-    pub fn call(&mut self, inputs: &[Value], now: u64)
+    /// Calls it at the moment `now`, in ms, with the values of its inputs in the order of the fields, and answers those
+    /// of its outputs after the call. An input without a value of its type counts as FALSE or 0.
+    pub fn call(&mut self, inputs: &[Value], now: u64) -> ArrayVec<Value, 3>
         ensures equations { self.new ≡ block_after self.old inputs.now now }
         ensures lawful { is_block self.new ≡ true }
+        ensures answer { result.items ≡ outputs_of self.new }
+        ensures kind { kind_of self.new ≡ kind_of self.old }
     {
         match self {
-            Block::Sr(b) => {
-                b.call(&sr_inputs(inputs), now);
-            }
-            Block::Rs(b) => {
-                b.call(&rs_inputs(inputs), now);
-            }
-            Block::RTrig(b) => {
-                b.call(&edge_inputs(inputs), now);
-            }
-            Block::FTrig(b) => {
-                b.call(&edge_inputs(inputs), now);
-            }
-            Block::Ctu(b) => {
-                b.call(&ctu_inputs(inputs), now);
-            }
-            Block::Ctd(b) => {
-                b.call(&ctd_inputs(inputs), now);
-            }
-            Block::Ctud(b) => {
-                b.call(&ctud_inputs(inputs), now);
-            }
-            Block::Tp(b) => {
-                b.call(&timer_inputs(inputs), now);
-            }
-            Block::Ton(b) => {
-                b.call(&timer_inputs(inputs), now);
-            }
-            Block::Tof(b) => {
-                b.call(&timer_inputs(inputs), now);
-            }
+            Block::Sr(b) => bistable_values(&b.call(&sr_inputs(inputs), now)),
+            Block::Rs(b) => bistable_values(&b.call(&rs_inputs(inputs), now)),
+            Block::RTrig(b) => edge_values(&b.call(&edge_inputs(inputs), now)),
+            Block::FTrig(b) => edge_values(&b.call(&edge_inputs(inputs), now)),
+            Block::Ctu(b) => counter_values(&b.call(&ctu_inputs(inputs), now)),
+            Block::Ctd(b) => counter_values(&b.call(&ctd_inputs(inputs), now)),
+            Block::Ctud(b) => ctud_values(&b.call(&ctud_inputs(inputs), now)),
+            Block::Tp(b) => timer_values(&b.call(&timer_inputs(inputs), now)),
+            Block::Ton(b) => timer_values(&b.call(&timer_inputs(inputs), now)),
+            Block::Tof(b) => timer_values(&b.call(&timer_inputs(inputs), now)),
         }
     }
 
-    #[inline(always)]
-    fn output_at(&self, n: u8) -> Option<Value>
-        ensures { result ≡ slice_get (outputs_of self.now) n }
+    /// The values of its outputs, in the order of the fields.
+    pub fn outputs(&self) -> ArrayVec<Value, 3>
+        ensures { result.items ≡ outputs_of self.now }
     {
         match self {
-            Block::Sr(b) => bistable_output(&b.outs(), n),
-            Block::Rs(b) => bistable_output(&b.outs(), n),
-            Block::RTrig(b) => edge_output(&b.outs(), n),
-            Block::FTrig(b) => edge_output(&b.outs(), n),
-            Block::Ctu(b) => counter_output(&b.outs(), n),
-            Block::Ctd(b) => counter_output(&b.outs(), n),
-            Block::Ctud(b) => ctud_output(&b.outs(), n),
-            Block::Tp(b) => timer_output(&b.outs(), n),
-            Block::Ton(b) => timer_output(&b.outs(), n),
-            Block::Tof(b) => timer_output(&b.outs(), n),
+            Block::Sr(b) => bistable_values(&b.outs()),
+            Block::Rs(b) => bistable_values(&b.outs()),
+            Block::RTrig(b) => edge_values(&b.outs()),
+            Block::FTrig(b) => edge_values(&b.outs()),
+            Block::Ctu(b) => counter_values(&b.outs()),
+            Block::Ctd(b) => counter_values(&b.outs()),
+            Block::Ctud(b) => ctud_values(&b.outs()),
+            Block::Tp(b) => timer_values(&b.outs()),
+            Block::Ton(b) => timer_values(&b.outs()),
+            Block::Tof(b) => timer_values(&b.outs()),
         }
     }
 
     /// How many inputs its kind has.
-    #[inline(always)]
-    fn input_count(&self) -> u8
+    pub fn input_count(&self) -> u8
         ensures { result ≡ input_count (kind_of self.now) }
     {
         match self {
@@ -298,7 +280,8 @@ impl Block {
         if number < inputs {
             None
         } else {
-            self.output_at(number - inputs)
+            let outputs = self.outputs();
+            value_at(outputs.as_slice(), (number - inputs) as usize)
         }
     }
 

@@ -2,7 +2,7 @@
 
 ghost use Rattle.std.specs.Prelude.{◌≡◌, slice_get, length};
 ghost use Rattle.il_model.specs.Values.{ty_of};
-ghost use Rattle.il_model.specs.Operators.{joined_type, numeric_type, operation_result, on_numbers, on_truths, in_type, quotient_of, rest_of};
+ghost use Rattle.il_model.specs.Operators.{joined_type, numeric_type, operation_result, on_numbers, on_truths, in_type, quotient, remainder, calculation};
 ghost use Rattle.std.specs.Prelude.{◌*ℤ◌, int_div, int_rem, pos, ◌≢◌};
 
 use crate::value::{Stop, Ty, Value, make};
@@ -193,25 +193,45 @@ pub fn within(ty: Ty, z: i64) -> Result<Value, Stop>
     make(ty, z).ok_or(Stop::Overflow)
 }
 
+/// What an operator gives for two numbers before a type bounds it.
+#[derive(Clone, Copy, PartialEq, Eq)]
+pub enum Unbounded {
+    Number(i64),
+    Truth(bool),
+    Stopped(Stop),
+}
+
+/// What an operator gives for two numbers before their type bounds it; none where it has no row for numbers.
 #[inline(always)]
-fn numbers(op: Op, ty: Ty, a: i32, b: i32) -> Option<Result<Value, Stop>>
-    ensures { result ≡ on_numbers op ty a b }
+pub fn calculate(op: Op, a: i32, b: i32) -> Option<Unbounded>
+    ensures { result ≡ calculation op a b }
 {
     let x = a as i64;
     let y = b as i64;
     match op {
-        Op::Add => Some(within(ty, x + y)),
-        Op::Sub => Some(within(ty, x - y)),
-        Op::Mul => Some(product(ty, a, b)),
-        Op::Div => Some(quotient(ty, a, b)),
-        Op::Mod => Some(remainder(ty, a, b)),
-        Op::Gt => Some(Ok(Value::Bool(a > b))),
-        Op::Ge => Some(Ok(Value::Bool(a >= b))),
-        Op::Eq => Some(Ok(Value::Bool(a == b))),
-        Op::Ne => Some(Ok(Value::Bool(a != b))),
-        Op::Le => Some(Ok(Value::Bool(a <= b))),
-        Op::Lt => Some(Ok(Value::Bool(a < b))),
+        Op::Add => Some(Unbounded::Number(x + y)),
+        Op::Sub => Some(Unbounded::Number(x - y)),
+        Op::Mul => Some(Unbounded::Number(multiplied(a, b))),
+        Op::Div => Some(quotient(a, b)),
+        Op::Mod => Some(remainder(a, b)),
+        Op::Gt => Some(Unbounded::Truth(a > b)),
+        Op::Ge => Some(Unbounded::Truth(a >= b)),
+        Op::Eq => Some(Unbounded::Truth(a == b)),
+        Op::Ne => Some(Unbounded::Truth(a != b)),
+        Op::Le => Some(Unbounded::Truth(a <= b)),
+        Op::Lt => Some(Unbounded::Truth(a < b)),
         _ => None,
+    }
+}
+
+#[inline(always)]
+fn numbers(op: Op, ty: Ty, a: i32, b: i32) -> Option<Result<Value, Stop>>
+    ensures { result ≡ on_numbers op ty a b }
+{
+    match calculate(op, a, b)? {
+        Unbounded::Number(z) => Some(within(ty, z)),
+        Unbounded::Truth(t) => Some(Ok(Value::Bool(t))),
+        Unbounded::Stopped(stop) => Some(Err(stop)),
     }
 }
 
@@ -220,13 +240,6 @@ fn multiplied(a: i32, b: i32) -> i64
     ensures { result ≡ a *ℤ b }
 {
     a as i64 * b as i64
-}
-
-#[inline(always)]
-fn product(ty: Ty, a: i32, b: i32) -> Result<Value, Stop>
-    ensures { result ≡ in_type ty (a *ℤ b) }
-{
-    within(ty, multiplied(a, b))
 }
 
 #[inline(always)]
@@ -246,24 +259,24 @@ fn rest(a: i32, b: i32) -> i64
 }
 
 #[inline(always)]
-fn quotient(ty: Ty, a: i32, b: i32) -> Result<Value, Stop>
-    ensures { result ≡ quotient_of ty a b }
+fn quotient(a: i32, b: i32) -> Unbounded
+    ensures { result ≡ quotient a b }
 {
     if b == 0 {
-        Err(Stop::ZeroDivisor)
+        Unbounded::Stopped(Stop::ZeroDivisor)
     } else {
-        within(ty, divide(a, b))
+        Unbounded::Number(divide(a, b))
     }
 }
 
 #[inline(always)]
-fn remainder(ty: Ty, a: i32, b: i32) -> Result<Value, Stop>
-    ensures { result ≡ rest_of ty a b }
+fn remainder(a: i32, b: i32) -> Unbounded
+    ensures { result ≡ remainder a b }
 {
     if b == 0 {
-        Err(Stop::ZeroDivisor)
+        Unbounded::Stopped(Stop::ZeroDivisor)
     } else {
-        within(ty, rest(a, b))
+        Unbounded::Number(rest(a, b))
     }
 }
 

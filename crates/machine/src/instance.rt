@@ -1,6 +1,6 @@
 //! A function block instance of a run.
 
-ghost use Rattle.std.specs.Prelude.{◌≡◌, ◌≤◌, length, IfOk, option_map};
+ghost use Rattle.std.specs.Prelude.{◌≡◌, ◌≤◌, length, slice_get, IfOk, option_map};
 ghost use Rattle.controller_model.specs.State.{field_value, with_input};
 ghost use Rattle.controller_model.specs.Step.{instance_after};
 ghost use Rattle.controller_model.specs.Cold.{cold_inputs, cold_instance};
@@ -13,19 +13,25 @@ use il_model::{BlockKind, Instance, SavedInstance, Value};
 use std::alloc::{AllocError, Global};
 use std::marker::Model;
 
-/// The values of the inputs, in the order of the kind's fields, and the block, which keeps the outputs.
+/// The values of the inputs, in the order of the kind's fields, and the block. The number of its first output and the
+/// values of its outputs are kept beside it, to be read fast.
 #[derive(Drop)]
 pub struct InstanceState {
     inputs: ArrayVec<Value, 8>,
+    first_output: u8,
+    outputs: ArrayVec<Value, 3>,
     block: Block,
 }
 
 impl Model for InstanceState {
     ghost use Rattle.controller_model.specs.State.{BlockInstance};
+    ghost use Rattle.machine.specs.Parts.{KeepsOutputs};
 
     ghost Value = { BlockInstance };
 
     ghost view = { λ x. record { inputs = x.inputs.items; block = x.block } };
+
+    ghost invariant = { λ x. KeepsOutputs x.block x.first_output x.outputs.items };
 }
 
 impl InstanceState {
@@ -33,9 +39,12 @@ impl InstanceState {
     pub fn cold(declared: &Instance) -> InstanceState
         ensures { result ≡ cold_instance declared.now }
     {
+        let block = Block::cold(declared.kind);
         InstanceState {
             inputs: cold_inputs(declared.kind),
-            block: Block::cold(declared.kind),
+            first_output: block.input_count(),
+            outputs: block.outputs(),
+            block,
         }
     }
 
@@ -58,7 +67,12 @@ impl InstanceState {
     {
         let block = Block::restore(saved.kind, saved.words)?;
         let inputs = restored_inputs(saved.inputs.as_slice());
-        Some(InstanceState { inputs, block })
+        Some(InstanceState {
+            inputs,
+            first_output: block.input_count(),
+            outputs: block.outputs(),
+            block,
+        })
     }
 
     /// The value of the field with that number; None where the kind has fewer.
@@ -67,9 +81,11 @@ impl InstanceState {
         ensures { result ≡ field_value n self.now }
     {
         if (n as usize) < self.inputs.len() {
-            self.inputs.as_slice().get(n as usize).copied()
+            value_at(self.inputs.as_slice(), n)
+        } else if n < self.first_output {
+            None
         } else {
-            self.block.output(n)
+            value_at(self.outputs.as_slice(), n - self.first_output)
         }
     }
 
@@ -86,12 +102,21 @@ impl InstanceState {
         }
     }
 
-    /// Calls the block with the values of the inputs.
+    /// Calls the block with the values of the inputs. Not inlined: the loop of a run stays small enough for the compiler to have
+    /// the whole instruction in it.
+    #[inline(never)]
     pub fn call(&mut self, now: u64)
         ensures { self.new ≡ instance_after now self.old }
     {
-        self.block.call(self.inputs.as_slice(), now);
+        self.outputs = self.block.call(self.inputs.as_slice(), now);
     }
+}
+
+#[inline(always)]
+fn value_at(values: &[Value], n: u8) -> Option<Value>
+    ensures { result ≡ slice_get values.now n }
+{
+    values.get(n as usize).copied()
 }
 
 /// The values of the inputs that a snapshot has.

@@ -1,6 +1,6 @@
 //! What is kept from scan to scan, and the calls of a scan.
 
-ghost use Rattle.std.specs.Prelude.{◌≡◌, ◌<◌, ℕ, true, is_some, unwrap_or, IfOk, IfSome, option_map};
+ghost use Rattle.std.specs.Prelude.{◌≡◌, ◌<◌, ◌≤◌, ℕ, true, length, is_some, unwrap_or, IfOk, IfSome, option_map};
 ghost use Rattle.il_model.specs.Text.{Text};
 ghost use Rattle.controller_model.specs.Forces.{with_forces};
 ghost use Rattle.controller_model.specs.Slots.{slot_value};
@@ -131,10 +131,11 @@ impl ScanCycle {
 
     /// Runs an open scan on. Before each instruction, in this order: the end, or what comes after RET, is Done, with the
     /// outputs and the forces over them; as many instructions performed as the budget has is Stopped; a breakpoint is Held.
-    /// `breaks` has a flag for each instruction; one that it lacks is no breakpoint. Done leaves the machine at rest; Held and
-    /// Stopped leave it at the instruction that comes next or was refused, and only Held keeps how many were performed.
+    /// `breaks` has a flag for each instruction. Done leaves the machine at rest; Held and Stopped leave it at the instruction that
+    /// comes next or was refused, and only Held keeps how many were performed.
     pub fn run_to(&mut self, image: &Image, breaks: &[bool], budget: Budget) -> ScanOut
-        requires { IsCycleOf image.now self.old }
+        requires kept { IsCycleOf image.now self.old }
+        requires breaks { length image.now.code ≤ length breaks.now }
         ensures run { (result, self.new.cycle) ≡ scan_run image.now breaks.now budget.instructions self.old.cycle }
         ensures kept { IsCycleOf image.now self.new }
         ensures performed { self.new.cycle.performed < budget.instructions }
@@ -153,6 +154,7 @@ impl ScanCycle {
     /// Performs the instruction that a scan is held at, and runs on as `run_to` does.
     pub fn step_over(&mut self, image: &Image, breaks: &[bool], budget: Budget) -> ScanOut
         requires kept { IsCycleOf image.now self.old }
+        requires breaks { length image.now.code ≤ length breaks.now }
         requires left { self.old.cycle.performed < budget.instructions }
         ensures run { (result, self.new.cycle) ≡ scan_run_over image.now breaks.now budget.instructions self.old.cycle }
         ensures kept { IsCycleOf image.now self.new }

@@ -1,5 +1,5 @@
 //! One scan after another on an image, without a controller.
-ghost use Rattle.std.specs.Prelude.{◌<◌};
+ghost use Rattle.std.specs.Prelude.{◌<◌, ◌≤◌, length};
 ghost use Rattle.scan_cycle.specs.Kept.{IsCycleOf};
 
 use crate::images::{WIRE_AND_FIVE, image};
@@ -26,7 +26,8 @@ fn runs(
     budget: Budget,
     wanted: ScanOut,
 )
-    requires { IsCycleOf image.now cycle.old }
+    requires kept { IsCycleOf image.now cycle.old }
+    requires breaks { length image.now.code ≤ length breaks.now }
     ensures kept { IsCycleOf image.now cycle.new }
     ensures left { cycle.new.cycle.performed < budget.instructions }
 {
@@ -53,6 +54,7 @@ fn goes_on(
     wanted: ScanOut,
 )
     requires kept { IsCycleOf image.now cycle.old }
+    requires breaks { length image.now.code ≤ length breaks.now }
     requires left { cycle.old.cycle.performed < budget.instructions }
     ensures { IsCycleOf image.now cycle.new }
 {
@@ -78,7 +80,9 @@ fn a_cycle_runs_to_a_break_and_on(rt: HostRuntime) -> Result<(), Fail> {
     inputs.cells.bits[0] = true;
     cycle.begin(&inputs, 7);
     stands(&rt, &cycle, 0, None);
-    let third = [false, false, true, false];
+    let _small = image.len();
+    let mut third = [false; 4096];
+    third[2] = true;
     runs(&rt, &mut cycle, &image, &third, budget, ScanOut::Held(2));
     runs(&rt, &mut cycle, &image, &third, budget, ScanOut::Held(2));
     stands(&rt, &cycle, 2, Some(Value::Bool(true)));
@@ -119,8 +123,9 @@ fn a_cycle_keeps_its_forces(rt: HostRuntime) -> Result<(), Fail> {
     forces(&rt, &mut cycle, &image, past, Value::Int(9), false);
     forces(&rt, &mut cycle, &image, memory, Value::Bool(true), false);
     cycle.begin(&InImage::clear(), 0);
+    let _small = image.len();
     let done = ScanOut::Done(outputs(true, -3));
-    runs(&rt, &mut cycle, &image, &[], budget, done);
+    runs(&rt, &mut cycle, &image, &[false; 4096], budget, done);
     shows(&rt, &cycle, 0x1400, Value::Int(5));
     cycle.reset(&image);
     shows(&rt, &cycle, 0x1400, Value::Int(0));

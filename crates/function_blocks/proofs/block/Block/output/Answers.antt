@@ -6,5 +6,5 @@ use Rattle.function_blocks.proofs.block.Block.output.Goals as goal
 
 pub returns-else-number-inputs-clause-typed : goal.returns-else-number-inputs-clause-typed
 returns-else-number-inputs-clause-typed c =
-    let value : c.output_at.result ≡ output_value c.args.self.now c.args.number = search rules in
+    let value : c.value_at.result ≡ output_value c.args.self.now c.args.number = search rules in
     ap (option_map ty_of) value ∙ output_typed c.args.self.now c.args.number
