@@ -4,6 +4,7 @@ pub mod LabelTables
 pub mod Reading
 pub mod Judging
 pub mod Linked
+pub mod Actions
 pub mod Faults
 pub mod VariableTables
 pub mod InstanceTables

@@ -10,6 +10,7 @@ mod image;
 mod instance;
 mod judging;
 mod label;
+mod line;
 mod linking;
 mod loading;
 mod operands;
@@ -21,4 +22,5 @@ mod word;
 
 pub use fault::{LoadError, LoadFault};
 pub use image::Image;
+pub use line::{Action, Line};
 pub use loading::load;

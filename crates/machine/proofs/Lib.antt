@@ -1,4 +1,5 @@
 pub mod Safety
+pub mod Joining
 pub mod Reset
 pub mod Keeping
 pub mod Zipped

@@ -21,7 +21,7 @@ fn pass(types: &mut Types, image: &Image, n: u16)
 {
     image.lawful();
     let _len = image.len();
-    let line = image.at(n);
+    let line = image.at(n).fetched();
     let kind = kind_of(image.program(), line.source);
     let depth = types.depth();
     match row_of(types.cr(), types.top(), depth, line.op, line.modifier, kind) {
