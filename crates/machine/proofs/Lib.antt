@@ -8,3 +8,4 @@ pub mod Values
 pub mod Arrivals
 pub mod HeldBack
 pub mod Restoring
+pub mod Outputs
