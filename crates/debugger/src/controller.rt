@@ -21,7 +21,7 @@ use il_model::{
     Stop, Value,
 };
 use loader::Image;
-use scan_cycle::{ScanCycle, have_states};
+use scan_cycle::{Breakpoints, ScanCycle, have_states};
 use std::alloc::{AllocError, Global};
 use std::marker::Model;
 
@@ -31,7 +31,7 @@ pub struct Controller {
     image: Image,
     budget: Budget,
     cycle: ScanCycle,
-    breaks: Vec<bool>,
+    breaks: Breakpoints,
     phase: Phase,
 }
 
@@ -40,9 +40,9 @@ impl Model for Controller {
 
     ghost Value = { Owned };
 
-    ghost view = { λ c. record { program = c.image; budget = c.budget.instructions; control = record { cycle = c.cycle.cycle; breaks = c.breaks.items; phase = c.phase } } };
+    ghost view = { λ c. record { program = c.image; budget = c.budget.instructions; control = record { cycle = c.cycle.cycle; breaks = c.breaks; phase = c.phase } } };
 
-    ghost invariant = { λ c. IsKept c.image c.budget.instructions c.cycle c.breaks.items c.phase };
+    ghost invariant = { λ c. IsKept c.image c.budget.instructions c.cycle c.breaks c.phase };
 }
 
 /// A stop, which releases the safe image.
@@ -128,7 +128,7 @@ impl Controller {
         ensures { IfOk result (λ c. c ≡ cold_owned image budget.instructions) }
     {
         let cycle = ScanCycle::new(alloc, &image)?;
-        let breaks = vec![in alloc; false; image.len()]?;
+        let breaks = Breakpoints::none(alloc, image.len())?;
         Ok(Controller {
             image,
             budget,
@@ -161,7 +161,7 @@ impl Controller {
         self.cycle.whole();
         self.image.lawful();
         let mut snapshot = self.cycle.parts(alloc, &self.image)?;
-        snapshot.breaks = break_positions(alloc, self.breaks.as_slice())?;
+        snapshot.breaks = break_positions(alloc, self.breaks.flags())?;
         snapshot.phase = saved_phase(self.phase, self.cycle.performed());
         Ok(snapshot)
     }
@@ -190,7 +190,8 @@ impl Controller {
         if !have_states(snapshot.instances.as_slice()) {
             return Err(SnapError::BadBlock);
         }
-        let breaks = break_flags(alloc, image.len(), snapshot.breaks.as_slice())?;
+        let flags = break_flags(alloc, image.len(), snapshot.breaks.as_slice())?;
+        let breaks = Breakpoints::of(flags);
         let Some(cycle) = ScanCycle::from_parts(alloc, &image, snapshot)? else {
             return Err(SnapError::BadBlock);
         };
@@ -250,7 +251,7 @@ impl Controller {
     {
         let position = position as usize;
         if position < self.image.len() {
-            self.breaks[position] = set;
+            self.breaks.put(position, set);
             Answer::Done
         } else {
             Answer::Refused(Refusal::BadPosition)

@@ -12,5 +12,6 @@ pub mod WordsRead
 pub mod WordsOf
 pub mod Images
 pub mod Link
+pub mod Straight
 pub mod LabelTables
 pub mod VariableTables

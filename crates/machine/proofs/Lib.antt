@@ -9,3 +9,4 @@ pub mod Arrivals
 pub mod HeldBack
 pub mod Restoring
 pub mod Outputs
+pub mod Straight

@@ -1,3 +1,4 @@
 pub mod Attempt
+pub mod Runs
 pub mod Kept
 pub mod Parts

@@ -1,4 +1,4 @@
-//! A machine that performs one instruction of a loaded image at a time. It uses il_model and controller_model (the
+//! A machine that performs the instructions of a loaded image. It uses il_model and controller_model (the
 //! definitions), function_blocks (the blocks) and loader (the image).
 #![tactic(auto)]
 
@@ -13,5 +13,5 @@ mod state;
 
 pub use arrival::has_type;
 pub use machine::Machine;
-pub use out::StepOut;
+pub use out::RunOut;
 pub use shape::{fits_run, fits_values, have_states};

@@ -1,4 +1,5 @@
 pub mod Laid
 pub mod Restored
 pub mod Over
+pub mod Straight
 pub mod Unforced

@@ -11,6 +11,7 @@ ghost use Rattle.scan_cycle.specs.Kept.{cold_kept, IsCycleOf};
 ghost use Rattle.scan_cycle.specs.Parts.{HasCycle, performed_in, RestoresCycle, AreMasks};
 ghost use Rattle.scan_cycle.specs.Told.{came_to, IsWithin};
 
+use crate::breakpoints::Breakpoints;
 use crate::force_table::ForceTable;
 use crate::run::{Came, run, run_one, run_over};
 use controller_model::ScanOut;
@@ -131,9 +132,9 @@ impl ScanCycle {
 
     /// Runs an open scan on. Before each instruction, in this order: the end, or what comes after RET, is Done, with the
     /// outputs and the forces over them; as many instructions performed as the budget has is Stopped; a breakpoint is Held.
-    /// `breaks` has a flag for each instruction. Done leaves the machine at rest; Held and Stopped leave it at the instruction that
+    /// There is a flag for each instruction. Done leaves the machine at rest; Held and Stopped leave it at the instruction that
     /// comes next or was refused, and only Held keeps how many were performed.
-    pub fn run_to(&mut self, image: &Image, breaks: &[bool], budget: Budget) -> ScanOut
+    pub fn run_to(&mut self, image: &Image, breaks: &Breakpoints, budget: Budget) -> ScanOut
         requires kept { IsCycleOf image.now self.old }
         requires breaks { length image.now.code ≤ length breaks.now }
         ensures run { (result, self.new.cycle) ≡ scan_run image.now breaks.now budget.instructions self.old.cycle }
@@ -152,7 +153,7 @@ impl ScanCycle {
     }
 
     /// Performs the instruction that a scan is held at, and runs on as `run_to` does.
-    pub fn step_over(&mut self, image: &Image, breaks: &[bool], budget: Budget) -> ScanOut
+    pub fn step_over(&mut self, image: &Image, breaks: &Breakpoints, budget: Budget) -> ScanOut
         requires kept { IsCycleOf image.now self.old }
         requires breaks { length image.now.code ≤ length breaks.now }
         requires left { self.old.cycle.performed < budget.instructions }

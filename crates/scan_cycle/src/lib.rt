@@ -3,11 +3,13 @@
 //! definitions), loader (the image) and machine, which alone performs instructions.
 #![tactic(auto)]
 
+mod breakpoints;
 mod cycle;
 mod force_table;
 mod forces;
 mod run;
 
+pub use breakpoints::Breakpoints;
 pub use controller_model::ScanOut;
 pub use cycle::ScanCycle;
 pub use machine::{fits_run, fits_values, has_type, have_states};

@@ -1,11 +1,12 @@
 //! One scan after another on an image, without a controller.
-ghost use Rattle.std.specs.Prelude.{◌<◌, ◌≤◌, length};
+ghost use Rattle.std.specs.Prelude.{◌<◌, ◌≤◌, length, IfOk};
 ghost use Rattle.scan_cycle.specs.Kept.{IsCycleOf};
 
 use crate::images::{WIRE_AND_FIVE, image};
 use il_model::{Area, Budget, InImage, Loc, OutImage, Slot, Value};
 use loader::Image;
-use scan_cycle::{ScanCycle, ScanOut};
+use scan_cycle::{Breakpoints, ScanCycle, ScanOut};
+use std::alloc::{AllocError, Global};
 use std::process::Abort;
 use std::test::Fail;
 
@@ -17,12 +18,23 @@ fn outputs(bit: bool, word: i16) -> OutImage {
     outputs
 }
 
+/// A breakpoint at this position of an image alone, or none where it's past the end.
+fn break_at(alloc: Global, image: &Image, position: usize) -> Result<Breakpoints, AllocError>
+    ensures { IfOk result (λ b. length image.now.code ≤ length b) }
+{
+    let mut flags = vec![in alloc; false; image.len()]?;
+    if position < flags.len() {
+        flags[position] = true;
+    }
+    Ok(Breakpoints::of(flags))
+}
+
 /// Wants a cycle that runs with these breakpoints to end so.
 fn runs(
     rt: &impl Abort,
     cycle: &mut ScanCycle,
     image: &Image,
-    breaks: &[bool],
+    breaks: &Breakpoints,
     budget: Budget,
     wanted: ScanOut,
 )
@@ -49,7 +61,7 @@ fn goes_on(
     rt: &impl Abort,
     cycle: &mut ScanCycle,
     image: &Image,
-    breaks: &[bool],
+    breaks: &Breakpoints,
     budget: Budget,
     wanted: ScanOut,
 )
@@ -80,9 +92,7 @@ fn a_cycle_runs_to_a_break_and_on(rt: HostRuntime) -> Result<(), Fail> {
     inputs.cells.bits[0] = true;
     cycle.begin(&inputs, 7);
     stands(&rt, &cycle, 0, None);
-    let _small = image.len();
-    let mut third = [false; 4096];
-    third[2] = true;
+    let third = break_at(rt.alloc(), &image, 2)?;
     runs(&rt, &mut cycle, &image, &third, budget, ScanOut::Held(2));
     runs(&rt, &mut cycle, &image, &third, budget, ScanOut::Held(2));
     stands(&rt, &cycle, 2, Some(Value::Bool(true)));
@@ -123,9 +133,9 @@ fn a_cycle_keeps_its_forces(rt: HostRuntime) -> Result<(), Fail> {
     forces(&rt, &mut cycle, &image, past, Value::Int(9), false);
     forces(&rt, &mut cycle, &image, memory, Value::Bool(true), false);
     cycle.begin(&InImage::clear(), 0);
-    let _small = image.len();
     let done = ScanOut::Done(outputs(true, -3));
-    runs(&rt, &mut cycle, &image, &[false; 4096], budget, done);
+    let none = break_at(rt.alloc(), &image, image.len())?;
+    runs(&rt, &mut cycle, &image, &none, budget, done);
     shows(&rt, &cycle, 0x1400, Value::Int(5));
     cycle.reset(&image);
     shows(&rt, &cycle, 0x1400, Value::Int(0));

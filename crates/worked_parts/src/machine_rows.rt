@@ -1,19 +1,21 @@
-//! A machine that performs an image, one instruction after another.
+//! A machine that performs an image, its instructions one behind the other.
 ghost use Rattle.machine.specs.Kept.{IsMachineOf};
 
 use crate::images::{THREE_STORES, image};
 use il_model::{InImage, Slot, Value};
 use loader::Image;
-use machine::{Machine, StepOut};
+use machine::{Machine, RunOut};
 use std::process::Abort;
 use std::test::Fail;
 
-/// Wants one step to end so.
-fn steps(rt: &impl Abort, machine: &mut Machine, image: &Image, wanted: StepOut)
+/// Wants the instructions up to the next label to end so.
+fn runs(rt: &impl Abort, machine: &mut Machine, image: &Image, wanted: RunOut)
     requires { IsMachineOf image.now machine.old }
     ensures { IsMachineOf image.now machine.new }
 {
-    assert!(rt; machine.step(image, 0) == wanted);
+    let position = machine.pos();
+    assert!(rt; (position as usize) < image.len());
+    assert!(rt; machine.run_straight(image, 0, image.straight(position)) == wanted);
 }
 
 /// Wants these values of these slots.
@@ -38,16 +40,13 @@ fn stands(rt: &impl Abort, machine: &Machine, cr: Option<Value>, position: u16) 
 }
 
 #[test]
-fn a_machine_steps_through_its_image(rt: HostRuntime) -> Result<(), Fail> {
+fn a_machine_runs_through_its_image(rt: HostRuntime) -> Result<(), Fail> {
     let image = image(rt.alloc(), THREE_STORES)?;
     let mut machine = Machine::new(rt.alloc(), &image)?;
     stands(&rt, &machine, None, 0);
     machine.start(&InImage::clear());
-    steps(&rt, &mut machine, &image, StepOut::Next);
-    steps(&rt, &mut machine, &image, StepOut::Next);
-    steps(&rt, &mut machine, &image, StepOut::Next);
+    runs(&rt, &mut machine, &image, RunOut::On(3));
     stands(&rt, &machine, Some(Value::Bool(false)), 3);
-    steps(&rt, &mut machine, &image, StepOut::End);
     let rows = [
         (0x4000, Some(Value::Bool(true))),
         (0x4001, Some(Value::Bool(true))),
