@@ -7,7 +7,7 @@
 
 ghost use Rattle.std.specs.Prelude.{ℕ, List, [], ◌++◌};
 ghost use Rattle.vr_model.specs.World.{Event, Completion};
-ghost use Rattle.vr_model.specs.Agreement.{OneHistory, PromisesKept, RulesKeepExecuted};
+ghost use Rattle.vr_model.specs.Agreement.{OneHistory, PromisesKept, RulesKeepExecuted, NewStatesHandLogsOn, CommitsWhatItHad};
 ghost use Rattle.vr_model.specs.Report.{Explains};
 ghost use Rattle.one_history.specs.Schedules.{WorkedSchedules};
 ghost use Rattle.one_history.specs.WorkedOrder.{WorkedOrder};
@@ -34,6 +34,17 @@ pub fn promises_are_kept<C, A>()
 /// In every run the log that a rule makes of a message that was sent begins with all that its replica has executed.
 pub fn rules_keep_executed<C, A>()
     ensures { (f : ℕ) (answer : List C → A) (events : List (Event C × Completion)) → RulesKeepExecuted f answer events }
+{}
+
+/// In every run a NEWSTATE that carries the end of a log, one that a replica had when it was normal in its view, leaves
+/// its receiver as it was or with that whole log.
+pub fn new_states_hand_logs_on<C, A>()
+    ensures { (f : ℕ) (answer : List C → A) (events : List (Event C × Completion)) → NewStatesHandLogsOn f answer events }
+{}
+
+/// In every run what an event adds to the committed list stood before in the log of the replica that commits it.
+pub fn commits_what_it_had<C, A>()
+    ensures { (f : ℕ) (answer : List C → A) (events : List (Event C × Completion)) → CommitsWhatItHad f answer events }
 {}
 
 /// The report of a list of events explains its run: the committed list after each event, the answers that were released, and

@@ -1,13 +1,13 @@
 -- One history: what holds of every run.
-use Rattle.std.specs.Prelude.{◌≡◌, ℕ, ◌<◌, ◌≤◌, ◌++◌, List, length, true, false, Some, slice_get}
+use Rattle.std.specs.Prelude.{◌≡◌, ℕ, ◌<◌, ◌≤◌, ◌⊎◌, ◌++◌, List, length, take, drop, true, false, Some, slice_get}
 use Rattle.vr_model.specs.Logs.{Request, IsPrefix, IsEntry, IsRising, IsFrom, IsAmong}
-use Rattle.vr_model.specs.Messages.{Message, Replica}
-use Rattle.vr_model.specs.Replicas.{is_normal, is_down, takes_part}
+use Rattle.vr_model.specs.Messages.{Message, Party, Replica, Body, NewState}
+use Rattle.vr_model.specs.Replicas.{is_normal, is_down, takes_part, ReplicaState}
 use Rattle.vr_model.specs.Rules.{receives}
-use Rattle.vr_model.specs.World.{Event, Completion, executed, run, start, given}
+use Rattle.vr_model.specs.World.{World, Event, Completion, executed, happens, run, start, given}
 use Rattle.vr_model.specs.Answers.{IsAnswered, ReplyStands}
 use Rattle.vr_model.specs.Report.{Release, report, before, Each}
-use Rattle.vr_model.specs.Views.{IsStarted, SentDoViewChange, IsAcknowledged, CouldBeCommitted, world}
+use Rattle.vr_model.specs.Views.{IsStarted, SentDoViewChange, IsAcknowledged, CouldBeCommitted, WasLogOf, world}
 
 -- the committed list at the end of a run
 abbrev pub committed : {C A : Type 0} → ℕ → (List C → A) → List (Event C × Completion) → List (Request C)
@@ -59,3 +59,29 @@ RulesKeepExecuted {C} {A} f answer events =
     (i n : ℕ) (m : Message C A) → is_down ((run f answer events (start {C = C} {A = A})).replicas i).status ≡ false
     → slice_get (run f answer events (start {C = C} {A = A})).sent n ≡ Some m → m.to ≡ Replica i
     → IsPrefix (executed ((run f answer events (start {C = C} {A = A})).replicas i)) (receives f i answer ((run f answer events (start {C = C} {A = A})).replicas i) m.from m.body).replica.log
+
+-- A NEWSTATE hands a whole log on. Say that one was sent to a replica that is up, with the entries past its op number
+-- of a log that some replica had when it was normal in its view. Its rule leaves the receiver as it was, or with that
+-- whole log.
+abbrev pub NewStatesHandLogsOn : {C A : Type 0} → ℕ → (List C → A) → List (Event C × Completion) → Type 0
+NewStatesHandLogsOn {C} {A} f answer events =
+    (i n view op_number commit_number : ℕ) (from : Party) (whole : List (Request C))
+    → let now : World C A = world f answer events in
+    let new_state : Body C A = NewState view op_number commit_number (drop op_number whole) in
+    let after : ReplicaState C = (receives f i answer (now.replicas i) from new_state).replica in
+    is_down (now.replicas i).status ≡ false
+    → slice_get now.sent n ≡ Some (record { from = from; to = Replica i; body = new_state })
+    → op_number ≤ length whole
+    → WasLogOf f answer events view whole
+    → (after ≡ now.replicas i) ⊎ (after.log ≡ whole)
+
+-- What an event adds to the committed list stood before in the log of the replica that commits it.
+pub record CommitsWhatItHad {C A : Type 0} (f : ℕ) (answer : List C → A) (events : List (Event C × Completion)) : Type 0 where
+  -- no replica has executed more than the committed list
+  pub within : (i : ℕ) → ((world f answer events).replicas i).commit_number ≤ length (world f answer events).order
+  -- where one has executed more after the next event, the list is then as much of the log that this replica has now
+  pub had : (e : Event C) (completion : Completion) (i : ℕ)
+      → let now : World C A = world f answer events in
+      let next : World C A = happens f answer now e completion in
+      length now.order < (next.replicas i).commit_number
+      → next.order ≡ take (next.replicas i).commit_number (now.replicas i).log

@@ -55,6 +55,14 @@ module _ {C A : Type 0} (f : ℕ) (answer : List C → A) (events : List (Event 
     pub view_is : ((before f answer events moment).replicas (primary f view)).view ≡ view
     pub holds : IsPrefix log ((before f answer events moment).replicas (primary f view)).log
 
+  -- At some moment of the run some replica was normal in this view, and this was its whole log.
+  pub record WasLogOf (view : ℕ) (log : List (Request C)) : Type 0 where
+    pub moment : ℕ
+    pub replica : ℕ
+    pub normal : is_normal ((before f answer events moment).replicas replica).status ≡ true
+    pub view_is : ((before f answer events moment).replicas replica).view ≡ view
+    pub log_is : ((before f answer events moment).replicas replica).log ≡ log
+
   -- A replica accepted a beginning of the view's log if it is the view's primary and holds it, or sent a PREPAREOK of the
   -- view that reaches its end; also if it crashed since.
   pub data HasAccepted (view : ℕ) (log : List (Request C)) (replica : ℕ) : Type 0 where
