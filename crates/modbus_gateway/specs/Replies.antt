@@ -2,13 +2,13 @@
 use Rattle.std.specs.Prelude.{◌≡◌, ℕ, ◌+◌, ◌==◌, Bool, true, bit_or, if◌then◌else◌, List, [], ◌∷◌, length, take, drop, slice_index, slice_range, Option, Some, None, Result, Ok, Err}
 use Rattle.std.specs.Int.{w16, cast_signed}
 use Rattle.il_model.specs.declared.cells.Cells.{Cells}
-use Rattle.process_image.specs.Book.{Book, Change, bits_at, words_at, cells_of, with_change, is_full}
+use Rattle.process_image.specs.Book.{Book, Change, bits_at, words_at, mask_at, after_change, cells_of, with_change, is_full}
 use Rattle.process_image.specs.Calls.{Does, read_gave}
 use Rattle.process_image.specs.Staging.{Changed}
 use Rattle.modbus_gateway.specs.declared.request.Image.{Image}
 use Rattle.modbus_gateway.specs.declared.request.Image.TheVariants.{Staged, Released}
 use Rattle.modbus_gateway.specs.declared.request.Function.{Function}
-use Rattle.modbus_gateway.specs.declared.request.Function.TheVariants.{ReadBits, ReadWords, WriteBit, WriteWord, WriteBits, WriteWords}
+use Rattle.modbus_gateway.specs.declared.request.Function.TheVariants.{ReadBits, ReadWords, WriteBit, WriteWord, WriteBits, WriteWords, MaskWord, WriteReadWords}
 use Rattle.modbus_gateway.specs.declared.request.Exception.{Exception}
 use Rattle.modbus_gateway.specs.declared.request.Exception.TheVariants.{IllegalFunction, IllegalDataAddress, IllegalDataValue, ServerDeviceFailure}
 use Rattle.modbus_gateway.specs.declared.request.Request.{Request}
@@ -42,6 +42,19 @@ read_outcome reply = record { staged = None; reply = reply }
 abbrev pub write_outcome : Bool → List ℕ → Change → List ℕ → Outcome
 write_outcome refused pdu change reply = if refused then read_outcome (exception_of pdu ServerDeviceFailure) else record { staged = Some change; reply = reply }
 
+-- two masks on the word at a place, echoed
+abbrev pub mask_outcome : Bool → List ℕ → ℕ → Outcome
+mask_outcome refused pdu at = write_outcome refused pdu (mask_at at (number_at pdu 3) (number_at pdu 5)) pdu
+
+-- the words that 23 writes
+abbrev pub words_written : List ℕ → Change
+words_written pdu = words_at (number_at pdu 5) (words_of_bytes (drop 10 pdu) (number_at pdu 7))
+
+-- words are written first, and then so many are read from a place on
+abbrev pub write_read_outcome : Bool → List ℕ → Cells → ℕ → ℕ → Outcome
+write_read_outcome refused pdu staged at count = write_outcome refused pdu (words_written pdu)
+    (data_reply pdu (bytes_of_words (slice_range (after_change staged (words_written pdu)).words at (at + count))))
+
 abbrev pub image_cells : Image → Cells → Cells → Cells
 image_cells Staged staged released = staged
 image_cells Released staged released = released
@@ -59,6 +72,8 @@ outcome_by pdu staged released refused WriteBit at count = write_outcome refused
 outcome_by pdu staged released refused WriteWord at count = write_outcome refused pdu (words_at at (cast_signed w16 (number_at pdu 3) ∷ [])) pdu
 outcome_by pdu staged released refused WriteBits at count = write_outcome refused pdu (bits_at at (bits_of_bytes (drop 6 pdu) count)) (take 5 pdu)
 outcome_by pdu staged released refused WriteWords at count = write_outcome refused pdu (words_at at (words_of_bytes (drop 6 pdu) count)) (take 5 pdu)
+outcome_by pdu staged released refused MaskWord at count = mask_outcome refused pdu at
+outcome_by pdu staged released refused WriteReadWords at count = write_read_outcome refused pdu staged at count
 
 abbrev pub outcome_of : List ℕ → Cells → Cells → Bool → Result Request Exception → Outcome
 outcome_of pdu staged released refused (Err e) = read_outcome (exception_of pdu e)

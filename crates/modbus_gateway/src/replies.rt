@@ -1,7 +1,8 @@
 //! Replies to requests, over any staging.
 ghost use Rattle.std.specs.Prelude.{◌≡◌, ◌+◌, ◌<◌, ◌≤◌, length, slice_range};
-ghost use Rattle.modbus_gateway.specs.Requests.{IsSound};
-ghost use Rattle.modbus_gateway.specs.Replies.{exception_of, data_reply, LooksAt, outcome_by, modbus_reply, Replies};
+ghost use Rattle.modbus_gateway.specs.declared.request.Function.TheVariants.{MaskWord, WriteReadWords};
+ghost use Rattle.modbus_gateway.specs.Requests.{HasLength, IsSound};
+ghost use Rattle.modbus_gateway.specs.Replies.{exception_of, data_reply, mask_outcome, write_read_outcome, LooksAt, outcome_by, modbus_reply, Replies};
 ghost use Rattle.modbus_gateway.specs.Packing.{bytes_of_bits, bytes_of_words};
 
 use crate::adu::{Pdu, pdu_of};
@@ -54,6 +55,29 @@ fn cells_of<S: Staging>(image: Image, staging: &mut S, released: &View) -> Cells
     }
 }
 
+/// Lays two masks on the word at `at`.
+fn mask_word<S: Staging>(pdu: &[u8], at: usize, staging: &mut S) -> Pdu
+    requires { HasLength MaskWord pdu.now × (at < 64) }
+    ensures { Replies (S.told staging.old) (S.told staging.new) (λ staged refused. mask_outcome refused pdu.now at) result.items }
+{
+    match staging.mask_word(at, number_at(pdu, 3), number_at(pdu, 5)) {
+        Ok(_) => pdu_of(pdu),
+        Err(_) => exception(pdu, Exception::ServerDeviceFailure),
+    }
+}
+
+/// Writes words, and shows `count` of them from `at` on as they are then.
+fn write_read<S: Staging>(pdu: &[u8], at: usize, count: usize, staging: &mut S) -> Pdu
+    requires { (length pdu.now ≤ 253) × HasLength WriteReadWords pdu.now × (at + count ≤ 64) }
+    ensures { Replies (S.told staging.old) (S.told staging.new) (λ staged refused. write_read_outcome refused pdu.now staged at count) result.items }
+{
+    let words = words_of(&pdu[10..], usize::from(number_at(pdu, 7)));
+    match staging.write_read(usize::from(number_at(pdu, 5)), words.as_slice()) {
+        Ok(written) => shown_words(pdu, &written.inputs.cells.words, at, count),
+        Err(_) => exception(pdu, Exception::ServerDeviceFailure),
+    }
+}
+
 /// Acts on a request that passed each check.
 fn perform<S: Staging>(pdu: &[u8], request: Request, staging: &mut S, released: &View) -> Pdu
     requires { (0 < length pdu.now) × (length pdu.now ≤ 253) × IsSound pdu.now request }
@@ -88,12 +112,15 @@ fn perform<S: Staging>(pdu: &[u8], request: Request, staging: &mut S, released: 
                 Err(_) => exception(pdu, Exception::ServerDeviceFailure),
             }
         }
+        Function::MaskWord => mask_word(pdu, at, staging),
+        Function::WriteReadWords => write_read(pdu, at, count, staging),
     }
 }
 
-/// The reply to a request of 1 to 253 bytes (V1.1b3, sections 6 and 7): 01 and 03 read the staged inputs, 02 and 04 the released
-/// outputs, 05, 06, 15 and 16 write staged inputs. The exceptions, in this order: 01 for another function, 03 for a wrong length,
-/// quantity, byte count or value of a bit, 02 for cells past the area, 04 where the staging has no room or no memory for the write.
+/// The reply to a request of 1 to 253 bytes (V1.1b3, sections 6 and 7): 01 and 03 read the staged inputs, 02 and 04
+/// the released outputs; 05, 06, 15 and 16 write staged inputs, 22 lays two masks on one word of them, and 23 writes
+/// words and then reads. The exceptions, in this order: 01 for another function, 03 for a wrong length, quantity, byte
+/// count or value of a bit, 02 for cells past the area, 04 where the staging has no room or no memory for the write.
 pub fn reply<S: Staging>(pdu: &[u8], staging: &mut S, released: &View) -> Pdu
     requires { (0 < length pdu.now) × (length pdu.now ≤ 253) }
     ensures { Replies (S.told staging.old) (S.told staging.new) (λ staged refused. modbus_reply pdu.now staged released.now.image.cells refused) result.items }

@@ -1,7 +1,8 @@
 //! What a request asks for, by its function (V1.1b3, section 6).
 ghost use Rattle.std.specs.Prelude.{◌≡◌, ◌+◌, ◌<◌, ◌≤◌, length, IfOk};
 ghost use Rattle.std.specs.Bool.{OnTrue};
-ghost use Rattle.modbus_gateway.specs.Requests.{function_of, quantity_of, is_quantity, has_bytes, is_lawful, area_length, request_of as asked, HasLength, IsSound};
+ghost use Rattle.modbus_gateway.specs.declared.request.Function.TheVariants.{WriteReadWords};
+ghost use Rattle.modbus_gateway.specs.Requests.{function_of, quantity_of, is_quantity, has_bytes, is_lawful, area_length, writes_within, is_within_area, request_of as asked, HasLength, IsSound};
 
 use crate::header::number_at;
 
@@ -29,6 +30,8 @@ pub(crate) enum Function {
     WriteWord,
     WriteBits,
     WriteWords,
+    MaskWord,
+    WriteReadWords,
 }
 
 /// A request that passed each check; values stay in the PDU.
@@ -51,23 +54,36 @@ fn function_of(code: u8) -> Option<Function>
         6 => Some(Function::WriteWord),
         15 => Some(Function::WriteBits),
         16 => Some(Function::WriteWords),
+        22 => Some(Function::MaskWord),
+        23 => Some(Function::WriteReadWords),
         _ => None,
     }
 }
 
-fn is_quantity(pdu: &[u8], most: u16) -> bool
-    requires { 5 ≤ length pdu.now }
-    ensures { result ≡ is_quantity most pdu.now }
+fn is_quantity(pdu: &[u8], at: usize, most: u16) -> bool
+    requires { at + 2 ≤ length pdu.now }
+    ensures { result ≡ is_quantity at most pdu.now }
 {
-    let quantity = number_at(pdu, 3);
+    let quantity = number_at(pdu, at);
     1 <= quantity && quantity <= most
 }
 
-fn has_bytes(pdu: &[u8], count: usize) -> bool
-    requires { 6 ≤ length pdu.now }
-    ensures { result ≡ has_bytes count pdu.now }
+fn has_bytes(pdu: &[u8], at: usize, count: usize) -> bool
+    requires { (at < length pdu.now) × (at < 16) × (count < 65536) }
+    ensures { result ≡ has_bytes at count pdu.now }
 {
-    usize::from(pdu[5]) == count && pdu.len() == 6 + count
+    usize::from(pdu[at]) == count && pdu.len() == at + 1 + count
+}
+
+/// What is read, what is written, and its byte count.
+fn is_write_read(pdu: &[u8]) -> bool
+    ensures is { result ≡ is_lawful WriteReadWords pdu.now }
+    ensures shape { OnTrue result (HasLength WriteReadWords pdu.now) }
+{
+    pdu.len() >= 10
+        && is_quantity(pdu, 3, 125)
+        && is_quantity(pdu, 7, 121)
+        && has_bytes(pdu, 9, 2 * usize::from(number_at(pdu, 7)))
 }
 
 impl Function {
@@ -78,20 +94,22 @@ impl Function {
         ensures long { OnTrue result (5 ≤ length pdu.now) }
     {
         match self {
-            Function::ReadBits(_) => pdu.len() == 5 && is_quantity(pdu, 2000),
-            Function::ReadWords(_) => pdu.len() == 5 && is_quantity(pdu, 125),
+            Function::ReadBits(_) => pdu.len() == 5 && is_quantity(pdu, 3, 2000),
+            Function::ReadWords(_) => pdu.len() == 5 && is_quantity(pdu, 3, 125),
             Function::WriteBit => pdu.len() == 5 && matches!(number_at(pdu, 3), 0 | 0xff00),
             Function::WriteWord => pdu.len() == 5,
             Function::WriteBits => {
                 pdu.len() >= 6
-                    && is_quantity(pdu, 1968)
-                    && has_bytes(pdu, (usize::from(number_at(pdu, 3)) + 7) / 8)
+                    && is_quantity(pdu, 3, 1968)
+                    && has_bytes(pdu, 5, (usize::from(number_at(pdu, 3)) + 7) / 8)
             }
             Function::WriteWords => {
                 pdu.len() >= 6
-                    && is_quantity(pdu, 123)
-                    && has_bytes(pdu, 2 * usize::from(number_at(pdu, 3)))
+                    && is_quantity(pdu, 3, 123)
+                    && has_bytes(pdu, 5, 2 * usize::from(number_at(pdu, 3)))
             }
+            Function::MaskWord => pdu.len() == 7,
+            Function::WriteReadWords => is_write_read(pdu),
         }
     }
 
@@ -101,11 +119,12 @@ impl Function {
         ensures { result ≡ quantity_of self pdu.now }
     {
         match self {
-            Function::WriteBit | Function::WriteWord => 1,
+            Function::WriteBit | Function::WriteWord | Function::MaskWord => 1,
             Function::ReadBits(_)
             | Function::ReadWords(_)
             | Function::WriteBits
-            | Function::WriteWords => usize::from(number_at(pdu, 3)),
+            | Function::WriteWords
+            | Function::WriteReadWords => usize::from(number_at(pdu, 3)),
         }
     }
 
@@ -115,7 +134,24 @@ impl Function {
     {
         match self {
             Function::ReadBits(_) | Function::WriteBit | Function::WriteBits => 512,
-            Function::ReadWords(_) | Function::WriteWord | Function::WriteWords => 64,
+            Function::ReadWords(_)
+            | Function::WriteWord
+            | Function::WriteWords
+            | Function::MaskWord
+            | Function::WriteReadWords => 64,
+        }
+    }
+
+    /// Whether the words that 23 writes are there.
+    fn writes_within(self, pdu: &[u8]) -> bool
+        requires { HasLength self pdu.now }
+        ensures { result ≡ writes_within self pdu.now }
+    {
+        match self {
+            Function::WriteReadWords => {
+                usize::from(number_at(pdu, 5)) + usize::from(number_at(pdu, 7)) <= 64
+            }
+            _ => true,
         }
     }
 }
@@ -134,7 +170,7 @@ pub(crate) fn request_of(pdu: &[u8]) -> Result<Request, Exception>
     }
     let address = usize::from(number_at(pdu, 1));
     let quantity = function.quantity(pdu);
-    if address + quantity > function.area() {
+    if address + quantity > function.area() || !function.writes_within(pdu) {
         return Err(Exception::IllegalDataAddress);
     }
     Ok(Request {

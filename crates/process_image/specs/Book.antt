@@ -1,18 +1,25 @@
 -- The staged inputs: the last sample, the writes since then, and the next ticket.
-use Rattle.std.specs.Prelude.{ℕ, ℤ, Bool, ◌+◌, ◌==◌, ◌||◌, List, [], ◌∷◌, ◌++◌, length, fold}
+use Rattle.std.specs.Prelude.{ℕ, ℤ, pos, Bool, ◌+◌, ◌==◌, ◌||◌, bit_and, bit_or, List, [], ◌∷◌, ◌++◌, length, fold, get_or, slice_set}
 use Rattle.std.specs.List.{splice}
+use Rattle.std.specs.Int.{w16, bit_not, cast_signed, cast_unsigned}
 use Rattle.il_model.specs.declared.cells.Cells.{Cells}
 use Rattle.il_model.specs.Cells.{clear_cells}
 
--- one write: bits or words from a place on
+-- one write: bits or words from a place on, or two masks, And and then Or, for the word at a place
 pub data Change : Type 0 where
   bits_at : ℕ → List Bool → Change
   words_at : ℕ → List ℤ → Change
+  mask_at : ℕ → ℕ → ℕ → Change
 
--- the cells after one write, which stands whole
+-- (word AND And) OR (Or AND NOT And), bit by bit in two's complement
+abbrev pub masked : ℤ → ℕ → ℕ → ℤ
+masked word and_mask or_mask = cast_signed w16 (bit_or (bit_and (cast_unsigned w16 word) and_mask) (bit_and or_mask (bit_not w16 and_mask)))
+
+-- the cells after one write, which stands whole; masks are laid on the word that is there
 abbrev pub after_change : Cells → Change → Cells
 after_change c (bits_at at values) = record c { bits = splice c.bits at (at + length values) values }
 after_change c (words_at at values) = record c { words = splice c.words at (at + length values) values }
+after_change c (mask_at at and_mask or_mask) = record c { words = slice_set c.words at (masked (get_or c.words at (pos 0)) and_mask or_mask) }
 
 -- the cells after these writes, in their order
 abbrev pub replayed : Cells → List Change → Cells

@@ -1,6 +1,6 @@
 //! The book of staged writes.
 ghost use Rattle.std.specs.Prelude.{◌≡◌, ◌+◌, ◌<◌, ◌≤◌, ◌↔◌, true, length, IfOk, OnErr, Err, IsTrue};
-ghost use Rattle.process_image.specs.Book.{Book, bits_at, words_at, cells_of, is_full, new_book};
+ghost use Rattle.process_image.specs.Book.{Book, bits_at, words_at, mask_at, masked, cells_of, is_full, new_book};
 ghost use Rattle.process_image.specs.Calls.{Does, read_gave, sample_gave, wrote};
 
 use il_model::cells::{Cells, InImage};
@@ -28,6 +28,13 @@ pub struct Sample {
     pub next: u64,
 }
 
+/// The ticket of a write, and the cells just after it.
+#[derive(Clone, Copy, PartialEq, Eq)]
+pub struct Written {
+    pub ticket: Ticket,
+    pub inputs: InImage,
+}
+
 /// Why a write was not taken. The book is as it was.
 #[derive(Clone, Copy, Debug, Error, PartialEq, Eq)]
 pub enum StageError {
@@ -43,6 +50,7 @@ pub enum StageError {
 enum Entry {
     Bits(usize, Vec<bool>),
     Words(usize, Vec<i16>),
+    Mask(usize, u16, u16),
 }
 
 /// The last sample and the writes since then. It keeps the cells as they are now beside them.
@@ -65,6 +73,13 @@ impl Model for StageBook {
     ghost view = { λ b. record { sample = b.sample; changes = changes_of b.entries.items; next = b.next } };
 
     ghost invariant = { λ b. (b.cells ≡ replayed b.sample (changes_of b.entries.items)) × (length b.entries.items ≤ 4096) × (length b.entries.items ≤ b.next) };
+}
+
+/// The bits of `word` that are set in `and_mask`; of the others those of `or_mask`.
+fn masked(word: i16, and_mask: u16, or_mask: u16) -> i16
+    ensures { result ≡ masked word and_mask or_mask }
+{
+    ((word.cast_unsigned() & and_mask) | (or_mask & !and_mask)).cast_signed()
 }
 
 impl StageBook {
@@ -159,5 +174,50 @@ impl StageBook {
         let number = self.next;
         self.next += 1;
         Ok(Ticket { number })
+    }
+
+    /// Lays two masks on the word at `address` of 0 to 63 as it is now: the bits that are set in `and_mask` stay, the
+    /// others become those of `or_mask`. `Address` where there is no such word, else `Full` at 4096 writes since the last
+    /// sample or where the tickets are used up, else `Memory` where a growth was refused.
+    pub fn mask_word(
+        &mut self,
+        address: usize,
+        and_mask: u16,
+        or_mask: u16,
+    ) -> Result<Ticket, StageError>
+        ensures ok { IfOk result (λ t. Does self.old (wrote (mask_at address and_mask or_mask) t.number) self.new) }
+        ensures address { (result ≡ Err StageError.Address) ↔ (64 ≤ address) }
+        ensures full { (result ≡ Err StageError.Full) ↔ ((address < 64) × (is_full self.old ≡ true)) }
+        ensures err { OnErr result (self.new ≡ self.old) }
+    {
+        if address >= WORDS {
+            return Err(StageError::Address);
+        }
+        if self.is_full() {
+            return Err(StageError::Full);
+        }
+        let word = masked(self.cells.words[address], and_mask, or_mask);
+        let Ok(()) = self.entries.push(Entry::Mask(address, and_mask, or_mask)) else {
+            return Err(StageError::Memory);
+        };
+        let number = self.next;
+        self.cells.words[address] = word;
+        self.next += 1;
+        Ok(Ticket { number })
+    }
+
+    /// As `write_words`, and then as `read`: the cells have this write.
+    pub fn write_read(&mut self, address: usize, values: &[i16]) -> Result<Written, StageError>
+        ensures wrote { IfOk result (λ w. Does self.old (wrote (words_at address values.now) w.ticket.number) self.new) }
+        ensures read { IfOk result (λ w. Does self.new (read_gave w.inputs.cells) self.new) }
+        ensures address { (result ≡ Err StageError.Address) ↔ (64 < address + length values.now) }
+        ensures full { (result ≡ Err StageError.Full) ↔ ((address + length values.now ≤ 64) × (is_full self.old ≡ true)) }
+        ensures err { OnErr result (self.new ≡ self.old) }
+    {
+        let ticket = self.write_words(address, values)?;
+        Ok(Written {
+            ticket,
+            inputs: self.read(),
+        })
     }
 }

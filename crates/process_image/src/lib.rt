@@ -12,7 +12,7 @@ pub mod list;
 pub mod release;
 pub mod staging;
 
-pub use book::{Sample, StageBook, StageError, Ticket};
+pub use book::{Sample, StageBook, StageError, Ticket, Written};
 pub use copies::{Pen, SharedPen};
 pub use driver::ScanDriver;
 pub use ends::{PublishError, ReleasedReader, ReleasedWriter, Told, Unmade, released};

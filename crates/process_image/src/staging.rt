@@ -1,16 +1,17 @@
 //! What a session and the scan driver write to and sample.
 ghost use Rattle.std.specs.Prelude.{◌≡◌, ◌+◌, ◌<◌, ◌≤◌, ◌↔◌, true, length, IfOk, OnErr, Err, Option, Some, None};
 
-use crate::book::{Sample, StageBook, StageError, Ticket};
+use crate::book::{Sample, StageBook, StageError, Ticket, Written};
 use il_model::cells::InImage;
 use std::sync::{Mutex, Wait};
 
 /// Staged inputs. An implementation tells its book, or tells nothing, as one behind a lock.
 pub trait Staging {
     ghost use Rattle.std.specs.Prelude.{◌≡◌, ◌+◌, ◌<◌, ◌≤◌, ◌↔◌, true, length, IfOk, OnErr, Err, Option};
-    ghost use Rattle.process_image.specs.Book.{Book, bits_at, words_at, is_full};
+    ghost use Rattle.process_image.specs.Book.{Book, bits_at, words_at, mask_at, is_full, after_change};
     ghost use Rattle.process_image.specs.Calls.{Does, read_gave, sample_gave, wrote};
     ghost use Rattle.process_image.specs.Staging.{Changed};
+    ghost use Rattle.il_model.specs.declared.cells.Cells.{Cells as SomeCells};
 
     ghost told: { Self → Option Book };
 
@@ -31,6 +32,22 @@ pub trait Staging {
     fn write_words(&mut self, address: usize, values: &[i16]) -> Result<Ticket, StageError>
         ensures address { (result ≡ Err StageError.Address) ↔ (64 < address + length values.now) }
         ensures told { Changed (told self.old) (told self.new) (λ b c. IfOk result (λ t. Does b (wrote (words_at address values.now) t.number) c) × OnErr result (c ≡ b) × ((result ≡ Err StageError.Full) ↔ ((address + length values.now ≤ 64) × (is_full b ≡ true)))) };
+
+    /// As `StageBook::mask_word`.
+    fn mask_word(
+        &mut self,
+        address: usize,
+        and_mask: u16,
+        or_mask: u16,
+    ) -> Result<Ticket, StageError>
+        ensures address { (result ≡ Err StageError.Address) ↔ (64 ≤ address) }
+        ensures told { Changed (told self.old) (told self.new) (λ b c. IfOk result (λ t. Does b (wrote (mask_at address and_mask or_mask) t.number) c) × OnErr result (c ≡ b) × ((result ≡ Err StageError.Full) ↔ ((address < 64) × (is_full b ≡ true)))) };
+
+    /// As `StageBook::write_read`. Where nothing is told, too, the cells that it shows have this write.
+    fn write_read(&mut self, address: usize, values: &[i16]) -> Result<Written, StageError>
+        ensures address { (result ≡ Err StageError.Address) ↔ (64 < address + length values.now) }
+        ensures shown { IfOk result (λ w. (cells : SomeCells) × (w.inputs.cells ≡ after_change cells (words_at address values.now))) }
+        ensures told { Changed (told self.old) (told self.new) (λ b c. IfOk result (λ w. Does b (wrote (words_at address values.now) w.ticket.number) c × Does c (read_gave w.inputs.cells) c) × OnErr result (c ≡ b) × ((result ≡ Err StageError.Full) ↔ ((address + length values.now ≤ 64) × (is_full b ≡ true)))) };
 }
 
 impl Staging for StageBook {
@@ -50,6 +67,19 @@ impl Staging for StageBook {
 
     fn write_words(&mut self, address: usize, values: &[i16]) -> Result<Ticket, StageError> {
         StageBook::write_words(self, address, values)
+    }
+
+    fn mask_word(
+        &mut self,
+        address: usize,
+        and_mask: u16,
+        or_mask: u16,
+    ) -> Result<Ticket, StageError> {
+        StageBook::mask_word(self, address, and_mask, or_mask)
+    }
+
+    fn write_read(&mut self, address: usize, values: &[i16]) -> Result<Written, StageError> {
+        StageBook::write_read(self, address, values)
     }
 }
 
@@ -98,5 +128,21 @@ impl<'a, R: Wait> Staging for StageHandle<'a, R> {
 
     fn write_words(&mut self, address: usize, values: &[i16]) -> Result<Ticket, StageError> {
         self.stage.book.lock(self.rt).write_words(address, values)
+    }
+
+    fn mask_word(
+        &mut self,
+        address: usize,
+        and_mask: u16,
+        or_mask: u16,
+    ) -> Result<Ticket, StageError> {
+        self.stage
+            .book
+            .lock(self.rt)
+            .mask_word(address, and_mask, or_mask)
+    }
+
+    fn write_read(&mut self, address: usize, values: &[i16]) -> Result<Written, StageError> {
+        self.stage.book.lock(self.rt).write_read(address, values)
     }
 }
