@@ -1,11 +1,10 @@
-//! Worked rows of what is called directly: function blocks, the machine and what drives it, snapshots, the choice of a log, replicas,
-//! runs of schedules, frames, process images, Modbus, and what no line of the program shows. A test is a table that is handed to a
-//! function with one loop, and what it makes is made and dropped in that function. The crate has tests alone, uses the crates of those
-//! parts, and no crate uses it; what the program prints are rows of `worked_rows`.
+//! Worked rows of what is called directly below `plc_tool`: the machine and what drives it, snapshots, the choice of
+//! a log, replicas, process images. A test is a table that is handed to a function with one loop, and what it makes
+//! is made and dropped in that function. The crate has tests alone, uses the crates of those parts, and no crate uses
+//! it. What is bytes in and bytes out are rows of `worked_bytes`, what the program prints are rows of `worked_rows`,
+//! and tests over `plc_tool` stand in `worked_tool`.
 #![tactic(auto)]
 
-#[cfg(test)]
-mod block_rows;
 #[cfg(test)]
 mod controller_rows;
 #[cfg(test)]
@@ -17,15 +16,7 @@ mod group_rows;
 #[cfg(test)]
 mod images;
 #[cfg(test)]
-mod json_rows;
-#[cfg(test)]
-mod limit_rows;
-#[cfg(test)]
-mod line_rows;
-#[cfg(test)]
 mod machine_rows;
-#[cfg(test)]
-mod modbus_rows;
 #[cfg(test)]
 mod process_image_rows;
 #[cfg(test)]
@@ -38,13 +29,3 @@ mod restored_rows;
 mod saved;
 #[cfg(test)]
 mod spoilt_rows;
-#[cfg(test)]
-mod stream_rows;
-#[cfg(test)]
-mod text_rows;
-#[cfg(test)]
-mod wire_rows;
-#[cfg(test)]
-mod word_rows;
-#[cfg(test)]
-mod world_rows;

@@ -289,3 +289,23 @@ fn a_group_answers_and_one_recovers(rt: HostRuntime) -> Result<(), Fail> {
     assert_eq!(rt; served(rt, rt.alloc())?, (true, true));
     Ok(())
 }
+
+/// Both later polls come late; before the first of them, the primary is heard.
+#[test]
+fn a_clock_times_out_unless_it_hears(rt: HostRuntime) -> Result<(), Fail> {
+    let mut clock = MachineClock::new(rt, Duration::from_millis(30), Duration::from_secs(600));
+    assert_eq!(rt; clock.poll(), Tick::None);
+    thread::sleep(&rt, Duration::from_millis(40));
+    clock.heard(&Message {
+        from: Party::Replica(0),
+        to: Party::Replica(1),
+        body: Body::Commit {
+            view: 0,
+            commit_number: 0,
+        },
+    });
+    assert_eq!(rt; clock.poll(), Tick::None);
+    thread::sleep(&rt, Duration::from_millis(40));
+    assert_eq!(rt; clock.poll(), Tick::Timeout);
+    Ok(())
+}

@@ -94,6 +94,7 @@ fn asked<R: Files + Alloc<A = Global> + Copy + Drop>(
             port: 5020,
             period,
             budget,
+            idle,
         },
     ) = read_words(rt.alloc(), words)
     else {
@@ -105,6 +106,7 @@ fn asked<R: Files + Alloc<A = Global> + Copy + Drop>(
         port: 0,
         period,
         scans,
+        idle,
     };
     match Service::new(rt, source, store, settings) {
         Ok(service) => Ok(service),

@@ -60,6 +60,9 @@ impl Starts for Shelf {
     ghost begin_gives = { λ _ _ _. ⊤ };
 
     fn begin(&mut self) -> Result<Stored, StoreFault> {
+        if self.stored.starts == 0 {
+            self.stored.view = 0;
+        }
         self.stored.starts = self.stored.starts.saturating_add(1);
         Ok(self.stored)
     }

@@ -25,25 +25,27 @@ fn a_store_keeps_what_it_saved(rt: HostRuntime) -> Result<(), Fail> {
     let _ = fs::remove_file(&rt, first.path());
     assert_eq!(rt; first.save(1), Err(StoreFault));
     assert_eq!(rt; first.load(), Ok(stored(0, 0)));
+    assert_eq!(rt; first.save(1), Err(StoreFault));
     assert_eq!(rt; first.begin(), Ok(stored(0, 1)));
     assert_eq!(rt; first.save(7), Ok(()));
     assert_eq!(rt; first.save(5), Ok(()));
+    assert_eq!(rt; first.begin(), Ok(stored(5, 2)));
     let mut again = FileStore::new(rt, alloc, ".", 200)?;
-    assert_eq!(rt; again.load(), Ok(stored(5, 1)));
-    assert_eq!(rt; again.begin(), Ok(stored(5, 2)));
+    assert_eq!(rt; again.load(), Ok(stored(5, 2)));
+    assert_eq!(rt; again.begin(), Ok(stored(5, 3)));
     let bytes = fs::read(&rt, "replica-200")?;
     assert_eq!(rt;
         bytes.as_slice(),
-        [0u8, 0, 0, 0, 0, 0, 0, 5, 0, 0, 0, 0, 0, 0, 0, 2].as_slice()
+        [0u8, 0, 0, 0, 0, 0, 0, 5, 0, 0, 0, 0, 0, 0, 0, 3].as_slice()
     );
     assert!(rt; !fs::exists(&rt, "replica-200.new")?);
-    assert_eq!(rt; (first.faults(), again.faults()), (1, 0));
+    assert_eq!(rt; (first.faults(), again.faults()), (2, 0));
     fs::remove_file(&rt, "replica-200")?;
     Ok(())
 }
 
 #[test]
-fn a_file_of_another_length_is_a_fault(rt: HostRuntime) -> Result<(), Fail> {
+fn a_file_that_no_start_left_is_a_fault(rt: HostRuntime) -> Result<(), Fail> {
     let alloc = rt.alloc();
     let bytes = [255u8; 17];
     for length in [0usize, 1, 15, 17] {
@@ -57,6 +59,12 @@ fn a_file_of_another_length_is_a_fault(rt: HostRuntime) -> Result<(), Fail> {
     let mut store = FileStore::new(rt, alloc, ".", 201)?;
     assert_eq!(rt; store.load(), Ok(stored(u64::MAX, u64::MAX)));
     assert_eq!(rt; store.begin(), Err(StoreFault));
+    for view in [0u8, 5] {
+        let unstarted = [0u8, 0, 0, 0, 0, 0, 0, view, 0, 0, 0, 0, 0, 0, 0, 0];
+        put(&rt, "replica-201", &unstarted)?;
+        let mut store = FileStore::new(rt, alloc, ".", 201)?;
+        assert_eq!(rt; store.begin(), Err(StoreFault));
+    }
     fs::remove_file(&rt, "replica-201")?;
     Ok(())
 }

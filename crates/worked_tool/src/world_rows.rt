@@ -1,13 +1,16 @@
 //! A long run over three replicas: scans, two view changes, and a replica that crashes and recovers.
 
-use crate::images::{WIRE, image};
 use il_model::{Answer, Budget, Command, InImage, OutImage};
+use loader::load;
 use schedules::{Trace, WorldEvent};
 use std::alloc::{AllocError, Global};
 use std::process::Abort;
 use std::test::Fail;
 use vr_model::Config;
 use vr_world::run_world;
+
+/// The image of `LD %IX0.0`, `ST %QX0.0`.
+const WIRE: &[u8] = b"ILPC\0\x01\0\0\0\0\0\0\0\0\0\x02\x01\0\0\0\x02\0\x10\0";
 
 const SCANS: u64 = 200;
 
@@ -126,14 +129,9 @@ fn no_scan_is_lost(rt: HostRuntime) -> Result<(), Fail> {
     let alloc = rt.alloc();
     let config = Config::new(1).ok_or("no group")?;
     let budget = Budget::new(10_000).ok_or("no budget")?;
+    let image = load(alloc, WIRE).map_err(|_| "no image")?;
     let schedule = long_run(alloc)?;
-    let trace = run_world(
-        alloc,
-        &config,
-        &image(alloc, WIRE)?,
-        budget,
-        &schedule.events,
-    )?;
+    let trace = run_world(alloc, &config, &image, budget, &schedule.events)?;
     wants_all(&rt, &trace)?;
     assert_eq!(rt; trace.releases.len(), 200);
     assert_eq!(rt; trace.order.len(), 200);

@@ -25,7 +25,13 @@ fn run(instructions: u32) -> Result<Words<'static>, Fail> {
 }
 
 /// So many scans of `a.il`, with stores in `d`.
-fn serve(scans: u32, failures: u8, port: u16, period: u32) -> Result<Words<'static>, Fail> {
+fn serve(
+    scans: u32,
+    failures: u8,
+    port: u16,
+    period: u32,
+    idle: u32,
+) -> Result<Words<'static>, Fail> {
     Ok(Words::Serve {
         source: "a.il",
         store: "d",
@@ -34,6 +40,7 @@ fn serve(scans: u32, failures: u8, port: u16, period: u32) -> Result<Words<'stat
         port,
         period,
         budget: Budget::new(10_000).ok_or("no budget")?,
+        idle,
     })
 }
 
@@ -48,15 +55,20 @@ fn words_ask_to_serve(rt: HostRuntime) -> Result<(), Fail> {
         "--f=3",
         "--port=65535",
         "--period=4294967295",
+        "--idle=4294967295",
         "a.il",
     ];
     let least: &[&str] = &[
         "plc", "serve", "a.il", "--store", "d", "--scans", "9", "--port", "1", "--period", "1",
+        "--idle", "1",
     ];
     let rows: [(&[&str], Words); 3] = [
-        (first, serve(1, 1, 5020, 100)?),
-        (greatest, serve(4_294_967_295, 3, 65_535, 4_294_967_295)?),
-        (least, serve(9, 1, 1, 1)?),
+        (first, serve(1, 1, 5020, 100, 300)?),
+        (
+            greatest,
+            serve(4_294_967_295, 3, 65_535, 4_294_967_295, 4_294_967_295)?,
+        ),
+        (least, serve(9, 1, 1, 1, 1)?),
     ];
     ask_for(&rt, rt.alloc(), &rows);
     Ok(())

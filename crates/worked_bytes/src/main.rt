@@ -1,0 +1,32 @@
+//! Reads files of rows, checks that the blocks, the Modbus sessions and the frames between replicas come out as each
+//! row says, and prints those that come out otherwise and how many rows each file has. It ends with the status 1
+//! where one does. `data/README.md` tells how a row is written. No crate uses it.
+#![tactic(auto)]
+
+mod blocks;
+mod clients;
+mod frames;
+mod messages;
+mod notation;
+mod rows;
+mod sessions;
+
+use std::process::ExitCode;
+use std::{env, fs, io};
+
+fn main(rt: HostRuntime) -> io::Result<ExitCode> {
+    let words: Vec<String> = env::args(&rt)?.collect(rt.alloc())?;
+    let mut status = ExitCode::SUCCESS;
+    for file in words.iter().skip(1) {
+        let name = file.as_str();
+        let text = fs::read_to_string(&rt, name)?;
+        let found = rows::checked(&rt, rt.alloc(), text.as_str())?;
+        for row in &found.otherwise {
+            println!(rt; "otherwise: {row}")?;
+            status = ExitCode::FAILURE;
+        }
+        let (rows, otherwise) = (found.rows, found.otherwise.len());
+        println!(rt; "{name}: {rows} rows, {otherwise} otherwise")?;
+    }
+    Ok(status)
+}
