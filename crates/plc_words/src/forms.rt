@@ -28,6 +28,9 @@ const PORT: &str = "port";
 /// The word of the option `--period`.
 const PERIOD: &str = "period";
 
+/// The word of the option `--idle`.
+const IDLE: &str = "idle";
+
 const NO_FORM: &str = "error: the words name no form of call\n";
 
 const STATUSES: &str = "Exit status:
@@ -142,14 +145,26 @@ numbers are used up.";
 const SERVING: &str = with_source_faults!(
     "Takes connections of Modbus TCP on 127.0.0.1, and says so by the line 'serving on 127.0.0.1:P' on
 standard error. Each period the 2F+1 replicas scan the inputs that clients wrote. After N scans it
-ends, and prints 'scans N'. Up to 16 clients are served at once; a connection beyond is closed.
+ends, and prints 'scans N'. Up to 16 clients are served at once; a connection beyond is closed. So is
+one whose client sent nothing for S seconds, or takes no reply for so long.
 Bits are numbered 0 to 511 (%IXb.n is 8b+n), registers 0 to 63:
   functions 1, 5, 15         read and write the bits of %I
   functions 3, 6, 16         read and write its words
+  function 22                sets the bits of one of its words by two masks
+  function 23                writes some of its words, and then reads some
   functions 2, 4             read the bits and the words of %Q, as the last scan released them
 
 Each replica keeps its view in a file of DIR, replica-0 to replica-2F. DIR is made where it isn't
-there. Where it holds such a file, 'plc: store' is told, and nothing has started.
+there. Where it holds such a file, or another start has it by a file 'lock', 'plc: store' is told, and
+nothing has started.
+
+What changes is told by a line on standard error, and the status stays:
+  replica I down             replica I has not been normal for a second
+  replica I normal           it's normal again
+  replica I store            its file couldn't be written, and it's down for good
+  stopped WHY P              the program stopped at instruction P: overflow, zerodivisor or budget; all
+                             outputs are FALSE or 0 from then on
+With the stores of more than F replicas failed it ends with 'plc: device'.
 "
 );
 
@@ -179,7 +194,7 @@ pub enum Words<'a> {
         budget: Budget,
     },
     /// Serves the program of a file to Modbus clients at a port, by a group of replicas with stores in a directory: a scan each period, in
-    /// milliseconds and within the budget, until there were so many.
+    /// milliseconds and within the budget, until there were so many. A client that's idle for so many seconds is let go.
     Serve {
         source: &'a str,
         store: &'a str,
@@ -188,6 +203,7 @@ pub enum Words<'a> {
         port: u16,
         period: u32,
         budget: Budget,
+        idle: u32,
     },
 }
 
@@ -268,6 +284,11 @@ fn serve_command<'a>(alloc: Global) -> Result<Command<'a>, AllocError> {
             count(alloc, PERIOD, "MS")
                 .default_value("100")
                 .help("Milliseconds from scan to scan"),
+        )?
+        .arg(
+            count(alloc, IDLE, "S")
+                .default_value("300")
+                .help("Seconds until a silent client is let go"),
         )?
         .arg(budget(alloc))
 }
@@ -353,6 +374,7 @@ fn form_of<'a>(matches: &ArgMatches<'a>) -> Option<Words<'a>> {
             port: inner.get_one::<u16>(PORT)?,
             period: inner.get_one::<u32>(PERIOD)?,
             budget: Budget::new(inner.get_one::<u32>(BUDGET)?)?,
+            idle: inner.get_one::<u32>(IDLE)?,
         }),
         _ => None,
     }
