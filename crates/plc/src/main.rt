@@ -8,9 +8,13 @@ use plc_words::{Words, WordsError, read_words};
 use process_image::NewList;
 use std::io::{BufWriter, Write};
 use std::marker::Brand;
+use std::os::fd::{AsRawFd, IntoRawFd};
 use std::process::ExitCode;
 use std::{env, fs, io};
 use vr_model::Config;
+
+/// Standard input, standard output and standard error are the descriptors below it.
+const STREAMS: i32 = 3;
 
 /// What the words of the call came to.
 #[derive(Drop)]
@@ -24,6 +28,9 @@ enum Outcome {
 /// Threads and sockets are used here alone.
 fn main(rt: HostRuntime) -> ExitCode {
     let mut err = Counted::new(rt.stderr());
+    if let Err(error) = hold_streams(&rt) {
+        return ExitCode::from(plc_tool::tell(Fault::from(error), &mut err));
+    }
     let status = match BufWriter::new(rt.alloc(), rt.stdout()) {
         Ok(mut out) => match called(&rt, &mut out, &mut err) {
             Outcome::Done(status) => status,
@@ -49,6 +56,20 @@ fn main(rt: HostRuntime) -> ExitCode {
         Err(error) => plc_tool::tell(Fault::from(error), &mut err),
     };
     ExitCode::from(status)
+}
+
+/// Opens what can only be read, and is empty, at each of descriptors 0 to 2 that is closed: so no file or socket is opened there, and a write to a
+/// stream that is closed fails.
+fn hold_streams(rt: &HostRuntime) -> io::Result<()> {
+    for _ in 0..STREAMS {
+        let empty = fs::open(rt, "/dev/null")?;
+        if empty.as_raw_fd() >= STREAMS {
+            break;
+        }
+        // It stays open to the end.
+        let _ = empty.into_raw_fd();
+    }
+    Ok(())
 }
 
 /// Does what the words of the call ask for, unless that is to serve a controller.
@@ -91,6 +112,7 @@ fn perform<W: Write, E: CountedWrite>(
             port,
             period,
             budget,
+            idle,
         } => {
             let settings = Settings {
                 config,
@@ -98,6 +120,7 @@ fn perform<W: Write, E: CountedWrite>(
                 port,
                 period,
                 scans,
+                idle,
             };
             match Service::new(*rt, source, store, settings) {
                 Ok(service) => return Outcome::Serve(service),

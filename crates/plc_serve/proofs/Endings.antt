@@ -1,12 +1,13 @@
 -- What the end of a served controller tells, by what was done.
 use Rattle.std.proofs.Common.{◌≡◌, inl, inr, ℕ, List, Result, Ok, Err, subst, sym, ◌∙◌, arith}
-use Rattle.std.specs.Prelude.{IfErr, IsOk, OnOk}
+use Rattle.std.specs.Prelude.{IfErr, IfOk, IsOk, OnErr, OnOk}
 use Rattle.il_model.specs.declared.counted.CountedWrite.{Ghosts as CountedWriter}
 use Rattle.il_model.specs.declared.counted.DeviceFault.{DeviceFault}
 use Rattle.plc_tool.specs.declared.fault.Fault.{Fault}
 use Rattle.plc_tool.specs.Status.{status_of}
 use Rattle.plc_tool.specs.Telling.{Ends, IsTold, Sends, WentOut, fault_line}
-use Rattle.plc_serve.specs.Serving.{IsAtMostPortTold, IsPortTold, IsToldAtLast, port_line}
+use Rattle.plc_serve.specs.Watching.{AreNoticesTold}
+use Rattle.plc_serve.specs.Serving.{IsAtMostServingTold, IsPortTold, IsServingTold, IsToldAtLast, port_line}
 
 went_out : {W : Type 0} (w : CountedWriter W) (text : List ℕ) (old new : W) (r : Result (Unit {0}) DeviceFault) → Sends w text old new r → WentOut w text old new
 went_out w text old new (Ok done) sends = inl sends.sent
@@ -18,8 +19,8 @@ port_told w port line old new r is sends = record { port = port; line = subst (�
 
 module _ {W : Type 0} (w : CountedWriter W) (status : ℕ) (old middle new : W) where
   -- a good end tells nothing more
-  pub served : (r : Result (Unit {0}) Fault) → IsOk r → OnOk r (IsPortTold w old middle) → Ends w r status middle new → IsPortTold w old new
-  served (Ok done) ok told ends = subst (λ (it : W). IsPortTold w old it) (sym ends.1) told
+  pub served : (r : Result (Unit {0}) Fault) → IsOk r → OnOk r (IsServingTold w old middle) → Ends w r status middle new → IsServingTold w old new
+  served (Ok done) ok told ends = subst (λ (it : W). IsServingTold w old it) (sym ends.1) told
   served (Err e) ok told ends = absurd cc
 
   -- of input that is refused only the fault is told
@@ -30,6 +31,18 @@ module _ {W : Type 0} (w : CountedWriter W) (status : ℕ) (old middle new : W) 
       (record { fault = e; answered = ends.0; is = λ _. all.0; line = subst (λ (m : W). WentOut w (fault_line e) m new) all.1 ends.1 }, all.2)
 
   -- of a device or memory the fault is told behind what was told before
-  pub failed : (r : Result (Unit {0}) Fault) → status ≡ 2 → IsAtMostPortTold w old middle → Ends w r status middle new → IsToldAtLast w status old new
+  pub failed : (r : Result (Unit {0}) Fault) → status ≡ 2 → IsAtMostServingTold w old middle → Ends w r status middle new → IsToldAtLast w status old new
   failed (Ok done) two at_most ends = absurd (omega (arith, two, ends.0))
   failed (Err e) two at_most ends = record { before = middle; at_most = at_most; told = record { fault = e; answered = ends.0; is = λ one. absurd (omega (arith, one, two, ends.0)); line = ends.1 } }
+
+-- The port was told or nothing, and where it was, notices behind it.
+module _ {W X : Type 0} (w : CountedWriter W) (old middle new : W) where
+  pub good : (r : Result X Fault) (s : Result (Unit {0}) Fault) → OnOk r (IsPortTold w old middle) → OnOk s (IsOk r) → IfOk r (λ _. AreNoticesTold w middle new) → OnOk s (IsServingTold w old new)
+  good (Ok x) (Ok done) port ok notices = record { opened = middle; port = port; notices = notices }
+  good (Ok x) (Err e) port ok notices = tt
+  good (Err f) (Ok done) port ok notices = absurd cc
+  good (Err f) (Err e) port ok notices = tt
+
+  pub at_most : (r : Result X Fault) → OnOk r (IsPortTold w old middle) → OnErr r (middle ≡ old) → IfOk r (λ _. AreNoticesTold w middle new) → OnErr r (new ≡ middle) → IsAtMostServingTold w old new
+  at_most (Ok x) port same notices nothing = inr (record { opened = middle; port = port; notices = notices })
+  at_most (Err f) port same notices nothing = inl (nothing ∙ same)

@@ -1,3 +1,4 @@
 pub mod Driving
 pub mod Pacing
 pub mod Serving
+pub mod Watching

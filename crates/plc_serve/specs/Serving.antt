@@ -6,6 +6,7 @@ use Rattle.plc_tool.specs.declared.fault.Fault.{Fault}
 use Rattle.plc_tool.specs.declared.fault.Fault.TheVariants.{Store}
 use Rattle.plc_tool.specs.Meaning.{IsTextFault}
 use Rattle.plc_tool.specs.Telling.{IsTold, WentOut}
+use Rattle.plc_serve.specs.Watching.{AreNoticesTold}
 
 -- the line that tells how many scans there were
 abbrev pub scans_line : ℕ → List ℕ
@@ -20,16 +21,22 @@ pub record IsPortTold {W : Type 0} (w : CountedWriter W) (old new : W) : Type 0 
   pub port : ℕ
   pub line : WentOut w (port_line port) old new
 
--- nothing was told, or that line
-abbrev pub IsAtMostPortTold : {W : Type 0} → CountedWriter W → W → W → Type 0
-IsAtMostPortTold w old new = (new ≡ old) ⊎ IsPortTold w old new
+-- the line of a port went out, then those of what changed while the controller was served, and nothing else was told
+pub record IsServingTold {W : Type 0} (w : CountedWriter W) (old new : W) : Type 0 where
+  pub opened : W
+  pub port : IsPortTold w old opened
+  pub notices : AreNoticesTold w opened new
 
--- why nothing is started: a fault of the text, or the directory holds the file of a replica
+-- nothing was told, or those lines
+abbrev pub IsAtMostServingTold : {W : Type 0} → CountedWriter W → W → W → Type 0
+IsAtMostServingTold w old new = (new ≡ old) ⊎ IsServingTold w old new
+
+-- why nothing is started: a fault of the text, or the directory was used or is in use
 abbrev pub IsWhyRefused : List ℕ → Fault → Type 0
 IsWhyRefused text fault = IsTextFault text fault ⊎ (fault ≡ Store)
 
--- the last that was told is the line of a fault of a device or of memory; before it the line of a port was, or nothing
+-- the last that was told is the line of a fault of a device or of memory; before it the lines of serving were, or nothing
 pub record IsToldAtLast {W : Type 0} (w : CountedWriter W) (status : ℕ) (old new : W) : Type 0 where
   pub before : W
-  pub at_most : IsAtMostPortTold w old before
+  pub at_most : IsAtMostServingTold w old before
   pub told : IsTold w (λ fault. ⊥) status before new

@@ -1,27 +1,44 @@
 //! The driver of a group: the client that has it scan once a period, and publishes what it releases.
 
-ghost use Rattle.std.specs.Prelude.{◌≡◌, ◌+◌, if◌then◌else◌, IfErr, OnOk, OnErr, IfOk, length};
+ghost use Rattle.std.specs.Prelude.{◌≡◌, ◌+◌, if◌then◌else◌, IfErr, OnOk, OnErr, IfOk, IfSome, IfNone, length, false, is_some};
 ghost use Rattle.plc_tool.specs.Status.{status_of};
 ghost use Rattle.il_model.specs.declared.command.Command.{Command as Asked};
 ghost use Rattle.il_model.specs.declared.command.Answer.{Answer as Answered};
 ghost use Rattle.vr_model.specs.Messages.{Message as Meant};
 ghost use Rattle.vr_model.specs.StandsFor.{Stands};
 ghost use Rattle.process_image.specs.Driver.{release_by};
-ghost use Rattle.plc_serve.specs.Driving.{Publishes};
+ghost use Rattle.plc_serve.specs.Driving.{Publishes, ReleasesWith, stop_by};
+ghost use Rattle.plc_serve.specs.Watching.{AreNoticesTold, IsStopTold};
 
+use crate::notice::{Notice, tell};
 use crate::pace::Pace;
+use crate::watch::Watch;
+use il_model::{Answer, CountedWrite, Stop};
 use plc_tool::Fault;
 use process_image::{Naming, Pen, ReleasedWriter, ScanDriver, Staging};
 use replicas::{Input, Link};
-use std::alloc::Global;
+use std::alloc::{AllocError, Global};
 use std::sync::Wait;
-use std::time::Clock;
-use vr_model::{Message, Sends};
+use std::time::{Clock, Duration};
+use vr_model::{Body, Message, Sends};
 
 /// Hands each message to the link.
 fn send_all<L: Link>(link: &mut L, sends: Sends) {
     for message in sends {
         link.send(message);
+    }
+}
+
+/// Why and where the scan stopped whose answer the message brings, if it did.
+fn stop_in(message: &Message) -> Option<(Stop, u16)>
+    ensures { (meant : Meant Asked Answered) → Stands message.now meant → result ≡ stop_by meant.body }
+{
+    match message.body {
+        Body::Reply {
+            answer: Answer::Stopped { stop, position, .. },
+            ..
+        } => Some((stop, position)),
+        _ => None,
     }
 }
 
@@ -31,38 +48,70 @@ pub(crate) struct Drive<L: Drop, J: Naming, P: Pen<J> + Drop> {
     pub(crate) driver: ScanDriver,
     pub(crate) link: L,
     pub(crate) writer: ReleasedWriter<J, P>,
+    pub(crate) watch: Watch,
+    /// Whether the last scan that was released had stopped.
+    pub(crate) is_stopped: bool,
 }
 
 impl<L: Link + Drop, J: Naming, P: Pen<J> + Drop> Drive<L, J, P> {
-    /// One scan a period, until so many were released.
-    pub(crate) fn run<R: Wait + Clock, S: Staging>(
+    /// One scan a period, until so many were released. What changes meanwhile is told.
+    pub(crate) fn run<R: Wait + Clock, S: Staging, E: CountedWrite>(
         &mut self,
         rt: &R,
         alloc: Global,
         staging: &mut S,
         pace: &mut Pace,
         scans: u32,
+        err: &mut E,
     ) -> Result<(), Fault>
         ensures counted { OnOk result (length self.new.writer ≡ length self.old.writer + scans) }
+        ensures told { AreNoticesTold E.CountedWrite err.old err.new }
         ensures err { IfErr result (λ e. status_of e ≡ 2) }
     {
         for _ in 0..scans {
+            self.rest(rt, alloc, pace, err)?;
             let moment = pace.await_scan(rt)?;
-            self.scan(rt, alloc, staging, pace, moment)?;
+            let stop = self.scan(rt, alloc, staging, pace, moment, err)?;
+            self.tell_stop(alloc, stop, err)?;
         }
         Ok(())
     }
 
-    /// Submits a scan of the staged inputs, and publishes what it releases; it asks again after each period without a reply.
-    fn scan<R: Wait + Clock, S: Staging>(
+    /// Sleeps until the next scan is nearly due, and looks at the replicas meanwhile.
+    fn rest<R: Wait + Clock, E: CountedWrite>(
+        &mut self,
+        rt: &R,
+        alloc: Global,
+        pace: &Pace,
+        err: &mut E,
+    ) -> Result<(), Fault>
+        ensures same { self.new.writer ≡ self.old.writer }
+        ensures told { AreNoticesTold E.CountedWrite err.old err.new }
+        ensures err { IfErr result (λ e. status_of e ≡ 2) }
+    {
+        for _ in rt.forever() {
+            self.watch.look(alloc, pace.elapsed(rt)?, err)?;
+            if pace.rest(rt)? {
+                return Ok(());
+            }
+        }
+        unreachable!()
+    }
+
+    /// Submits a scan of the staged inputs, and publishes what it releases; it asks again after each period without a reply. Gives the
+    /// stop of the scan, if it stopped.
+    fn scan<R: Wait + Clock, S: Staging, E: CountedWrite>(
         &mut self,
         rt: &R,
         alloc: Global,
         staging: &mut S,
         pace: &Pace,
         moment: u64,
-    ) -> Result<(), Fault>
+        err: &mut E,
+    ) -> Result<Option<(Stop, u16)>, Fault>
+        ensures released { IfOk result (λ stop. ReleasesWith stop self.old.writer self.new.writer) }
         ensures counted { OnOk result (length self.new.writer ≡ length self.old.writer + 1) }
+        ensures told { AreNoticesTold E.CountedWrite err.old err.new }
         ensures err { IfErr result (λ e. status_of e ≡ 2) }
     {
         if let Some(sends) = self.driver.sample_and_submit(alloc, staging, moment)? {
@@ -70,22 +119,52 @@ impl<L: Link + Drop, J: Naming, P: Pen<J> + Drop> Drive<L, J, P> {
         }
         let mut asked = pace.elapsed(rt)?;
         for _ in rt.forever() {
-            match self.link.recv() {
-                Input::Message(message) => {
-                    if self.take(&message)? {
-                        return Ok(());
-                    }
-                }
-                Input::Nothing => {}
-                Input::Closed => return Err(Fault::Device),
+            if let Some(stop) = self.hear()? {
+                return Ok(stop);
             }
-            if pace.is_over(rt, asked)? {
-                let sends = self.driver.retry(alloc)?;
-                send_all(&mut self.link, sends);
-                asked = pace.elapsed(rt)?;
-            }
+            asked = self.ask_again(rt, alloc, pace, asked)?;
+            self.watch.look(alloc, pace.elapsed(rt)?, err)?;
         }
         unreachable!()
+    }
+
+    /// Receives once. Where that brings the reply that is waited for, what it releases is published, and this is its stop, if it stopped.
+    fn hear(&mut self) -> Result<Option<Option<(Stop, u16)>>, Fault>
+        ensures released { IfOk result (λ heard. IfSome heard (λ stop. ReleasesWith stop self.old.writer self.new.writer)) }
+        ensures counted { IfOk result (λ heard. IfSome heard (λ _. length self.new.writer ≡ length self.old.writer + 1)) }
+        ensures kept { IfOk result (λ heard. IfNone heard (self.new.writer ≡ self.old.writer)) }
+        ensures err { IfErr result (λ e. status_of e ≡ 2) }
+    {
+        match self.link.recv() {
+            Input::Message(message) => {
+                if self.take(&message)? {
+                    Ok(Some(stop_in(&message)))
+                } else {
+                    Ok(None)
+                }
+            }
+            Input::Nothing => Ok(None),
+            Input::Closed => Err(Fault::Device),
+        }
+    }
+
+    /// Asks again where a period went by since it asked last: when it asked last.
+    fn ask_again<R: Clock>(
+        &mut self,
+        rt: &R,
+        alloc: Global,
+        pace: &Pace,
+        asked: Duration,
+    ) -> Result<Duration, Fault>
+        ensures same { self.new.writer ≡ self.old.writer }
+        ensures err { IfErr result (λ e. status_of e ≡ 2) }
+    {
+        if !pace.is_over(rt, asked)? {
+            return Ok(asked);
+        }
+        let sends = self.driver.retry(alloc)?;
+        send_all(&mut self.link, sends);
+        pace.elapsed(rt)
     }
 
     /// Takes a message of the group. Whether it was the reply that is waited for: then what it releases is published.
@@ -93,6 +172,7 @@ impl<L: Link + Drop, J: Naming, P: Pen<J> + Drop> Drive<L, J, P> {
         ensures published { IfOk result (λ is_released. (meant : Meant Asked Answered) → Stands message.now meant
             → Publishes (release_by self.old.driver.client meant.body) is_released self.old.writer self.new.writer) }
         ensures counted { IfOk result (λ is_released. length self.new.writer ≡ length self.old.writer + (if is_released then 1 else 0)) }
+        ensures kept { IfOk result (λ is_released. is_released ≡ false → self.new.writer ≡ self.old.writer) }
         ensures same { OnErr result (self.new.writer ≡ self.old.writer) }
         ensures err { IfErr result (λ e. status_of e ≡ 2) }
     {
@@ -104,5 +184,28 @@ impl<L: Link + Drop, J: Naming, P: Pen<J> + Drop> Drive<L, J, P> {
             Ok(()) => Ok(true),
             Err(_) => Err(Fault::Memory),
         }
+    }
+
+    /// Tells the stop of the scan that was released, if the one before it didn't stop.
+    #[tactic(auto, using(crate::proofs::Noticed::none))]
+    fn tell_stop<E: CountedWrite>(
+        &mut self,
+        alloc: Global,
+        stop: Option<(Stop, u16)>,
+        err: &mut E,
+    ) -> Result<(), AllocError>
+        ensures told { OnOk result (IsStopTold E.CountedWrite self.old.is_stopped stop err.old err.new) }
+        ensures stopped { OnOk result (self.new.is_stopped ≡ is_some stop) }
+        ensures same { self.new.writer ≡ self.old.writer }
+        ensures nothing { OnErr result (err.new ≡ err.old) }
+        ensures notices { AreNoticesTold E.CountedWrite err.old err.new }
+    {
+        if let Some((stop, position)) = stop {
+            if !self.is_stopped {
+                tell(alloc, Notice::Stopped(stop, position), err)?;
+            }
+        }
+        self.is_stopped = stop.is_some();
+        Ok(())
     }
 }

@@ -1,13 +1,14 @@
 //! The group of replicas, with their stores and links.
 
-ghost use Rattle.std.specs.Prelude.{◌≡◌, IfOk, IfErr, vec_len};
+ghost use Rattle.std.specs.Prelude.{◌≡◌, IfOk, vec_len};
 ghost use Rattle.vr_model.specs.Groups.{group_size};
 ghost use Rattle.plc_tool.specs.Status.{status_of};
 
+use crate::health::{Health, HealthGate, HealthStore};
+use crate::watch::Watch;
 use plc_tool::Fault;
-use replicas::{ChannelLink, ClusterError, FileStore, Gate, MachineClock, Seat, Switchboard};
+use replicas::{ChannelLink, ClusterError, FileStore, MachineClock, Seat, Switchboard};
 use std::alloc::{AllocError, Global};
-use std::fs;
 use std::rt::Files;
 use std::sync::{Arc, Wait};
 use std::time::{Clock, Duration};
@@ -22,18 +23,8 @@ const TIMEOUT: u64 = 2000;
 /// After so many milliseconds a replica sends again what may have been lost.
 const RESEND: u64 = 300;
 
-/// A gate that nobody watches.
-#[derive(Drop)]
-pub(crate) struct OpenGate;
-
-impl Gate for OpenGate {
-    fn before(&mut self, _call: u64) {}
-
-    fn after(&mut self, _call: u64, _normal: bool) {}
-}
-
 /// What a replica of the group is given.
-pub(crate) type GroupSeat<R, S> = Seat<ChannelLink<R>, S, MachineClock<R>, OpenGate>;
+pub(crate) type GroupSeat<R, S> = Seat<ChannelLink<R>, HealthStore<S>, MachineClock<R>, HealthGate>;
 
 /// The stores of a group, in files of a directory: none is opened yet.
 pub(crate) fn stores<R: Files + Copy + Drop>(
@@ -51,25 +42,6 @@ pub(crate) fn stores<R: Files + Copy + Drop>(
     Ok(stores)
 }
 
-/// How many replicas of the group have a file in this directory.
-pub(crate) fn file_count<R: Files + Copy + Drop>(
-    rt: R,
-    alloc: Global,
-    config: Config,
-    directory: &str,
-) -> Result<u8, Fault>
-    ensures { IfErr result (λ e. status_of e ≡ 2) }
-{
-    let mut count = 0u8;
-    for replica in 0..config.group_size() {
-        let store = FileStore::new(rt, alloc, directory, replica)?;
-        if fs::exists(&rt, store.path())? {
-            count = count.saturating_add(1);
-        }
-    }
-    Ok(count)
-}
-
 /// The link of a party, by which a receive waits for so many milliseconds at most.
 pub(crate) fn link_of<R: Wait + Clock + Copy + Drop>(
     rt: R,
@@ -82,11 +54,12 @@ pub(crate) fn link_of<R: Wait + Clock + Copy + Drop>(
     ChannelLink::new(rt, alloc, Arc::try_clone(board)?, party, wait)
 }
 
-/// A seat for each of these stores, of the replica with its number.
+/// A seat for each of these stores, of the replica with its number, which is watched from now on.
 pub(crate) fn seats<R: Wait + Clock + Copy + Drop, S: Drop>(
     rt: R,
     alloc: Global,
     board: &Arc<Switchboard>,
+    watch: &mut Watch,
     stores: Vec<S>,
 ) -> Result<Vec<GroupSeat<R, S>>, AllocError>
     ensures { IfOk result (λ v. vec_len v ≡ vec_len stores) }
@@ -95,15 +68,20 @@ pub(crate) fn seats<R: Wait + Clock + Copy + Drop, S: Drop>(
     for store in stores {
         let number = u8::try_from(seats.len()).unwrap_or(u8::MAX);
         let replica = Party::Replica(number);
+        let health = Health::new(alloc)?;
+        watch.add(Arc::try_clone(&health)?)?;
         seats.push(Seat {
             link: link_of(rt, alloc, board, replica, WAIT)?,
-            store,
+            store: HealthStore {
+                store,
+                health: Arc::try_clone(&health)?,
+            },
             clock: MachineClock::new(
                 rt,
                 Duration::from_millis(TIMEOUT),
                 Duration::from_millis(RESEND),
             ),
-            gate: OpenGate,
+            gate: HealthGate(health),
         })?;
     }
     Ok(seats)

@@ -3,14 +3,18 @@
 //! text by `plc_tool`; it knows no command words and names no runtime.
 #![tactic(auto)]
 
+mod directory;
 mod door;
 mod driving;
 mod group;
+mod health;
+mod notice;
 mod pace;
 mod places;
 mod service;
 mod serving;
 mod sessions;
+mod watch;
 
 pub use pace::worked_dues;
 pub use service::Service;

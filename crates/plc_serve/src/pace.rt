@@ -9,6 +9,9 @@ use plc_tool::Fault;
 use std::thread;
 use std::time::{Clock, Duration, Instant};
 
+/// In milliseconds: the longest that it sleeps at once before a scan is nearly due.
+const NAP: u64 = 500;
+
 /// When the next scan is due, since a beginning.
 #[derive(Clone, Copy)]
 pub(crate) struct Pace {
@@ -35,6 +38,18 @@ impl Pace {
         ensures { IfErr result (λ e. status_of e ≡ 2) }
     {
         Ok(Instant::now(rt)?.saturating_duration_since(self.begun))
+    }
+
+    /// Sleeps for a while, unless the next scan is due within it: whether it is.
+    pub(crate) fn rest<R: Clock>(&self, rt: &R) -> Result<bool, Fault>
+        ensures { IfErr result (λ e. status_of e ≡ 2) }
+    {
+        let nap = Duration::from_millis(NAP);
+        if self.due.saturating_sub(self.elapsed(rt)?) <= nap {
+            return Ok(true);
+        }
+        thread::sleep(rt, nap);
+        Ok(false)
     }
 
     /// Sleeps until the next scan is due, and gives its moment in milliseconds. By then the one behind it is due.

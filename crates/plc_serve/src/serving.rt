@@ -1,31 +1,34 @@
 //! The controller from its text to its end.
 
-ghost use Rattle.std.specs.Prelude.{◌≡◌, ◌+◌, ◌≤◌, IfErr, OnOk, length, vec_len};
+ghost use Rattle.std.specs.Prelude.{◌≡◌, ◌+◌, ◌≤◌, IfErr, IfOk, IsOk, OnErr, OnOk, length, vec_len};
 ghost use Rattle.vr_model.specs.Groups.{group_size};
 ghost use Rattle.std.specs.Io.KnownBytes.{Appends};
 ghost use Rattle.plc_tool.specs.Status.{status_of};
 ghost use Rattle.plc_tool.specs.Telling.{IsTold};
-ghost use Rattle.plc_serve.specs.Serving.{scans_line, IsPortTold, IsAtMostPortTold, IsWhyRefused, IsToldAtLast};
+ghost use Rattle.plc_tool.specs.Meaning.{IsGoodText, IsTypedProgramOfText};
+ghost use Rattle.plc_serve.specs.Watching.{AreNoticesTold};
+ghost use Rattle.plc_serve.specs.Serving.{scans_line, IsPortTold, IsServingTold, IsAtMostServingTold, IsWhyRefused, IsToldAtLast};
 
+use crate::directory::Directory;
 use crate::door::Door;
 use crate::driving::Drive;
-use crate::group::{fault_of, file_count, link_of, seats};
+use crate::group::{fault_of, link_of, seats};
 use crate::pace::Pace;
 use crate::places::Places;
 use crate::sessions::{OpenServer, Server};
+use crate::watch::Watch;
 use il_model::{Budget, CountedWrite};
 use loader::Image;
 use plc_tool::{Fault, ended, image};
 use process_image::{Naming, NewList, Pen, ScanDriver, released};
 use replicas::{Cluster, Link, Starts, Switchboard};
 use std::alloc::Global;
-use std::fs;
 use std::io::Write;
 use std::net::{Net, TcpListener, TcpStream};
 use std::rt::Files;
 use std::sync::{Arc, Wait};
 use std::thread::Threads;
-use std::time::{Clock, Instant};
+use std::time::{Clock, Duration, Instant};
 use vr_model::{ClientNumber, Config, Party};
 
 /// So many sessions are served at once.
@@ -45,11 +48,14 @@ pub struct Settings {
     pub period: u32,
     /// After so many it ends.
     pub scans: u32,
+    /// In seconds, from 1: a session ends whose client sends nothing, or takes nothing, for so long.
+    pub idle: u32,
 }
 
 /// Judges the text, then the directory, and serves the controller until it has released so many scans: the status. What it serves is the
 /// controller of the text's program, by replicas that each keep a file of the directory. Once it takes connections, `err` has
-/// the line that tells where. At the end `out` has the line that tells how many scans there were, or `err` that of the fault.
+/// the line that tells where, and then a line for each change of a replica, and for a stop. At the end `out` has the line that tells
+/// how many scans there were, or `err` that of the fault.
 pub fn serve<J, R, S, W: Write, E: CountedWrite>(
     rt: R,
     alloc: Global,
@@ -70,11 +76,12 @@ where
     requires stores { vec_len stores ≡ group_size settings.config.f }
     ensures status { result ≤ 2 }
     ensures served { result ≡ 0 → Appends (W.contents out.old) (W.contents out.new) (scans_line settings.scans) }
-    // On `err` there is the line of a port, and nothing else.
-    ensures told { result ≡ 0 → IsPortTold E.CountedWrite err.old err.new }
+    ensures good { result ≡ 0 → IsGoodText source.now }
+    // On `err` there is the line of a port, then those of what changed, and nothing else.
+    ensures told { result ≡ 0 → IsServingTold E.CountedWrite err.old err.new }
     // Nothing is started then.
     ensures refused { result ≡ 1 → IsTold E.CountedWrite (IsWhyRefused source.now) result err.old err.new × (out.new ≡ out.old) }
-    // Before it the line of a port was told, or nothing.
+    // Before it these lines were told, or nothing.
     ensures failed { result ≡ 2 → IsToldAtLast E.CountedWrite result err.old err.new }
 {
     ended(
@@ -112,28 +119,35 @@ where
     requires list { list ≡ J.book }
     requires stores { vec_len stores ≡ group_size settings.config.f }
     ensures served { OnOk result (Appends (W.contents out.old) (W.contents out.new) (scans_line settings.scans)) }
-    ensures told { OnOk result (IsPortTold E.CountedWrite err.old err.new) }
-    ensures at_most { IsAtMostPortTold E.CountedWrite err.old err.new }
+    ensures good { OnOk result (IsGoodText source.now) }
+    ensures told { OnOk result (IsServingTold E.CountedWrite err.old err.new) }
+    ensures at_most { IsAtMostServingTold E.CountedWrite err.old err.new }
     ensures refused { IfErr result (λ e. status_of e ≡ 1 → IsWhyRefused source.now e × (err.new ≡ err.old) × (out.new ≡ out.old)) }
 {
     let image = image(alloc, source)?;
-    if file_count(rt, alloc, settings.config, directory)? > 0 {
-        return Err(Fault::Store);
-    }
-    fs::create_dir_all(&rt, directory)?;
-    control::<J, R, S, E>(rt, alloc, list, &image, directory, stores, settings, err)?;
+    let directory = Directory {
+        path: directory,
+        config: settings.config,
+    };
+    let taken = directory.take(rt, alloc)?;
+    let done = control::<J, R, S, E>(
+        rt, alloc, list, source, &image, directory, stores, settings, err,
+    );
+    taken.leave(&rt);
+    done?;
     let scans = settings.scans;
     writeln!(out, "scans {scans}")?;
     Ok(out.flush()?)
 }
 
-/// Serves the controller of an image, and ends each thread that it began.
+/// Serves the controller of the image of a text, and ends each thread that it began. Where no client was served, no file is left.
 fn control<J, R, S, E: CountedWrite>(
     rt: R,
     alloc: Global,
     list: NewList,
+    _source: &[u8],
     image: &Image,
-    directory: &str,
+    directory: Directory<'_>,
     stores: Vec<S>,
     settings: Settings,
     err: &mut E,
@@ -145,84 +159,74 @@ where
     S: Starts + Send + Drop + 'static,
     requires list { list ≡ J.book }
     requires stores { vec_len stores ≡ group_size settings.config.f }
-    ensures told { OnOk result (IsPortTold E.CountedWrite err.old err.new) }
-    ensures at_most { IsAtMostPortTold E.CountedWrite err.old err.new }
+    requires program { IsTypedProgramOfText _source.now image.now }
+    ensures told { OnOk result (IsServingTold E.CountedWrite err.old err.new) }
+    ensures at_most { IsAtMostServingTold E.CountedWrite err.old err.new }
     ensures err { IfErr result (λ e. status_of e ≡ 2) }
 {
+    let config = settings.config;
     let pace = Pace::new(Instant::now(&rt)?, settings.period);
     let door = Door::open(&rt, settings.port)?;
     let Ok((writer, readers)) = released::<J, R>(list, alloc, rt, SESSIONS) else {
         return Err(Fault::Memory);
     };
-    let server = Server::new(alloc, door, Places::new(alloc, readers)?);
-    let config = settings.config;
+    let idle = Duration::from_secs(u64::from(settings.idle));
+    let server = Server::new(alloc, door, Places::new(alloc, readers)?, idle);
     let board = Arc::new(alloc, Switchboard::new(alloc, config.group_size(), 1)?)?;
+    let mut watch = Watch::new(alloc, config);
+    let seats = seats(rt, alloc, &board, &mut watch, stores)?;
+    let most = u64::from(settings.period);
     let mut drive = Drive {
         driver: ScanDriver::new(&config, 0),
-        link: link_of(
-            rt,
-            alloc,
-            &board,
-            Party::Client(DRIVER),
-            u64::from(settings.period),
-        )?,
+        link: link_of(rt, alloc, &board, Party::Client(DRIVER), most)?,
         writer,
+        watch,
+        is_stopped: false,
     };
-    let seats = seats(rt, alloc, &board, stores)?;
-    let group = Cluster::start(&rt, alloc, config, image, settings.budget, u64::MAX, seats);
-    let group = match group {
+    let group = match Cluster::start(&rt, alloc, config, image, settings.budget, u64::MAX, seats) {
         Ok(group) => group,
-        Err(error) => return Err(fault_of(error)),
+        Err(error) => {
+            directory.clear(rt, alloc);
+            return Err(fault_of(error));
+        }
     };
-    let done = attend_started(
-        rt,
-        alloc,
-        config,
-        directory,
-        server,
-        &mut drive,
-        pace,
-        settings.scans,
-        err,
-    );
+    let opened = opened(rt, alloc, directory, server, err);
+    let was_opened = opened.is_ok();
+    let done = attend(&rt, alloc, opened, &mut drive, pace, settings.scans, err);
     board.close(&rt);
     group.join(&rt);
+    if !was_opened {
+        directory.clear(rt, alloc);
+    }
     done
 }
 
-/// Has the group scan and its clients served, if each replica has its file: one whose file could not be made is down.
-fn attend_started<J, P, L, R, E: CountedWrite>(
+/// Takes connections, if each replica has its file: one whose file could not be made is down.
+fn opened<J, R, E: CountedWrite>(
     rt: R,
     alloc: Global,
-    config: Config,
-    directory: &str,
+    directory: Directory<'_>,
     server: Server<J>,
-    drive: &mut Drive<L, J, P>,
-    pace: Pace,
-    scans: u32,
     err: &mut E,
-) -> Result<(), Fault>
+) -> Result<OpenServer<J>, Fault>
 where
     J: Naming + Send + Sync + 'static,
-    P: Pen<J> + Drop,
-    L: Link + Drop,
     R: Threads + Wait + Clock + Files + Copy + Send + Sync + Drop + 'static,
-    ensures counted { OnOk result (length drive.new.writer ≡ length drive.old.writer + scans) }
     ensures told { OnOk result (IsPortTold E.CountedWrite err.old err.new) }
-    ensures at_most { IsAtMostPortTold E.CountedWrite err.old err.new }
+    ensures same { OnErr result (err.new ≡ err.old) }
     ensures err { IfErr result (λ e. status_of e ≡ 2) }
 {
-    if file_count(rt, alloc, config, directory)? != config.group_size() {
+    if directory.file_count(rt, alloc)? != directory.config.group_size() {
         return Err(Fault::Device);
     }
-    attend_all(&rt, alloc, server, drive, pace, scans, err)
+    OpenServer::new(&rt, alloc, server, err)
 }
 
 /// Has the group scan while connections are served, until so many scans are released, and ends the sessions.
-fn attend_all<J, P, L, R, E: CountedWrite>(
+fn attend<J, P, L, R, E: CountedWrite>(
     rt: &R,
     alloc: Global,
-    server: Server<J>,
+    opened: Result<OpenServer<J>, Fault>,
     drive: &mut Drive<L, J, P>,
     mut pace: Pace,
     scans: u32,
@@ -233,13 +237,16 @@ where
     P: Pen<J> + Drop,
     L: Link + Drop,
     R: Threads + Wait + Clock + Copy + Send + Sync + 'static,
+    requires opened { IfErr opened (λ e. status_of e ≡ 2) }
+    ensures opened { OnOk result (IsOk opened) }
     ensures counted { OnOk result (length drive.new.writer ≡ length drive.old.writer + scans) }
-    ensures told { OnOk result (IsPortTold E.CountedWrite err.old err.new) }
-    ensures at_most { IsAtMostPortTold E.CountedWrite err.old err.new }
+    ensures told { IfOk opened (λ _. AreNoticesTold E.CountedWrite err.old err.new) }
+    ensures nothing { OnErr opened (err.new ≡ err.old) }
     ensures err { IfErr result (λ e. status_of e ≡ 2) }
 {
-    let open = OpenServer::new(rt, alloc, server, err)?;
-    let done = drive.run(rt, alloc, &mut open.stage().handle(rt), &mut pace, scans);
+    let open = opened?;
+    let mut stage = open.stage().handle(rt);
+    let done = drive.run(rt, alloc, &mut stage, &mut pace, scans, err);
     open.close(rt);
     done
 }

@@ -14,9 +14,9 @@ use process_image::{Naming, Stage, StageBook};
 use std::alloc::{AllocError, Global};
 use std::net::TcpStream;
 use std::sync::{Arc, Wait};
-use std::thread;
 use std::thread::{JoinHandle, Threads};
 use std::time::{Clock, Duration};
+use std::{io, thread};
 
 /// For so many pauses a connection waits for a place: one whose client has just gone is free in a moment.
 const PATIENCE: u32 = 10;
@@ -30,15 +30,18 @@ pub(crate) struct Server<J: Naming> {
     door: Door,
     places: Places<J>,
     stage: Stage,
+    /// A session ends whose client sends nothing, or takes nothing, for so long.
+    idle: Duration,
 }
 
 impl<J: Naming> Server<J> {
     /// No input is staged yet.
-    pub(crate) fn new(alloc: Global, door: Door, places: Places<J>) -> Server<J> {
+    pub(crate) fn new(alloc: Global, door: Door, places: Places<J>, idle: Duration) -> Server<J> {
         Server {
             door,
             places,
             stage: Stage::new(StageBook::new(alloc)),
+            idle,
         }
     }
 }
@@ -82,6 +85,24 @@ fn place_for<R: Wait + Clock, J: Naming>(
     None
 }
 
+/// Ends each read and each write of a connection that waits for so long. Each reply is sent at once.
+fn prepare(stream: &TcpStream, idle: Duration) -> io::Result<()> {
+    stream.set_read_timeout(Some(idle))?;
+    stream.set_write_timeout(Some(idle))?;
+    stream.set_nodelay(true)
+}
+
+/// A place for this connection, and the time limits of its session.
+fn admit<R: Wait + Clock, J: Naming>(
+    rt: &R,
+    places: &Places<J>,
+    stream: &TcpStream,
+    idle: Duration,
+) -> Option<usize> {
+    prepare(stream, idle).ok()?;
+    place_for(rt, places, stream)
+}
+
 /// Gives each connection a session, in a thread of its own, until the server is closed and each session ended. Where no place is free, or no
 /// thread is to be had, the connection is closed unanswered.
 fn accept_all<R: Wait + Threads + Clock + Sync, J: Naming + Send + Sync>(
@@ -93,15 +114,14 @@ fn accept_all<R: Wait + Threads + Clock + Sync, J: Naming + Send + Sync>(
         door,
         places,
         stage,
+        idle,
     } = server;
     thread::scope(thread::scope_env(), rt, |scope| {
         for _ in 0..u64::MAX {
             let Some(stream) = door.next(rt) else {
                 break;
             };
-            if let Some(place) = place_for(rt, places, &stream) {
-                // Each reply is sent at once.
-                let _ = stream.set_nodelay(true);
+            if let Some(place) = admit(rt, places, &stream, *idle) {
                 let session = scope.spawn(move || attend(rt, alloc, stage, places, place, &stream));
                 if session.is_err() {
                     places.leave(rt, place);

@@ -1,5 +1,5 @@
 -- What the file of a store may hold, and how a start, a load and a save leave it.
-use Rattle.std.specs.Prelude.{◌≡◌, ℕ, ◌+◌, ◌⊎◌, Bool, true, false, List, ◌++◌, drop, Option, Some, None}
+use Rattle.std.specs.Prelude.{◌≡◌, ℕ, ◌+◌, ◌-◌, ◌^◌, ◌<◌, ◌⊎◌, Bool, true, false, List, ◌++◌, drop, Option, Some, None, MatchBool, nat_lt}
 use Rattle.byteorder.specs.Endian.{big_bytes, big_number}
 use Rattle.vr_model.specs.declared.event.Stored.{Stored}
 use Rattle.replicas.specs.declared.file_store.Held.{Held}
@@ -12,10 +12,21 @@ stored_bytes stored = big_bytes 8 stored.view ++ big_bytes 8 stored.starts
 abbrev pub stored_from : List ℕ → Stored
 stored_from bytes = record { view = big_number 8 bytes; starts = big_number 8 (drop 8 bytes) }
 
+-- a view is kept only behind a start
+abbrev pub IsLawful : Stored → Type 0
+IsLawful v = v.starts ≡ 0 → v.view ≡ 0
+
+abbrev pub IsOneOf : Held → Stored → Type 0
+IsOneOf Unknown v = Unit {0}
+IsOneOf (One a) v = v ≡ a
+IsOneOf (OneOf a b) v = (v ≡ a) ⊎ (v ≡ b)
+
 abbrev pub MayHold : Held → Stored → Type 0
-MayHold Unknown v = Unit {0}
-MayHold (One a) v = v ≡ a
-MayHold (OneOf a b) v = (v ≡ a) ⊎ (v ≡ b)
+MayHold h v = IsLawful v × IsOneOf h v
+
+-- a count rose, or stood at the greatest number
+abbrev pub Rose : ℕ → ℕ → Type 0
+Rose before after = (before < after) ⊎ (before ≡ 2 ^ 64 - 1)
 
 -- what was found, under another view
 abbrev pub with_view : Stored → ℕ → Stored
@@ -35,9 +46,10 @@ abbrev pub Writes : Stored → Stored → Bool → Held → Type 0
 Writes found stored true after = after ≡ One stored
 Writes found stored false after = after ≡ OneOf found stored
 
--- a save writes the view, with as many starts as were loaded; it is refused where no load or save was made since the store was opened or a write failed
+-- A save writes the view, with as many starts as were loaded. It is refused where there was no start yet, and where no load or save was made since
+-- the store was opened or a write failed.
 abbrev pub Saves : Held → ℕ → Bool → Held → Type 0
-Saves (One found) view made after = Writes found (with_view found view) made after
+Saves (One found) view made after = MatchBool (nat_lt 0 found.starts) (Writes found (with_view found view) made after) ((made ≡ false) × (after ≡ One found))
 Saves Unknown view made after = (made ≡ false) × (after ≡ Unknown)
 Saves (OneOf a b) view made after = (made ≡ false) × (after ≡ OneOf a b)
 

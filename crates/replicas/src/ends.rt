@@ -74,16 +74,17 @@ pub trait Gate {
 
 /// A store that counts the starts of its replica.
 pub trait Starts: ViewStore {
-    ghost use Rattle.std.specs.Prelude.{◌≤◌, Option, Some, None, MatchResult, OnErr};
+    ghost use Rattle.std.specs.Prelude.{◌≡◌, ◌≤◌, Option, Some, None, MatchResult, IfOk, OnErr};
     ghost use Rattle.il_model.specs.Counted.{Failed};
     ghost use Rattle.vr_model.specs.declared.event.Stored.{Stored};
 
     // How a start leaves it that gave this, or failed.
     ghost begin_gives: { Self → Option Stored → Self → Type 0 };
 
-    /// One start more, which is kept: the view, and how many there were with this one. It answers a fault only where the store
-    /// failed in this call, or no greater number is left.
+    /// One start more, which is kept: the view, and how many there were with this one. Before the first start there is no view. It answers a fault
+    /// only where the store failed in this call, or no greater number is left.
     fn begin(&mut self) -> Result<Stored, StoreFault>
+        ensures first { IfOk result (λ stored. stored.starts ≡ 1 → stored.view ≡ 0) }
         ensures gives { MatchResult result (λ stored. begin_gives self.old (Some stored) self.new) (λ _. begin_gives self.old None self.new) }
         ensures device { OnErr result (Failed (Self.faults self.old) (Self.faults self.new)) }
         ensures counts { Self.faults self.old ≤ Self.faults self.new };

@@ -1,8 +1,8 @@
 //! A store in a file of 16 bytes.
 
-ghost use Rattle.std.specs.Prelude.{◌≡◌, ◌≤◌, ◌↔◌, IsTrue, MatchResult, true, false, OnErr};
+ghost use Rattle.std.specs.Prelude.{◌≡◌, ◌≤◌, ◌↔◌, IsTrue, MatchResult, true, false, OnOk, OnErr};
 ghost use Rattle.il_model.specs.Counted.{Failed};
-ghost use Rattle.replicas.specs.Keeping.{stored_bytes, stored_from, MayHold, Writes};
+ghost use Rattle.replicas.specs.Keeping.{stored_bytes, stored_from, MayHold, Rose, Writes};
 
 use crate::ends::Starts;
 use byteorder::{BigEndian, ByteOrder};
@@ -28,10 +28,13 @@ pub(crate) enum Held {
 }
 
 impl Held {
-    /// Whether it may hold this.
+    /// Whether it may hold this: a view is kept only behind a start.
     fn has(self, stored: Stored) -> bool
         ensures { IsTrue result ↔ MayHold self stored }
     {
+        if stored.starts == 0 && stored.view != 0 {
+            return false;
+        }
         match self {
             Held::Unknown => true,
             Held::One(one) => stored == one,
@@ -40,7 +43,8 @@ impl Held {
     }
 }
 
-/// The view and the starts of a replica, in a file: written beside it, flushed, and renamed. It counts its failures.
+/// The view and the starts of a replica, in a file: written beside it, flushed, and renamed. It counts its failures, and the writes that went well.
+/// A replica that starts again is handed the store that it had: another one would not know what the file may hold.
 #[derive(Drop)]
 pub struct FileStore<R: Files + Drop> {
     rt: R,
@@ -49,6 +53,7 @@ pub struct FileStore<R: Files + Drop> {
     beside: String,
     held: Held,
     failures: u64,
+    writes: u64,
 }
 
 /// As it stands in the file.
@@ -86,6 +91,7 @@ impl<R: Files + Drop> FileStore<R> {
             beside: format!(in alloc; "{directory}/replica-{replica}.new")?,
             held: Held::Unknown,
             failures: 0,
+            writes: 0,
         })
     }
 
@@ -94,7 +100,13 @@ impl<R: Files + Drop> FileStore<R> {
         self.path.as_str()
     }
 
-    /// What the file holds: zeros where there is none.
+    /// Takes its file away, as far as that can be done: that of a replica that never served.
+    pub fn remove(self) {
+        let _ = fs::remove_file(&self.rt, self.beside.as_str());
+        let _ = fs::remove_file(&self.rt, self.path.as_str());
+    }
+
+    /// What the file holds: zeros where there is none. No start leaves a file without a start.
     fn read(&self) -> io::Result<Stored> {
         let mut file = match fs::open(&self.rt, self.path.as_str()) {
             Ok(file) => file,
@@ -106,10 +118,11 @@ impl<R: Files + Drop> FileStore<R> {
         };
         let mut bytes = [0u8; LENGTH];
         file.read_exact(&mut bytes)?;
-        if file.read(&mut [0u8; 1])? != 0 {
+        let stored = read_back(&bytes);
+        if stored.starts == 0 || file.read(&mut [0u8; 1])? != 0 {
             return Err(io::Error::from(ErrorKind::InvalidData));
         }
-        Ok(read_back(&bytes))
+        Ok(stored)
     }
 
     /// Writes it beside the file, and puts that in its place.
@@ -128,11 +141,13 @@ impl<R: Files + Drop> FileStore<R> {
         ensures gives { MatchResult result (λ _. Writes found stored true self.new.held) (λ _. Writes found stored false self.new.held) }
         ensures device { OnErr result (Failed self.old.failures self.new.failures) }
         ensures counts { self.old.failures ≤ self.new.failures }
+        ensures wrote { OnOk result (Rose self.old.writes self.new.writes) }
     {
         if self.write(stored).is_err() {
             self.held = Held::OneOf(found, stored);
             return Err(self.fail());
         }
+        self.writes = self.writes.saturating_add(1);
         self.held = Held::One(stored);
         Ok(())
     }
@@ -142,6 +157,7 @@ impl<R: Files + Drop> FileStore<R> {
         ensures device { Failed self.old.failures self.new.failures }
         ensures counts { self.old.failures ≤ self.new.failures }
         ensures held { self.new.held ≡ self.old.held }
+        ensures writes { self.new.writes ≡ self.old.writes }
     {
         self.failures = self.failures.saturating_add(1);
         StoreFault
@@ -149,11 +165,11 @@ impl<R: Files + Drop> FileStore<R> {
 }
 
 impl<R: Files + Drop> ViewStore for FileStore<R> {
-    ghost use Rattle.replicas.specs.Keeping.{Loads, Saves};
+    ghost use Rattle.replicas.specs.Keeping.{Loads, Saves, Rose};
 
-    ghost load_gives = { λ s found t. Loads s.held found t.held };
+    ghost load_gives = { λ s found t. Loads s.held found t.held × (t.writes ≡ s.writes) };
 
-    ghost save_gives = { λ s view made t. Saves s.held view made t.held };
+    ghost save_gives = { λ s view made t. Saves s.held view made t.held × (IsTrue made → Rose s.writes t.writes) };
 
     ghost faults = { λ s. s.failures };
 
@@ -169,14 +185,14 @@ impl<R: Files + Drop> ViewStore for FileStore<R> {
 
     fn save(&mut self, view: u64) -> Result<(), StoreFault> {
         match self.held {
-            Held::One(found) => self.keep(
+            Held::One(found) if found.starts > 0 => self.keep(
                 found,
                 Stored {
                     view,
                     starts: found.starts,
                 },
             ),
-            Held::Unknown | Held::OneOf(_, _) => Err(self.fail()),
+            Held::Unknown | Held::One(_) | Held::OneOf(_, _) => Err(self.fail()),
         }
     }
 
@@ -186,9 +202,10 @@ impl<R: Files + Drop> ViewStore for FileStore<R> {
 }
 
 impl<R: Files + Drop> Starts for FileStore<R> {
-    ghost use Rattle.replicas.specs.Keeping.{Begins};
+    ghost use Rattle.std.specs.Prelude.{IfSome};
+    ghost use Rattle.replicas.specs.Keeping.{Begins, Rose};
 
-    ghost begin_gives = { λ s stored t. Begins s.held stored t.held };
+    ghost begin_gives = { λ s stored t. Begins s.held stored t.held × IfSome stored (λ _. Rose s.writes t.writes) };
 
     fn begin(&mut self) -> Result<Stored, StoreFault> {
         let found = self.load()?;

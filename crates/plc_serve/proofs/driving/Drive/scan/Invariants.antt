@@ -1,8 +1,12 @@
-use Rattle.std.proofs.Common.{◌≡◌, length}
+use Rattle.std.proofs.Common.{◌≡◌}
+use Rattle.plc_serve.specs.Watching.{AreNoticesTold}
 use Rattle.plc_serve.proofs.driving.Drive.scan.Given as goal
 
--- nothing was published yet
+-- nothing was published yet, and notices were told
 abbrev pub invariant-loop : goal.invariant-loop
-invariant-loop g l =
-    (goal.iterator-loop g).can_next l.iterator' × (goal.iterator-loop g).is_finite l.iterator'
-    × (length l.self.writer ≡ length l.initial.self.writer)
+invariant-loop g l = record {
+  can_next : (goal.iterator-loop g).can_next l.iterator';
+  finite : (goal.iterator-loop g).is_finite l.iterator';
+  same : l.self.writer ≡ l.initial.self.writer;
+  told : AreNoticesTold g.E.CountedWrite l.initial.err l.err;
+}

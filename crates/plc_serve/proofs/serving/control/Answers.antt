@@ -1,0 +1,8 @@
+use Rattle.plc_serve.proofs.Endings.{good, at_most}
+use Rattle.plc_serve.proofs.serving.control.Goals as goal
+
+pub returns-clause-told : goal.returns-clause-told
+returns-clause-told g c = good g.E.CountedWrite c.args.err.now c.opened-opened.new.err c.attend-done.new.err c.opened-opened.result c.attend-done.result c.opened-opened.ensures.told c.attend-done.ensures.opened c.attend-done.ensures.told
+
+pub returns-clause-at_most : goal.returns-clause-at_most
+returns-clause-at_most g c = at_most g.E.CountedWrite c.args.err.now c.opened-opened.new.err c.attend-done.new.err c.opened-opened.result c.opened-opened.ensures.told c.opened-opened.ensures.same c.attend-done.ensures.told c.attend-done.ensures.nothing

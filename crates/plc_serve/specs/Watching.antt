@@ -1,0 +1,51 @@
+-- What an operator is told while a controller is served.
+use Rattle.std.specs.Prelude.{◌≡◌, ℕ, ◌-◌, nat_le, Bool, true, false, if◌then◌else◌, List, [], ◌∷◌, ◌++◌, codes, Option, Some, None}
+use Rattle.std.specs.Fmt.{decimal}
+use Rattle.il_model.specs.declared.value.Stop.{Stop}
+use Rattle.il_model.specs.declared.counted.CountedWrite.{Ghosts as CountedWriter}
+use Rattle.plc_tool.specs.Lines.{stop_name}
+use Rattle.plc_tool.specs.Telling.{WentOut}
+use Rattle.plc_serve.specs.declared.notice.Notice.{Notice}
+use Rattle.plc_serve.specs.declared.notice.Notice.TheVariants as notices
+
+abbrev pub replica_line : ℕ → List ℕ → List ℕ
+replica_line number what = (codes "replica " ++ decimal number) ++ what
+
+abbrev pub notice_line : Notice → List ℕ
+notice_line (notices.Down number) = replica_line number (codes " down\n")
+notice_line (notices.Normal number) = replica_line number (codes " normal\n")
+notice_line (notices.Store number) = replica_line number (codes " store\n")
+notice_line (notices.Stopped stop position) = (codes "stopped " ++ (stop_name stop ++ (codes " " ++ decimal position))) ++ codes "\n"
+
+-- the lines of these went out, one behind the other, and nothing else
+abbrev pub WentOutInOrder : {W : Type 0} → CountedWriter W → List Notice → W → W → Type 0
+WentOutInOrder w [] old new = new ≡ old
+WentOutInOrder {W} w (notice ∷ notices) old new = (next : W) × WentOut w (notice_line notice) old next × WentOutInOrder w notices next new
+
+-- there are notices that were told, and nothing else was
+pub record AreNoticesTold {W : Type 0} (w : CountedWriter W) (old new : W) : Type 0 where
+  pub told : List Notice
+  pub lines : WentOutInOrder w told old new
+
+-- for so long, in nanoseconds, a replica may not be normal before that is told
+abbrev pub patience : ℕ
+patience = 1_000_000_000
+
+-- since when a replica hasn't been normal, by what it shows now
+abbrev pub lapsed_since : Option ℕ → Bool → ℕ → Option ℕ
+lapsed_since since true now = None
+lapsed_since None false now = Some now
+lapsed_since (Some since) false now = Some since
+
+-- what is to be told of a replica, by whether it was told down, and since when it hasn't been normal: that it's normal again, or that it's down
+abbrev pub change : Bool → Option ℕ → ℕ → Option Bool
+change true None now = Some true
+change true (Some since) now = None
+change false None now = None
+change false (Some since) now = if nat_le patience (now - since) then Some false else None
+
+-- The stop of a scan that was released, if it stopped: its line went out where the scan before it didn't stop, and else nothing did.
+abbrev pub IsStopTold : {W : Type 0} → CountedWriter W → Bool → Option (Stop × ℕ) → W → W → Type 0
+IsStopTold w false (Some (stop, position)) old new = WentOut w (notice_line (notices.Stopped stop position)) old new
+IsStopTold w true (Some (stop, position)) old new = new ≡ old
+IsStopTold w was_stopped None old new = new ≡ old
