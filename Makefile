@@ -3,8 +3,11 @@
 # make demo EXAMPLE=bottles SESSION=_session  a session of the debugger with that program
 # make standby [SCHEDULE=crash|failover|lost]  three replicas of the motor: one crashes between two scans and comes back
 # make serve [EXAMPLE=motor] [PORT=5020]        serves that program to Modbus clients, until it's interrupted; a new store in a temporary directory
+# make picture [EXAMPLE=crossing]             what plc run prints for it, as a picture over time: build/crossing.svg; also IL=.. COMMANDS=.. (with build/plc)
+# make picture SCHEDULE=crash                 the messages of that schedule as a chart: build/motor_crash.svg; also SCHEDULE=own EVENTS=FILE.json [IL=..]
 # make plc                                    proves the program and builds it: build/plc
-# make test                                   the whole gate: that the rows of the examples are those of examples/ and the table of crates is that of crates.txt, and then rt ci
+# make install [PREFIX=/usr/local] [DESTDIR=]  puts the proved program, its man page, README, FAULTS and the examples there
+# make test                                   the whole gate: that the rows of the examples are those of examples/, the table of crates is that of crates.txt, AUDIT names what is there and the pictures are those of examples/, and then rt ci
 
 EXAMPLE ?= crossing
 IL = examples/$(EXAMPLE).il
@@ -13,20 +16,21 @@ COMMANDS = examples/$(EXAMPLE)$(SESSION).json
 PORT ?= 5020
 serve: EXAMPLE = motor
 
+PICTURE := $(if $(SCHEDULE),schedule,run)
 SCHEDULE ?= crash
 EVENTS = examples/motor_$(SCHEDULE).json
 
-.PHONY: demo standby serve plc test
+.PHONY: demo standby serve picture picture-run picture-schedule plc install test
 
-# Where build/plc is older than a source, or was never built, the same sources run at once, unproved.
+# Where build/plc is older than a source, or was never built, the same sources are built and run, unproved.
 demo:
 	@cat $(IL)
 	@if [ -x build/plc ] && [ -z "$$(find crates -name out -prune -o -name '*.rt' -newer build/plc -print)" ]; then \
 		echo; echo "-- plc run $(IL) $(COMMANDS), the proved program (build/plc):"; \
 		build/plc run $(IL) $(COMMANDS); \
 	else \
-		echo; echo "-- plc run $(IL) $(COMMANDS), a quick run that proves nothing (rt try; for the proved program: make plc):"; \
-		cd crates/plc && rt try --data program.il=$(abspath $(IL)) --data commands.json=$(abspath $(COMMANDS)) -- run program.il commands.json; \
+		echo; echo "-- plc run $(IL) $(COMMANDS), a run that proves nothing: it builds the sources, one to four minutes, each time anew; after make plc it takes a second"; \
+		cd crates/plc && ../../tools/while-silent rt try --data program.il=$(abspath $(IL)) --data commands.json=$(abspath $(COMMANDS)) -- run program.il commands.json; \
 	fi
 
 standby:
@@ -34,27 +38,63 @@ standby:
 		echo "-- plc sim examples/motor.il $(EVENTS), the proved program (build/plc):"; \
 		build/plc sim examples/motor.il $(EVENTS); \
 	else \
-		echo "-- plc sim examples/motor.il $(EVENTS), a quick run that proves nothing (rt try; for the proved program: make plc):"; \
-		cd crates/plc && rt try --data motor.il=$(abspath examples/motor.il) --data events.json=$(abspath $(EVENTS)) -- sim motor.il events.json; \
+		echo "-- plc sim examples/motor.il $(EVENTS), a run that proves nothing: it builds the sources, one to four minutes, each time anew; after make plc it takes a second"; \
+		cd crates/plc && ../../tools/while-silent rt try --data motor.il=$(abspath examples/motor.il) --data events.json=$(abspath $(EVENTS)) -- sim motor.il events.json; \
 	fi
 
 serve:
 	@cat $(IL)
 	@echo; echo "-- plc serve $(IL) on 127.0.0.1:$(PORT), three replicas, a scan each 100 ms; another shell may ask, as with mbpoll:"
 	@echo "   mbpoll -m tcp -p $(PORT) -0 -t 0 -r 0 127.0.0.1 1 1 1     sets %IX0.0 to %IX0.2"
-	@echo "   mbpoll -m tcp -p $(PORT) -0 -t 1 -r 0 -c 3 127.0.0.1     shows %QX0.0 to %QX0.2 each second"
+	@echo "   mbpoll -m tcp -p $(PORT) -0 -t 1 -r 0 -c 3 127.0.0.1     shows %QX0.0 to %QX0.2 each second, as [1] to [3]"
+	@echo "   python3 examples/client.py $(PORT)                         starts and stops the motor"
 	@if [ -x build/plc ] && [ -z "$$(find crates -name out -prune -o -name '*.rt' -newer build/plc -print)" ]; then \
 		build/plc serve $(IL) --store "$$(mktemp -d)" --scans 4294967295 --port $(PORT); \
 	else \
-		echo "-- a quick run of ten minutes that proves nothing (rt try; for the proved program: make plc)"; \
-		cd crates/plc && rt try --seconds 600 --data program.il=$(abspath $(IL)) -- serve program.il --store "$$(mktemp -d)" --scans 4294967295 --port $(PORT); \
+		echo "-- a run of ten minutes that proves nothing: it builds the sources first, one to four minutes, each time anew; after make plc it starts at once"; \
+		cd crates/plc && ../../tools/while-silent --port $(PORT) rt try --seconds 600 --data program.il=$(abspath $(IL)) -- serve program.il --store "$$(mktemp -d)" --scans 4294967295 --port $(PORT); \
 	fi
+
+# Of an example or a schedule the stored lines are drawn, which the gate holds the program to; of any other run what build/plc prints.
+PROVED = { [ -x build/plc ] || { echo "build/plc is not there: make plc"; false; }; }
+
+picture: picture-$(PICTURE)
+
+picture-run:
+	@mkdir -p build
+	@lines=$(if $(filter command,$(origin IL) $(origin COMMANDS)),,$(COMMANDS:.json=.txt)); if [ ! -e "$$lines" ]; then lines=build/lines.txt; $(PROVED) && build/plc run $(IL) $(COMMANDS) > $$lines || exit 1; fi; \
+	picture=build/$(basename $(notdir $(COMMANDS))).svg; \
+	tools/timeline --svg --il $(IL) $(COMMANDS) $$lines > $$picture && tools/timeline $(COMMANDS) $$lines && echo "-- the same as a picture: $$picture"
+
+picture-schedule: EXAMPLE = motor
+picture-schedule:
+	@mkdir -p build
+	@report=$(if $(filter command,$(origin IL) $(origin EVENTS)),,$(EVENTS:.json=.txt)); if [ ! -e "$$report" ]; then report=build/report.txt; $(PROVED) && build/plc sim $(IL) $(EVENTS) > $$report || exit 1; fi; \
+	picture=build/$(basename $(notdir $(EVENTS))).svg; \
+	tools/sequence $(EVENTS) $$report > $$picture && echo "-- the messages of $(EVENTS), as a chart: $$picture"
 
 plc:
 	cd crates/plc && rt run -- --version
 	mkdir -p build && cp crates/plc/out/plc build/plc
 
+PREFIX ?= /usr/local
+BIN = $(DESTDIR)$(PREFIX)/bin
+SHARE = $(DESTDIR)$(PREFIX)/share
+
+install:
+	@$(PROVED)
+	mkdir -p $(BIN) $(SHARE)/man/man1 $(SHARE)/plc/examples $(SHARE)/plc/docs/pictures
+	install -m 755 build/plc $(BIN)/plc
+	tools/man-page build/plc > $(SHARE)/man/man1/plc.1
+	install -m 644 README.md $(SHARE)/plc
+	install -m 644 docs/FAULTS.md $(SHARE)/plc/docs
+	install -m 644 docs/pictures/*.svg $(SHARE)/plc/docs/pictures
+	install -m 644 examples/*.* $(SHARE)/plc/examples
+
 test:
 	tools/example-rows --check
 	tools/crates-table
+	tools/audit-lines --check
+	tools/timeline --check
+	tools/sequence --check
 	rt ci
