@@ -12,17 +12,21 @@ use Rattle.vr_model.specs.Membership.{Membership}
 use Rattle.vr_model.specs.Replicas.{is_down, ReplicaState, Outcome}
 use Rattle.vr_model.specs.Rules.{keep}
 use Rattle.vr_model.specs.World.{down, executed}
-use Rattle.vr_model.specs.StandsFor.{requests_of}
+use Rattle.vr_model.specs.Messages.{Message}
+use Rattle.vr_model.specs.StandsFor.{Stands, Fits}
 use Rattle.vr_model.specs.Steps.{Input, Takes, TimesOut, Resends, Matters, acts, by_rule}
 use Rattle.vr_core.specs.declared.state.Core.{Core}
 use Rattle.vr_core.specs.Down.{StandsForDown, Crashes}
 use Rattle.vr_core.specs.StandsFor as core
-use Rattle.vr_core.specs.Follows.{AreSaved, Leaves}
+use Rattle.vr_core.specs.Follows.{AreSaved}
+use Rattle.vr_core.proofs.WholeLogs.{is_own}
 use Rattle.replica.specs.declared.state.Replica.{Replica}
 use Rattle.replica.specs.Standing.{StandsFor, IsDown, IsDeafTo}
-use Rattle.replica.specs.Ruled.{Ruled}
+use Rattle.replica.specs.Ruled.{LeavesFrom, Ruled}
 use Rattle.replica.specs.declared.fault.StepFault.TheVariants as fault
 use Rattle.replica.specs.Stepped as step
+use Rattle.replica.proofs.NoState.{timeout_sends_none, resend_sends_none}
+use Rattle.replica.proofs.Sending.{leaves_from}
 use Rattle.replica.proofs.StaysUp.{stays_up}
 
 pub at_false : {X : Type 0} (b : Bool) (x y : X) → b ≡ false → cond b x y ≡ y
@@ -34,7 +38,6 @@ pub stands_up : (replica : Replica) (m : Membership) (r : ReplicaState Command) 
 stands_up replica m r st up = record {
   member = st.member;
   status = st.status;
-  log = st.log;
   commit_number = st.commit_number;
   up = λ e. st;
   down = λ e. absurd (let d : true ≡ false = sym e ∙ up in cc);
@@ -45,7 +48,6 @@ pub stands_down : (replica : Replica) (m : Membership) (r : ReplicaState Command
 stands_down replica m r st = record {
   member = st.member;
   status = st.status ∙ sym (ap core.status_of st.core_status);
-  log = st.log ∙ sym (ap requests_of st.core_log);
   commit_number = st.commit_number ∙ sym st.core_commit_number;
   up = λ e. absurd (let d : true ≡ false = sym (ap is_down st.status) ∙ e in cc);
   down = λ e. st;
@@ -64,65 +66,71 @@ module _ {S : Type 0} (load_gives : S → Option Stored → S → Type 0) (save_
   by_its_rule : (input : Input Command Answer) → acts m.f m.number m.answer r input ≡ by_rule m.f m.number m.answer r input
   by_its_rule input = at_false (is_down r.status) (keep m.f m.number m.answer r) (by_rule m.f m.number m.answer r input) up
 
+  -- a message that stands for one at this member does so at the core's
+  for_own : (a : code.Message) (meant : Message Command Answer) → Stands core.IsSavedAs m a meant → Stands core.IsSavedAs (core.own_member old) a meant
+  for_own a meant st = subst (λ w. Stands core.IsSavedAs w a meant) (sym (is_own old m stands.member)) st
+
   -- what holds of an outcome that the rules leave
   pub stepped_ok : (NowStands : ReplicaState Command → Type 0) (mid : Core) (sends : Vec code.Message Global) (result : step.StepResult) (e : Event) → Ruled old e mid (Ok sends)
-      → ((o : Outcome Command Answer) → Leaves old mid sends.items m o → is_down o.replica.status ≡ false → step.Acted load_gives save_gives NowStands m r s t o result)
-      → step.Stepped load_gives save_gives NowStands m r s t e result
-  stepped_ok NowStands mid sends result (event.Message a) h then = λ meant is keeps.
+      → ((o : Outcome Command Answer) → LeavesFrom old mid sends.items m o → is_down o.replica.status ≡ false → step.Acted load_gives save_gives core.IsSavedAs NowStands m r s t o result)
+      → step.Stepped load_gives save_gives core.IsSavedAs NowStands m r s t e result
+  stepped_ok NowStands mid sends result (event.Message a) h then = λ meant is keeps fits.
       let o = by_rule m.f m.number m.answer r (Takes meant) in
       let same : acts m.f m.number m.answer r (Takes meant) ≡ o = by_its_rule (Takes meant) in
-      subst (λ x. step.Acted load_gives save_gives NowStands m r s t x result) (sym same)
-      (then o ((h meant is).leaves m r stands (subst (λ (x : Outcome Command Answer). IsPrefix (executed r) x.replica.log) same keeps)) (stays_up m.f m.number m.answer r (Takes meant) up))
+      subst (λ x. step.Acted load_gives save_gives core.IsSavedAs NowStands m r s t x result) (sym same)
+      (then o
+      ((h meant (for_own a meant is)).leaves m r stands (subst (λ (x : Outcome Command Answer). IsPrefix (executed r) x.replica.log) same keeps) (subst (λ (x : Outcome Command Answer). Fits core.IsSavedAs m r x a.body) same fits))
+      (stays_up m.f m.number m.answer r (Takes meant) up))
   stepped_ok NowStands mid sends result event.Timeout h then =
-      subst (λ x. step.Acted load_gives save_gives NowStands m r s t x result) (sym (by_its_rule TimesOut))
-      (then (by_rule m.f m.number m.answer r TimesOut) (h.leaves m r stands) (stays_up m.f m.number m.answer r TimesOut up))
+      subst (λ x. step.Acted load_gives save_gives core.IsSavedAs NowStands m r s t x result) (sym (by_its_rule TimesOut))
+      (then (by_rule m.f m.number m.answer r TimesOut) (leaves_from old mid sends.items m (by_rule m.f m.number m.answer r TimesOut) (h.leaves m r stands) (timeout_sends_none m.f m.number m.answer r)) (stays_up m.f m.number m.answer r TimesOut up))
   stepped_ok NowStands mid sends result event.Resend h then =
-      subst (λ x. step.Acted load_gives save_gives NowStands m r s t x result) (sym (by_its_rule Resends))
-      (then (by_rule m.f m.number m.answer r Resends) (h.leaves m r stands) (stays_up m.f m.number m.answer r Resends up))
+      subst (λ x. step.Acted load_gives save_gives core.IsSavedAs NowStands m r s t x result) (sym (by_its_rule Resends))
+      (then (by_rule m.f m.number m.answer r Resends) (leaves_from old mid sends.items m (by_rule m.f m.number m.answer r Resends) (h.leaves m r stands) (resend_sends_none m.f m.number m.answer r)) (stays_up m.f m.number m.answer r Resends up))
   stepped_ok NowStands mid sends result (event.Restart x) h then =
-      subst (λ b. step.RestartedIf load_gives save_gives NowStands m r s t b x result) (sym up)
-      (then (keep m.f m.number m.answer r) (h.leaves m r stands) up)
+      subst (λ b. step.RestartedIf load_gives save_gives core.IsSavedAs NowStands m r s t b x result) (sym up)
+      (then (keep m.f m.number m.answer r) (leaves_from old mid sends.items m (keep m.f m.number m.answer r) (h.leaves m r stands) tt) up)
 
   -- what holds of an outcome that is lost
   pub stepped_err : (NowStands : ReplicaState Command → Type 0) (mid : Core) (error : AllocError) (result : step.StepResult) (e : Event) → Ruled old e mid (Err error)
-      → ((o : Outcome Command Answer) → Matters r o → core.StandsFor mid m r → step.Acted load_gives save_gives NowStands m r s t o result)
-      → step.Stepped load_gives save_gives NowStands m r s t e result
-  stepped_err NowStands mid error result (event.Message a) h then = λ meant is keeps.
-      subst (λ x. step.Acted load_gives save_gives NowStands m r s t x result) (sym (by_its_rule (Takes meant)))
-      (then (by_rule m.f m.number m.answer r (Takes meant)) ((h meant is).matters m r stands) ((h meant is).same m r stands))
+      → ((o : Outcome Command Answer) → Matters r o → core.StandsFor mid m r → step.Acted load_gives save_gives core.IsSavedAs NowStands m r s t o result)
+      → step.Stepped load_gives save_gives core.IsSavedAs NowStands m r s t e result
+  stepped_err NowStands mid error result (event.Message a) h then = λ meant is keeps fits.
+      subst (λ x. step.Acted load_gives save_gives core.IsSavedAs NowStands m r s t x result) (sym (by_its_rule (Takes meant)))
+      (then (by_rule m.f m.number m.answer r (Takes meant)) ((h meant (for_own a meant is)).matters m r stands) ((h meant (for_own a meant is)).same m r stands))
   stepped_err NowStands mid error result event.Timeout h then =
-      subst (λ x. step.Acted load_gives save_gives NowStands m r s t x result) (sym (by_its_rule TimesOut))
+      subst (λ x. step.Acted load_gives save_gives core.IsSavedAs NowStands m r s t x result) (sym (by_its_rule TimesOut))
       (then (by_rule m.f m.number m.answer r TimesOut) (h.matters m r stands) (h.same m r stands))
   stepped_err NowStands mid error result event.Resend h then =
-      subst (λ x. step.Acted load_gives save_gives NowStands m r s t x result) (sym (by_its_rule Resends))
+      subst (λ x. step.Acted load_gives save_gives core.IsSavedAs NowStands m r s t x result) (sym (by_its_rule Resends))
       (then (by_rule m.f m.number m.answer r Resends) (h.matters m r stands) (h.same m r stands))
   stepped_err NowStands mid error result (event.Restart x) h then =
-      subst (λ b. step.RestartedIf load_gives save_gives NowStands m r s t b x result) (sym up)
+      subst (λ b. step.RestartedIf load_gives save_gives core.IsSavedAs NowStands m r s t b x result) (sym up)
       (then (keep m.f m.number m.answer r) (h.matters m r stands) (h.same m r stands))
 
   -- the rule saves nothing
   pub went_on : (new : Replica) (sends : Vec code.Message Global) (e : Event) → Ruled old e new.core (Ok sends) → new.core.stored_view ≤ old.stored_view → t ≡ s
-      → step.Stepped load_gives save_gives (StandsFor new m) m r s t e (Ok sends)
+      → step.Stepped load_gives save_gives core.IsSavedAs (StandsFor new m) m r s t e (Ok sends)
   went_on new sends e h l same = stepped_ok (StandsFor new m) new.core sends (Ok sends) e h (λ o k o_up. record {
     replica = stands_up new m o.replica k.replica o_up;
     saved = subst (λ x. step.Saved load_gives save_gives s x t) (sym (saved_none old new.core o.saves k.saves l)) same;
-    sends = k.sends.are;
+    sends = k.sends;
   })
 
   -- what the rule saves was saved
   pub was_saved : (new : Replica) (sends : Vec code.Message Global) (e : Event) → Ruled old e new.core (Ok sends) → old.stored_view < new.core.stored_view → save_gives s new.core.stored_view true t
-      → step.Stepped load_gives save_gives (StandsFor new m) m r s t e (Ok sends)
+      → step.Stepped load_gives save_gives core.IsSavedAs (StandsFor new m) m r s t e (Ok sends)
   was_saved new sends e h l saved = stepped_ok (StandsFor new m) new.core sends (Ok sends) e h (λ o k o_up. record {
     replica = stands_up new m o.replica k.replica o_up;
     saved = subst (λ x. step.Saved load_gives save_gives s x t) (sym (saved_is old new.core o.saves k.saves l)) saved;
-    sends = k.sends.are;
+    sends = k.sends;
   })
 
   -- its save failed
   pub save_failed : (mid new : Replica) (sends : Vec code.Message Global) (e : Event) (result : step.StepResult) → result ≡ Err fault.Store → Ruled old e mid.core (Ok sends) → old.stored_view < mid.core.stored_view
       → save_gives s mid.core.stored_view false t → Crashes mid.core new.core
-      → step.Stepped load_gives save_gives (StandsFor new m) m r s t e result
-  save_failed mid new sends e result is h l failed crashed = subst (λ x. step.Stepped load_gives save_gives (StandsFor new m) m r s t e x) (sym is)
+      → step.Stepped load_gives save_gives core.IsSavedAs (StandsFor new m) m r s t e result
+  save_failed mid new sends e result is h l failed crashed = subst (λ x. step.Stepped load_gives save_gives core.IsSavedAs (StandsFor new m) m r s t e x) (sym is)
       (stepped_ok (StandsFor new m) mid.core sends (Err fault.Store) e h (λ o k o_up. record {
         replica = stands_down new m (down r) (crashed.crashes m r k.replica.member);
         view = mid.core.stored_view;
@@ -132,8 +140,8 @@ module _ {S : Type 0} (load_gives : S → Option Stored → S → Type 0) (save_
 
   -- want of memory
   pub was_lost : (new : Replica) (error : AllocError) (e : Event) (result : step.StepResult) → result ≡ Err fault.Memory → Ruled old e new.core (Err error) → t ≡ s
-      → step.Stepped load_gives save_gives (StandsFor new m) m r s t e result
-  was_lost new error e result is h same = subst (λ x. step.Stepped load_gives save_gives (StandsFor new m) m r s t e x) (sym is)
+      → step.Stepped load_gives save_gives core.IsSavedAs (StandsFor new m) m r s t e result
+  was_lost new error e result is h same = subst (λ x. step.Stepped load_gives save_gives core.IsSavedAs (StandsFor new m) m r s t e x) (sym is)
       (stepped_err (StandsFor new m) new.core error (Err fault.Memory) e h (λ o matters k. record {
         replica = stands_up new m r k up;
         matters = matters;
@@ -142,18 +150,18 @@ module _ {S : Type 0} (load_gives : S → Option Stored → S → Type 0) (save_
 
 module _ {S : Type 0} (load_gives : S → Option Stored → S → Type 0) (save_gives : S → ℕ → Bool → S → Type 0) (m : Membership) (r : ReplicaState Command) (s : S) (is : is_down r.status ≡ true) where
   -- who is down hears no event but a restart
-  pub hears_not : (replica : Replica) (e : Event) → ((x : ℕ) → e ≡ event.Restart x → ⊥) → StandsFor replica m r → step.Stepped load_gives save_gives (StandsFor replica m) m r s s e (Err fault.Down)
-  hears_not replica (event.Message a) other st = λ meant means keeps. (is, record { replica = st; store = refl })
+  pub hears_not : (replica : Replica) (e : Event) → ((x : ℕ) → e ≡ event.Restart x → ⊥) → StandsFor replica m r → step.Stepped load_gives save_gives core.IsSavedAs (StandsFor replica m) m r s s e (Err fault.Down)
+  hears_not replica (event.Message a) other st = λ meant means keeps fits. (is, record { replica = st; store = refl })
   hears_not replica event.Timeout other st = (is, record { replica = st; store = refl })
   hears_not replica event.Resend other st = (is, record { replica = st; store = refl })
   hears_not replica (event.Restart x) other st = absurd (other x refl)
 
   -- and a restart
-  pub hears_restart : (replica : Replica) (t : S) (result : step.StepResult) (e : Event) (x : ℕ) → e ≡ event.Restart x → step.Restarted load_gives save_gives (StandsFor replica m) m r s t x result
-      → step.Stepped load_gives save_gives (StandsFor replica m) m r s t e result
+  pub hears_restart : (replica : Replica) (t : S) (result : step.StepResult) (e : Event) (x : ℕ) → e ≡ event.Restart x → step.Restarted load_gives save_gives core.IsSavedAs (StandsFor replica m) m r s t x result
+      → step.Stepped load_gives save_gives core.IsSavedAs (StandsFor replica m) m r s t e result
   hears_restart replica t result e x same h =
-      subst (λ y. step.Stepped load_gives save_gives (StandsFor replica m) m r s t y result) (sym same)
-      (subst (λ b. step.RestartedIf load_gives save_gives (StandsFor replica m) m r s t b x result) (sym is) h)
+      subst (λ y. step.Stepped load_gives save_gives core.IsSavedAs (StandsFor replica m) m r s t y result) (sym same)
+      (subst (λ b. step.RestartedIf load_gives save_gives core.IsSavedAs (StandsFor replica m) m r s t b x result) (sym is) h)
 
 -- which events those are
 pub deaf_to_all : (replica : Replica) (e : Event) → ((x : ℕ) → e ≡ event.Restart x → ⊥) → IsDown replica → IsDeafTo replica e

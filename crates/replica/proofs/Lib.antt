@@ -1,3 +1,6 @@
 pub mod Acting
 pub mod Dispatched
+pub mod NoState
+pub mod Sending
+pub mod Showing
 pub mod StaysUp

@@ -5,18 +5,16 @@ use Rattle.vr_model.specs.declared.event.Event.{Event}
 use Rattle.vr_model.specs.declared.event.Event.TheVariants as event
 use Rattle.vr_model.specs.Membership.{Membership}
 use Rattle.vr_model.specs.Replicas.{is_down, ReplicaState}
-use Rattle.vr_model.specs.StandsFor.{requests_of}
 use Rattle.vr_core.specs.declared.state.Status.TheVariants as status
 use Rattle.vr_core.specs.Down.{StandsForDown}
 use Rattle.vr_core.specs.StandsFor as core
 use Rattle.replica.specs.declared.state.Replica.{Replica}
 
--- It is that member, and shows the record's status, log and commit number. While it is up its core stands for the whole record; while it is down
--- its core stands for what a crash leaves.
+-- It is that member, and shows the record's status and commit number. While it is up its core stands for the whole
+-- record; while it is down its core stands for what a crash leaves.
 pub record StandsFor (replica : Replica) (w : Membership) (r : ReplicaState Command) : Type 0 where
   pub member : core.IsOf replica.core w
   pub status : r.status ≡ core.status_of replica.core.status
-  pub log : r.log ≡ requests_of replica.core.log.items
   pub commit_number : r.commit_number ≡ replica.core.commit_number
   pub up : is_down r.status ≡ false → core.StandsFor replica.core w r
   pub down : is_down r.status ≡ true → StandsForDown replica.core w r

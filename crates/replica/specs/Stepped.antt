@@ -15,7 +15,9 @@ use Rattle.vr_model.specs.Replicas.{is_down, ReplicaState, Outcome}
 use Rattle.vr_model.specs.Rules.{keep, on_restart}
 use Rattle.vr_model.specs.World.{down, executed}
 use Rattle.vr_model.specs.Steps.{Input, Takes, TimesOut, Resends, Matters, acts}
-use Rattle.vr_model.specs.StandsFor.{Stands, AllStand}
+use Rattle.vr_model.specs.StandsFor.{Stands, AllStandFrom, Fits}
+use Rattle.il_model.specs.Snapshots.{SavedController}
+use Rattle.il_model.specs.Text.{Text}
 use Rattle.replica.specs.declared.fault.StepFault.{StepFault}
 use Rattle.replica.specs.declared.fault.StepFault.TheVariants as fault
 
@@ -34,12 +36,12 @@ module _ {S : Type 0} (load_gives : S → Option Stored → S → Type 0) (save_
   Saved s (Some view) t = save_gives s view true t
 
   -- the member m was the record r, and its store went from s to t
-  module _ (NowStands : ReplicaState Command → Type 0) (m : Membership) (r : ReplicaState Command) (s t : S) where
+  module _ (IsSavedAs : Text → ℕ → List Command → SavedController → Type 0) (NowStands : ReplicaState Command → Type 0) (m : Membership) (r : ReplicaState Command) (s t : S) where
     -- the rule was done
     pub record Done (o : Outcome Command Answer) (out : List code.Message) : Type 0 where
       pub replica : NowStands o.replica
       pub saved : Saved s o.saves t
-      pub sends : AllStand out o.sends
+      pub sends : AllStandFrom IsSavedAs m o.replica out o.sends
 
     -- it was lost for want of memory: before its save, or after it
     pub record Lost (o : Outcome Command Answer) : Type 0 where
@@ -64,7 +66,7 @@ module _ {S : Type 0} (load_gives : S → Option Stored → S → Type 0) (save_
       pub stored : Stored
       pub loaded : load_gives s (Some stored) t
       pub replica : NowStands (on_restart m.f m.number m.answer (record r { stored_view = stored.view }) x).replica
-      pub sends : AllStand out (on_restart m.f m.number m.answer (record r { stored_view = stored.view }) x).sends
+      pub sends : AllStandFrom IsSavedAs m (on_restart m.f m.number m.answer (record r { stored_view = stored.view }) x).replica out (on_restart m.f m.number m.answer (record r { stored_view = stored.view }) x).sends
 
     -- or memory ran out, before the load or after it
     pub record StayedDown : Type 0 where
@@ -95,11 +97,11 @@ module _ {S : Type 0} (load_gives : S → Option Stored → S → Type 0) (save_
     RestartedIf true x result = Restarted x result
     RestartedIf false x result = Acted (keep m.f m.number m.answer r) result
 
-    -- An event; of a message, for each with whole logs that it stands for. Of that the rules' log is to begin with what was executed,
-    -- which no call tests.
+    -- An event; of a message, for each with whole logs that it stands for. Of that the rules' log is to begin with what
+    -- was executed, and the checkpoint of a NEWSTATE is to be of that log, which no call tests.
     abbrev pub Stepped : Event → StepResult → Type 0
     Stepped (event.Message a) result =
-        (meant : Message Command Answer) → Stands a meant → KeepsExecuted m r (Takes meant) → Acted (acts m.f m.number m.answer r (Takes meant)) result
+        (meant : Message Command Answer) → Stands IsSavedAs m a meant → KeepsExecuted m r (Takes meant) → Fits IsSavedAs m r (acts m.f m.number m.answer r (Takes meant)) a.body → Acted (acts m.f m.number m.answer r (Takes meant)) result
     Stepped event.Timeout result = Acted (acts m.f m.number m.answer r TimesOut) result
     Stepped event.Resend result = Acted (acts m.f m.number m.answer r Resends) result
     Stepped (event.Restart x) result = RestartedIf (is_down r.status) x result

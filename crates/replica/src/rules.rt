@@ -1,12 +1,15 @@
 //! Which rule an event has.
 
-ghost use Rattle.std.specs.Prelude.{◌≡◌, ◌<◌, ◌==◌, ◌&&◌, true, not, nat_lt};
+ghost use Rattle.std.specs.Prelude.{◌≡◌, ◌<◌, ◌==◌, ◌&&◌, true, not, nat_lt, List};
+ghost use Rattle.il_model.specs.declared.command.Command.{Command};
 ghost use Rattle.vr_model.specs.Groups.{group_size};
+ghost use Rattle.vr_model.specs.Logs as logs;
 ghost use Rattle.vr_model.specs.Protocols.{NormalCase, ViewChange, Recovery, protocol_of};
 ghost use Rattle.vr_model.specs.Rules as rules;
-ghost use Rattle.vr_model.specs.StandsFor.{body_of, party_of};
+ghost use Rattle.vr_model.specs.StandsFor.{body_with, party_of, Carries};
+ghost use Rattle.vr_core.specs.StandsFor.{IsSavedAs, own_member};
 ghost use Rattle.vr_core.specs.Follows.{Tells, DoesIfKept};
-ghost use Rattle.replica.specs.Ruled.{Ruled};
+ghost use Rattle.replica.specs.Ruled.{DoesFrom, Ruled};
 
 use std::alloc::{AllocError, Global};
 use vr_core::{Core, Response};
@@ -29,7 +32,7 @@ pub(crate) fn by_rule(core: &mut Core, alloc: Global, event: Event) -> Result<Se
 
 /// A message: it is dropped where it comes from no client and from no other replica of the group.
 fn receive(core: &mut Core, alloc: Global, message: Message) -> Result<Sends, AllocError>
-    ensures { DoesIfKept core.old (λ w r. rules.receives w.f w.number w.answer r (party_of message.from) (body_of message.body)) core.new result }
+    ensures { (l : List (logs.Request Command)) → Carries IsSavedAs (own_member core.old) message.body l → DoesFrom core.old message.body (λ w r. rules.receives w.f w.number w.answer r (party_of message.from) (body_with l message.body)) core.new result }
 {
     match message.from {
         Party::Client(_) => from_client(core, alloc, &message.body),
@@ -54,7 +57,7 @@ fn is_other(core: &Core, replica: u8) -> bool
 
 /// From a client: a request.
 fn from_client(core: &mut Core, alloc: Global, body: &Body) -> Result<Sends, AllocError>
-    ensures { DoesIfKept core.old (λ w r. rules.from_client w.f w.number w.answer r (body_of body.now)) core.new result }
+    ensures { (l : List (logs.Request Command)) → DoesIfKept core.old (λ w r. rules.from_client w.f w.number w.answer r (body_with l body.now)) core.new result }
 {
     match body {
         Body::Request(request) => on_request(core, alloc, *request),
@@ -62,11 +65,12 @@ fn from_client(core: &mut Core, alloc: Global, body: &Body) -> Result<Sends, All
     }
 }
 
-/// From another replica of the group: all but requests and replies.
+/// From another replica of the group: all but requests and replies. It is sorted by protocol first, so that each
+/// function here is proved by the calls of one protocol.
 fn from_replica(core: &mut Core, alloc: Global, sender: u8, body: Body) -> Result<Sends, AllocError>
     requires member { sender < group_size core.old.config.f }
     requires other { sender ≡ core.old.number → ⊥ }
-    ensures { DoesIfKept core.old (λ w r. rules.from_replica w.f w.number w.answer r sender (body_of body)) core.new result }
+    ensures { (l : List (logs.Request Command)) → Carries IsSavedAs (own_member core.old) body l → DoesFrom core.old body (λ w r. rules.from_replica w.f w.number w.answer r sender (body_with l body)) core.new result }
 {
     match body {
         Body::Request(_)
@@ -94,7 +98,7 @@ fn in_normal_case(
     requires member { sender < group_size core.old.config.f }
     requires other { sender ≡ core.old.number → ⊥ }
     requires part { protocol_of body ≡ NormalCase }
-    ensures { DoesIfKept core.old (λ w r. rules.from_replica w.f w.number w.answer r sender (body_of body)) core.new result }
+    ensures { (l : List (logs.Request Command)) → DoesIfKept core.old (λ w r. rules.from_replica w.f w.number w.answer r sender (body_with l body)) core.new result }
 {
     match body {
         Body::Request(_) | Body::Reply { .. } => Ok(Vec::new(alloc)),
@@ -123,7 +127,7 @@ fn in_view_change(
     requires member { sender < group_size core.old.config.f }
     requires other { sender ≡ core.old.number → ⊥ }
     requires part { protocol_of body ≡ ViewChange }
-    ensures { DoesIfKept core.old (λ w r. rules.from_replica w.f w.number w.answer r sender (body_of body)) core.new result }
+    ensures { (l : List (logs.Request Command)) → Carries IsSavedAs (own_member core.old) body l → DoesIfKept core.old (λ w r. rules.from_replica w.f w.number w.answer r sender (body_with l body)) core.new result }
 {
     match body {
         Body::StartViewChange { view } => on_start_view_change(core, alloc, sender, view),
@@ -133,13 +137,13 @@ fn in_view_change(
             commit_number,
             log,
         } => {
-            let own = DoViewChange {
+            let told = DoViewChange {
                 replica: sender,
                 last_normal_view,
                 commit_number,
                 log,
             };
-            on_do_view_change(core, alloc, view, own)
+            on_do_view_change(core, alloc, view, told)
         }
         Body::StartView {
             view,
@@ -155,7 +159,7 @@ fn in_recovery(core: &mut Core, alloc: Global, sender: u8, body: Body) -> Result
     requires member { sender < group_size core.old.config.f }
     requires other { sender ≡ core.old.number → ⊥ }
     requires part { protocol_of body ≡ Recovery }
-    ensures { DoesIfKept core.old (λ w r. rules.from_replica w.f w.number w.answer r sender (body_of body)) core.new result }
+    ensures { (l : List (logs.Request Command)) → Carries IsSavedAs (own_member core.old) body l → DoesFrom core.old body (λ w r. rules.from_replica w.f w.number w.answer r sender (body_with l body)) core.new result }
 {
     match body {
         Body::Recovery { nonce, stored_view } => on_recovery(

@@ -1,7 +1,6 @@
 //! A replica, and what it shows.
 
-ghost use Rattle.std.specs.Prelude.{◌≡◌, ◌↔◌, IfOk, IsTrue};
-ghost use Rattle.std.specs.Option.{option_copied, option_map};
+ghost use Rattle.std.specs.Prelude.{◌≡◌, ◌↔◌, ◌⊎◌, ◌<◌, IfOk, IsTrue, None, Some, MatchOption};
 ghost use Rattle.std.specs.List.{slice_get};
 ghost use Rattle.il_model.specs.declared.command.Command.{Command};
 ghost use Rattle.vr_model.specs.Membership.{Membership};
@@ -89,10 +88,10 @@ impl Replica {
         self.core.commit_number
     }
 
-    /// The entry of its log at this place, from 0.
+    /// The entry of its log at this place, from 0. Of those that it has executed it may keep only the last ones.
     pub fn entry(&self, place: u64) -> Option<&Request>
-        ensures { (m : Membership) (r : model.ReplicaState Command) → StandsFor self.now m r → option_map request_of (option_copied result) ≡ slice_get r.log place }
+        ensures { (m : Membership) (r : model.ReplicaState Command) → StandsFor self.now m r → MatchOption result ((slice_get r.log place ≡ None) ⊎ (place < r.commit_number)) (λ entry. slice_get r.log place ≡ Some (request_of entry.now)) }
     {
-        self.core.log.get(place as usize)
+        self.core.log.get(place)
     }
 }

@@ -6,6 +6,7 @@ ghost use Rattle.il_model.specs.declared.command.Command.{Command};
 ghost use Rattle.il_model.specs.Counted.{Failed};
 ghost use Rattle.vr_model.specs.Membership.{Membership};
 ghost use Rattle.vr_model.specs.Replicas as model;
+ghost use Rattle.vr_core.specs.StandsFor.{IsSavedAs};
 ghost use Rattle.replica.specs.declared.fault.StepFault.TheVariants as fault;
 ghost use Rattle.replica.specs.Standing.{StandsFor, IsDown, IsDeafTo};
 ghost use Rattle.replica.specs.Stepped.{Stepped, Restarted};
@@ -19,20 +20,21 @@ use vr_model::{Event, Sends};
 use vr_recovery::restart;
 
 impl Replica {
-    /// One event: its rule is done, with the view that the rule saves safe in the store before anything is sent. What has no rule is
-    /// dropped: nothing changes, and nothing is sent.
+    /// One event: its rule is done, with the view that the rule saves safe in the store before anything is sent. What
+    /// has no rule is dropped: nothing changes, and nothing is sent.
     ///
-    /// `Memory` is answered only where memory ran out and the rule changes or sends something; then the replica is as it was, and the store
-    /// may keep the later view. `Store` is answered only where the store failed in this call; then the replica is down until a restart, and
-    /// the store keeps the old view or the new one. `Down` is answered exactly where the replica is down and the event is no
-    /// restart.
+    /// `Memory` is answered only where memory ran out and the rule changes or sends something; then the replica is as
+    /// it was, and the store may keep the later view. It is answered, too, where a log would make it the primary whose
+    /// checkpoint is past what it has executed, which no run comes to. `Store` is answered only where the store failed
+    /// in this call; then the replica is down until a restart, and the store keeps the old view or the new one. `Down`
+    /// is answered exactly where the replica is down and the event is no restart.
     pub fn step<S: ViewStore>(
         &mut self,
         alloc: Global,
         event: Event,
         store: &mut S,
     ) -> Result<Sends, StepFault>
-        ensures row { (m : Membership) (r : model.ReplicaState Command) → StandsFor self.old m r → Stepped S.load_gives S.save_gives (StandsFor self.new m) m r store.old store.new event result }
+        ensures row { (m : Membership) (r : model.ReplicaState Command) → StandsFor self.old m r → Stepped S.load_gives S.save_gives IsSavedAs (StandsFor self.new m) m r store.old store.new event result }
         ensures down { IsErrOf result fault.Down ↔ IsDeafTo self.old event }
         ensures device { IsErrOf result fault.Store → Failed (S.faults store.old) (S.faults store.new) }
         ensures counts { S.faults store.old ≤ S.faults store.new }
@@ -51,7 +53,7 @@ impl Replica {
         event: Event,
         store: &mut S,
     ) -> Result<Sends, StepFault>
-        ensures row { (m : Membership) (r : model.ReplicaState Command) → StandsFor self.old m r → model.is_down r.status ≡ false → Stepped S.load_gives S.save_gives (StandsFor self.new m) m r store.old store.new event result }
+        ensures row { (m : Membership) (r : model.ReplicaState Command) → StandsFor self.old m r → model.is_down r.status ≡ false → Stepped S.load_gives S.save_gives IsSavedAs (StandsFor self.new m) m r store.old store.new event result }
         ensures up { IsErrOf result fault.Down → ⊥ }
         ensures device { IsErrOf result fault.Store → Failed (S.faults store.old) (S.faults store.new) }
         ensures counts { S.faults store.old ≤ S.faults store.new }
@@ -77,7 +79,7 @@ impl Replica {
         event: &Event,
         store: &mut S,
     ) -> Result<Sends, StepFault>
-        ensures row { (m : Membership) (r : model.ReplicaState Command) → StandsFor self.old m r → model.is_down r.status ≡ true → Stepped S.load_gives S.save_gives (StandsFor self.new m) m r store.old store.new event.now result }
+        ensures row { (m : Membership) (r : model.ReplicaState Command) → StandsFor self.old m r → model.is_down r.status ≡ true → Stepped S.load_gives S.save_gives IsSavedAs (StandsFor self.new m) m r store.old store.new event.now result }
         ensures down { IsDown self.old → (IsErrOf result fault.Down ↔ IsDeafTo self.old event.now) }
         ensures device { IsErrOf result fault.Store → Failed (S.faults store.old) (S.faults store.new) }
         ensures counts { S.faults store.old ≤ S.faults store.new }
@@ -95,7 +97,7 @@ impl Replica {
         nonce: u64,
         store: &mut S,
     ) -> Result<Sends, StepFault>
-        ensures row { (m : Membership) (r : model.ReplicaState Command) → StandsFor self.old m r → Restarted S.load_gives S.save_gives (StandsFor self.new m) m r store.old store.new nonce result }
+        ensures row { (m : Membership) (r : model.ReplicaState Command) → StandsFor self.old m r → Restarted S.load_gives S.save_gives IsSavedAs (StandsFor self.new m) m r store.old store.new nonce result }
         ensures up { IsErrOf result fault.Down → ⊥ }
         ensures device { IsErrOf result fault.Store → Failed (S.faults store.old) (S.faults store.new) }
         ensures counts { S.faults store.old ≤ S.faults store.new }

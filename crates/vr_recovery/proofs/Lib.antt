@@ -1,5 +1,6 @@
-mod CatchingUp
+mod OwnState
 mod Telling
 mod Table
 mod Ending
+mod CatchingUp
 mod NewState

@@ -1,26 +1,49 @@
 -- Which of a replica's responses is kept, and what the primary of a view told.
-use Rattle.std.specs.Prelude.{◌≡◌, ℕ, nat_lt, ◌==◌, ◌&&◌, ◌||◌, not, Bool, false, Option, Some, None, slice_get}
+use Rattle.std.specs.Prelude.{◌≡◌, ℕ, nat_lt, ◌==◌, ◌&&◌, ◌||◌, Bool, false, not, List, Option, Some, None, slice_index_or, slice_set}
 use Rattle.il_model.specs.declared.command.Command.{Command}
 use Rattle.vr_model.specs.declared.message.PrimaryState as code
 use Rattle.vr_model.specs.Groups.{primary}
 use Rattle.vr_model.specs.Messages.{RecoveryResponse}
-use Rattle.vr_model.specs.Choices.{log_length}
+use Rattle.vr_model.specs.Choices.{kept_response}
+use Rattle.vr_model.specs.Checkpoints.{end_of}
+use Rattle.vr_model.specs.Membership.{Membership}
+use Rattle.vr_model.specs.Replicas.{ReplicaState, put}
 use Rattle.vr_core.specs.declared.state.Core.{Core}
 use Rattle.vr_core.specs.declared.state.Response.{Response}
+use Rattle.vr_core.specs.StandsFor.{StandsFor, ResponseStands}
+
+-- the response that is kept of this replica
+abbrev pub kept_of : Core → ℕ → Option Response
+kept_of core s = slice_index_or core.responses.items s None
+
+-- the length of its log, 0 without one
+abbrev pub told_length : Option code.PrimaryState → ℕ
+told_length None = 0
+told_length (Some state) = end_of state.log
 
 -- b has a later view than a, or the same and a longer log
-abbrev pub is_fresher : RecoveryResponse Command → RecoveryResponse Command → Bool
-is_fresher a b = nat_lt a.view b.view || (a.view == b.view) && nat_lt (log_length a.state) (log_length b.state)
+abbrev pub is_fresher : Response → Response → Bool
+is_fresher a b = nat_lt a.view b.view || (a.view == b.view) && nat_lt (told_length a.state) (told_length b.state)
 
--- what is kept stays where another comes
-abbrev pub stays : Option (RecoveryResponse Command) → RecoveryResponse Command → Bool
+-- what is kept stays where b comes
+abbrev pub stays : Option Response → Response → Bool
 stays None b = false
 stays (Some a) b = not (is_fresher a b)
+
+-- with what was kept of s before, if another took its place
+abbrev pub with_back : List (Option Response) → ℕ → Option (Option Response) → List (Option Response)
+with_back kept s None = kept
+with_back kept s (Some o) = slice_set kept s o
+
+-- it keeps the response of s: whoever stood for what was there before stands for it with the one that the rule keeps
+pub record Keeps (old : Core) (s : ℕ) (a : Response) (new : Core) : Type 0 where
+  pub keeps : (w : Membership) (r : ReplicaState Command) (content : RecoveryResponse Command) → StandsFor old w r → ResponseStands w a content
+      → StandsFor new w (record r { responses = put r.responses s (Some (kept_response (r.responses s) content)) })
 
 -- the primary of this view told its state in it
 pub record HasState (core : Core) (view : ℕ) : Type 0 where
   pub response : Response
   pub state : code.PrimaryState
-  pub at : slice_get core.responses.items (primary core.config.f view) ≡ Some (Some response)
+  pub at : kept_of core (primary core.config.f view) ≡ Some response
   pub of_view : response.view ≡ view
   pub has : response.state ≡ Some state

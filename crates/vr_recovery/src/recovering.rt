@@ -1,24 +1,31 @@
 //! How a recovery ends.
 
-ghost use Rattle.std.specs.Prelude.{◌≡◌, ◌==◌, ◌≤◌, ◌<◌, [], ◌&&◌, true, nat_le, ◌+◌, is_some, Some};
+ghost use Rattle.std.specs.Prelude.{◌≡◌, ◌==◌, ◌≤◌, ◌<◌, [], ◌&&◌, true, false, nat_le, ◌+◌, is_some, Some, OnOk, OnErr, MatchResult};
 ghost use Rattle.vr_model.specs.Groups.{group_size, how_many};
 ghost use Rattle.vr_model.specs.Choices as choices;
 ghost use Rattle.vr_model.specs.Rules as rules;
-ghost use Rattle.vr_model.specs.Replicas.{is_recovering};
+ghost use Rattle.vr_model.specs.Replicas.{is_normal, is_recovering};
 ghost use Rattle.vr_core.specs.declared.state.Status.TheVariants.{Recovering};
 ghost use Rattle.vr_core.specs.declared.state.Response.{Response};
-ghost use Rattle.vr_core.specs.StandsFor.{response_of};
+ghost use Rattle.il_model.specs.declared.command.Command.{Command};
+ghost use Rattle.vr_model.specs.Messages.{RecoveryResponse};
+ghost use Rattle.vr_core.specs.StandsFor.{ResponseStands, own_member};
+ghost use Rattle.vr_core.specs.Begun.{IsBegun, IsNotBegun};
 ghost use Rattle.vr_core.specs.Follows.{Tells, FollowsIfKept, DoesIfKept};
 ghost use Rattle.vr_recovery.specs.Responses.{HasState};
 ghost use Rattle.vr_recovery.specs.Recovering.{Recovers};
 
-use crate::responses::{count, is_told, keep, latest};
+use crate::handed::fits;
+use crate::responses::{count, is_told, keep, kept, latest, put, put_back};
+use debugger::{Controller, SnapError};
 use std::alloc::{AllocError, Global};
 use vr_core::{Core, Response, Status};
 use vr_model::{PrimaryState, Sends};
 
-/// RECOVERYRESPONSE with a nonce, from a replica of the group. It recovers when those of more than half of the group are kept, the
-/// latest view among them is no earlier than its stored view, and the primary of that view told its state. It takes no memory.
+/// RECOVERYRESPONSE with a nonce, from a replica of the group. It recovers when those of more than half of the group
+/// are kept, the latest view among them is no earlier than its stored view, and the primary of that view told its
+/// state. One whose checkpoint can't be taken up here is dropped. It fails only where it would recover and memory runs
+/// out.
 pub fn on_recovery_response(
     core: &mut Core,
     alloc: Global,
@@ -27,14 +34,29 @@ pub fn on_recovery_response(
     response: Response,
 ) -> Result<Sends, AllocError>
     requires { sender < group_size core.old.config.f }
-    ensures { DoesIfKept core.old (λ w r. rules.on_recovery_response w.f w.number w.answer r sender nonce (response_of response)) core.new result }
+    ensures { (a : RecoveryResponse Command) → ResponseStands (own_member core.old) response a → DoesIfKept core.old (λ w r. rules.on_recovery_response w.f w.number w.answer r sender nonce a) core.new result }
 {
-    if !recovers_with(core, nonce) {
+    if !recovers_with(core, nonce) || !response_fits(core, &response) {
         return Ok(Vec::new(alloc));
     }
-    keep(core, sender, response);
-    recover_if_told(core);
-    Ok(Vec::new(alloc))
+    let before = keep(core, sender, response);
+    match recover_if_told(core, alloc) {
+        Ok(()) => Ok(Vec::new(alloc)),
+        Err(error) => {
+            put_back(core, sender, before);
+            Err(error)
+        }
+    }
+}
+
+/// Whether the checkpoint of a response, if it has one, can be taken up here.
+fn response_fits(core: &Core, response: &Response) -> bool
+    ensures { result ≡ false → (a : RecoveryResponse Command) → ResponseStands (own_member core.now) response.now a → ⊥ }
+{
+    match &response.state {
+        Some(state) => fits(core, &state.log, state.commit_number),
+        None => true,
+    }
 }
 
 /// Whether it recovers, and asked with this nonce.
@@ -45,16 +67,40 @@ fn recovers_with(core: &Core, nonce: u64) -> bool
     core.status == Status::Recovering && core.nonce == nonce
 }
 
-/// It recovers if it is told enough.
-fn recover_if_told(core: &mut Core)
+/// It recovers if it is told enough. It fails only where memory runs out, and then nothing changed.
+fn recover_if_told(core: &mut Core, alloc: Global) -> Result<(), AllocError>
     requires { core.old.status ≡ Recovering }
-    ensures { FollowsIfKept core.old (λ w r. rules.recovers w.f w.number w.answer r) core.new [] }
+    ensures ok { OnOk result (FollowsIfKept core.old (λ w r. rules.recovers w.f w.number w.answer r) core.new []) }
+    ensures err { OnErr result (core.new ≡ core.old) }
+    ensures lost { OnErr result (Tells core.old (λ w r. is_normal (rules.recovers w.f w.number w.answer r).replica.status) true) }
 {
     let view = latest(core);
     if !is_enough(core, view) || !is_told(core, view) {
-        return;
+        return Ok(());
     }
-    recover(core, view);
+    match begun(core, alloc, view) {
+        Ok(begun) => {
+            recover(core, alloc, view, begun);
+            Ok(())
+        }
+        Err(SnapError::Memory) => Err(AllocError),
+        Err(_) => Ok(()),
+    }
+}
+
+/// What the core begins with, by the state that the primary of this view told.
+fn begun(core: &Core, alloc: Global, view: u64) -> Result<Option<Controller>, SnapError>
+    ensures { (h : HasState core.now view) → MatchResult result (IsBegun core.now h.state.log) (IsNotBegun core.now h.state.log) }
+{
+    match kept(core, core.config.primary(view)) {
+        Some(
+            Response {
+                state: Some(state),
+                ..
+            },
+        ) => core.begun(alloc, &state.log),
+        _ => Ok(None),
+    }
 }
 
 /// Whether more than half of the group answered, and this view is no earlier than its stored one.
@@ -66,26 +112,27 @@ fn is_enough(core: &Core, view: u64) -> bool
     core.config.f < count(core) && core.stored_view <= view
 }
 
-/// It adopts this view, with the log that its primary told.
-fn recover(core: &mut Core, view: u64)
+/// It adopts this view, with the log that its primary told, from what it begins with.
+fn recover(core: &mut Core, alloc: Global, view: u64, begun: Option<Controller>)
     requires stored { core.old.stored_view ≤ view }
     requires told { HasState core.old view }
+    requires begun { (h : HasState core.old view) → IsBegun core.old h.state.log begun }
     ensures { (h : HasState core.old view) → Recovers core.old view h.state core.new }
 {
     core.adopt(view);
-    let response = core
-        .responses
-        .swap_remove(usize::from(core.config.primary(view)));
-    core.responses.clear();
-    if let Some(state) = state_of(response) {
-        core.replace_log(state.log);
-        core.execute_to(state.commit_number);
+    if let Some(state) = take_state(core, view) {
+        core.replace_log(state.log, begun);
+        core.execute_to(alloc, state.commit_number);
     }
 }
 
-/// The state that comes with a response.
-fn state_of(response: Option<Response>) -> Option<PrimaryState>
-    ensures { (a : Response) → response ≡ Some a → result ≡ a.state }
+/// The state that the primary of this view told. No response is kept any more.
+fn take_state(core: &mut Core, view: u64) -> Option<PrimaryState>
+    ensures state { (h : HasState core.old view) → result ≡ Some h.state }
+    ensures others { core.new ≡ record core.old { responses = core.new.responses } }
 {
-    response?.state
+    let from = core.config.primary(view);
+    let told = put(core, from, None);
+    core.responses.clear();
+    told?.state
 }

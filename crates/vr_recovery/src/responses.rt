@@ -1,24 +1,19 @@
 //! What the responses to a recovering replica tell.
 
-ghost use Rattle.std.specs.Prelude.{◌≡◌, ◌<◌, true, is_some, IfSome, Some, None, option_map, vec_len};
+ghost use Rattle.std.specs.Prelude.{◌≡◌, ◌<◌, true, is_some, slice_set};
 ghost use Rattle.std.specs.Option.{option_copied};
-ghost use Rattle.std.specs.List.{slice_get};
 ghost use Rattle.vr_model.specs.Groups.{group_size, how_many, primary};
-ghost use Rattle.vr_model.specs.Replicas.{put};
 ghost use Rattle.vr_model.specs.Choices as choices;
 ghost use Rattle.vr_core.specs.declared.state.Status.TheVariants.{Recovering};
-ghost use Rattle.vr_core.specs.StandsFor.{response_of};
-ghost use Rattle.vr_core.specs.Follows.{Tells, Becomes};
-ghost use Rattle.vr_recovery.specs.Responses.{is_fresher, stays, HasState};
+ghost use Rattle.vr_core.specs.Follows.{Tells};
+ghost use Rattle.vr_recovery.specs.Responses.{kept_of, is_fresher, stays, told_length, with_back, HasState, Keeps};
 
+use std::mem::replace;
 use vr_core::{Core, Response};
 
 /// The response that is kept of a replica.
-fn kept(core: &Core, replica: u8) -> Option<&Response>
-    requires recovers { core.now.status ≡ Recovering }
-    requires member { replica < group_size core.now.config.f }
-    ensures told { Tells core.now (λ w r. r.responses replica) (option_map response_of (option_copied result)) }
-    ensures value { IfSome result (λ response. slice_get core.now.responses.items replica ≡ Some (Some response.now)) }
+pub(crate) fn kept(core: &Core, replica: u8) -> Option<&Response>
+    ensures { option_copied result ≡ kept_of core.now replica }
 {
     match core.responses.get(usize::from(replica)) {
         Some(response) => response.as_ref(),
@@ -26,59 +21,68 @@ fn kept(core: &Core, replica: u8) -> Option<&Response>
     }
 }
 
-/// Whether the response that is kept of this sender stays: it has a later view, or the same and a log as long.
-fn stays_kept(core: &Core, sender: u8, response: &Response) -> bool
-    requires recovers { core.now.status ≡ Recovering }
-    requires member { sender < group_size core.now.config.f }
-    ensures { Tells core.now (λ w r. stays (r.responses sender) (response_of response.now)) result }
-{
-    match kept(core, sender) {
-        Some(other) => !is_better(response, other),
-        None => false,
-    }
-}
-
 /// Whether a response has a later view than another, or the same and a longer log.
 fn is_better(response: &Response, other: &Response) -> bool
-    ensures { result ≡ is_fresher (response_of other.now) (response_of response.now) }
+    ensures { result ≡ is_fresher other.now response.now }
 {
     other.view < response.view
         || other.view == response.view && log_length(other) < log_length(response)
 }
 
 /// The length of its log, 0 without one.
-fn log_length(response: &Response) -> usize
-    ensures { result ≡ choices.log_length (response_of response.now).state }
+fn log_length(response: &Response) -> u64
+    ensures { result ≡ told_length response.now.state }
 {
     match &response.state {
-        Some(state) => state.log.len(),
+        Some(state) => state.log.op_number(),
         None => 0,
     }
 }
 
-/// It keeps one response of each sender: that of the later view, then that with the longer log, at a tie the first.
-pub(crate) fn keep(core: &mut Core, sender: u8, response: Response)
-    requires recovers { core.old.status ≡ Recovering }
-    requires member { sender < group_size core.old.config.f }
-    ensures kept { Becomes core.old (λ w r. record r { responses = put r.responses sender (Some (choices.kept_response (r.responses sender) (response_of response))) }) core.new }
-    ensures status { core.new.status ≡ Recovering }
-    ensures stored { core.new.stored_view ≡ core.old.stored_view }
+/// Whether what is kept of a replica stays where this response comes.
+fn stays_kept(core: &Core, replica: u8, response: &Response) -> bool
+    ensures { result ≡ stays (kept_of core.now replica) response.now }
 {
-    if !stays_kept(core, sender, &response) {
-        take_up(core, sender, response);
+    match kept(core, replica) {
+        Some(other) => !is_better(response, other),
+        None => false,
     }
 }
 
-/// This response is the one that it keeps of its sender.
-fn take_up(core: &mut Core, sender: u8, response: Response)
+/// It keeps one response of each sender: that of the later view, then that with the longer log, at a tie the first.
+/// Where this one takes the place of what was kept, it hands that back.
+pub(crate) fn keep(core: &mut Core, sender: u8, response: Response) -> Option<Option<Response>>
     requires recovers { core.old.status ≡ Recovering }
     requires member { sender < group_size core.old.config.f }
-    ensures kept { Becomes core.old (λ w r. record r { responses = put r.responses sender (Some (response_of response)) }) core.new }
-    ensures status { core.new.status ≡ Recovering }
-    ensures stored { core.new.stored_view ≡ core.old.stored_view }
+    ensures kept { Keeps core.old sender response core.new }
+    ensures others { core.new ≡ record core.old { responses = core.new.responses } }
+    ensures back { with_back core.new.responses.items sender result ≡ core.old.responses.items }
 {
-    if let Some(kept) = core.responses.get_mut(usize::from(sender)) {
-        *kept = Some(response);
+    if stays_kept(core, sender, &response) {
+        return None;
+    }
+    Some(put(core, sender, Some(response)))
+}
+
+/// What was kept of a replica is kept of it again, if another response took its place.
+pub(crate) fn put_back(core: &mut Core, replica: u8, before: Option<Option<Response>>)
+    ensures after { core.new.responses.items ≡ with_back core.old.responses.items replica before }
+    ensures others { core.new ≡ record core.old { responses = core.new.responses } }
+{
+    if let Some(response) = before {
+        let _ = put(core, replica, response);
+    }
+}
+
+/// This is what is kept of a replica from now on; it hands back what was kept.
+pub(crate) fn put(core: &mut Core, replica: u8, response: Option<Response>) -> Option<Response>
+    ensures before { result ≡ kept_of core.old replica }
+    ensures after { core.new.responses.items ≡ slice_set core.old.responses.items replica response }
+    ensures others { core.new ≡ record core.old { responses = core.new.responses } }
+{
+    match core.responses.get_mut(usize::from(replica)) {
+        Some(kept) => replace(kept, response),
+        None => None,
     }
 }
 

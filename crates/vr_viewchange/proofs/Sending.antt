@@ -1,5 +1,5 @@
 -- A DOVIEWCHANGE is kept, or goes out.
-use Rattle.std.proofs.Common.{◌≡◌, ℕ, ◌+◌, ◌-◌, ◌<◌, Bool, true, false, cond, List, [], ◌∷◌, ◌++◌, length, take, Option, Some, None, is_some, Vec, Global, Ok, refl, ap, ◌∙◌, sym, subst, inl, inr, arith}
+use Rattle.std.proofs.Common.{◌≡◌, ℕ, ◌≤◌, ◌+◌, ◌-◌, ◌<◌, Bool, true, false, cond, List, [], ◌∷◌, ◌++◌, length, take, Option, Some, None, is_some, Vec, Global, Ok, refl, ap, ◌∙◌, sym, subst, inl, inr, arith}
 use Rattle.std.specs.Prelude.{vec_len}
 use Rattle.std.proofs.Math.Seq.{take-append_seam}
 use Rattle.std.proofs.lemmas.Bool.{cases_eq}
@@ -8,59 +8,62 @@ use Rattle.il_model.specs.declared.command.Command.{Command}
 use Rattle.il_model.specs.declared.command.Answer.{Answer}
 use Rattle.vr_model.specs.declared.message.DoViewChange as code
 use Rattle.vr_model.specs.declared.message.Message as sent
+use Rattle.vr_model.specs.declared.message.Body.TheVariants as says
 use Rattle.vr_model.specs.Groups.{group_size, primary}
-use Rattle.vr_model.specs.Messages.{DoViewChange, DoViewChangeMessage}
+use Rattle.vr_model.specs.Messages.{Message, DoViewChange, DoViewChangeMessage}
 use Rattle.vr_model.specs.Replicas.{ReplicaState, Outcome, put}
 use Rattle.vr_model.specs.Choices.{best, own_do_view_change}
 use Rattle.vr_model.specs.Rules.{keep, send, is_primary, is_elected, begins_with, begins_if_elected, keeps_do_view_change, sends_do_view_change}
 use Rattle.vr_model.specs.Steps.{Matters}
 use Rattle.vr_model.specs.Logs.{IsPrefix}
 use Rattle.vr_model.specs.World.{executed}
-use Rattle.vr_model.specs.BestLog.{AreKept}
-use Rattle.vr_model.specs.StandsFor.{do_view_change_of}
+use Rattle.vr_model.specs.Checkpoints.{base_of}
+use Rattle.vr_model.specs.StandsFor.{DoViewChangeStands}
 use Rattle.vr_core.specs.declared.state.Core.{Core}
 use Rattle.vr_core.specs.declared.state.Status.TheVariants as status
 use Rattle.vr_model.specs.Membership.{Membership}
-use Rattle.vr_core.specs.StandsFor.{StandsFor}
-use Rattle.vr_core.specs.Follows.{Tells, AreSaved, Leaves, FollowsIfKept, Loses}
+use Rattle.vr_core.specs.StandsFor.{StandsFor, IsSavedAs, AreKept, own_member}
+use Rattle.vr_core.proofs.WholeLogs.{is_own}
+use Rattle.vr_core.specs.Follows.{Tells, AreSent, AreSaved, Leaves, FollowsIfKept, Loses, message_from}
+use Rattle.vr_core.proofs.Sent.{sent_to}
 use Rattle.vr_core.proofs.Keeping.{kept_as, kept_after, changing}
-use Rattle.vr_viewchange.specs.Begins.{notes}
+use Rattle.vr_viewchange.specs.Begins.{notes, own_of}
 use Rattle.vr_viewchange.proofs.Tables.{kept_one, put_other}
 use Rattle.vr_viewchange.proofs.Changed.{with_table, with_sent}
 use Rattle.vr_viewchange.proofs.Beginning.{begins_keeps_sent, kept_matters}
 
-keep_matters : (core : Core) (d : code.DoViewChange) → Tells core (λ w r. is_some (r.do_view_changes d.replica)) false → (w : Membership) (r : ReplicaState Command) → StandsFor core w r
-    → Matters r (keeps_do_view_change w.f w.number w.answer d.replica (do_view_change_of d) r)
-keep_matters core d first w r st =
-    subst (λ b. Matters r (cond b (keep w.f w.number w.answer r) (begins_if_elected w.f w.number w.answer (record r { do_view_changes = put r.do_view_changes d.replica (Some (do_view_change_of d)) })))) (first.tells w r st)
-    (kept_matters w.f w.number w.answer r d.replica (do_view_change_of d) (sym (first.tells w r st)))
+keep_matters : (core : Core) (d : code.DoViewChange) (a : DoViewChange Command) → Tells core (λ w r. is_some (r.do_view_changes d.replica)) false → (w : Membership) (r : ReplicaState Command) → StandsFor core w r
+    → Matters r (keeps_do_view_change w.f w.number w.answer d.replica a r)
+keep_matters core d a first w r st =
+    subst (λ b. Matters r (cond b (keep w.f w.number w.answer r) (begins_if_elected w.f w.number w.answer (record r { do_view_changes = put r.do_view_changes d.replica (Some a) })))) (first.tells w r st)
+    (kept_matters w.f w.number w.answer r d.replica a (sym (first.tells w r st)))
 
-pub keep_fails : (core : Core) (d : code.DoViewChange) (p : Vec code.DoViewChange Global) → Tells core (λ w r. is_some (r.do_view_changes d.replica)) false → p.items ≡ core.do_view_changes.items
-    → Loses core (λ w r. keeps_do_view_change w.f w.number w.answer d.replica (do_view_change_of d) r) (record core { do_view_changes = p })
-keep_fails core d p first as_before = record {
-  same = λ w r st. with_table core p r.do_view_changes w r st (λ e. subst (λ l. AreKept l r.do_view_changes (group_size w.f)) (sym as_before) (st.do_view_changes e)) st.own;
-  matters = keep_matters core d first;
+pub keep_fails : (core : Core) (d : code.DoViewChange) (a : DoViewChange Command) (p : Vec code.DoViewChange Global) → Tells core (λ w r. is_some (r.do_view_changes d.replica)) false → p.items ≡ core.do_view_changes.items
+    → Loses core (λ w r. keeps_do_view_change w.f w.number w.answer d.replica a r) (record core { do_view_changes = p })
+keep_fails core d a p first as_before = record {
+  same = λ w r st. with_table core p r.do_view_changes w r st (λ e. subst (λ l. AreKept w l r.do_view_changes (group_size w.f)) (sym as_before) (st.do_view_changes e)) st.own;
+  matters = keep_matters core d a first;
 }
 
 -- the first of its sender
-module _ (core : Core) (d : code.DoViewChange) (v : Vec code.DoViewChange Global) (more : v.items ≡ core.do_view_changes.items ++ d ∷ []) where
+module _ (core : Core) (d : code.DoViewChange) (a : DoViewChange Command) (its : DoViewChangeStands IsSavedAs (own_member core) d a) (v : Vec code.DoViewChange Global) (more : v.items ≡ core.do_view_changes.items ++ d ∷ []) where
   kept_stands : d.replica < group_size core.config.f → (d.replica ≡ core.number → core.sent_do_view_change ≡ true) → (w : Membership) (r : ReplicaState Command) → StandsFor core w r → is_some (r.do_view_changes d.replica) ≡ false
-      → StandsFor (record core { do_view_changes = v }) w (record r { do_view_changes = put r.do_view_changes d.replica (Some (do_view_change_of d)) })
-  kept_stands low own w r st none = with_table core v (put r.do_view_changes d.replica (Some (do_view_change_of d))) w r st
-      (λ e. subst (λ l. AreKept l (put r.do_view_changes d.replica (Some (do_view_change_of d))) (group_size w.f)) (sym more)
-      (kept_one core.do_view_changes.items r.do_view_changes (group_size w.f) d (st.do_view_changes e) (subst (λ f. d.replica < group_size f) (sym st.member.f) low) none))
+      → StandsFor (record core { do_view_changes = v }) w (record r { do_view_changes = put r.do_view_changes d.replica (Some a) })
+  kept_stands low own w r st none = with_table core v (put r.do_view_changes d.replica (Some a)) w r st
+      (λ e. subst (λ l. AreKept w l (put r.do_view_changes d.replica (Some a)) (group_size w.f)) (sym more)
+      (kept_one w core.do_view_changes.items r.do_view_changes (group_size w.f) d a (st.do_view_changes e) (subst (λ f. d.replica < group_size f) (sym st.member.f) low) none (subst (λ m. DoViewChangeStands IsSavedAs m d a) (is_own core w st.member) its)))
       (λ e unsent. elim (cases_eq w.number d.replica) [
         | inl same ↦ absurd (let b : true ≡ false = sym (own (sym same ∙ st.member.number)) ∙ sym st.sent_do_view_change ∙ unsent in cc)
-        | inr other ↦ put_other r.do_view_changes d.replica w.number (Some (do_view_change_of d)) other ∙ st.own e unsent
+        | inr other ↦ put_other r.do_view_changes d.replica w.number (Some a) other ∙ st.own e unsent
       ])
 
   pub keeps_it : d.replica < group_size core.config.f → (d.replica ≡ core.number → core.sent_do_view_change ≡ true) → Tells core (λ w r. is_some (r.do_view_changes d.replica)) false
       → (new : Core) (sends : Vec sent.Message Global) → FollowsIfKept (record core { do_view_changes = v }) (λ w r. begins_if_elected w.f w.number w.answer r) new sends.items
-      → FollowsIfKept core (λ w r. keeps_do_view_change w.f w.number w.answer d.replica (do_view_change_of d) r) new sends.items
+      → FollowsIfKept core (λ w r. keeps_do_view_change w.f w.number w.answer d.replica a r) new sends.items
   keeps_it low own first new sends h = record {
     leaves = λ w r st prefix.
-        let q = record r { do_view_changes = put r.do_view_changes d.replica (Some (do_view_change_of d)) } in
-        let same : keeps_do_view_change w.f w.number w.answer d.replica (do_view_change_of d) r ≡ begins_if_elected w.f w.number w.answer q =
+        let q = record r { do_view_changes = put r.do_view_changes d.replica (Some a) } in
+        let same : keeps_do_view_change w.f w.number w.answer d.replica a r ≡ begins_if_elected w.f w.number w.answer q =
         ap (λ b. cond b (keep w.f w.number w.answer r) (begins_if_elected w.f w.number w.answer q)) (sym (first.tells w r st)) in
         let k = h.leaves w q (kept_stands low own w r st (sym (first.tells w r st))) (subst (λ (o : Outcome Command Answer). IsPrefix (executed r) o.replica.log) same prefix) in
         subst (λ o. Leaves core new sends.items w o) (sym same) (leaves_of core v new sends.items w (begins_if_elected w.f w.number w.answer q) k);
@@ -74,11 +77,11 @@ module _ (core : Core) (d : code.DoViewChange) (v : Vec code.DoViewChange Global
           saved (Some u) a = a
 
   pub keep_lost : Tells core (λ w r. is_some (r.do_view_changes d.replica)) false → (other : Core) (p : Vec code.DoViewChange Global) → other ≡ record core { do_view_changes = v } → p.items ≡ take (vec_len v - 1) v.items
-      → Loses core (λ w r. keeps_do_view_change w.f w.number w.answer d.replica (do_view_change_of d) r) (record other { do_view_changes = p })
+      → Loses core (λ w r. keeps_do_view_change w.f w.number w.answer d.replica a r) (record other { do_view_changes = p })
   keep_lost first other p is popped = record {
     same = λ w r st. subst (λ x. StandsFor (record x { do_view_changes = p }) w r) (sym is)
-        (with_table core p r.do_view_changes w r st (λ e. subst (λ l. AreKept l r.do_view_changes (group_size w.f)) (sym as_before) (st.do_view_changes e)) st.own);
-    matters = λ w r st. keep_matters core d first w r st;
+        (with_table core p r.do_view_changes w r st (λ e. subst (λ l. AreKept w l r.do_view_changes (group_size w.f)) (sym as_before) (st.do_view_changes e)) st.own);
+    matters = λ w r st. keep_matters core d a first w r st;
   }
     where
       as_before : p.items ≡ core.do_view_changes.items
@@ -111,13 +114,28 @@ module _ (f i : ℕ) (answer : List Command → Answer) (r : ReplicaState Comman
 pub own_sent : (core : Core) (w : Membership) (r : ReplicaState Command) → StandsFor core w r → StandsFor (record core { sent_do_view_change = true }) w (record r { sent_do_view_change = true })
 own_sent core w r st = with_sent core true w r st (λ e unsent. absurd cc)
 
+-- what it says of itself stands for what the rules let it say
+pub own_stands : (core : Core) (w : Membership) (r : ReplicaState Command) → StandsFor core w r → DoViewChangeStands IsSavedAs w (own_of core) (own_do_view_change r)
+own_stands core w r st = record {
+  log = r.log;
+  carries = record { reached = subst (λ n. base_of core.log.checkpoint ≤ n) st.commit_number st.reached; stands = st.log };
+  is = ap (λ v. said v r.commit_number) st.last_normal_view ∙ ap (said core.last_normal_view) st.commit_number;
+}
+  where
+    said : ℕ → ℕ → DoViewChange Command
+    said v n = record { last_normal_view = v; commit_number = n; log = r.log }
+
 -- it is kept
-module _ (core : Core) (own : code.DoViewChange) (unsent : core.sent_do_view_change ≡ false) (primary_told : Tells core (λ w r. is_primary w.f w.number w.answer r) true) (number : own.replica ≡ core.number)
-    (told : Tells core (λ w r. own_do_view_change r) (do_view_change_of own)) (changes : core.status ≡ status.ViewChange) where
+module _ (core : Core) (own : code.DoViewChange) (unsent : core.sent_do_view_change ≡ false) (primary_told : Tells core (λ w r. is_primary w.f w.number w.answer r) true) (is : own ≡ own_of core) (changes : core.status ≡ status.ViewChange) where
+  its : (w : Membership) (r : ReplicaState Command) → StandsFor core w r → DoViewChangeStands IsSavedAs (own_member core) own (own_do_view_change r)
+  its w r st =
+      subst (λ m. DoViewChangeStands IsSavedAs m own (own_do_view_change r)) (sym (is_own core w st.member))
+      (subst (λ (d : code.DoViewChange). DoViewChangeStands IsSavedAs w d (own_do_view_change r)) (sym is) (own_stands core w r st))
+
   as_kept : (w : Membership) (r : ReplicaState Command) → StandsFor core w r
-      → sends_do_view_change w.f w.number w.answer r ≡ keeps_do_view_change w.f w.number w.answer own.replica (do_view_change_of own) (record r { sent_do_view_change = true })
+      → sends_do_view_change w.f w.number w.answer r ≡ keeps_do_view_change w.f w.number w.answer own.replica (own_do_view_change r) (record r { sent_do_view_change = true })
   as_kept w r st =
-      let i : w.number ≡ own.replica = st.member.number ∙ sym number in
+      let i : w.number ≡ own.replica = st.member.number ∙ sym (ap (λ (d : code.DoViewChange). d.replica) is) in
       let none : r.do_view_changes w.number ≡ None = st.own (sym ((changing core changes).tells w r st)) (st.sent_do_view_change ∙ unsent) in
       let o : Outcome Command Answer = record {
         replica = record r { sent_do_view_change = true };
@@ -125,29 +143,55 @@ module _ (core : Core) (own : code.DoViewChange) (unsent : core.sent_do_view_cha
         sends = send w.f w.number w.answer (primary w.f r.view) (DoViewChangeMessage r.view (own_do_view_change r)) ∷ [];
       } in
       ap (λ b. cond b (begins_if_elected w.f w.number w.answer (record r { sent_do_view_change = true; do_view_changes = put r.do_view_changes w.number (Some (own_do_view_change r)) })) o) (sym (primary_told.tells w r st))
-      ∙ ap (λ a. begins_if_elected w.f w.number w.answer (record r { sent_do_view_change = true; do_view_changes = put r.do_view_changes w.number (Some a) })) (sym (told.tells w r st))
-      ∙ ap (λ j. begins_if_elected w.f w.number w.answer (record r { sent_do_view_change = true; do_view_changes = put r.do_view_changes j (Some (do_view_change_of own)) })) i
-      ∙ ap (λ b. cond b (keep w.f w.number w.answer (record r { sent_do_view_change = true })) (begins_if_elected w.f w.number w.answer (record r { sent_do_view_change = true; do_view_changes = put r.do_view_changes own.replica (Some (do_view_change_of own)) })))
+      ∙ ap (λ j. begins_if_elected w.f w.number w.answer (record r { sent_do_view_change = true; do_view_changes = put r.do_view_changes j (Some (own_do_view_change r)) })) i
+      ∙ ap (λ b. cond b (keep w.f w.number w.answer (record r { sent_do_view_change = true })) (begins_if_elected w.f w.number w.answer (record r { sent_do_view_change = true; do_view_changes = put r.do_view_changes own.replica (Some (own_do_view_change r)) })))
       (sym (ap is_some (ap r.do_view_changes (sym i) ∙ none)))
 
   pub own_kept : (new : Core) (sends : Vec sent.Message Global)
-      → FollowsIfKept (record core { sent_do_view_change = true }) (λ w r. keeps_do_view_change w.f w.number w.answer own.replica (do_view_change_of own) r) new sends.items
+      → ((a : DoViewChange Command) → DoViewChangeStands IsSavedAs (own_member core) own a → FollowsIfKept (record core { sent_do_view_change = true }) (λ w r. keeps_do_view_change w.f w.number w.answer own.replica a r) new sends.items)
       → FollowsIfKept core (λ w r. sends_do_view_change w.f w.number w.answer r) new sends.items
-  own_kept new sends h =
-      kept_as core (λ w r. keeps_do_view_change w.f w.number w.answer own.replica (do_view_change_of own) (record r { sent_do_view_change = true })) (λ w r. sends_do_view_change w.f w.number w.answer r) new (Ok sends)
-      (kept_after core (record core { sent_do_view_change = true }) (λ w r. record r { sent_do_view_change = true }) (λ w r. keeps_do_view_change w.f w.number w.answer own.replica (do_view_change_of own) r) new sends.items
-      (own_sent core) refl (λ w r. refl) h)
-      as_kept
+  own_kept new sends h = record {
+    leaves = λ w r st prefix.
+        let a = own_do_view_change r in
+        let same = as_kept w r st in
+        let k = kept_after core (record core { sent_do_view_change = true }) (λ w r. record r { sent_do_view_change = true }) (λ w r. keeps_do_view_change w.f w.number w.answer own.replica a r) new sends.items
+        (own_sent core) refl (λ w r. refl) (h a (its w r st)) in
+        subst (λ o. Leaves core new sends.items w o) (sym same) (k.leaves w r st (subst (λ (o : Outcome Command Answer). IsPrefix (executed r) o.replica.log) same prefix));
+  }
 
-  pub own_lost : (new : Core) → Loses (record core { sent_do_view_change = true }) (λ w r. keeps_do_view_change w.f w.number w.answer own.replica (do_view_change_of own) r) new
+  pub own_lost : (new : Core)
+      → ((a : DoViewChange Command) → DoViewChangeStands IsSavedAs (own_member core) own a → Loses (record core { sent_do_view_change = true }) (λ w r. keeps_do_view_change w.f w.number w.answer own.replica a r) new)
       → Loses core (λ w r. sends_do_view_change w.f w.number w.answer r) (record new { sent_do_view_change = false })
   own_lost new h = record {
     same = λ w r st.
         let b : r.sent_do_view_change ≡ false = st.sent_do_view_change ∙ unsent in
         subst (λ x. StandsFor (record new { sent_do_view_change = false }) w (record r { sent_do_view_change = x })) (sym b)
-        (with_sent new false w (record r { sent_do_view_change = true }) (h.same w (record r { sent_do_view_change = true }) (own_sent core w r st)) (λ e f. st.own e b));
+        (with_sent new false w (record r { sent_do_view_change = true }) ((h (own_do_view_change r) (its w r st)).same w (record r { sent_do_view_change = true }) (own_sent core w r st)) (λ e f. st.own e b));
     matters = λ w r st. sends_matter w.f w.number w.answer r (st.sent_do_view_change ∙ unsent);
   }
+
+-- it goes out
+pub own_goes : (core : Core) (sends : List sent.Message) → Tells core (λ w r. is_primary w.f w.number w.answer r) false
+    → sends ≡ message_from core.number (says.DoViewChange core.view core.last_normal_view core.commit_number core.log) (primary core.config.f core.view) ∷ []
+    → FollowsIfKept core (λ w r. sends_do_view_change w.f w.number w.answer r) (record core { sent_do_view_change = true }) sends
+own_goes core sends test is = record {
+  leaves = λ w r st prefix.
+      let its = own_stands core w r st in
+      let own = own_do_view_change r in
+      let said : ℕ → ℕ → DoViewChange Command → List (Message Command Answer) = λ f v x. send w.f w.number w.answer (primary f v) (DoViewChangeMessage v x) ∷ [] in
+      let o : Outcome Command Answer = record { replica = record r { sent_do_view_change = true }; saves = None; sends = said w.f r.view own } in
+      let same : sends_do_view_change w.f w.number w.answer r ≡ o =
+      ap (λ b. cond b (begins_if_elected w.f w.number w.answer (record r { sent_do_view_change = true; do_view_changes = put r.do_view_changes w.number (Some own) })) o) (sym (test.tells w r st)) in
+      let b = says.DoViewChange core.view core.last_normal_view core.commit_number core.log in
+      let one = sent_to w core.number b its.log (primary core.config.f core.view) st.member.number its.carries in
+      let two = subst (λ (ms : List (Message Command Answer)). AreSent w (message_from core.number b (primary core.config.f core.view) ∷ []) ms)
+      (ap (said core.config.f core.view) (sym its.is) ∙ ap (λ f. said f core.view own) (sym st.member.f) ∙ ap (λ v. said w.f v own) (sym st.view)) one in
+      subst (λ o. Leaves core (record core { sent_do_view_change = true }) sends w o) (sym same) (record {
+        replica = own_sent core w r st;
+        saves = refl;
+        sends = subst (λ (xs : List sent.Message). AreSent w xs (said w.f r.view own)) (sym is) two;
+      });
+}
 
 -- another sender is noted, and what goes out is the same
 module _ (f i : ℕ) (answer : List Command → Answer) (s : ℕ) (r : ReplicaState Command) where

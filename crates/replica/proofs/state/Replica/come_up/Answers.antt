@@ -1,7 +1,10 @@
 use Rattle.std.proofs.Common.{refl}
-use Rattle.vr_model.specs.Rules.{restarted}
+use Rattle.vr_model.specs.Rules.{restarted, send_others}
+use Rattle.vr_model.specs.Messages.{Recovery}
 use Rattle.replica.specs.declared.state.Replica.{Replica}
 use Rattle.replica.proofs.Acting.{stands_up}
+use Rattle.replica.proofs.NoState.{restart_sends_none}
+use Rattle.replica.proofs.Sending.{all_from}
 use Rattle.replica.proofs.state.Replica.come_up.Goals as goal
 
 pub returns-clause-row : goal.returns-clause-row
@@ -12,5 +15,6 @@ returns-clause-row g c = λ m r st.
       stored = stored;
       loaded = c.in_ok-stored.ensures.gives;
       replica = stands_up new m (restarted m.f m.number m.answer stored.view c.args.nonce) (c.in_ok-sends.ensures.ok.begins m st.member) refl;
-      sends = c.in_ok-sends.ensures.ok.asks m st.member;
+      sends = all_from m (restarted m.f m.number m.answer stored.view c.args.nonce) c.in_ok-sends.sends.items (send_others m.f m.number m.answer (Recovery c.args.nonce stored.view)) (c.in_ok-sends.ensures.ok.asks m st.member)
+          (restart_sends_none m.f m.number m.answer (record r { stored_view = stored.view }) c.args.nonce);
     }

@@ -1,0 +1,47 @@
+use Rattle.std.proofs.Common.{rules, true, false, Ok, ap, ◌∙◌, ◌-◌}
+use Rattle.vr_model.specs.Rules.{on_new_state}
+use Rattle.vr_core.specs.StandsFor.{own_member}
+use Rattle.vr_recovery.proofs.Telling.{told_by}
+use Rattle.vr_recovery.proofs.NewState.{whole_of, past_size, goes_fits, joins_fits, fits_of, not_past, not_catching}
+use Rattle.vr_recovery.proofs.catching_up.on_checkpoint.Goals as goal
+
+pub returns-then-not-fits : goal.returns-then-not-fits
+returns-then-not-fits c = λ l its.
+    let w = whole_of (own_member c.args.core.now) c.args.op_number c.args.commit_number c.args.log l c.requires its in
+    absurd (c.fits.ensures (search rules) w.whole w.carried)
+
+pub returns-then-goes_past : goal.returns-then-goes_past
+returns-then-goes_past c = λ l its.
+    goes_fits c.args.core.now c.take_up.new.core c.args.view c.args.op_number c.args.commit_number c.saturating_sub-count.result c.args.log l c.requires its
+    (c.saturating_sub-count.ensures ∙ ap (λ n. n - c.args.op_number) c.op_number.ensures.value) c.take_up.result
+    (told_by c.args.core.now _ _ true c.is_backup_in.ensures (search rules)) (told_by c.args.core.now _ _ true c.goes_past.ensures.told (search rules)) c.take_up.ensures.ok c.take_up.ensures.err
+
+pub returns-else-goes_past : goal.returns-else-goes_past
+returns-else-goes_past c = λ l its.
+    let core = c.args.core.now in
+    let size = past_size core core c.args.view c.args.op_number c.args.commit_number c.saturating_sub-count.result c.args.log l c.requires its
+    (c.saturating_sub-count.ensures ∙ ap (λ n. n - c.args.op_number) c.op_number.ensures.value) (Ok c.new-else-goes_past.result) in
+    fits_of core core c.args.view c.args.op_number c.args.commit_number c.args.log (λ w r. on_new_state w.f w.number w.answer r c.args.view c.args.op_number c.args.commit_number l) (Ok c.new-else-goes_past.result)
+    (not_past core c.args.view c.args.op_number c.args.commit_number c.saturating_sub-count.result l size c.new-else-goes_past.result c.new-else-goes_past.ensures.items
+    (told_by core _ _ true c.is_backup_in.ensures (search rules)) (told_by core _ _ false c.goes_past.ensures.told (search rules)))
+
+pub returns-then-not-may_catch_up : goal.returns-then-not-may_catch_up
+returns-then-not-may_catch_up c = λ l its.
+    let core = c.args.core.now in
+    let size = past_size core core c.args.view c.args.op_number c.args.commit_number c.saturating_sub-count.result c.args.log l c.requires its
+    (c.saturating_sub-count.ensures ∙ ap (λ n. n - c.args.op_number) c.op_number.ensures.value) (Ok c.new-then-not-may_catch_up.result) in
+    fits_of core core c.args.view c.args.op_number c.args.commit_number c.args.log (λ w r. on_new_state w.f w.number w.answer r c.args.view c.args.op_number c.args.commit_number l) (Ok c.new-then-not-may_catch_up.result)
+    (not_catching core c.args.view c.args.op_number c.args.commit_number c.saturating_sub-count.result l size c.new-then-not-may_catch_up.result c.new-then-not-may_catch_up.ensures.items
+    (told_by core _ _ false c.is_backup_in.ensures (search rules)) (told_by core _ _ false c.may_catch_up.ensures.told (search rules)))
+
+pub returns-then-primary-core : goal.returns-then-primary-core
+returns-then-primary-core c = λ l its.
+    joins_fits c.args.core.now c.take_up_as_primary.new.core c.args.view c.args.op_number c.args.commit_number c.saturating_sub-count.result c.args.log l c.requires its
+    (c.saturating_sub-count.ensures ∙ ap (λ n. n - c.args.op_number) c.op_number.ensures.value) c.take_up_as_primary.result
+    (told_by c.args.core.now _ _ false c.is_backup_in.ensures (search rules)) (told_by c.args.core.now _ _ true c.may_catch_up.ensures.told (search rules)) c.take_up_as_primary.ensures.ok c.take_up_as_primary.ensures.err
+
+pub returns-else-primary-core : goal.returns-else-primary-core
+returns-else-primary-core c = λ l its.
+    joins_fits c.args.core.now c.adopt_and_take_up.new.core c.args.view c.args.op_number c.args.commit_number c.saturating_sub-count.result c.args.log l c.requires its
+    (c.saturating_sub-count.ensures ∙ ap (λ n. n - c.args.op_number) c.op_number.ensures.value) c.adopt_and_take_up.result
+    (told_by c.args.core.now _ _ false c.is_backup_in.ensures (search rules)) (told_by c.args.core.now _ _ true c.may_catch_up.ensures.told (search rules)) c.adopt_and_take_up.ensures.ok c.adopt_and_take_up.ensures.err
