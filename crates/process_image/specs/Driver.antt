@@ -1,5 +1,5 @@
 -- The scan driver: client 0 of the replication rules, which submits scans.
-use Rattle.std.specs.Prelude.{◌≡◌, ℕ, ◌+◌, ◌^◌, Bool, ◌||◌, nat_le, if◌then◌else◌, List, Option, None, is_some, option_map}
+use Rattle.std.specs.Prelude.{◌≡◌, ℕ, ◌+◌, ◌^◌, Bool, ◌||◌, nat_le, if◌then◌else◌, List, [], map, Option, None, is_some, option_map}
 use Rattle.il_model.specs.declared.cells.Cells.{Cells}
 use Rattle.il_model.specs.declared.command.Command.{Command}
 use Rattle.il_model.specs.declared.command.Command.TheVariants.{Scan}
@@ -7,7 +7,7 @@ use Rattle.il_model.specs.declared.command.Answer.{Answer}
 use Rattle.il_model.specs.Numbers.{released_image}
 use Rattle.vr_model.specs.declared.message.Message.{Message}
 use Rattle.vr_model.specs.Messages.{Body, Reply}
-use Rattle.vr_model.specs.StandsFor.{AllStand}
+use Rattle.vr_model.specs.StandsFor.{message_with}
 use Rattle.vr_model.specs.World.{ClientState, is_waiting}
 use Rattle.vr_model.specs.Steps.{ClientAction, Submits, MayClient, client_after, client_sends}
 use Rattle.process_image.specs.declared.release.Release.{Release}
@@ -24,9 +24,10 @@ pub record Driver : Type 0 where
 abbrev pub first_driver : ℕ → ℕ → Driver
 first_driver f starts = record { f = f; client = record { starts = starts; sequence = 0; view = 0; waits = None } }
 
--- These messages are what client 0 sends at this step. What commands are answered makes no difference to a client.
+-- These messages are what client 0 sends at this step; none carries a log. What commands are answered makes no
+-- difference to a client.
 abbrev pub SendsAt : Driver → ClientAction Command Answer → List Message → Type 0
-SendsAt d action sends = (answer : List Command → Answer) → AllStand sends (client_sends d.f 0 answer d.client action)
+SendsAt d action sends = (answer : List Command → Answer) → map (message_with []) sends ≡ client_sends d.f 0 answer d.client action
 
 -- client 0 after this step
 abbrev pub BecomesAt : Driver → ClientAction Command Answer → Driver → Type 0

@@ -1,9 +1,9 @@
 //! The scan driver: the client of a replicated controller that submits its scans and takes what they release.
-ghost use Rattle.std.specs.Prelude.{◌≡◌, ◌+◌, ◌^◌, ◌<◌, ◌↔◌, true, IfOk, IfSome, IfNone, OnErr, IsNone, None};
+ghost use Rattle.std.specs.Prelude.{◌≡◌, ◌+◌, ◌^◌, ◌<◌, ◌↔◌, true, List, [], IfOk, IfSome, IfNone, OnErr, IsNone, None};
 ghost use Rattle.il_model.specs.declared.command.Command.{Command as Asked};
-ghost use Rattle.il_model.specs.declared.command.Answer.{Answer as Answered};
-ghost use Rattle.vr_model.specs.Messages.{Message as Meant, Replica, Client, RequestMessage};
-ghost use Rattle.vr_model.specs.StandsFor.{request_of, message_of, Stands};
+ghost use Rattle.vr_model.specs.Logs.{Request as Entry};
+ghost use Rattle.vr_model.specs.Messages.{Replica, Client, RequestMessage};
+ghost use Rattle.vr_model.specs.StandsFor.{request_of, body_with, message_with};
 ghost use Rattle.vr_model.specs.World.{is_waiting};
 ghost use Rattle.vr_model.specs.Steps.{Retries, Hears};
 ghost use Rattle.process_image.specs.Driver.{SendsAt, BecomesAt, SubmitsSample, cannot_submit, first_driver, release_by};
@@ -44,7 +44,7 @@ impl Model for ScanDriver {
 
 /// The driver's REQUEST to a replica.
 fn request_to(replica: u8, request: &Request) -> Message
-    ensures { message_of result
+    ensures { message_with [] result
         ≡ record { from = Client 0; to = Replica replica; body = RequestMessage (request_of request.now) } }
 {
     Message {
@@ -142,10 +142,8 @@ impl ScanDriver {
     /// Takes a message to client 0. The first REPLY with the number that waits ends the waiting, and gives a release where its answer
     /// has an image.
     pub fn on_reply(&mut self, message: &Message) -> Option<Release>
-        ensures heard { (meant : Meant Asked Answered) → Stands message.now meant
-            → BecomesAt self.old (Hears meant) self.new }
-        ensures release { (meant : Meant Asked Answered) → Stands message.now meant
-            → result ≡ release_by self.old.client meant.body }
+        ensures heard { (log : List (Entry Asked)) → BecomesAt self.old (Hears (message_with log message.now)) self.new }
+        ensures release { (log : List (Entry Asked)) → result ≡ release_by self.old.client (body_with log message.now.body) }
     {
         let Body::Reply {
             view,

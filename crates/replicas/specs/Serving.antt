@@ -8,6 +8,7 @@ use Rattle.vr_model.specs.declared.event.Stored.{Stored}
 use Rattle.vr_model.specs.declared.message.Message.{Message}
 use Rattle.vr_model.specs.Membership.{Membership}
 use Rattle.vr_model.specs.Replicas.{ReplicaState}
+use Rattle.vr_core.specs.StandsFor.{IsSavedAs}
 use Rattle.replica.specs.declared.state.Replica.{Replica}
 use Rattle.replica.specs.declared.fault.StepFault.TheVariants as fault
 use Rattle.replica.specs.Standing.{StandsFor, IsDeafTo}
@@ -84,7 +85,7 @@ module _ {S : Type 0} (load_gives : S → Option Stored → S → Type 0) (save_
   -- One call of `Replica::step`: the replica went from q to r, and its store from s to t. Whatever record q stood for, its rule was done, or a fault
   -- of it.
   pub record StepsTo (q : Replica) (s : S) (e : Event) (r : Replica) (t : S) (result : StepResult) : Type 0 where
-    pub row : (m : Membership) (was : ReplicaState Command) → StandsFor q m was → Stepped load_gives save_gives (StandsFor r m) m was s t e result
+    pub row : (m : Membership) (was : ReplicaState Command) → StandsFor q m was → Stepped load_gives save_gives IsSavedAs (StandsFor r m) m was s t e result
     pub down : IsErrOf result fault.Down ↔ IsDeafTo q e
     pub device : IsErrOf result fault.Store → Failed (faults s) (faults t)
     pub counts : faults s ≤ faults t

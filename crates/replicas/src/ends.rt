@@ -4,7 +4,7 @@ use replica::{StoreFault, ViewStore};
 use vr_model::{Message, Stored};
 
 /// What a receive gave.
-#[derive(Debug, PartialEq, Eq, Drop)]
+#[derive(Drop)]
 pub enum Input {
     Message(Message),
     /// No message came for a while.

@@ -13,15 +13,16 @@ ghost use Rattle.replica.specs.declared.state.Replica.{Replica};
 ghost use Rattle.replica.specs.Standing.{StandsFor};
 ghost use Rattle.replica.specs.Stepped.{StepResult};
 ghost use Rattle.replicas.specs.Serving.{Scene, Turn, Did, StepsTo, event_of, sends_in};
-ghost use Rattle.replicas.specs.Observed.{AllMean, AreRight, known_after, KeepsAll, Observed, Restarted};
+ghost use Rattle.replicas.specs.Observed.{AllMean, AreRight, known_after, KeepsAll, FitsAll, Observed, Restarted};
 
 use replica::ViewStore;
 
-/// What a served replica did is a list of observations that goes on from whatever is known of it: each event its rule, or a fault of it,
-/// so long as the rules keep what was executed, as they do in every run of a group.
+/// What a served replica did is a list of observations that goes on from whatever is known of it: each event its rule,
+/// or a fault of it, so long as the rules keep what was executed and a NEWSTATE's checkpoint is of the log that its
+/// rule makes, as in every run of a group.
 pub fn served_is_observed<S: ViewStore>()
     ensures { (turns : List Turn) (a b : Scene S) (did : Did S.load_gives S.save_gives S.faults turns a b) (m : Membership) (known : KnownState Command) (inputs : List (Input Command Answer))
-        → StandsFor a.replica m known.replica → AllMean (filter_map event_of turns) inputs → KeepsAll m known inputs → Observed m known inputs b.replica did.sends }
+        → StandsFor a.replica m known.replica → AllMean m (filter_map event_of turns) inputs → KeepsAll m known inputs → FitsAll m known (filter_map event_of turns) inputs → Observed m known inputs b.replica did.sends }
 {}
 
 /// So is what a restart did, of a replica that is down, with a nonce that it never used, where the store loads what it may keep.

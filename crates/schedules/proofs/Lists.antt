@@ -1,20 +1,16 @@
 -- Lists with one place changed, messages at the end, and the committed list.
-use Rattle.std.proofs.Common.{◌≡◌, ℕ, ◌+◌, ◌<◌, ◌≤◌, List, [], ◌∷◌, ◌++◌, length, take, drop, get_or, Some, cond, Bool, take-append-drop, true, false, refl, sym, ap, ◌∙◌, subst, inl, inr, arith, nat_lt, length-append, append-nil, append_assoc}
-use Rattle.std.proofs.lemmas.Bool.{cases_eq, ltb-false, le-ltb}
+use Rattle.std.proofs.Common.{◌≡◌, ℕ, ◌+◌, ◌<◌, ◌≤◌, List, [], ◌∷◌, ◌++◌, length, take, drop, map, max, zero, suc, get_or, Some, None, cond, take-append-drop, refl, sym, ap, ◌∙◌, subst, inl, inr, arith, length-append, append_assoc}
+use Rattle.std.proofs.lemmas.Bool.{cases_eq, cases_lt, le-ltb}
+use Rattle.std.proofs.lemmas.Grind.{common_steps}
 use Rattle.std.specs.List.{slice_get}
 use Rattle.std.specs.Prelude.{slice_set}
 use Rattle.std.proofs.lemmas.List.{length-take, map-append, drop-append-le, take_more, get_or-set_same, get_or-set_other, length-set}
-use Rattle.std.proofs.Math.ListN.{drop_of_length-le}
-use Rattle.std.proofs.Math.Seq.{drop-append_seam}
 use Rattle.std.proofs.lemmas.Option.{slice_get_within, slice_get-get_or, get_or_from_slice_get}
 use Rattle.il_model.specs.declared.command.Command.{Command}
-use Rattle.il_model.specs.declared.command.Answer.{Answer}
-use Rattle.vr_model.specs.declared.message.Message as sent
 use Rattle.vr_model.specs.declared.message.Request as asked
 use Rattle.vr_model.specs.Logs.{Request, IsPrefix}
-use Rattle.vr_model.specs.Messages.{Message}
 use Rattle.vr_model.specs.World.{longer}
-use Rattle.vr_model.specs.StandsFor.{message_of, messages_of, request_of, requests_of}
+use Rattle.vr_model.specs.StandsFor.{request_of, requests_of}
 
 -- a member of a list with one place changed is the new one there, or an old one elsewhere
 pub set_cases : {X : Type 0} (xs : List X) (i : ℕ) (x : X) (P : ℕ → X → Type 0) → P i x → ((j : ℕ) (y : X) → (j ≡ i → ⊥) → slice_get xs j ≡ Some y → P j y)
@@ -34,16 +30,7 @@ set_cases {X} xs i x P here there j y e =
           there j y apart (slice_get-get_or xs j y within ∙ ap Some old)
     ]
 
-pub messages_append : (xs ys : List sent.Message) → messages_of (xs ++ ys) ≡ messages_of xs ++ messages_of ys
-messages_append xs ys = map-append message_of xs ys
-
--- one more message
-pub one_more_sent : (old items new : List sent.Message) (rest : List (Message Command Answer)) (m : sent.Message) → new ≡ items ++ m ∷ [] → messages_of items ≡ messages_of old ++ rest
-    → messages_of new ≡ messages_of old ++ (rest ++ message_of m ∷ [])
-one_more_sent old items new rest m e k =
-    ap messages_of e ∙ messages_append items (m ∷ []) ∙ ap (λ (xs : List (Message Command Answer)). xs ++ message_of m ∷ []) k ∙ append_assoc (messages_of old) rest (message_of m ∷ [])
-
--- one more entry that was executed
+-- one more entry of a log
 pub drop_more : {X : Type 0} (first place : ℕ) (log : List X) (x : X) → first ≤ place → slice_get log place ≡ Some x → drop first (take (place + 1) log) ≡ drop first (take place log) ++ x ∷ []
 drop_more first place log x l e =
     let within : place < length log = slice_get_within log place x e in
@@ -51,24 +38,50 @@ drop_more first place log x l e =
     let long : first ≤ length (take place log) = omega (arith, length-take place log) in
     ap (drop first) more ∙ drop-append-le first (take place log) (x ∷ []) long
 
-pub one_more_executed : (old items new : List asked.Request) (log : List (Request Command)) (m : asked.Request) (first place : ℕ) → new ≡ items ++ m ∷ []
+pub one_more_entry : (old items new : List asked.Request) (log : List (Request Command)) (m : asked.Request) (first place : ℕ) → new ≡ items ++ m ∷ []
     → requests_of items ≡ requests_of old ++ drop first (take place log) → first ≤ place → slice_get log place ≡ Some (request_of m)
     → requests_of new ≡ requests_of old ++ drop first (take (place + 1) log)
-one_more_executed old items new log m first place e k l is =
+one_more_entry old items new log m first place e k l is =
     ap requests_of e ∙ map-append request_of items (m ∷ []) ∙ ap (λ (xs : List (Request Command)). xs ++ request_of m ∷ []) k ∙ append_assoc (requests_of old) (drop first (take place log)) (request_of m ∷ [])
     ∙ ap (λ xs. requests_of old ++ xs) (sym (drop_more first place log (request_of m) l is))
 
--- what the committed list becomes: with all that was executed past it, where it is a beginning of the longer one
-pub caught_up : {X : Type 0} (order done : List X) → IsPrefix order (longer order done) → order ++ drop (length order) done ≡ longer order done
-caught_up {X} order done k = go (nat_lt (length order) (length done)) refl k
-  where
-    go : (b : Bool) → nat_lt (length order) (length done) ≡ b → IsPrefix order (cond b done order) → order ++ drop (length order) done ≡ cond b done order
-    go true e p =
-        let q : drop (length order) (order ++ p.rest) ≡ p.rest = drop-append_seam order p.rest in
-        ap (λ xs. order ++ drop (length order) xs) (sym p.is) ∙ ap (λ xs. order ++ xs) q ∙ p.is
-    go false e p =
-        let l : length done ≤ length order = ltb-false _ _ e in
-        ap (λ xs. order ++ xs) (drop_of_length-le done l) ∙ append-nil order
+-- there is no entry at this place, so the log ends before it
+pub no_more : {X : Type 0} (xs : List X) (n : ℕ) → slice_get xs n ≡ None → length xs ≤ n
+no_more [] n e = omega arith
+no_more (x ∷ xs) zero e = absurd cc
+no_more (x ∷ xs) (suc n) e = omega (arith, no_more xs n e)
+
+pub take_front : {X : Type 0} (xs ys : List X) → take (length xs) (xs ++ ys) ≡ xs
+take_front xs ys = grind (arith, common_steps)
+
+take_less : {X : Type 0} (n m : ℕ) (xs : List X) → n ≤ m → take n (take m xs) ≡ take n xs
+take_less n m xs l = grind (arith, common_steps)
+
+-- The committed list with the rest of a log behind it, cut where the list or what was executed ends: that is what the
+-- list becomes, where what is executed past it is of that log.
+pub settled_order : {X : Type 0} (order log now : List X) (k : ℕ) → IsPrefix order (longer order (take k now)) → (length order < k → longer order (take k now) ≡ take k log)
+    → take (max (length order) k) (order ++ drop (length order) log) ≡ longer order (take k now)
+settled_order order log now k grows had = elim (cases_lt (length order) k) [
+  | inl past ↦
+      let is : longer order (take k now) ≡ take k log = had past in
+      let begins : order ++ grows.rest ≡ take k log = grows.is ∙ is in
+      let front : take (length order) log ≡ order = sym (take_less (length order) k log (omega arith)) ∙ ap (take (length order)) (sym begins) ∙ take_front order grows.rest in
+      let whole : order ++ drop (length order) log ≡ log = ap (λ xs. xs ++ drop (length order) log) (sym front) ∙ take-append-drop (length order) log in
+      let cut : max (length order) k ≡ k = omega arith in
+      ap (λ n. take n (order ++ drop (length order) log)) cut ∙ ap (take k) whole ∙ sym is
+  | inr low ↦
+      let cut : max (length order) k ≡ length order = omega arith in
+      let short : length (take k now) ≤ length order = omega (arith, length-take k now) in
+      ap (λ n. take n (order ++ drop (length order) log)) cut ∙ take_front order (drop (length order) log) ∙ sym (ap (λ b. cond b (take k now) order) (le-ltb (length order) (length (take k now)) short))
+]
+
+map_take : {X Y : Type 0} (f : X → Y) (n : ℕ) (xs : List X) → map f (take n xs) ≡ take n (map f xs)
+map_take f zero xs = refl
+map_take f (suc n) [] = refl
+map_take f (suc n) (x ∷ xs) = ap (λ ys. f x ∷ ys) (map_take f n xs)
+
+pub requests_taken : (xs ys : List asked.Request) (n : ℕ) → xs ≡ take n ys → requests_of xs ≡ take n (requests_of ys)
+requests_taken xs ys n e = ap requests_of e ∙ map_take request_of n ys
 
 -- what is a beginning of the committed list leaves it as it is
 pub stays : {X : Type 0} (order done : List X) → IsPrefix done order → longer order done ≡ order

@@ -12,7 +12,9 @@ use Rattle.il_model.specs.Stream.{Ending, Rest, Took, ending_of}
 use Rattle.il_model.proofs.Streams.{IsReadable}
 use Rattle.vr_model.specs.declared.message.Message as code
 use Rattle.vr_model.specs.Messages.{Message}
-use Rattle.vr_model.specs.StandsFor.{message_of, messages_of}
+use Rattle.std.specs.Prelude.{All}
+use Rattle.std.proofs.lemmas.List.Elements.{All-append, All-cons, All-nil}
+use Rattle.vr_wire.specs.Entries.{HasNoCheckpoint, message_of, messages_of}
 use Rattle.vr_wire.specs.declared.fault.WireFault.{WireFault}
 use Rattle.vr_wire.specs.Frames.{frame_of, message_bytes, told_length, IsFramed, IsPartial, IsBroken, IsShort}
 use Rattle.vr_wire.specs.Shown.{IsWhole}
@@ -184,3 +186,10 @@ readable = record {
   more = broken_more;
   nothing = inl (omega arith);
 }
+
+-- what is so of all and of one more
+pub all_and_one : (out : List code.Message) (m : code.Message) → All HasNoCheckpoint out → HasNoCheckpoint m → All HasNoCheckpoint (out ++ m ∷ [])
+all_and_one out m all one = All-append HasNoCheckpoint out (m ∷ []) all (All-cons HasNoCheckpoint m [] one (All-nil HasNoCheckpoint))
+
+pub pushed : (before after : List code.Message) (m : code.Message) → after ≡ before ++ m ∷ [] → HasNoCheckpoint m → All HasNoCheckpoint before → All HasNoCheckpoint after
+pushed before after m is one all = subst (All HasNoCheckpoint) (sym is) (all_and_one before m all one)

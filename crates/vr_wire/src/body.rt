@@ -2,8 +2,10 @@
 
 ghost use Rattle.std.specs.Int.{w64, to_be_bytes};
 ghost use Rattle.vr_model.specs.Messages.{RequestMessage, Prepare, Reply, StartViewChange, StartView, NewState};
-ghost use Rattle.std.specs.Prelude.{◌≡◌, ◌<◌, ◌^◌, length, ◌++◌, OnOk, Option, option_map, map, slice_get};
-ghost use Rattle.vr_model.specs.StandsFor.{requests_of, request_of, state_of, body_of};
+ghost use Rattle.std.specs.Prelude.{◌≡◌, ◌<◌, ◌^◌, length, ◌++◌, IfOk, OnOk, Option, option_map, map, slice_get};
+ghost use Rattle.vr_model.specs.StandsFor.{requests_of, request_of};
+ghost use Rattle.vr_model.specs.declared.message.PrimaryState.{PrimaryState};
+ghost use Rattle.vr_wire.specs.Entries.{carried, IsOfEntries, state_of, body_of};
 ghost use Rattle.vr_wire.specs.Frames.{body_tag, body_fields, state_bytes, IsBody, IsState, FitsState, FitsBody};
 ghost use Rattle.vr_wire.specs.Reading.{Gives, closed, number_at, numbers_at, fields_1, read_by, request_at, state_readers, state_at, prepare_at, reply_at, do_view_change_at, start_view_at, recovery_response_at, new_state_at, body_at};
 
@@ -13,7 +15,7 @@ use crate::numbers::{ended, put_u8, put_u64, u8_at, u64_at};
 use crate::request::{put_log, put_request, request_at, whole_log};
 use il_model::Answer;
 use std::alloc::{AllocError, Global};
-use vr_model::{Body, PrimaryState, Request};
+use vr_model::{Body, Log, PrimaryState, Request};
 
 pub(crate) fn body_tag(body: &Body) -> u8
     ensures { result ≡ body_tag (body_of body.now) }
@@ -109,7 +111,7 @@ fn put_state(out: &mut Vec<u8>, state: &Option<PrimaryState>) -> Result<(), Allo
         Some(state) => {
             put_u8(out, 1)?;
             put_u64(out, state.commit_number)?;
-            put_log(out, state.log.as_slice())
+            put_log(out, state.log.entries())
         }
     }
 }
@@ -158,18 +160,12 @@ pub(crate) fn put_fields(out: &mut Vec<u8>, body: &Body) -> Result<(), AllocErro
             last_normal_view,
             commit_number,
             log,
-        } => put_numbers_and_log(
-            out,
-            *view,
-            *last_normal_view,
-            *commit_number,
-            log.as_slice(),
-        ),
+        } => put_numbers_and_log(out, *view, *last_normal_view, *commit_number, log.entries()),
         Body::StartView {
             view,
             commit_number,
             log,
-        } => put_start_view(out, *view, *commit_number, log.as_slice()),
+        } => put_start_view(out, *view, *commit_number, log.entries()),
         Body::Recovery { nonce, stored_view } => put_numbers(out, *nonce, *stored_view),
         Body::RecoveryResponse { view, nonce, state } => {
             put_recovery_response(out, *view, *nonce, state)
@@ -180,22 +176,24 @@ pub(crate) fn put_fields(out: &mut Vec<u8>, body: &Body) -> Result<(), AllocErro
             op_number,
             commit_number,
             log,
-        } => put_numbers_and_log(out, *view, *op_number, *commit_number, log.as_slice()),
+        } => put_numbers_and_log(out, *view, *op_number, *commit_number, log.entries()),
     }
 }
 
 // ---- what the fields of a body say, where they are all of the bytes
 
 fn whole_primary_state(alloc: Global, bytes: &[u8]) -> Result<Option<PrimaryState>, ReadError>
-    ensures { Gives (option_map state_of) result (closed (read_by (slice_get state_readers 1)) bytes.now) }
+    ensures gives { Gives (option_map state_of) result (closed (read_by (slice_get state_readers 1)) bytes.now) }
+    ensures entries { IfOk result (λ state. IsOfEntries (option_map (λ (s : PrimaryState). s.log) state)) }
 {
     let (commit_number, rest) = u64_at(bytes)?;
-    let log = whole_log(alloc, rest)?;
+    let log = Log::of(whole_log(alloc, rest)?);
     Ok(Some(PrimaryState { commit_number, log }))
 }
 
 fn whole_state(alloc: Global, bytes: &[u8]) -> Result<Option<PrimaryState>, ReadError>
-    ensures { Gives (option_map state_of) result (closed state_at bytes.now) }
+    ensures gives { Gives (option_map state_of) result (closed state_at bytes.now) }
+    ensures entries { IfOk result (λ state. IsOfEntries (option_map (λ (s : PrimaryState). s.log) state)) }
 {
     let (tag, rest) = u8_at(bytes)?;
     match tag {
@@ -219,7 +217,8 @@ fn whole_numbers(bytes: &[u8]) -> Result<(u64, u64), ReadError>
 }
 
 fn whole_request(bytes: &[u8]) -> Result<Body, ReadError>
-    ensures { Gives body_of result (closed (fields_1 RequestMessage request_at) bytes.now) }
+    ensures gives { Gives body_of result (closed (fields_1 RequestMessage request_at) bytes.now) }
+    ensures entries { IfOk result (λ body. IsOfEntries (carried body)) }
 {
     let (request, rest) = request_at(bytes)?;
     ended(rest)?;
@@ -227,7 +226,8 @@ fn whole_request(bytes: &[u8]) -> Result<Body, ReadError>
 }
 
 fn whole_prepare(bytes: &[u8]) -> Result<Body, ReadError>
-    ensures { Gives body_of result (closed prepare_at bytes.now) }
+    ensures gives { Gives body_of result (closed prepare_at bytes.now) }
+    ensures entries { IfOk result (λ body. IsOfEntries (carried body)) }
 {
     let (view, rest) = u64_at(bytes)?;
     let (request, rest) = request_at(rest)?;
@@ -241,7 +241,8 @@ fn whole_prepare(bytes: &[u8]) -> Result<Body, ReadError>
 }
 
 fn whole_reply(bytes: &[u8]) -> Result<Body, ReadError>
-    ensures { Gives body_of result (closed reply_at bytes.now) }
+    ensures gives { Gives body_of result (closed reply_at bytes.now) }
+    ensures entries { IfOk result (λ body. IsOfEntries (carried body)) }
 {
     let (view, rest) = u64_at(bytes)?;
     let (number, rest) = u64_at(rest)?;
@@ -255,7 +256,8 @@ fn whole_reply(bytes: &[u8]) -> Result<Body, ReadError>
 }
 
 fn whole_start_view_change(bytes: &[u8]) -> Result<Body, ReadError>
-    ensures { Gives body_of result (closed (fields_1 StartViewChange (number_at w64)) bytes.now) }
+    ensures gives { Gives body_of result (closed (fields_1 StartViewChange (number_at w64)) bytes.now) }
+    ensures entries { IfOk result (λ body. IsOfEntries (carried body)) }
 {
     let (view, rest) = u64_at(bytes)?;
     ended(rest)?;
@@ -263,12 +265,13 @@ fn whole_start_view_change(bytes: &[u8]) -> Result<Body, ReadError>
 }
 
 fn whole_do_view_change(alloc: Global, bytes: &[u8]) -> Result<Body, ReadError>
-    ensures { Gives body_of result (closed do_view_change_at bytes.now) }
+    ensures gives { Gives body_of result (closed do_view_change_at bytes.now) }
+    ensures entries { IfOk result (λ body. IsOfEntries (carried body)) }
 {
     let (view, rest) = u64_at(bytes)?;
     let (last_normal_view, rest) = u64_at(rest)?;
     let (commit_number, rest) = u64_at(rest)?;
-    let log = whole_log(alloc, rest)?;
+    let log = Log::of(whole_log(alloc, rest)?);
     Ok(Body::DoViewChange {
         view,
         last_normal_view,
@@ -278,11 +281,12 @@ fn whole_do_view_change(alloc: Global, bytes: &[u8]) -> Result<Body, ReadError>
 }
 
 fn whole_start_view(alloc: Global, bytes: &[u8]) -> Result<Body, ReadError>
-    ensures { Gives body_of result (closed start_view_at bytes.now) }
+    ensures gives { Gives body_of result (closed start_view_at bytes.now) }
+    ensures entries { IfOk result (λ body. IsOfEntries (carried body)) }
 {
     let (view, rest) = u64_at(bytes)?;
     let (commit_number, rest) = u64_at(rest)?;
-    let log = whole_log(alloc, rest)?;
+    let log = Log::of(whole_log(alloc, rest)?);
     Ok(Body::StartView {
         view,
         commit_number,
@@ -291,7 +295,8 @@ fn whole_start_view(alloc: Global, bytes: &[u8]) -> Result<Body, ReadError>
 }
 
 fn whole_recovery_response(alloc: Global, bytes: &[u8]) -> Result<Body, ReadError>
-    ensures { Gives body_of result (closed recovery_response_at bytes.now) }
+    ensures gives { Gives body_of result (closed recovery_response_at bytes.now) }
+    ensures entries { IfOk result (λ body. IsOfEntries (carried body)) }
 {
     let (view, rest) = u64_at(bytes)?;
     let (nonce, rest) = u64_at(rest)?;
@@ -300,12 +305,13 @@ fn whole_recovery_response(alloc: Global, bytes: &[u8]) -> Result<Body, ReadErro
 }
 
 fn whole_new_state(alloc: Global, bytes: &[u8]) -> Result<Body, ReadError>
-    ensures { Gives body_of result (closed new_state_at bytes.now) }
+    ensures gives { Gives body_of result (closed new_state_at bytes.now) }
+    ensures entries { IfOk result (λ body. IsOfEntries (carried body)) }
 {
     let (view, rest) = u64_at(bytes)?;
     let (op_number, rest) = u64_at(rest)?;
     let (commit_number, rest) = u64_at(rest)?;
-    let log = whole_log(alloc, rest)?;
+    let log = Log::of(whole_log(alloc, rest)?);
     Ok(Body::NewState {
         view,
         op_number,
@@ -316,7 +322,8 @@ fn whole_new_state(alloc: Global, bytes: &[u8]) -> Result<Body, ReadError>
 
 /// What a message with this tag says, whose fields are all of the bytes.
 pub(crate) fn whole_body(alloc: Global, tag: u8, bytes: &[u8]) -> Result<Body, ReadError>
-    ensures { Gives body_of result (closed (body_at tag) bytes.now) }
+    ensures gives { Gives body_of result (closed (body_at tag) bytes.now) }
+    ensures entries { IfOk result (λ body. IsOfEntries (carried body)) }
 {
     match tag {
         1 => whole_request(bytes),

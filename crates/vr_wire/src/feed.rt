@@ -1,7 +1,7 @@
 //! The messages of a stream of frames, in whatever pieces it comes.
 
-ghost use Rattle.std.specs.Prelude.{◌≡◌, ◌-◌, ◌++◌, [], List, length, take, drop, IfOk, OnErr, Err};
-ghost use Rattle.vr_model.specs.StandsFor.{messages_of};
+ghost use Rattle.std.specs.Prelude.{◌≡◌, ◌-◌, ◌++◌, [], List, length, take, drop, All, IfOk, OnErr, Err};
+ghost use Rattle.vr_wire.specs.Entries.{HasNoCheckpoint, messages_of};
 ghost use Rattle.il_model.specs.Stream.{Rest, IsOneStream, Took, ending_of};
 ghost use Rattle.vr_wire.specs.Frames.{IsShort};
 ghost use Rattle.vr_wire.specs.Feeding.{frames, Begins, Fills, Feeding};
@@ -20,6 +20,7 @@ fn frames_of<'a>(
 ) -> Result<(&'a [u8], Option<WireFault>), AllocError>
     ensures ok { IfOk result (λ x. Took frames (Rest []) bytes.now (ending_of x.0.now x.1) (messages_of out.old.items) (messages_of out.new.items)) }
     ensures grown { Begins out.old.items out.new.items }
+    ensures entries { All HasNoCheckpoint out.old.items → All HasNoCheckpoint out.new.items }
 {
     let mut rest = bytes;
     'frames: loop {
@@ -71,6 +72,7 @@ fn go_on(
     requires { IsShort held.old.items }
     ensures ok { IfOk result (λ fault. Took frames (Rest held.old.items) piece.now (ending_of held.new.items fault) (messages_of out.old.items) (messages_of out.new.items)) }
     ensures err { OnErr result (Begins held.old.items held.new.items × Begins out.old.items out.new.items) }
+    ensures entries { All HasNoCheckpoint out.old.items → All HasNoCheckpoint out.new.items }
 {
     let rest = fill_frame(held, piece)?;
     match front_of(alloc, held.as_slice()) {
@@ -96,6 +98,7 @@ fn taken(
     requires { IsShort held.old.items }
     ensures ok { IfOk result (λ fault. Took frames (Rest held.old.items) piece.now (ending_of held.new.items fault) (messages_of out.old.items) (messages_of out.new.items)) }
     ensures err { OnErr result (Begins held.old.items held.new.items × Begins out.old.items out.new.items) }
+    ensures entries { All HasNoCheckpoint out.old.items → All HasNoCheckpoint out.new.items }
 {
     if !held.is_empty() {
         return go_on(alloc, held, piece, out);
@@ -147,6 +150,7 @@ impl Feed {
     ) -> Result<(), WireError>
         ensures fed { Feeding result self.old piece.now self.new (messages_of out.old.items) (messages_of out.new.items) }
         ensures memory { result ≡ Err WireError.Memory → (self.new ≡ self.old) × (out.new.items ≡ out.old.items) }
+        ensures entries { All HasNoCheckpoint out.old.items → All HasNoCheckpoint out.new.items }
     {
         if let Some(fault) = self.fault {
             return Err(WireError::Fault(fault));

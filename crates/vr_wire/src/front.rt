@@ -1,7 +1,7 @@
 //! What stands in front of a stream.
 
-ghost use Rattle.std.specs.Prelude.{◌≡◌, ◌+◌, ◌≤◌, length};
-ghost use Rattle.vr_model.specs.StandsFor.{message_of};
+ghost use Rattle.std.specs.Prelude.{◌≡◌, ◌+◌, ◌≤◌, IfOk, IfSome, length};
+ghost use Rattle.vr_wire.specs.Entries.{message_of, HasNoCheckpoint};
 ghost use Rattle.vr_wire.specs.Frames.{told_length};
 ghost use Rattle.vr_wire.specs.Reading.{front_by, front_of};
 ghost use Rattle.vr_wire.specs.Shown.{ReadsFront, Shows};
@@ -31,7 +31,8 @@ fn front_by(
     length: usize,
     bytes: &[u8],
 ) -> Result<Option<(Message, &[u8])>, WireError>
-    ensures { ReadsFront (λ x. message_of x.0) (λ x. x.1.now) result (front_by length bytes.now) }
+    ensures front { ReadsFront (λ x. message_of x.0) (λ x. x.1.now) result (front_by length bytes.now) }
+    ensures entries { IfOk result (λ found. IfSome found (λ x. HasNoCheckpoint x.0)) }
 {
     if length == 0 {
         return Err(WireError::Fault(WireFault::BadFrame));
@@ -52,7 +53,8 @@ fn front_by(
 
 #[tactic(auto, unfolding(crate::specs::Reading::front_of))]
 fn read_front(alloc: Global, bytes: &[u8]) -> Result<Option<(Message, &[u8])>, WireError>
-    ensures { ReadsFront (λ x. message_of x.0) (λ x. x.1.now) result (front_of bytes.now) }
+    ensures front { ReadsFront (λ x. message_of x.0) (λ x. x.1.now) result (front_of bytes.now) }
+    ensures entries { IfOk result (λ found. IfSome found (λ x. HasNoCheckpoint x.0)) }
 {
     match u32_at(bytes) {
         Ok((length, rest)) => front_by(alloc, length as usize, rest),
@@ -63,7 +65,8 @@ fn read_front(alloc: Global, bytes: &[u8]) -> Result<Option<(Message, &[u8])>, W
 
 /// The message whose frame stands in front, and what is behind it; none where less than a frame is there.
 pub(crate) fn front_of(alloc: Global, bytes: &[u8]) -> Result<Option<(Message, &[u8])>, WireError>
-    ensures { Shows (λ x. message_of x.0) (λ x. x.1.now) result bytes.now }
+    ensures shows { Shows (λ x. message_of x.0) (λ x. x.1.now) result bytes.now }
+    ensures entries { IfOk result (λ found. IfSome found (λ x. HasNoCheckpoint x.0)) }
 {
     read_front(alloc, bytes)
 }

@@ -1,7 +1,8 @@
 //! Messages, both ways: a tag, the sender, the receiver, and what is said.
 
-ghost use Rattle.std.specs.Prelude.{◌≡◌, ◌+◌, ◌<◌, ◌++◌, ◌==◌, OnOk};
-ghost use Rattle.vr_model.specs.StandsFor.{party_of, body_of, message_of};
+ghost use Rattle.std.specs.Prelude.{◌≡◌, ◌+◌, ◌<◌, ◌++◌, ◌==◌, IfOk, OnOk};
+ghost use Rattle.vr_model.specs.StandsFor.{party_of};
+ghost use Rattle.vr_wire.specs.Entries.{HasNoCheckpoint, body_of, message_of};
 ghost use Rattle.vr_wire.specs.Frames.{party_code, message_bytes, IsLawful, FitsBody};
 ghost use Rattle.vr_wire.specs.Reading.{Gives, party_of_code, party_at, parts_at, message_at, closed};
 ghost use Rattle.std.specs.Option.{option_map};
@@ -59,7 +60,8 @@ fn party_at(may_be_client: bool, bytes: &[u8]) -> Result<(Party, &[u8]), ReadErr
 
 /// A sender and a receiver, and behind them the fields, which are all of the bytes.
 fn whole_parts(alloc: Global, tag: u8, bytes: &[u8]) -> Result<Message, ReadError>
-    ensures { Gives message_of result (closed (parts_at tag) bytes.now) }
+    ensures gives { Gives message_of result (closed (parts_at tag) bytes.now) }
+    ensures entries { IfOk result HasNoCheckpoint }
 {
     let (from, rest) = party_at(tag == 1, bytes)?;
     let (to, rest) = party_at(tag == 5, rest)?;
@@ -70,7 +72,8 @@ fn whole_parts(alloc: Global, tag: u8, bytes: &[u8]) -> Result<Message, ReadErro
 /// The message whose body is all of the bytes.
 #[tactic(auto, unfolding(crate::specs::Reading::message_at))]
 pub(crate) fn whole_message(alloc: Global, bytes: &[u8]) -> Result<Message, ReadError>
-    ensures { Gives message_of result (message_at bytes.now) }
+    ensures gives { Gives message_of result (message_at bytes.now) }
+    ensures entries { IfOk result HasNoCheckpoint }
 {
     let (tag, rest) = u8_at(bytes)?;
     whole_parts(alloc, tag, rest)

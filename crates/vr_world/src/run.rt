@@ -1,7 +1,7 @@
 //! The run of a schedule.
 
 ghost use Rattle.std.specs.Prelude.{IfOk, MatchResult};
-ghost use Rattle.vr_core.specs.Answers.{answer_to};
+ghost use Rattle.vr_core.specs.StandsFor.{member, IsSavedAs};
 ghost use Rattle.replica.specs.Standing.{StandsFor};
 ghost use Rattle.schedules.specs.Traces.{AreNew, IsTraced, Fails};
 
@@ -20,7 +20,7 @@ fn group(
     image: &Image,
     budget: Budget,
 ) -> Result<Vec<Seat>, AllocError>
-    ensures { IfOk result (λ seats. AreNew (λ seat. StandsFor seat.replica) config.f (answer_to image.now budget.instructions) seats.items) }
+    ensures { IfOk result (λ seats. AreNew (λ seat. StandsFor seat.replica) (member config.f 0 image.now budget.instructions) seats.items) }
 {
     let mut seats = Vec::new(alloc);
     for number in 0..config.group_size() {
@@ -46,7 +46,7 @@ pub fn run_world(
     budget: Budget,
     events: &[WorldEvent],
 ) -> Result<Trace, WorldError>
-    ensures { MatchResult result (IsTraced config.now.f (answer_to image.now budget.instructions) events.now) (Fails config.now.f (answer_to image.now budget.instructions) events.now) }
+    ensures { MatchResult result (IsTraced IsSavedAs (member config.now.f 0 image.now budget.instructions) events.now) (Fails (member config.now.f 0 image.now budget.instructions) events.now) }
 {
     let seats = group(alloc, *config, image, budget)?;
     run_schedule(alloc, *config, seats, events)

@@ -13,7 +13,10 @@ pub(crate) struct Seat {
 }
 
 impl Member for Seat {
+    ghost use Rattle.vr_core.specs.StandsFor as core;
     ghost use Rattle.replica.specs.Standing as replica;
+
+    ghost IsSavedAs = { core.IsSavedAs };
 
     ghost StandsFor = { λ seat. replica.StandsFor seat.replica };
 

@@ -1,6 +1,8 @@
-use Rattle.vr_core.specs.Answers.{answer_to}
+use Rattle.vr_core.specs.StandsFor.{member}
+use Rattle.replica.specs.Standing.{StandsFor}
+use Rattle.vr_world.specs.declared.seat.Seat.{Seat}
 use Rattle.vr_world.proofs.Groups.{AreNewBelow}
 use Rattle.vr_world.proofs.run.group.Given as goal
 
 abbrev pub invariant-loop-number : goal.invariant-loop-number
-invariant-loop-number l = AreNewBelow l.config.f (answer_to l.image l.budget.instructions) l.number l.seats.items
+invariant-loop-number l = AreNewBelow (λ (seat : Seat). StandsFor seat.replica) (member l.config.f 0 l.image l.budget.instructions) l.number l.seats.items

@@ -1,20 +1,20 @@
-use Rattle.std.proofs.Common.{◌≡◌, ◌+◌, ◌*◌, ◌++◌, ◌∷◌, [], ◌∙◌, ℕ, List, Some, ap₂, subst, arith, add-one}
+use Rattle.std.proofs.Common.{◌≡◌, ◌+◌, ◌*◌, ◌++◌, ◌∷◌, [], ◌∙◌, ℕ, List, map, Some, ap₂, subst, arith, add-one}
 use Rattle.std.proofs.lemmas.List.{map-append}
 use Rattle.il_model.specs.declared.command.Command.{Command}
 use Rattle.il_model.specs.declared.command.Answer.{Answer}
 use Rattle.vr_model.specs.declared.message.Message.{Message}
 use Rattle.vr_model.specs.Logs.{Request}
 use Rattle.vr_model.specs.Messages as meant
-use Rattle.vr_model.specs.StandsFor.{AllStand, message_of, messages_of, request_of}
+use Rattle.vr_model.specs.StandsFor.{message_with, request_of}
 use Rattle.vr_model.specs.World.{request_message, retried}
 use Rattle.process_image.proofs.driver.ScanDriver.retry.Goals as goal
 
 -- a request to one replica more
 sent_more : (f n : ℕ) (answer : List Command → Answer) (m : Request Command) (sends more : List Message) (x : Message)
-    → AllStand sends (retried f answer 0 n (Some m)) → more ≡ sends ++ x ∷ [] → message_of x ≡ request_message f answer 0 n m → AllStand more (retried f answer 0 (n + 1) (Some m))
+    → map (message_with []) sends ≡ retried f answer 0 n (Some m) → more ≡ sends ++ x ∷ [] → message_with [] x ≡ request_message f answer 0 n m → map (message_with []) more ≡ retried f answer 0 (n + 1) (Some m)
 sent_more f n answer m sends more x stand is one =
-    let all : messages_of (sends ++ x ∷ []) ≡ retried f answer 0 n (Some m) ++ request_message f answer 0 n m ∷ [] =
-    map-append message_of sends (x ∷ []) ∙ ap₂ (λ (a : List (meant.Message Command Answer)) (b : meant.Message Command Answer). a ++ b ∷ []) stand one in
+    let all : map (message_with []) (sends ++ x ∷ []) ≡ retried f answer 0 n (Some m) ++ request_message f answer 0 n m ∷ [] =
+    map-append (message_with []) sends (x ∷ []) ∙ ap₂ (λ (a : List (meant.Message Command Answer)) (b : meant.Message Command Answer). a ++ b ∷ []) stand one in
     rw (is, add-one) all
 
 pub loop-replica-preserved : goal.loop-replica-preserved
@@ -27,4 +27,4 @@ returns c =
     let f = c.self.inside.config.f in
     let m = request_of c.in-Some.request in
     rw (← c.self.view_is, c.in-Some.is)
-    (λ answer. subst (λ (n : ℕ). AllStand c.loop-replica.sends.items (retried f answer 0 n (Some m))) end_is (c.loop-replica.invariant f answer))
+    (λ answer. subst (λ (n : ℕ). map (message_with []) c.loop-replica.sends.items ≡ retried f answer 0 n (Some m)) end_is (c.loop-replica.invariant f answer))
