@@ -5,8 +5,9 @@ use Rattle.il_model.specs.declared.command.Answer.{Answer}
 use Rattle.il_model.specs.declared.command.Answer.TheVariants as answers
 use Rattle.il_model.specs.declared.value.Stop.{Stop}
 use Rattle.vr_model.specs.declared.message.Message.{Message}
-use Rattle.vr_model.specs.Messages.{Message as Meant, Body, Reply}
-use Rattle.vr_model.specs.StandsFor.{Stands}
+use Rattle.vr_model.specs.Logs.{Request}
+use Rattle.vr_model.specs.Messages.{Body, Reply}
+use Rattle.vr_model.specs.StandsFor.{body_with}
 use Rattle.vr_model.specs.World.{ClientState}
 use Rattle.process_image.specs.Driver.{release_by}
 use Rattle.process_image.specs.declared.release.Release.{Release}
@@ -33,9 +34,9 @@ abbrev pub stop_by : Body Command Answer → Option (Stop × ℕ)
 stop_by (Reply view number answer) = stop_of answer
 stop_by _ = None
 
--- there is a message whose release was published, and this is its stop
+-- there is a message whose release was published, and this is its stop, whatever log is meant by what it carries
 pub record ReleasesWith (stop : Option (Stop × ℕ)) (old new : List Release) : Type 0 where
   pub message : Message
   pub knows : ClientState Command
-  pub stops : (meant : Meant Command Answer) → Stands message meant → stop ≡ stop_by meant.body
-  pub published : (meant : Meant Command Answer) → Stands message meant → Publishes (release_by knows meant.body) true old new
+  pub stops : (log : List (Request Command)) → stop ≡ stop_by (body_with log message.body)
+  pub published : (log : List (Request Command)) → Publishes (release_by knows (body_with log message.body)) true old new

@@ -1,11 +1,10 @@
 //! The driver of a group: the client that has it scan once a period, and publishes what it releases.
 
-ghost use Rattle.std.specs.Prelude.{◌≡◌, ◌+◌, if◌then◌else◌, IfErr, OnOk, OnErr, IfOk, IfSome, IfNone, length, false, is_some};
+ghost use Rattle.std.specs.Prelude.{◌≡◌, ◌+◌, if◌then◌else◌, IfErr, OnOk, OnErr, IfOk, IfSome, IfNone, List, length, false, is_some};
 ghost use Rattle.plc_tool.specs.Status.{status_of};
 ghost use Rattle.il_model.specs.declared.command.Command.{Command as Asked};
-ghost use Rattle.il_model.specs.declared.command.Answer.{Answer as Answered};
-ghost use Rattle.vr_model.specs.Messages.{Message as Meant};
-ghost use Rattle.vr_model.specs.StandsFor.{Stands};
+ghost use Rattle.vr_model.specs.Logs.{Request as Entry};
+ghost use Rattle.vr_model.specs.StandsFor.{body_with};
 ghost use Rattle.process_image.specs.Driver.{release_by};
 ghost use Rattle.plc_serve.specs.Driving.{Publishes, ReleasesWith, stop_by};
 ghost use Rattle.plc_serve.specs.Watching.{AreNoticesTold, IsStopTold};
@@ -31,7 +30,7 @@ fn send_all<L: Link>(link: &mut L, sends: Sends) {
 
 /// Why and where the scan stopped whose answer the message brings, if it did.
 fn stop_in(message: &Message) -> Option<(Stop, u16)>
-    ensures { (meant : Meant Asked Answered) → Stands message.now meant → result ≡ stop_by meant.body }
+    ensures { (log : List (Entry Asked)) → result ≡ stop_by (body_with log message.now.body) }
 {
     match message.body {
         Body::Reply {
@@ -169,8 +168,8 @@ impl<L: Link + Drop, J: Naming, P: Pen<J> + Drop> Drive<L, J, P> {
 
     /// Takes a message of the group. Whether it was the reply that is waited for: then what it releases is published.
     fn take(&mut self, message: &Message) -> Result<bool, Fault>
-        ensures published { IfOk result (λ is_released. (meant : Meant Asked Answered) → Stands message.now meant
-            → Publishes (release_by self.old.driver.client meant.body) is_released self.old.writer self.new.writer) }
+        ensures published { IfOk result (λ is_released. (log : List (Entry Asked))
+            → Publishes (release_by self.old.driver.client (body_with log message.now.body)) is_released self.old.writer self.new.writer) }
         ensures counted { IfOk result (λ is_released. length self.new.writer ≡ length self.old.writer + (if is_released then 1 else 0)) }
         ensures kept { IfOk result (λ is_released. is_released ≡ false → self.new.writer ≡ self.old.writer) }
         ensures same { OnErr result (self.new.writer ≡ self.old.writer) }

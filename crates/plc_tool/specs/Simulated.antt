@@ -7,7 +7,8 @@ use Rattle.il_model.specs.declared.command.Command.{Command}
 use Rattle.il_model.specs.declared.command.Command.TheVariants.{Force, Unforce, ReadVar}
 use Rattle.controller_model.specs.Slots.{slot_of}
 use Rattle.il_model.specs.declared.command.Answer.{Answer}
-use Rattle.vr_core.specs.Answers.{answer_to}
+use Rattle.vr_model.specs.Membership.{Membership}
+use Rattle.vr_core.specs.StandsFor.{member, IsSavedAs}
 use Rattle.schedules.specs.declared.event.WorldEvent.{WorldEvent}
 use Rattle.schedules.specs.declared.event.WorldEvent.TheVariants as events
 use Rattle.schedules.specs.declared.store.Kept.TheVariants.{Old, New}
@@ -57,15 +58,15 @@ abbrev pub IsWhyUnknown : Text → List NamedEvent → Fault → Type 0
 IsWhyUnknown Q named told = (told ≡ faults.Memory) ⊎ ((told ≡ faults.Schedule) × HasUnknownName Q named)
 
 -- what is told is the first event of a run that can't take place, and the lowest reason
-pub record IsRefusedAs (f : ℕ) (answer : List Command → Answer) (events : List WorldEvent) (told : Fault) : Type 0 where
+pub record IsRefusedAs (g : Membership) (events : List WorldEvent) (told : Fault) : Type 0 where
   pub index : ℕ
   pub reason : ℕ
   pub is : told ≡ faults.ScheduleAt index reason
-  pub refused : IsRefused f answer events index reason
+  pub refused : IsRefused g events index reason
 
 -- why a run has no report: memory ran out, or an event can't take place
-abbrev pub IsWhyNoReport : ℕ → (List Command → Answer) → List WorldEvent → Fault → Type 0
-IsWhyNoReport f answer events told = (told ≡ faults.Memory) ⊎ IsRefusedAs f answer events told
+abbrev pub IsWhyNoReport : Membership → List WorldEvent → Fault → Type 0
+IsWhyNoReport g events told = (told ≡ faults.Memory) ⊎ IsRefusedAs g events told
 
 -- the line of a report
 abbrev pub report_line : Trace → List ℕ
@@ -79,7 +80,7 @@ pub record IsSimulated (text : List ℕ) (f budget : ℕ) (named : List NamedEve
   pub events : List WorldEvent
   pub known : AreKnown program named events
   pub trace : Trace
-  pub traced : IsTraced f (answer_to program budget) events trace
+  pub traced : IsTraced IsSavedAs (member f 0 program budget) events trace
   pub none_lost : trace.lost.items ≡ []
   pub written : Appends old new (report_line trace)
 
@@ -90,7 +91,7 @@ pub record IsReportCutShort (text : List ℕ) (f budget : ℕ) (named : List Nam
   pub events : List WorldEvent
   pub known : AreKnown program named events
   pub trace : Trace
-  pub traced : IsTraced f (answer_to program budget) events trace
+  pub traced : IsTraced IsSavedAs (member f 0 program budget) events trace
   pub none_lost : trace.lost.items ≡ []
   pub written : (n : ℕ) × Appends old new (take n (report_line trace))
 
@@ -98,7 +99,7 @@ pub record IsReportCutShort (text : List ℕ) (f budget : ℕ) (named : List Nam
 pub record CantTakePlace (Q : Text) (f budget : ℕ) (named : List NamedEvent) (told : Fault) : Type 0 where
   pub events : List WorldEvent
   pub known : AreKnown Q named events
-  pub refused : IsRefusedAs f (answer_to Q budget) events told
+  pub refused : IsRefusedAs (member f 0 Q budget) events told
 
 -- A schedule of these events is refused for the program of a text, and this is told: a name in them is unknown, or one can't take place.
 pub record IsScheduleRefused (text : List ℕ) (f budget : ℕ) (named : List NamedEvent) (told : Fault) : Type 0 where

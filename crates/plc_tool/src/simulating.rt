@@ -1,7 +1,7 @@
 //! The run of a schedule, and its report.
 
 ghost use Rattle.std.specs.Prelude.{◌≡◌, ◌⊎◌, [], IfOk, IfErr, OnOk, string_bytes};
-ghost use Rattle.vr_core.specs.Answers.{answer_to};
+ghost use Rattle.vr_core.specs.StandsFor.{member, IsSavedAs};
 ghost use Rattle.schedules.specs.Traces.{IsTraced};
 ghost use Rattle.plc_tool.specs.Meaning.{OrMemory};
 ghost use Rattle.plc_tool.specs.Putting.{Puts, IsWhyStopped};
@@ -27,9 +27,9 @@ fn whole_trace(
     budget: Budget,
     events: &[WorldEvent],
 ) -> Result<Trace, Fault>
-    ensures traced { IfOk result (IsTraced config.now.f (answer_to image.now budget.instructions) events.now) }
+    ensures traced { IfOk result (IsTraced IsSavedAs (member config.now.f 0 image.now budget.instructions) events.now) }
     ensures none_lost { IfOk result (λ trace. trace.lost.items ≡ []) }
-    ensures refused { IfErr result (IsWhyNoReport config.now.f (answer_to image.now budget.instructions) events.now) }
+    ensures refused { IfErr result (IsWhyNoReport (member config.now.f 0 image.now budget.instructions) events.now) }
 {
     match run_world(alloc, config, image, budget, events) {
         Ok(trace) => {

@@ -16,6 +16,9 @@ const BUDGET: &str = "budget";
 /// The word of the option `--f`.
 const FAILURES: &str = "f";
 
+/// The word of the option `--every`.
+const EVERY: &str = "every";
+
 /// The word of the option `--store`.
 const STORE: &str = "store";
 
@@ -264,6 +267,7 @@ fn sim_command<'a>(alloc: Global) -> Result<Command<'a>, AllocError> {
         .arg(file(alloc, "SOURCE").help("The program's text, in Instruction List"))?
         .arg(file(alloc, "SCHEDULE").help("The schedule, in JSON"))?
         .arg(failures(alloc))?
+        .arg(every(alloc))?
         .arg(budget(alloc))
 }
 
@@ -279,6 +283,7 @@ fn serve_command<'a>(alloc: Global) -> Result<Command<'a>, AllocError> {
                 .help("After how many scans it ends"),
         )?
         .arg(failures(alloc))?
+        .arg(every(alloc))?
         .arg(port(alloc))?
         .arg(
             count(alloc, PERIOD, "MS")
@@ -317,6 +322,16 @@ fn failures<'a>(alloc: Global) -> Arg<'a> {
         .help("How many of the 2F+1 replicas may fail, 1 to 3")
 }
 
+/// The option is refused where it is given twice, or no number of 16 bits.
+fn every<'a>(alloc: Global) -> Arg<'a> {
+    Arg::new(alloc, EVERY)
+        .long(EVERY)
+        .value_name("E")
+        .value_parser(value_parser!(u16).range(0..=65_535))
+        .default_value("64")
+        .help("After how many commands a replica makes a checkpoint, 0 to 65535; 0 is never")
+}
+
 /// The option is wanted, and refused where it is given twice or empty.
 fn directory<'a>(alloc: Global) -> Arg<'a> {
     Arg::new(alloc, STORE)
@@ -345,6 +360,11 @@ fn port<'a>(alloc: Global) -> Arg<'a> {
         .help("The port of 127.0.0.1, 1 to 65535")
 }
 
+/// The size of the group, and how often its replicas make checkpoints.
+fn group(inner: &ArgMatches) -> Option<Config> {
+    Config::new(inner.get_one::<u8>(FAILURES)?, inner.get_one::<u16>(EVERY)?)
+}
+
 fn form_of<'a>(matches: &ArgMatches<'a>) -> Option<Words<'a>> {
     let (name, inner) = matches.subcommand()?;
     match name {
@@ -363,14 +383,14 @@ fn form_of<'a>(matches: &ArgMatches<'a>) -> Option<Words<'a>> {
         "sim" => Some(Words::Sim {
             source: inner.get_str("SOURCE")?,
             schedule: inner.get_str("SCHEDULE")?,
-            config: Config::new(inner.get_one::<u8>(FAILURES)?)?,
+            config: group(inner)?,
             budget: Budget::new(inner.get_one::<u32>(BUDGET)?)?,
         }),
         "serve" => Some(Words::Serve {
             source: inner.get_str("SOURCE")?,
             store: inner.get_str(STORE)?,
             scans: inner.get_one::<u32>(SCANS)?,
-            config: Config::new(inner.get_one::<u8>(FAILURES)?)?,
+            config: group(inner)?,
             port: inner.get_one::<u16>(PORT)?,
             period: inner.get_one::<u32>(PERIOD)?,
             budget: Budget::new(inner.get_one::<u32>(BUDGET)?)?,
