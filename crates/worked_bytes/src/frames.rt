@@ -69,7 +69,16 @@ pub fn replaced(alloc: Global, text: &str) -> io::Result<String> {
     Ok(letters)
 }
 
-/// The frame of a message, which is read as that message alone, in hexadecimal; `none` where it has none.
+/// Whether a frame is read as one message, which has just that frame.
+fn is_read_back(alloc: Global, frame: &[u8]) -> bool {
+    let mut out = Vec::new(alloc);
+    let fed = Feed::new(alloc).feed(alloc, frame, &mut out);
+    fed.is_ok()
+        && out.len() == 1
+        && write(alloc, &out[0]).is_ok_and(|again| again.as_slice() == frame)
+}
+
+/// The frame of a message, from which that message alone is read, in hexadecimal; `none` where it has none.
 pub fn frame(alloc: Global, text: &str) -> io::Result<String> {
     let lines = lines_of(alloc, text)?;
     let message = message(alloc, lines.as_slice())?;
@@ -78,9 +87,7 @@ pub fn frame(alloc: Global, text: &str) -> io::Result<String> {
         Err(WireError::Fault(WireFault::BadFrame)) => return Ok(String::from_str(alloc, "none")?),
         Err(_) => return Err(unreadable()),
     };
-    let mut out = Vec::new(alloc);
-    let fed = Feed::new(alloc).feed(alloc, frame.as_slice(), &mut out);
-    if fed.is_err() || out.len() != 1 || out[0] != message {
+    if !is_read_back(alloc, frame.as_slice()) {
         return Err(otherwise());
     }
     Ok(hex::encode(alloc, frame.as_slice())?)

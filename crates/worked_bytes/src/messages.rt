@@ -5,7 +5,7 @@ use crate::notation::{behind, cells_of, hexadecimal, number_of, unreadable};
 use il_model::{Answer, Command, InImage, Literal, OutImage, Refusal, Slot, Stop, Value, written};
 use std::alloc::Global;
 use std::io;
-use vr_model::{Body, ClientNumber, Message, Party, PrimaryState, Request};
+use vr_model::{Body, ClientNumber, Log, Message, Party, PrimaryState, Request};
 
 fn client(text: &str) -> Option<ClientNumber> {
     ClientNumber::new(text.strip_prefix('C')?.parse::<u8>().ok()?)
@@ -113,13 +113,13 @@ fn answer(text: &str) -> Option<Answer> {
     })
 }
 
-/// The requests of a log, a line each.
-fn log(alloc: Global, lines: &[&str]) -> io::Result<Vec<Request>> {
-    let mut log = Vec::new(alloc);
+/// The log of these requests, a line each.
+fn log(alloc: Global, lines: &[&str]) -> io::Result<Log> {
+    let mut entries = Vec::new(alloc);
     for line in lines {
-        log.push(request(line).ok_or(unreadable())?)?;
+        entries.push(request(line).ok_or(unreadable())?)?;
     }
-    Ok(log)
+    Ok(Log::of(entries))
 }
 
 /// What a message of the normal case says.
@@ -162,7 +162,7 @@ fn body(head: &str, line: &str) -> Option<Body> {
 }
 
 /// What a message with a log says.
-fn body_with_log(head: &str, log: Vec<Request>) -> Option<Body> {
+fn body_with_log(head: &str, log: Log) -> Option<Body> {
     let view = number_of(head, "view=")?;
     let commit_number = number_of(head, "commit=");
     Some(match head.split_once(' ')?.0 {

@@ -38,34 +38,41 @@ fn inputs() -> InImage {
     inputs
 }
 
-/// The request of a scan of the staged inputs, from the driver to a replica.
-fn request(client: ClientNumber, to: u8, number: u64) -> Message {
-    let command = Command::Scan {
-        inputs: inputs(),
-        moment: MOMENT,
-    };
-    Message {
-        from: Party::Client(client),
-        to: Party::Replica(to),
-        body: Body::Request(Request {
-            client,
-            number,
-            command,
-        }),
-    }
-}
+/// A request: its sender, its receiver, and what is asked for.
+type Asked = (Party, Party, Request);
 
+/// The request of a scan of the staged inputs, from the driver to each of these replicas.
 fn requests(
     alloc: Global,
     client: ClientNumber,
     to: &[u8],
     number: u64,
-) -> Result<Sends, AllocError> {
-    let mut messages = Vec::new(alloc);
+) -> Result<Vec<Asked>, AllocError> {
+    let request = Request {
+        client,
+        number,
+        command: Command::Scan {
+            inputs: inputs(),
+            moment: MOMENT,
+        },
+    };
+    let mut requests = Vec::new(alloc);
     for replica in to {
-        messages.push(request(client, *replica, number))?;
+        requests.push((Party::Client(client), Party::Replica(*replica), request))?;
     }
-    Ok(messages)
+    Ok(requests)
+}
+
+/// What these messages ask for; each is a request.
+fn asked(alloc: Global, sends: &[Message]) -> Result<Vec<Asked>, Fail> {
+    let mut asked = Vec::new(alloc);
+    for message in sends {
+        let Body::Request(request) = &message.body else {
+            return Err(Fail::from("no request"));
+        };
+        asked.push((message.from, message.to, *request))?;
+    }
+    Ok(asked)
 }
 
 /// The image of each reply that has one.
@@ -153,13 +160,14 @@ fn drives<S: Staging, R: Abort>(
     rows: &[Row],
 ) -> Result<(), Fail> {
     let client = ClientNumber::new(0).ok_or("a client")?;
-    let config = Config::new(1).ok_or("a group")?;
+    let config = Config::new(1, 64).ok_or("a group")?;
     let mut driver = ScanDriver::new(&config, 1);
     staging.write_words(5, &[7])?;
     for (event, to, number, release) in rows {
         let outcome = outcome_of(alloc, &mut driver, staging, client, *event)?;
         let wanted = requests(alloc, client, to, *number)?;
-        assert!(rt; outcome.sends == wanted, "request {number}");
+        let asked = asked(alloc, outcome.sends.as_slice())?;
+        assert!(rt; asked == wanted, "request {number}");
         let release = release.map(|number| Release {
             number,
             image: image(),

@@ -44,24 +44,33 @@ fn scan() -> Result<Request, Fail> {
     })
 }
 
+/// A reply: its sender, its receiver, its view, its number and its answer.
+type Reply = (Party, Party, u64, u64, Answer);
+
 /// The reply to the scan, from a replica in its view.
-fn reply(from: u8, view: u64) -> Result<Message, Fail> {
+fn reply(from: u8, view: u64) -> Result<Reply, Fail> {
+    let to = ClientNumber::new(0).ok_or("no client")?;
     let mut image = OutImage::safe();
     image.cells.bits[0] = true;
-    Ok(Message {
-        from: Party::Replica(from),
-        to: Party::Client(ClientNumber::new(0).ok_or("no client")?),
-        body: Body::Reply {
+    let answer = Answer::Outputs { count: 1, image };
+    Ok((Party::Replica(from), Party::Client(to), view, 1, answer))
+}
+
+/// What a message says, if it is a reply.
+fn as_reply(message: &Message) -> Option<Reply> {
+    match &message.body {
+        Body::Reply {
             view,
-            number: 1,
-            answer: Answer::Outputs { count: 1, image },
-        },
-    })
+            number,
+            answer,
+        } => Some((message.from, message.to, *view, *number, *answer)),
+        _ => None,
+    }
 }
 
 impl Group {
-    fn new(alloc: Global) -> Result<Group, Fail> {
-        let config = Config::new(1).ok_or("no group")?;
+    fn new(alloc: Global, every: u16) -> Result<Group, Fail> {
+        let config = Config::new(1, every).ok_or("no group")?;
         let budget = Budget::new(10_000).ok_or("no budget")?;
         let mut replicas = Vec::new(alloc);
         let mut stores = Vec::new(alloc);
@@ -122,26 +131,40 @@ impl Group {
     }
 }
 
-/// Wants these of a new group, one after another; then each replica is normal and has executed the scan, and these messages are its replies.
+/// Wants these of new groups, one without checkpoints and one with a checkpoint after each entry.
 fn wants(
     rt: &impl Abort,
     alloc: Global,
     rows: &[Row],
     replies: &[(usize, u8, u64)],
 ) -> Result<(), Fail> {
-    let mut group = Group::new(alloc)?;
+    wants_of(rt, alloc, 0, Some(scan()?), rows, replies)?;
+    wants_of(rt, alloc, 1, None, rows, replies)
+}
+
+/// Wants these of a new group, one after another; then each replica is normal and has executed the scan, which its log
+/// has yet or not, and these messages are its replies.
+fn wants_of(
+    rt: &impl Abort,
+    alloc: Global,
+    every: u16,
+    first: Option<Request>,
+    rows: &[Row],
+    replies: &[(usize, u8, u64)],
+) -> Result<(), Fail> {
+    let mut group = Group::new(alloc, every)?;
     for (n, (happens, sent)) in rows.iter().enumerate() {
         assert_eq!(rt; group.happen(alloc, *happens)?, *sent, "in row {n}");
     }
     for replica in &group.replicas {
         assert!(rt; replica.is_normal());
         assert_eq!(rt; replica.commit(), 1);
-        assert_eq!(rt; replica.entry(0).copied(), Some(scan()?));
+        assert_eq!(rt; replica.entry(0).copied(), first);
         assert_eq!(rt; replica.entry(1).copied(), None);
     }
     for (place, from, view) in replies {
         let message = group.sent.get(*place).ok_or("not yet sent")?;
-        assert_eq!(rt; *message, reply(*from, *view)?);
+        assert_eq!(rt; as_reply(message), Some(reply(*from, *view)?));
     }
     Ok(())
 }

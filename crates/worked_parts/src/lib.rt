@@ -6,6 +6,8 @@
 #![tactic(auto)]
 
 #[cfg(test)]
+mod checkpoint_rows;
+#[cfg(test)]
 mod controller_rows;
 #[cfg(test)]
 mod cycle_rows;

@@ -6,7 +6,9 @@ use replica::{Replica, StepFault, StoreFault, ViewStore};
 use std::alloc::Global;
 use std::process::Abort;
 use std::test::Fail;
-use vr_model::{Body, ClientNumber, Config, Event, Message, Party, PrimaryState, Request, Stored};
+use vr_model::{
+    Body, ClientNumber, Config, Event, Log, Message, Party, PrimaryState, Request, Stored,
+};
 
 /// A store in memory. So many calls of it fail; a save that fails leaves the new view or the old one.
 #[derive(Drop)]
@@ -56,9 +58,10 @@ impl ViewStore for Store {
     }
 }
 
-/// What a message says; a log goes by its length: its requests are those of client 0, numbered from 1.
-#[derive(Clone, Copy)]
-enum Says {
+/// What a message says; a log goes by its length: its requests are those of client 0, numbered from 1. What NEWSTATE carries begins
+/// after its op number.
+#[derive(Clone, Copy, Debug, PartialEq, Eq)]
+pub enum Says {
     Request(u64),
     Prepare(u64, u64, u64),
     PrepareOk(u64, u64),
@@ -85,8 +88,8 @@ enum Happens {
 
 use Happens::{Hears, Resend, Restart, Submits, Timeout};
 
-/// A message to a replica of this number; a reply goes to client 0.
-type Sent = (u8, Says);
+/// A message to a replica of this number; a reply goes to client 0, and shows as one to 0.
+pub type Sent = (u8, Says);
 
 fn client() -> Result<ClientNumber, Fail> {
     Ok(ClientNumber::new(0).ok_or("no client")?)
@@ -100,12 +103,13 @@ fn request(number: u64) -> Result<Request, Fail> {
     })
 }
 
-fn log(alloc: Global, length: u64) -> Result<Vec<Request>, Fail> {
-    let mut log = Vec::new(alloc);
+/// So many requests, from this number on.
+fn log(alloc: Global, first: u64, length: u64) -> Result<Log, Fail> {
+    let mut entries = Vec::new(alloc);
     for place in 0..length {
-        log.push(request(place + 1)?)?;
+        entries.push(request(first.saturating_add(place))?)?;
     }
-    Ok(log)
+    Ok(Log::of(entries))
 }
 
 fn state(alloc: Global, told: Option<(u64, u64)>) -> Result<Option<PrimaryState>, Fail> {
@@ -113,7 +117,7 @@ fn state(alloc: Global, told: Option<(u64, u64)>) -> Result<Option<PrimaryState>
         None => Ok(None),
         Some((commit_number, length)) => Ok(Some(PrimaryState {
             commit_number,
-            log: log(alloc, length)?,
+            log: log(alloc, 1, length)?,
         })),
     }
 }
@@ -142,12 +146,12 @@ fn body(alloc: Global, says: Says) -> Result<Body, Fail> {
             view,
             last_normal_view: 0,
             commit_number,
-            log: log(alloc, length)?,
+            log: log(alloc, 1, length)?,
         },
         Says::StartView(view, commit_number, length) => Body::StartView {
             view,
             commit_number,
-            log: log(alloc, length)?,
+            log: log(alloc, 1, length)?,
         },
         Says::Recovery(nonce, stored_view) => Body::Recovery { nonce, stored_view },
         Says::Response(view, nonce, told) => Body::RecoveryResponse {
@@ -160,7 +164,7 @@ fn body(alloc: Global, says: Says) -> Result<Body, Fail> {
             view,
             op_number,
             commit_number,
-            log: log(alloc, length)?,
+            log: log(alloc, op_number.saturating_add(1), length)?,
         },
     })
 }
@@ -180,21 +184,79 @@ fn event(alloc: Global, to: u8, happens: Happens) -> Result<Event, Fail> {
     }))
 }
 
-/// The messages of a replica.
-fn messages(alloc: Global, from: u8, rows: &[Sent]) -> Result<Vec<Message>, Fail> {
-    let mut messages = Vec::new(alloc);
-    for (to, says) in rows {
-        let to = match says {
-            Says::Reply(_, _) => Party::Client(client()?),
-            _ => Party::Replica(*to),
-        };
-        messages.push(Message {
-            from: Party::Replica(from),
-            to,
-            body: body(alloc, *says)?,
-        })?;
+/// The length of a log without a checkpoint, whose requests are those from this number on.
+fn length(log: &Log, first: u64) -> Result<u64, Fail> {
+    for (place, entry) in log.entries().iter().enumerate() {
+        let wanted = request(first.saturating_add(place as u64))?;
+        (*entry == wanted).then_some(()).ok_or("another entry")?;
     }
-    Ok(messages)
+    (log.base() == 0).then_some(()).ok_or("a checkpoint")?;
+    Ok(log.op_number())
+}
+
+/// What a message says, as the rows show it.
+fn said(body: &Body) -> Result<Says, Fail> {
+    Ok(match body {
+        Body::Request(request) => Says::Request(request.number),
+        Body::Prepare {
+            view,
+            op_number,
+            commit_number,
+            ..
+        } => Says::Prepare(*view, *op_number, *commit_number),
+        Body::PrepareOk { view, op_number } => Says::PrepareOk(*view, *op_number),
+        Body::Commit {
+            view,
+            commit_number,
+        } => Says::Commit(*view, *commit_number),
+        Body::Reply { view, number, .. } => Says::Reply(*view, *number),
+        Body::StartViewChange { view } => Says::StartViewChange(*view),
+        Body::DoViewChange {
+            view,
+            commit_number,
+            log,
+            ..
+        } => Says::DoViewChange(*view, *commit_number, length(log, 1)?),
+        Body::StartView {
+            view,
+            commit_number,
+            log,
+        } => Says::StartView(*view, *commit_number, length(log, 1)?),
+        Body::Recovery { nonce, stored_view } => Says::Recovery(*nonce, *stored_view),
+        Body::RecoveryResponse { view, nonce, state } => {
+            let told = match state {
+                Some(state) => Some((state.commit_number, length(&state.log, 1)?)),
+                None => None,
+            };
+            Says::Response(*view, *nonce, told)
+        }
+        Body::GetState { view, op_number } => Says::GetState(*view, *op_number),
+        Body::NewState {
+            view,
+            op_number,
+            commit_number,
+            log,
+        } => {
+            let first = op_number.saturating_add(1);
+            Says::NewState(*view, *op_number, *commit_number, length(log, first)?)
+        }
+    })
+}
+
+/// The messages of the replica of this number, as the rows show them.
+fn shown(alloc: Global, from: u8, messages: &[Message]) -> Result<Vec<Sent>, Fail> {
+    let mut shown = Vec::new(alloc);
+    for message in messages {
+        (message.from == Party::Replica(from))
+            .then_some(())
+            .ok_or("another sender")?;
+        let to = match message.to {
+            Party::Replica(number) => number,
+            Party::Client(_) => 0,
+        };
+        shown.push((to, said(&message.body)?))?;
+    }
+    Ok(shown)
 }
 
 /// An event and what it sends, or its fault. Then: whether the replica is normal, and its commit number.
@@ -209,7 +271,7 @@ fn wants(
     store: &mut Store,
     rows: &[Row],
 ) -> Result<(), Fail> {
-    let config = Config::new(1).ok_or("no group")?;
+    let config = Config::new(1, 0).ok_or("no group")?;
     let budget = Budget::new(10_000).ok_or("no budget")?;
     let image = image(alloc, WIRE)?;
     let mut replica = if down {
@@ -219,9 +281,12 @@ fn wants(
     };
     for (n, (happens, wanted, normal, commit)) in rows.iter().enumerate() {
         let sent = replica.step(alloc, event(alloc, number, *happens)?, store);
-        match wanted {
-            Ok(rows) => assert_eq!(rt; sent, Ok(messages(alloc, number, rows)?), "in row {n}"),
-            Err(fault) => assert_eq!(rt; sent, Err(*fault), "in row {n}"),
+        match sent {
+            Ok(sent) => {
+                let shown = shown(alloc, number, sent.as_slice())?;
+                assert_eq!(rt; Ok(shown.as_slice()), *wanted, "in row {n}");
+            }
+            Err(fault) => assert_eq!(rt; Err(fault), *wanted, "in row {n}"),
         }
         assert_eq!(rt; replica.is_normal(), *normal, "in row {n}");
         assert_eq!(rt; replica.is_down(), wanted.is_err(), "in row {n}");

@@ -5,16 +5,16 @@ use log_choice::choose;
 use std::alloc::Global;
 use std::process::Abort;
 use std::test::Fail;
-use vr_model::{ClientNumber, Config, DoViewChange, Request};
+use vr_model::{ClientNumber, Config, DoViewChange, Log, Request};
 
 /// The number of a replica, its last normal view, and how long its log is.
 type Kept = (u8, u64, u64);
 
 fn kept(alloc: Global, (replica, last_normal_view, op_number): Kept) -> Result<DoViewChange, Fail> {
     let client = ClientNumber::new(0).ok_or("no client")?;
-    let mut log = Vec::new(alloc);
+    let mut entries = Vec::new(alloc);
     for number in 0..op_number {
-        log.push(Request {
+        entries.push(Request {
             client,
             number,
             command: Command::Step,
@@ -24,7 +24,7 @@ fn kept(alloc: Global, (replica, last_normal_view, op_number): Kept) -> Result<D
         replica,
         last_normal_view,
         commit_number: 0,
-        log,
+        log: Log::of(entries),
     })
 }
 
@@ -55,13 +55,13 @@ fn of_one_view_the_longer_log_wins_and_then_the_lower_number(rt: HostRuntime) ->
 
 #[test]
 fn groups_have_three_five_or_seven_replicas(rt: HostRuntime) -> Result<(), Fail> {
-    assert_eq!(rt; Config::new(0), None);
-    assert_eq!(rt; Config::new(4), None);
+    assert_eq!(rt; Config::new(0, 64), None);
+    assert_eq!(rt; Config::new(4, 64), None);
     for f in 1..4 {
-        let config = Config::new(f).ok_or("no group")?;
+        let config = Config::new(f, 64).ok_or("no group")?;
         assert_eq!(rt; config.group_size(), 2 * f + 1);
         assert!(rt; config.primary(u64::MAX) < config.group_size());
     }
-    assert_eq!(rt; Config::new(2).ok_or("no group")?.primary(7), 2);
+    assert_eq!(rt; Config::new(2, 64).ok_or("no group")?.primary(7), 2);
     Ok(())
 }

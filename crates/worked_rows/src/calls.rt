@@ -3,6 +3,7 @@
 use crate::given::Given;
 use il_model::Counted;
 use std::alloc::Global;
+use vr_model::Config;
 
 /// What a call ended with and wrote: its status, the image, and what stands on both streams.
 #[derive(Drop)]
@@ -48,19 +49,22 @@ pub fn ran(alloc: Global, given: &Given) -> Written {
     written
 }
 
-pub fn simulated(alloc: Global, given: &Given) -> Written {
+/// What a run of the schedule ends with, each replica with a checkpoint after every so many commands; none where there
+/// is no group of that size.
+pub fn simulated(alloc: Global, given: &Given, every: u16) -> Option<Written> {
+    let config = Config::new(given.failures, every)?;
     let mut written = Written::nothing(alloc);
     let mut out = Counted::new(&mut written.out);
     written.status = plc_tool::sim(
         alloc,
         given.text.as_slice(),
         given.schedule.as_slice(),
-        &given.config,
+        &config,
         given.budget,
         &mut out,
         &mut Counted::new(&mut written.err),
     );
-    written
+    Some(written)
 }
 
 pub fn assembled(alloc: Global, text: &[u8]) -> Written {

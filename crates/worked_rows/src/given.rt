@@ -4,7 +4,6 @@ use crate::notation::bytes_of;
 use il_model::Budget;
 use std::alloc::Global;
 use std::io;
-use vr_model::Config;
 
 /// One scan on inputs that are all FALSE and 0.
 const ONE_SCAN: &[u8] = br#"[{"scan": {"ix": [], "iw": [], "moment": 0}}]"#;
@@ -17,7 +16,7 @@ pub struct Given {
     pub image: Vec<u8>,
     pub commands: Vec<u8>,
     pub schedule: Vec<u8>,
-    pub config: Config,
+    pub failures: u8,
     pub budget: Budget,
 }
 
@@ -28,11 +27,9 @@ fn budget(number: &str) -> io::Result<Budget> {
         .ok_or(io::Error::from(io::ErrorKind::InvalidData))
 }
 
-fn config(number: &str) -> io::Result<Config> {
+fn failures(number: &str) -> io::Result<u8> {
     let failures = number.trim_end().parse::<u8>().ok();
-    failures
-        .and_then(Config::new)
-        .ok_or(io::Error::from(io::ErrorKind::InvalidData))
+    failures.ok_or(io::Error::from(io::ErrorKind::InvalidData))
 }
 
 impl Given {
@@ -43,7 +40,7 @@ impl Given {
             image: Vec::new(alloc),
             commands: Vec::from_slice(alloc, ONE_SCAN)?,
             schedule: Vec::new(alloc),
-            config: config("1")?,
+            failures: 1,
             budget: budget("10000")?,
         })
     }
@@ -64,7 +61,7 @@ impl Given {
             "commands" => self.commands = Vec::from_slice(alloc, body.as_bytes())?,
             "commands in bytes" => self.commands = bytes_of(alloc, body)?,
             "schedule" => self.schedule = Vec::from_slice(alloc, body.as_bytes())?,
-            "f" => self.config = config(body)?,
+            "f" => self.failures = failures(body)?,
             "budget" => self.budget = budget(body)?,
             "text in bytes" => self.text = bytes_of(alloc, body)?,
             "image in bytes" => self.image = bytes_of(alloc, body)?,

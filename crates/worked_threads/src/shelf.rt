@@ -8,7 +8,7 @@ use vr_model::{Config, Stored};
 
 /// A group of three, each scan within 100 instructions.
 pub fn group_of_three() -> Result<(Config, Budget), Fail> {
-    let config = Config::new(1).ok_or("no config")?;
+    let config = Config::new(1, 64).ok_or("no config")?;
     let budget = Budget::new(100).ok_or("no budget")?;
     Ok((config, budget))
 }

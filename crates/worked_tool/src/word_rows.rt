@@ -24,10 +24,21 @@ fn run(instructions: u32) -> Result<Words<'static>, Fail> {
     })
 }
 
+/// A run of `b.json` over replicas of `a.il`.
+fn sim(failures: u8, every: u16) -> Result<Words<'static>, Fail> {
+    Ok(Words::Sim {
+        source: "a.il",
+        schedule: "b.json",
+        config: Config::new(failures, every).ok_or("no config")?,
+        budget: Budget::new(10_000).ok_or("no budget")?,
+    })
+}
+
 /// So many scans of `a.il`, with stores in `d`.
 fn serve(
     scans: u32,
     failures: u8,
+    every: u16,
     port: u16,
     period: u32,
     idle: u32,
@@ -36,7 +47,7 @@ fn serve(
         source: "a.il",
         store: "d",
         scans,
-        config: Config::new(failures).ok_or("no config")?,
+        config: Config::new(failures, every).ok_or("no config")?,
         port,
         period,
         budget: Budget::new(10_000).ok_or("no budget")?,
@@ -53,6 +64,7 @@ fn words_ask_to_serve(rt: HostRuntime) -> Result<(), Fail> {
         "--scans=4294967295",
         "--store=d",
         "--f=3",
+        "--every=65535",
         "--port=65535",
         "--period=4294967295",
         "--idle=4294967295",
@@ -63,12 +75,19 @@ fn words_ask_to_serve(rt: HostRuntime) -> Result<(), Fail> {
         "--idle", "1",
     ];
     let rows: [(&[&str], Words); 3] = [
-        (first, serve(1, 1, 5020, 100, 300)?),
+        (first, serve(1, 1, 64, 5020, 100, 300)?),
         (
             greatest,
-            serve(4_294_967_295, 3, 65_535, 4_294_967_295, 4_294_967_295)?,
+            serve(
+                4_294_967_295,
+                3,
+                65_535,
+                65_535,
+                4_294_967_295,
+                4_294_967_295,
+            )?,
         ),
-        (least, serve(9, 1, 1, 1, 1)?),
+        (least, serve(9, 1, 64, 1, 1, 1)?),
     ];
     ask_for(&rt, rt.alloc(), &rows);
     Ok(())
@@ -81,7 +100,16 @@ fn words_ask_for_a_form(rt: HostRuntime) -> Result<(), Fail> {
         image: "a.image",
     };
     let list = Words::List { image: "a.image" };
-    let rows: [(&[&str], Words); 6] = [
+    let rows: [(&[&str], Words); 9] = [
+        (&["plc", "sim", "a.il", "b.json"], sim(1, 64)?),
+        (
+            &["plc", "sim", "a.il", "b.json", "--every", "0"],
+            sim(1, 0)?,
+        ),
+        (
+            &["plc", "sim", "--every=65535", "--f", "2", "a.il", "b.json"],
+            sim(2, 65_535)?,
+        ),
         (&["plc", "run", "a.il", "b.json"], run(10_000)?),
         (&["plc", "run", "a.il", "b.json", "--budget", "5"], run(5)?),
         (&["plc", "run", "a.il", "--budget=1", "b.json"], run(1)?),
@@ -218,6 +246,26 @@ fn budgets_out_of_range_are_bad(rt: HostRuntime) -> Result<(), Fail> {
         ),
     ];
     are_bad(&rt, rt.alloc(), &["plc", "run", "a", "b"], &rows)
+}
+
+#[test]
+fn words_of_sim_out_of_range_are_bad(rt: HostRuntime) -> Result<(), Fail> {
+    let rows: [Row; 4] = [
+        (
+            &["--every", "65536"],
+            "error: invalid value '65536' for '--every <E>'",
+        ),
+        (
+            &["--every=-1"],
+            "error: invalid value '-1' for '--every <E>'",
+        ),
+        (
+            &["--every", "1", "--every=1"],
+            "error: the argument '--every <E>' cannot be used multiple times",
+        ),
+        (&["--f", "0"], "error: invalid value '0' for '--f <F>'"),
+    ];
+    are_bad(&rt, rt.alloc(), &["plc", "sim", "a", "b"], &rows)
 }
 
 #[test]

@@ -110,7 +110,7 @@ fn long_run(alloc: Global) -> Result<Schedule, AllocError> {
     Ok(schedule)
 }
 
-/// Wants every scan released and committed once, in its order.
+/// Wants every scan released and committed once, in its order, and none lost.
 fn wants_all(rt: &impl Abort, trace: &Trace) -> Result<(), Fail> {
     for number in 0..SCANS {
         let n = number as usize;
@@ -121,23 +121,25 @@ fn wants_all(rt: &impl Abort, trace: &Trace) -> Result<(), Fail> {
         assert_eq!(rt; request.number, number + 1);
         assert_eq!(rt; request.command, command(number));
     }
+    assert_eq!(rt; trace.releases.len(), 200);
+    assert_eq!(rt; trace.order.len(), 200);
+    assert_eq!(rt; trace.lengths.last().copied(), Some(200));
+    assert_eq!(rt; trace.sent.len(), 1222);
+    assert!(rt; trace.lost.is_empty());
     Ok(())
 }
 
 #[test]
 fn no_scan_is_lost(rt: HostRuntime) -> Result<(), Fail> {
     let alloc = rt.alloc();
-    let config = Config::new(1).ok_or("no group")?;
     let budget = Budget::new(10_000).ok_or("no budget")?;
     let image = load(alloc, WIRE).map_err(|_| "no image")?;
     let schedule = long_run(alloc)?;
-    let trace = run_world(alloc, &config, &image, budget, &schedule.events)?;
-    wants_all(&rt, &trace)?;
-    assert_eq!(rt; trace.releases.len(), 200);
-    assert_eq!(rt; trace.order.len(), 200);
-    assert_eq!(rt; trace.lengths.len(), schedule.events.len());
-    assert_eq!(rt; trace.lengths.last().copied(), Some(200));
-    assert_eq!(rt; trace.sent.len(), 1222);
-    assert!(rt; trace.lost.is_empty());
+    for every in [0, 1, 64] {
+        let config = Config::new(1, every).ok_or("no group")?;
+        let trace = run_world(alloc, &config, &image, budget, &schedule.events)?;
+        wants_all(&rt, &trace)?;
+        assert_eq!(rt; trace.lengths.len(), schedule.events.len());
+    }
     Ok(())
 }
