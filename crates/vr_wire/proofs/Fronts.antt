@@ -4,13 +4,11 @@ use Rattle.std.specs.Int.{w32, to_be_bytes, from_be_bytes}
 use Rattle.std.proofs.lemmas.Bool.{ltb-false, ltb-true, le-ltb, eqb-true, eqb-false}
 use Rattle.std.proofs.Math.Dec.{eqb-suc-zero}
 use Rattle.std.proofs.lemmas.List.{take_at, drop_at, take-append-drop, take-append-le, drop-take}
-use Rattle.il_model.specs.declared.command.Command.{Command}
-use Rattle.il_model.specs.declared.command.Answer.{Answer}
-use Rattle.vr_model.specs.Messages.{Message}
+use Rattle.vr_model.specs.declared.message.Message.{Message}
 use Rattle.vr_wire.specs.declared.fault.WireFault.{WireFault}
 use Rattle.vr_wire.specs.declared.fault.WireFault.TheVariants.{BadFrame, TooLarge}
 use Rattle.vr_wire.specs.Frames.{message_bytes, frame_of, IsFramed, told_length, body_limit, IsPartial, IsBroken}
-use Rattle.vr_wire.specs.Reading.{message_at, Front, Waits, Whole, Broken, found, front_by, front_behind, front_of}
+use Rattle.vr_wire.specs.MessageReading.{message_at, Front, Waits, Whole, Broken, found, front_by, front_behind, front_of}
 use Rattle.std.specs.Prelude.{Result, Ok, Err}
 use Rattle.vr_wire.specs.declared.fault.WireError.{WireError}
 use Rattle.vr_wire.specs.declared.fault.WireError.TheVariants as errors
@@ -31,11 +29,11 @@ front_is : (bytes : List ℕ) → front_of bytes ≡ front_at (ltb (length bytes
 unfolding front_of
 front_is bytes = behind_cond (ltb (length bytes) 4) (from_be_bytes w32 (take 4 bytes), drop 4 bytes)
 
-found_whole : (o : Option (Message Command Answer)) (after : List ℕ) (m : Message Command Answer) (rest : List ℕ) → found o after ≡ Whole m rest → (o ≡ Some m) × (after ≡ rest)
+found_whole : (o : Option Message) (after : List ℕ) (m : Message) (rest : List ℕ) → found o after ≡ Whole m rest → (o ≡ Some m) × (after ≡ rest)
 found_whole None after m rest e = absurd cc
 found_whole (Some x) after m rest e = (cc, cc)
 
-whole_by : (few none much less : Bool) (bytes : List ℕ) (m : Message Command Answer) (rest : List ℕ) → IsBytes bytes → ltb (length bytes) 4 ≡ few → ltb body_limit (told_length bytes) ≡ much → ltb (length (drop 4 bytes)) (told_length bytes) ≡ less
+whole_by : (few none much less : Bool) (bytes : List ℕ) (m : Message) (rest : List ℕ) → IsBytes bytes → ltb (length bytes) 4 ≡ few → ltb body_limit (told_length bytes) ≡ much → ltb (length (drop 4 bytes)) (told_length bytes) ≡ less
     → front_at few none much less bytes ≡ Whole m rest → IsWhole bytes m rest
 whole_by true none much less bytes m rest fits e f g h = absurd cc
 whole_by false true much less bytes m rest fits e f g h = absurd cc
@@ -58,10 +56,10 @@ whole_by false false false false bytes m rest fits e f g h =
     let whole : bytes ≡ to_be_bytes w32 (length (message_bytes m)) ++ (message_bytes m ++ rest) = sym (take-append-drop 4 bytes) ∙ (ap (λ (x : List ℕ). x ++ after) (sym prefix) ∙ ap (λ (x : List ℕ). to_be_bytes w32 (length (message_bytes m)) ++ x) tail) in
     record { parts = whole ∙ sym (append_assoc (to_be_bytes w32 (length (message_bytes m))) (message_bytes m) rest); framed = record { lawful = t.1; fits = t.2; short = omega (arith, size, small) } }
 
-front_whole : (bytes : List ℕ) (m : Message Command Answer) (rest : List ℕ) → IsBytes bytes → front_of bytes ≡ Whole m rest → IsWhole bytes m rest
+front_whole : (bytes : List ℕ) (m : Message) (rest : List ℕ) → IsBytes bytes → front_of bytes ≡ Whole m rest → IsWhole bytes m rest
 front_whole bytes m rest fits e = whole_by (ltb (length bytes) 4) (eqb (told_length bytes) 0) (ltb body_limit (told_length bytes)) (ltb (length (drop 4 bytes)) (told_length bytes)) bytes m rest fits refl refl refl (sym (front_is bytes) ∙ e)
 
-found_waits : (o : Option (Message Command Answer)) (after : List ℕ) → found o after ≡ Waits → ⊥
+found_waits : (o : Option Message) (after : List ℕ) → found o after ≡ Waits → ⊥
 found_waits None after e = cc
 found_waits (Some x) after e = cc
 
@@ -81,12 +79,12 @@ waits_by false false false false bytes e d f g h = absurd (found_waits (message_
 front_waits : (bytes : List ℕ) → front_of bytes ≡ Waits → IsPartial bytes
 front_waits bytes e = waits_by (ltb (length bytes) 4) (eqb (told_length bytes) 0) (ltb body_limit (told_length bytes)) (ltb (length (drop 4 bytes)) (told_length bytes)) bytes refl refl refl refl (sym (front_is bytes) ∙ e)
 
-found_broken : (o : Option (Message Command Answer)) (after : List ℕ) (fault : WireFault) → found o after ≡ Broken fault → (o ≡ None) × (fault ≡ BadFrame)
+found_broken : (o : Option Message) (after : List ℕ) (fault : WireFault) → found o after ≡ Broken fault → (o ≡ None) × (fault ≡ BadFrame)
 found_broken None after fault e = (refl, cc)
 found_broken (Some x) after fault e = absurd cc
 
 -- bytes that are a frame have its body behind the first four
-body_in : (bytes : List ℕ) (n : ℕ) (m : Message Command Answer) → 4 + n ≤ length bytes → take (4 + n) bytes ≡ frame_of m → take n (drop 4 bytes) ≡ message_bytes m
+body_in : (bytes : List ℕ) (n : ℕ) (m : Message) → 4 + n ≤ length bytes → take (4 + n) bytes ≡ frame_of m → take n (drop 4 bytes) ≡ message_bytes m
 body_in bytes n m le e = sym (drop-take 4 n bytes) ∙ ap (drop 4) e
 
 broken_by : (few none much less : Bool) (bytes : List ℕ) (fault : WireFault) → ltb (length bytes) 4 ≡ few → eqb (told_length bytes) 0 ≡ none → ltb body_limit (told_length bytes) ≡ much → ltb (length (drop 4 bytes)) (told_length bytes) ≡ less
@@ -119,7 +117,7 @@ broken_by false false false false bytes fault e d f g h =
 front_broken : (bytes : List ℕ) (fault : WireFault) → front_of bytes ≡ Broken fault → IsBroken fault bytes
 front_broken bytes fault e = broken_by (ltb (length bytes) 4) (eqb (told_length bytes) 0) (ltb body_limit (told_length bytes)) (ltb (length (drop 4 bytes)) (told_length bytes)) bytes fault refl refl refl refl (sym (front_is bytes) ∙ e)
 
-pub shows : {X : Type 0} (message : X → Message Command Answer) (rest : X → List ℕ) (result : Result (Option X) WireError) (bytes : List ℕ) → IsBytes bytes → ReadsFront message rest result (front_of bytes) → Shows message rest result bytes
+pub shows : {X : Type 0} (message : X → Message) (rest : X → List ℕ) (result : Result (Option X) WireError) (bytes : List ℕ) → IsBytes bytes → ReadsFront message rest result (front_of bytes) → Shows message rest result bytes
 shows message rest (Ok None) bytes fits h = front_waits bytes h
 shows message rest (Ok (Some x)) bytes fits h = front_whole bytes (message x) (rest x) fits h
 shows message rest (Err (errors.Fault fault)) bytes fits h = front_broken bytes fault h
@@ -127,13 +125,13 @@ shows message rest (Err errors.Memory) bytes fits h = tt
 
 -- ---- a frame, and what follows
 
-pub told_in : (m : Message Command Answer) (rest : List ℕ) → IsFramed m → told_length (frame_of m ++ rest) ≡ length (message_bytes m)
+pub told_in : (m : Message) (rest : List ℕ) → IsFramed m → told_length (frame_of m ++ rest) ≡ length (message_bytes m)
 told_in m rest framed = wide32.again (length (message_bytes m)) (omega (arith, framed.short))
 
-behind_in : (m : Message Command Answer) (rest : List ℕ) → drop 4 (frame_of m ++ rest) ≡ message_bytes m ++ rest
+behind_in : (m : Message) (rest : List ℕ) → drop 4 (frame_of m ++ rest) ≡ message_bytes m ++ rest
 behind_in m rest = refl
 
-pub front_frame : (m : Message Command Answer) (rest : List ℕ) → IsFramed m → front_of (frame_of m ++ rest) ≡ Whole m rest
+pub front_frame : (m : Message) (rest : List ℕ) → IsFramed m → front_of (frame_of m ++ rest) ≡ Whole m rest
 front_frame m rest framed =
     let n = length (message_bytes m) in
     let bytes = frame_of m ++ rest in
@@ -148,22 +146,22 @@ front_frame m rest framed =
 
 -- ---- no frame begins another, and each beginning is of one kind
 
-pub same_frame : (m n : Message Command Answer) (rest other : List ℕ) → IsFramed m → IsFramed n → frame_of m ++ rest ≡ frame_of n ++ other → (m ≡ n) × (rest ≡ other)
+pub same_frame : (m n : Message) (rest other : List ℕ) → IsFramed m → IsFramed n → frame_of m ++ rest ≡ frame_of n ++ other → (m ≡ n) × (rest ≡ other)
 same_frame m n rest other framed framed_n e =
     let is : Whole m rest ≡ Whole n other = sym (front_frame m rest framed) ∙ (ap front_of e ∙ front_frame n other framed_n) in
     (cc, cc)
 
-frame_size : (m : Message Command Answer) (rest : List ℕ) → length (frame_of m ++ rest) ≡ 4 + length (message_bytes m) + length rest
+frame_size : (m : Message) (rest : List ℕ) → length (frame_of m ++ rest) ≡ 4 + length (message_bytes m) + length rest
 frame_size m rest = omega (arith, length-append (message_bytes m) rest)
 
-pub partial_frame : (m : Message Command Answer) (rest : List ℕ) → IsFramed m → IsPartial (frame_of m ++ rest) → ⊥
+pub partial_frame : (m : Message) (rest : List ℕ) → IsFramed m → IsPartial (frame_of m ++ rest) → ⊥
 partial_frame m rest framed (inl few) = omega (arith, frame_size m rest)
 partial_frame m rest framed (inr less) = omega (arith, frame_size m rest, told_in m rest framed, less.2)
 
-front_taken : (m : Message Command Answer) (rest : List ℕ) → take (4 + length (message_bytes m)) (frame_of m ++ rest) ≡ frame_of m
+front_taken : (m : Message) (rest : List ℕ) → take (4 + length (message_bytes m)) (frame_of m ++ rest) ≡ frame_of m
 front_taken m rest = take_at (frame_of m) rest (4 + length (message_bytes m)) (omega arith)
 
-pub broken_frame : (fault : WireFault) (m : Message Command Answer) (rest : List ℕ) → IsFramed m → IsBroken fault (frame_of m ++ rest) → ⊥
+pub broken_frame : (fault : WireFault) (m : Message) (rest : List ℕ) → IsFramed m → IsBroken fault (frame_of m ++ rest) → ⊥
 broken_frame TooLarge m rest framed h = omega (arith, told_in m rest framed, h.1, framed.short)
 broken_frame BadFrame m rest framed h =
     elim h.1 [

@@ -1,10 +1,15 @@
+pub mod Appends
 pub mod Bits
 pub mod Ends
 pub mod Fields
 pub mod Formats
 pub mod Fronts
 pub mod Items
+pub mod LogFormats
 pub mod Messages
 pub mod Pieces
+pub mod Rising
+pub mod SnapshotFormats
+pub mod Tables
 pub mod Values
 pub mod Words

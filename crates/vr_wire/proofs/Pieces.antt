@@ -3,18 +3,12 @@ use Rattle.std.proofs.Common.{◌≡◌, ℕ, ◌+◌, ◌-◌, ◌<◌, ◌≤�
 use Rattle.std.specs.Prelude.{Result, Ok, Err, OnErr}
 use Rattle.std.specs.List.{flat_map, AllByRecursion}
 use Rattle.std.proofs.lemmas.Bool.{cases_lt}
-use Rattle.std.proofs.lemmas.List.{append-nil, map-append, nil_from_length, take_at, take-append-drop}
+use Rattle.std.proofs.lemmas.List.{append-nil, nil_from_length, take_at, take-append-drop}
 use Rattle.std.proofs.lemmas.List.Concat.{flat_map-cons}
 use Rattle.std.proofs.lemmas.Grind.{flat_map-append}
-use Rattle.il_model.specs.declared.command.Command.{Command}
-use Rattle.il_model.specs.declared.command.Answer.{Answer}
 use Rattle.il_model.specs.Stream.{Ending, Rest, Took, ending_of}
 use Rattle.il_model.proofs.Streams.{IsReadable}
-use Rattle.vr_model.specs.declared.message.Message as code
-use Rattle.vr_model.specs.Messages.{Message}
-use Rattle.std.specs.Prelude.{All}
-use Rattle.std.proofs.lemmas.List.Elements.{All-append, All-cons, All-nil}
-use Rattle.vr_wire.specs.Entries.{HasNoCheckpoint, message_of, messages_of}
+use Rattle.vr_model.specs.declared.message.Message.{Message}
 use Rattle.vr_wire.specs.declared.fault.WireFault.{WireFault}
 use Rattle.vr_wire.specs.Frames.{frame_of, message_bytes, told_length, IsFramed, IsPartial, IsBroken, IsShort}
 use Rattle.vr_wire.specs.Shown.{IsWhole}
@@ -24,52 +18,46 @@ use Rattle.vr_wire.proofs.Fronts.{told_in, told_more, same_frame, partial_frame,
 -- ---- frame after frame
 
 -- the stream so far: the frames of what was added, and bytes behind them
-pub record IsSoFar (stream bytes : List ℕ) (before out : List code.Message) : Type 0 where
-  pub added : List code.Message
+pub record IsSoFar (stream bytes : List ℕ) (before out : List Message) : Type 0 where
+  pub added : List Message
   pub is : out ≡ before ++ added
-  pub whole : stream ≡ flat_map frame_of (messages_of added) ++ bytes
-  pub each : AllByRecursion IsFramed (messages_of added)
+  pub whole : stream ≡ flat_map frame_of added ++ bytes
+  pub each : AllByRecursion IsFramed added
 
-pub at_first : (stream : List ℕ) (before : List code.Message) → IsSoFar stream stream before before
+pub at_first : (stream : List ℕ) (before : List Message) → IsSoFar stream stream before before
 at_first stream before = record { added = []; is = sym (append-nil before); whole = refl; each = tt }
 
-all_more : (items : List (Message Command Answer)) (m : Message Command Answer) → AllByRecursion IsFramed items → IsFramed m → AllByRecursion IsFramed (items ++ m ∷ [])
+all_more : (items : List Message) (m : Message) → AllByRecursion IsFramed items → IsFramed m → AllByRecursion IsFramed (items ++ m ∷ [])
 all_more [] m all framed = (framed, tt)
 all_more (x ∷ items) m all framed = (all.0, all_more items m all.1 framed)
 
-frames_more : (items : List (Message Command Answer)) (m : Message Command Answer) (rest : List ℕ) → flat_map frame_of items ++ (frame_of m ++ rest) ≡ flat_map frame_of (items ++ m ∷ []) ++ rest
+frames_more : (items : List Message) (m : Message) (rest : List ℕ) → flat_map frame_of items ++ (frame_of m ++ rest) ≡ flat_map frame_of (items ++ m ∷ []) ++ rest
 frames_more items m rest =
     let one : flat_map frame_of (m ∷ []) ≡ frame_of m = flat_map-cons frame_of m [] ∙ append-nil (frame_of m) in
     let grown : flat_map frame_of (items ++ m ∷ []) ≡ flat_map frame_of items ++ frame_of m = flat_map-append frame_of items (m ∷ []) ∙ ap (λ (x : List ℕ). flat_map frame_of items ++ x) one in
     sym (append_assoc (flat_map frame_of items) (frame_of m) rest) ∙ ap (λ (x : List ℕ). x ++ rest) (sym grown)
 
-pub one_more : (stream bytes : List ℕ) (before out : List code.Message) (m : code.Message) (rest : List ℕ) → IsSoFar stream bytes before out → IsWhole bytes (message_of m) rest → IsSoFar stream rest before (out ++ m ∷ [])
+pub one_more : (stream bytes : List ℕ) (before out : List Message) (m : Message) (rest : List ℕ) → IsSoFar stream bytes before out → IsWhole bytes m rest → IsSoFar stream rest before (out ++ m ∷ [])
 one_more stream bytes before out m rest s w =
-    let items = messages_of s.added in
-    let same : messages_of (s.added ++ m ∷ []) ≡ items ++ message_of m ∷ [] = map-append message_of s.added (m ∷ []) in
-    let whole : stream ≡ flat_map frame_of (items ++ message_of m ∷ []) ++ rest = s.whole ∙ (ap (λ (x : List ℕ). flat_map frame_of items ++ x) w.parts ∙ frames_more items (message_of m) rest) in
     record {
       added = s.added ++ m ∷ [];
-      is = ap (λ (ms : List code.Message). ms ++ m ∷ []) s.is ∙ append_assoc before s.added (m ∷ []);
-      whole = rw same whole;
-      each = rw same (all_more items (message_of m) s.each w.framed);
+      is = ap (λ (ms : List Message). ms ++ m ∷ []) s.is ∙ append_assoc before s.added (m ∷ []);
+      whole = s.whole ∙ (ap (λ (x : List ℕ). flat_map frame_of s.added ++ x) w.parts ∙ frames_more s.added m rest);
+      each = all_more s.added m s.each w.framed;
     }
 
-pub shorter : (bytes : List ℕ) (m : Message Command Answer) (rest : List ℕ) → IsWhole bytes m rest → length rest < length bytes
+pub shorter : (bytes : List ℕ) (m : Message) (rest : List ℕ) → IsWhole bytes m rest → length rest < length bytes
 shorter bytes m rest w = omega (arith, ap length w.parts, length-append (frame_of m) rest)
 
-module _ (stream bytes : List ℕ) (before out : List code.Message) (s : IsSoFar stream bytes before out) where
+module _ (stream bytes : List ℕ) (before out : List Message) (s : IsSoFar stream bytes before out) where
   pub begins : Begins before out
   begins = (s.added, s.is)
 
-  found : messages_of out ≡ messages_of before ++ messages_of s.added
-  found = ap messages_of s.is ∙ map-append message_of before s.added
+  pub rests : IsPartial bytes → Took frames (Rest []) stream (ending_of bytes None) before out
+  rests partial = record { items = s.added; added = s.is; fed = record { rest = bytes; whole = s.whole; each = s.each; ends = (refl, partial) } }
 
-  pub rests : IsPartial bytes → Took frames (Rest []) stream (ending_of bytes None) (messages_of before) (messages_of out)
-  rests partial = record { items = messages_of s.added; added = found; fed = record { rest = bytes; whole = s.whole; each = s.each; ends = (refl, partial) } }
-
-  pub breaks : (fault : WireFault) → IsBroken fault bytes → Took frames (Rest []) stream (ending_of bytes (Some fault)) (messages_of before) (messages_of out)
-  breaks fault broken = record { items = messages_of s.added; added = found; fed = record { rest = bytes; whole = s.whole; each = s.each; ends = broken } }
+  pub breaks : (fault : WireFault) → IsBroken fault bytes → Took frames (Rest []) stream (ending_of bytes (Some fault)) before out
+  breaks fault broken = record { items = s.added; added = s.is; fed = record { rest = bytes; whole = s.whole; each = s.each; ends = broken } }
 
 -- ---- what is held grows to a frame
 
@@ -125,24 +113,24 @@ pub short_of : (bytes : List ℕ) → IsPartial bytes → IsShort bytes
 short_of bytes (inl few) le = omega (arith, few, le)
 short_of bytes (inr less) le = less.2
 
-pub short_after : (before piece after : List ℕ) (out out' : List (Message Command Answer)) → Took frames (Rest before) piece (Rest after) out out' → IsShort after
+pub short_after : (before piece after : List ℕ) (out out' : List Message) → Took frames (Rest before) piece (Rest after) out out' → IsShort after
 short_after before piece after out out' t = subst IsShort t.fed.ends.0 (short_of t.fed.rest t.fed.ends.1)
 
 not_full : (bytes : List ℕ) → IsPartial bytes → (4 ≤ length bytes) × (4 + told_length bytes ≤ length bytes) → ⊥
 not_full bytes partial full = omega (arith, short_of bytes partial full.0, full.1)
 
 module _ (before piece after rest : List ℕ) (f : Fills before piece after rest) where
-  pub goes_on_waiting : (out : List (Message Command Answer)) → IsPartial after → Took frames (Rest before) piece (ending_of after None) out out
+  pub goes_on_waiting : (out : List Message) → IsPartial after → Took frames (Rest before) piece (ending_of after None) out out
   goes_on_waiting out partial =
       let none : rest ≡ [] = elim f.full [ inl none ↦ none | inr full ↦ absurd (not_full after partial full) ] in
       let whole : before ++ piece ≡ after = sym f.parts ∙ (ap (λ (x : List ℕ). after ++ x) none ∙ append-nil after) in
       record { items = []; added = sym (append-nil out); fed = record { rest = after; whole = whole; each = tt; ends = (refl, partial) } }
 
-  pub goes_on_broken : (out : List (Message Command Answer)) (fault : WireFault) → IsBroken fault after → Took frames (Rest before) piece (ending_of after (Some fault)) out out
+  pub goes_on_broken : (out : List Message) (fault : WireFault) → IsBroken fault after → Took frames (Rest before) piece (ending_of after (Some fault)) out out
   goes_on_broken out fault broken =
       record { items = []; added = sym (append-nil out); fed = record { rest = after ++ rest; whole = sym f.parts; each = tt; ends = broken_more fault after rest broken } }
 
-  pub goes_on_whole : (m : Message Command Answer) (behind : List ℕ) (ending : Ending WireFault) (out out' : List (Message Command Answer)) → IsWhole after m behind
+  pub goes_on_whole : (m : Message) (behind : List ℕ) (ending : Ending WireFault) (out out' : List Message) → IsWhole after m behind
       → Took frames (Rest []) rest ending (out ++ m ∷ []) out' → Took frames (Rest before) piece ending out out'
   goes_on_whole m behind ending out out' w t =
       let size : length after ≡ 4 + length (message_bytes m) + length behind = ap length w.parts ∙ omega (arith, length-append (message_bytes m) behind) in
@@ -158,7 +146,7 @@ module _ (before piece after rest : List ℕ) (f : Fills before piece after rest
         fed = record { rest = t.fed.rest; whole = stream ∙ whole; each = (w.framed, t.fed.each); ends = t.fed.ends };
       }
 
-pub from_nothing : (held piece rest : List ℕ) (fault : Option WireFault) (out out' : List (Message Command Answer)) → length held ≡ 0 → Took frames (Rest []) piece (ending_of rest fault) out out' → Took frames (Rest held) piece (ending_of (held ++ rest) fault) out out'
+pub from_nothing : (held piece rest : List ℕ) (fault : Option WireFault) (out out' : List Message) → length held ≡ 0 → Took frames (Rest []) piece (ending_of rest fault) out out' → Took frames (Rest held) piece (ending_of (held ++ rest) fault) out out'
 from_nothing held piece rest fault out out' none t = subst (λ (x : List ℕ). Took frames (Rest x) piece (ending_of (x ++ rest) fault) out out') (sym (nil_from_length held none)) t
 
 -- ---- what was added is taken away
@@ -186,10 +174,3 @@ readable = record {
   more = broken_more;
   nothing = inl (omega arith);
 }
-
--- what is so of all and of one more
-pub all_and_one : (out : List code.Message) (m : code.Message) → All HasNoCheckpoint out → HasNoCheckpoint m → All HasNoCheckpoint (out ++ m ∷ [])
-all_and_one out m all one = All-append HasNoCheckpoint out (m ∷ []) all (All-cons HasNoCheckpoint m [] one (All-nil HasNoCheckpoint))
-
-pub pushed : (before after : List code.Message) (m : code.Message) → after ≡ before ++ m ∷ [] → HasNoCheckpoint m → All HasNoCheckpoint before → All HasNoCheckpoint after
-pushed before after m is one all = subst (All HasNoCheckpoint) (sym is) (all_and_one before m all one)

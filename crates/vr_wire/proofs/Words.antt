@@ -1,20 +1,15 @@
--- Words and clients, one at a time.
-use Rattle.std.proofs.Common.{◌≡◌, ℕ, ◌<◌, Bool, true, false, ap₂, sym, List, [], ◌∷◌, length, Some, refl, ap, ◌∙◌}
-use Rattle.std.specs.Prelude.{ℤ, ◌&&◌, ◌^◌}
-use Rattle.std.proofs.lemmas.List.{length-map}
+-- Words, one at a time; and images compared.
+use Rattle.std.proofs.Common.{◌≡◌, ℕ, Bool, true, false, ap₂, sym, List, Some, refl, ap, ◌∙◌}
+use Rattle.std.specs.Prelude.{ℤ, ◌&&◌}
 use mathlib.Core.Bool.{beq}
 use Rattle.std.specs.Bool.{Decides}
 use Rattle.std.specs.Cmp.Lexicographic.{pointwise, pointwise_decides}
 use Rattle.std.specs.Cmp.Rules.{signed_items}
 use Rattle.std.specs.Ordering.{int_eq}
 use Rattle.il_model.specs.declared.cells.OutImage.{OutImage}
-use Rattle.std.specs.List.{AllByRecursion}
 use Rattle.std.specs.Int.{w16, cast_signed}
-use Rattle.vr_model.specs.declared.message.Request as code
-use Rattle.vr_model.specs.StandsFor.{request_of, requests_of}
 use Rattle.vr_wire.specs.declared.fault.ReadError.{ReadError}
 use Rattle.vr_wire.specs.declared.fault.ReadError.TheVariants as errors
-use Rattle.vr_wire.specs.Frames.{IsOfClient, IsLog}
 use Rattle.vr_wire.specs.Reading.{Fails, number_at, word_at}
 
 pub fails_word : (e : ReadError) (bytes : List ℕ) → Fails e (number_at w16 bytes) → Fails e (word_at bytes)
@@ -23,17 +18,6 @@ fails_word errors.Malformed bytes h = rw h refl
 
 pub word_read : (bytes : List ℕ) (n : ℕ) (after : List ℕ) (z : ℤ) → number_at w16 bytes ≡ Some (n, after) → z ≡ cast_signed w16 n → word_at bytes ≡ Some (z, after)
 word_read bytes n after z h e = rw (h, e) refl
-
--- a client's number is below 16, by its type
-pub clients_are : (log : List code.Request) → AllByRecursion IsOfClient (requests_of log)
-clients_are [] = tt
-clients_are (m ∷ log) = (m.client.below, clients_are log)
-
-pub log_is : (log : List code.Request) → length log < 2 ^ 32 → IsLog (requests_of log)
-log_is log short = (rw (length-map log request_of) short, clients_are log)
-
-pub log_short : (log : List code.Request) → IsLog (requests_of log) → length log < 2 ^ 32
-log_short log is = rw (length-map log request_of) at is.0
 
 truths : (x y : Bool) → Decides (beq x y) (x ≡ y)
 truths true true = (λ h. refl, λ h. refl)

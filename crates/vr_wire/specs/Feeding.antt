@@ -1,19 +1,17 @@
 -- The frames of messages as a format of frames, and what a feed does with a piece of a stream.
 use Rattle.std.specs.Prelude.{◌≡◌, ℕ, ◌+◌, ◌≤◌, ◌⊎◌, List, [], ◌++◌, length, Result, Ok, Err}
-use Rattle.il_model.specs.declared.command.Command.{Command}
-use Rattle.il_model.specs.declared.command.Answer.{Answer}
 use Rattle.il_model.specs.Stream.{Format, Ending, Fault, IsRest, Took}
-use Rattle.vr_model.specs.Messages.{Message}
+use Rattle.vr_model.specs.declared.message.Message.{Message}
 use Rattle.vr_wire.specs.declared.fault.WireFault.{WireFault}
 use Rattle.vr_wire.specs.declared.fault.WireError.{WireError}
 use Rattle.vr_wire.specs.declared.fault.WireError.TheVariants as errors
 use Rattle.vr_wire.specs.Frames.{frame_of, IsFramed, IsPartial, IsBroken, told_length}
 
-abbrev pub frames : Format (Message Command Answer) WireFault
+abbrev pub frames : Format Message WireFault
 frames = record { frame = frame_of; IsFramed = IsFramed; IsPartial = IsPartial; IsBroken = IsBroken }
 
 -- Ok where no fault was met, a fault where it's that; want of memory is told apart
-abbrev pub Feeding : Result (Unit {0}) WireError → Ending WireFault → List ℕ → Ending WireFault → List (Message Command Answer) → List (Message Command Answer) → Type 0
+abbrev pub Feeding : Result (Unit {0}) WireError → Ending WireFault → List ℕ → Ending WireFault → List Message → List Message → Type 0
 Feeding (Ok done) before piece after out out' = Took frames before piece after out out' × IsRest after
 Feeding (Err (errors.Fault fault)) before piece after out out' = Took frames before piece after out out' × (after ≡ Fault fault)
 Feeding (Err errors.Memory) before piece after out out' = Unit {0}

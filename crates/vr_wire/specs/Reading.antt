@@ -1,5 +1,5 @@
--- Reading the fields of a body from left to right: the inverse of their spelling.
-use Rattle.std.specs.Prelude.{◌≡◌, ℕ, zero, suc, ◌-◌, ◌/◌, ◌%◌, ◌==◌, Bool, ◌&&◌, ℤ, List, [], ◌∷◌, length, take, drop, slice_get, Option, Some, None, Result, Ok, Err, nat_lt, nat_le, if◌then◌else◌}
+-- Reading fields from left to right: the inverse of their spelling.
+use Rattle.std.specs.Prelude.{◌≡◌, ℕ, zero, suc, ◌/◌, ◌%◌, ◌==◌, Bool, ℤ, List, [], ◌∷◌, length, take, drop, slice_get, Option, Some, None, Result, Ok, Err, nat_lt, if◌then◌else◌}
 use Rattle.std.specs.List.{flat_map}
 use Rattle.std.specs.Int.{Width, w8, w16, w32, w64, byte_len, from_be_bytes, cast_signed}
 use Rattle.il_model.specs.declared.value.Value.{Value}
@@ -16,12 +16,6 @@ use Rattle.il_model.specs.declared.command.Refusal.TheVariants as refusals
 use Rattle.il_model.specs.Values.{typed_value}
 use Rattle.il_model.specs.Codes.{type_of}
 use Rattle.il_model.specs.Cells.{safe_image}
-use Rattle.vr_model.specs.Groups.{client_count}
-use Rattle.vr_model.specs.Logs.{Request}
-use Rattle.vr_model.specs.Messages.{PrimaryState, Party, Replica, Client, Body, RequestMessage, Prepare, PrepareOk, Commit, Reply, StartViewChange, DoViewChangeMessage, StartView, Recovery, RecoveryResponseMessage, GetState, NewState, Message}
-use Rattle.vr_wire.specs.declared.fault.WireFault.{WireFault}
-use Rattle.vr_wire.specs.declared.fault.WireFault.TheVariants.{BadFrame, TooLarge}
-use Rattle.vr_wire.specs.Frames.{body_limit}
 use Rattle.vr_wire.specs.declared.fault.ReadError.{ReadError}
 use Rattle.vr_wire.specs.declared.fault.ReadError.TheVariants as errors
 
@@ -70,6 +64,14 @@ items_at item (suc n) bytes = item bytes >>= λ x. items_at item n x.1 >>= λ xs
 -- what a field stands for, if it stands for something
 abbrev pub lawful : {A X : Type 0} → (A → Option X) → Reader A → Reader X
 lawful meaning a bytes = a bytes >>= λ x. meaning x.0 >>= λ y. Some (y, x.1)
+
+-- those that pass a test
+abbrev pub passed : {X : Type 0} → (X → Bool) → X → Option X
+passed test x = if test x then Some x else None
+
+-- as many as a number tells
+abbrev pub listed_at : {X : Type 0} → Reader ℕ → Reader X → Reader (List X)
+listed_at count item bytes = count bytes >>= λ n. items_at item n.0 n.1
 
 -- behind a tag, what the reader with that number reads
 abbrev pub read_by : {X : Type 0} → Option (Reader X) → Reader X
@@ -161,108 +163,3 @@ answer_readers =
 
 abbrev pub answer_at : Reader Answer
 answer_at bytes = tagged answer_readers bytes
-
--- ---- requests and logs
-
-abbrev pub client_of : ℕ → Option ℕ
-client_of n = if nat_lt n client_count then Some n else None
-
-abbrev pub request_at : Reader (Request Command)
-request_at bytes = fields_3 (λ client number command. record { client = client; number = number; command = command }) (lawful client_of (number_at w8)) (number_at w64) command_at bytes
-
-abbrev pub log_at : Reader (List (Request Command))
-log_at bytes = number_at w32 bytes >>= λ n. items_at request_at n.0 n.1
-
--- ---- messages
-
-abbrev pub state_readers : List (Reader (Option (PrimaryState Command)))
-state_readers = fields_0 None ∷ fields_2 (λ k log. Some (record { commit_number = k; log = log })) (number_at w64) log_at ∷ []
-
-abbrev pub state_at : Reader (Option (PrimaryState Command))
-state_at bytes = tagged state_readers bytes
-
-abbrev pub prepare_at : Reader (Body Command Answer)
-prepare_at bytes = fields_4 Prepare (number_at w64) request_at (number_at w64) (number_at w64) bytes
-
-abbrev pub reply_at : Reader (Body Command Answer)
-reply_at bytes = fields_3 Reply (number_at w64) (number_at w64) answer_at bytes
-
-abbrev pub do_view_change_at : Reader (Body Command Answer)
-do_view_change_at bytes = fields_4 (λ v last k log. DoViewChangeMessage v (record { last_normal_view = last; commit_number = k; log = log })) (number_at w64) (number_at w64) (number_at w64) log_at bytes
-
-abbrev pub start_view_at : Reader (Body Command Answer)
-start_view_at bytes = fields_3 StartView (number_at w64) (number_at w64) log_at bytes
-
-abbrev pub recovery_response_at : Reader (Body Command Answer)
-recovery_response_at bytes = fields_3 (λ v x state. RecoveryResponseMessage x (record { view = v; state = state })) (number_at w64) (number_at w64) state_at bytes
-
-abbrev pub new_state_at : Reader (Body Command Answer)
-new_state_at bytes = fields_4 NewState (number_at w64) (number_at w64) (number_at w64) log_at bytes
-
-abbrev pub numbers_at : Reader (ℕ × ℕ)
-numbers_at bytes = fields_2 (λ first second. (first, second)) (number_at w64) (number_at w64) bytes
-
-abbrev pub no_body : Reader (Body Command Answer)
-no_body bytes = None
-
--- in the order of their tags, from 1
-abbrev pub body_readers : List (Reader (Body Command Answer))
-body_readers =
-    no_body ∷
-    fields_1 RequestMessage request_at ∷
-    prepare_at ∷
-    fields_2 PrepareOk (number_at w64) (number_at w64) ∷
-    fields_2 Commit (number_at w64) (number_at w64) ∷
-    reply_at ∷
-    fields_1 StartViewChange (number_at w64) ∷
-    do_view_change_at ∷
-    start_view_at ∷
-    fields_2 Recovery (number_at w64) (number_at w64) ∷
-    recovery_response_at ∷
-    fields_2 GetState (number_at w64) (number_at w64) ∷
-    new_state_at ∷ []
-
-abbrev pub body_at : ℕ → Reader (Body Command Answer)
-body_at tag bytes = read_by (slice_get body_readers tag) bytes
-
-abbrev pub party_of_code : Bool → ℕ → Option Party
-party_of_code may_be_client n =
-    if nat_lt n 7 then Some (Replica n)
-    else (if may_be_client && (nat_le 128 n && nat_lt (n - 128) client_count) then Some (Client (n - 128)) else None)
-
-abbrev pub party_at : Bool → Reader Party
-party_at may_be_client bytes = lawful (party_of_code may_be_client) (number_at w8) bytes
-
--- a sender and a receiver, and the fields behind them
-abbrev pub parts_at : ℕ → Reader (Message Command Answer)
-parts_at tag bytes = fields_3 (λ from to body. record { from = from; to = to; body = body }) (party_at (tag == 1)) (party_at (tag == 5)) (body_at tag) bytes
-
--- the message whose body is all of the bytes
-unfoldable pub message_at : List ℕ → Option (Message Command Answer)
-message_at bytes = number_at w8 bytes >>= λ tag. closed (parts_at tag.0) tag.1
-
--- ---- what stands in front of a stream
-
--- less than a frame; a message's frame, and what is behind it; or a fault
-pub data Front : Type 0 where
-  Waits : Front
-  Whole : (message : Message Command Answer) (rest : List ℕ) → Front
-  Broken : (fault : WireFault) → Front
-
-abbrev pub found : Option (Message Command Answer) → List ℕ → Front
-found None rest = Broken BadFrame
-found (Some m) rest = Whole m rest
-
--- behind four bytes that tell a length
-abbrev pub front_by : ℕ → List ℕ → Front
-front_by n bytes =
-    if n == 0 then Broken BadFrame
-    else (if nat_lt body_limit n then Broken TooLarge
-    else (if nat_lt (length bytes) n then Waits else found (message_at (take n bytes)) (drop n bytes)))
-
-abbrev pub front_behind : Option (ℕ × List ℕ) → Front
-front_behind None = Waits
-front_behind (Some n) = front_by n.0 n.1
-
-unfoldable pub front_of : List ℕ → Front
-front_of bytes = front_behind (number_at w32 bytes)

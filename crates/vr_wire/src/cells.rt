@@ -3,7 +3,7 @@
 ghost use Rattle.std.specs.Prelude.{◌≡◌, ◌*◌, ◌≤◌, ◌++◌, OnOk, length, take, FitsSigned};
 ghost use Rattle.std.specs.List.{flat_map, AllByRecursion};
 ghost use Rattle.std.specs.Int.{w16};
-ghost use Rattle.vr_wire.specs.Frames.{bit_number, byte_of, packed, word_bytes, cells_bytes, FitsCells};
+ghost use Rattle.vr_wire.specs.Fields.{bit_number, byte_of, packed, word_bytes, cells_bytes, FitsCells};
 ghost use Rattle.vr_wire.specs.Reading.{Gives, bits_at, word_at, items_at, cells_at, end_of};
 
 use crate::fault::ReadError;

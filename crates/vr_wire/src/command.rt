@@ -1,7 +1,7 @@
 //! Commands, both ways.
 
 ghost use Rattle.std.specs.Prelude.{◌≡◌, ◌++◌, OnOk, slice_get};
-ghost use Rattle.vr_wire.specs.Frames.{command_tag, command_fields, command_bytes, FitsCommand};
+ghost use Rattle.vr_wire.specs.Fields.{command_tag, command_fields, command_bytes, FitsCommand};
 ghost use Rattle.vr_wire.specs.Reading.{Gives, scan_at, force_at, command_at, command_readers, read_by, end_of};
 
 use crate::cells::{cells_at, cells_end, put_cells};

@@ -1,7 +1,6 @@
 //! The messages of a stream of frames, in whatever pieces it comes.
 
-ghost use Rattle.std.specs.Prelude.{◌≡◌, ◌-◌, ◌++◌, [], List, length, take, drop, All, IfOk, OnErr, Err};
-ghost use Rattle.vr_wire.specs.Entries.{HasNoCheckpoint, messages_of};
+ghost use Rattle.std.specs.Prelude.{◌≡◌, ◌-◌, ◌++◌, [], List, length, take, drop, IfOk, OnErr, Err};
 ghost use Rattle.il_model.specs.Stream.{Rest, IsOneStream, Took, ending_of};
 ghost use Rattle.vr_wire.specs.Frames.{IsShort};
 ghost use Rattle.vr_wire.specs.Feeding.{frames, Begins, Fills, Feeding};
@@ -18,9 +17,8 @@ fn frames_of<'a>(
     bytes: &'a [u8],
     out: &mut Vec<Message>,
 ) -> Result<(&'a [u8], Option<WireFault>), AllocError>
-    ensures ok { IfOk result (λ x. Took frames (Rest []) bytes.now (ending_of x.0.now x.1) (messages_of out.old.items) (messages_of out.new.items)) }
+    ensures ok { IfOk result (λ x. Took frames (Rest []) bytes.now (ending_of x.0.now x.1) out.old.items out.new.items) }
     ensures grown { Begins out.old.items out.new.items }
-    ensures entries { All HasNoCheckpoint out.old.items → All HasNoCheckpoint out.new.items }
 {
     let mut rest = bytes;
     'frames: loop {
@@ -70,9 +68,8 @@ fn go_on(
     out: &mut Vec<Message>,
 ) -> Result<Option<WireFault>, AllocError>
     requires { IsShort held.old.items }
-    ensures ok { IfOk result (λ fault. Took frames (Rest held.old.items) piece.now (ending_of held.new.items fault) (messages_of out.old.items) (messages_of out.new.items)) }
+    ensures ok { IfOk result (λ fault. Took frames (Rest held.old.items) piece.now (ending_of held.new.items fault) out.old.items out.new.items) }
     ensures err { OnErr result (Begins held.old.items held.new.items × Begins out.old.items out.new.items) }
-    ensures entries { All HasNoCheckpoint out.old.items → All HasNoCheckpoint out.new.items }
 {
     let rest = fill_frame(held, piece)?;
     match front_of(alloc, held.as_slice()) {
@@ -96,9 +93,8 @@ fn taken(
     out: &mut Vec<Message>,
 ) -> Result<Option<WireFault>, AllocError>
     requires { IsShort held.old.items }
-    ensures ok { IfOk result (λ fault. Took frames (Rest held.old.items) piece.now (ending_of held.new.items fault) (messages_of out.old.items) (messages_of out.new.items)) }
+    ensures ok { IfOk result (λ fault. Took frames (Rest held.old.items) piece.now (ending_of held.new.items fault) out.old.items out.new.items) }
     ensures err { OnErr result (Begins held.old.items held.new.items × Begins out.old.items out.new.items) }
-    ensures entries { All HasNoCheckpoint out.old.items → All HasNoCheckpoint out.new.items }
 {
     if !held.is_empty() {
         return go_on(alloc, held, piece, out);
@@ -148,9 +144,8 @@ impl Feed {
         piece: &[u8],
         out: &mut Vec<Message>,
     ) -> Result<(), WireError>
-        ensures fed { Feeding result self.old piece.now self.new (messages_of out.old.items) (messages_of out.new.items) }
+        ensures fed { Feeding result self.old piece.now self.new out.old.items out.new.items }
         ensures memory { result ≡ Err WireError.Memory → (self.new ≡ self.old) × (out.new.items ≡ out.old.items) }
-        ensures entries { All HasNoCheckpoint out.old.items → All HasNoCheckpoint out.new.items }
     {
         if let Some(fault) = self.fault {
             return Err(WireError::Fault(fault));

@@ -1,9 +1,8 @@
 //! What stands in front of a stream.
 
-ghost use Rattle.std.specs.Prelude.{◌≡◌, ◌+◌, ◌≤◌, IfOk, IfSome, length};
-ghost use Rattle.vr_wire.specs.Entries.{message_of, HasNoCheckpoint};
+ghost use Rattle.std.specs.Prelude.{◌≡◌, ◌+◌, ◌≤◌, length};
 ghost use Rattle.vr_wire.specs.Frames.{told_length};
-ghost use Rattle.vr_wire.specs.Reading.{front_by, front_of};
+ghost use Rattle.vr_wire.specs.MessageReading.{front_by, front_of};
 ghost use Rattle.vr_wire.specs.Shown.{ReadsFront, Shows};
 
 use crate::fault::{ReadError, WireError, WireFault};
@@ -31,8 +30,7 @@ fn front_by(
     length: usize,
     bytes: &[u8],
 ) -> Result<Option<(Message, &[u8])>, WireError>
-    ensures front { ReadsFront (λ x. message_of x.0) (λ x. x.1.now) result (front_by length bytes.now) }
-    ensures entries { IfOk result (λ found. IfSome found (λ x. HasNoCheckpoint x.0)) }
+    ensures { ReadsFront (λ x. x.0) (λ x. x.1.now) result (front_by length bytes.now) }
 {
     if length == 0 {
         return Err(WireError::Fault(WireFault::BadFrame));
@@ -51,10 +49,9 @@ fn front_by(
     }
 }
 
-#[tactic(auto, unfolding(crate::specs::Reading::front_of))]
+#[tactic(auto, unfolding(crate::specs::MessageReading::front_of))]
 fn read_front(alloc: Global, bytes: &[u8]) -> Result<Option<(Message, &[u8])>, WireError>
-    ensures front { ReadsFront (λ x. message_of x.0) (λ x. x.1.now) result (front_of bytes.now) }
-    ensures entries { IfOk result (λ found. IfSome found (λ x. HasNoCheckpoint x.0)) }
+    ensures { ReadsFront (λ x. x.0) (λ x. x.1.now) result (front_of bytes.now) }
 {
     match u32_at(bytes) {
         Ok((length, rest)) => front_by(alloc, length as usize, rest),
@@ -65,8 +62,7 @@ fn read_front(alloc: Global, bytes: &[u8]) -> Result<Option<(Message, &[u8])>, W
 
 /// The message whose frame stands in front, and what is behind it; none where less than a frame is there.
 pub(crate) fn front_of(alloc: Global, bytes: &[u8]) -> Result<Option<(Message, &[u8])>, WireError>
-    ensures shows { Shows (λ x. message_of x.0) (λ x. x.1.now) result bytes.now }
-    ensures entries { IfOk result (λ found. IfSome found (λ x. HasNoCheckpoint x.0)) }
+    ensures { Shows (λ x. x.0) (λ x. x.1.now) result bytes.now }
 {
     read_front(alloc, bytes)
 }

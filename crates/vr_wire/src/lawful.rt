@@ -1,17 +1,17 @@
 //! Which messages have a frame.
 
-ghost use Rattle.std.specs.Prelude.{◌≡◌, ◌↔◌, IsTrue, Option, None, option_map};
-ghost use Rattle.vr_model.specs.StandsFor.{requests_of, party_of};
-ghost use Rattle.vr_model.specs.declared.message.PrimaryState.{PrimaryState};
-ghost use Rattle.vr_wire.specs.Entries.{carried, IsOfEntries, HasNoCheckpoint, state_of, body_of, message_of};
-ghost use Rattle.std.specs.List.{AllByRecursion};
-ghost use Rattle.vr_wire.specs.Frames.{IsEnd, IsOfClient, may_send, may_receive, IsLog, IsSafe, IsState, IsBody, IsLawful};
+ghost use Rattle.std.specs.Prelude.{◌≡◌, ◌↔◌, IsTrue};
+ghost use Rattle.vr_wire.specs.Fields.{IsSafe};
+ghost use Rattle.vr_wire.specs.Logs.{IsLog};
+ghost use Rattle.vr_wire.specs.MessageReading.{is_past};
+ghost use Rattle.vr_wire.specs.Frames.{IsEnd, may_send, may_receive, IsState, IsPast, IsBody, IsLawful};
 
+use crate::log::is_log;
 use il_model::{Answer, OutImage};
-use vr_model::{Body, Log, Message, Party, PrimaryState, Request};
+use vr_model::{Body, Log, Message, Party, PrimaryState};
 
 fn is_end(may_be_client: bool, party: Party) -> bool
-    ensures { IsTrue result ↔ IsEnd may_be_client (party_of party) }
+    ensures { IsTrue result ↔ IsEnd may_be_client party }
 {
     match party {
         Party::Replica(number) => number < 7,
@@ -20,28 +20,15 @@ fn is_end(may_be_client: bool, party: Party) -> bool
 }
 
 fn may_send(body: &Body) -> bool
-    ensures { result ≡ may_send (body_of body.now) }
+    ensures { result ≡ may_send body.now }
 {
     matches!(body, Body::Request(_))
 }
 
 fn may_receive(body: &Body) -> bool
-    ensures { result ≡ may_receive (body_of body.now) }
+    ensures { result ≡ may_receive body.now }
 {
     matches!(body, Body::Reply { .. })
-}
-
-fn is_log(log: &[Request]) -> bool
-    ensures { IsTrue result ↔ IsLog (requests_of log.now) }
-{
-    log.len() < 4294967296
-}
-
-/// Whether a log is one of entries alone, and not too long.
-fn is_kept(log: &Log) -> bool
-    ensures { IsTrue result ↔ (IsLog (requests_of log.now.entries) × (log.now.checkpoint ≡ None)) }
-{
-    log.checkpoint().is_none() && is_log(log.entries())
 }
 
 fn is_same(a: &OutImage, b: &OutImage) -> bool
@@ -50,7 +37,7 @@ fn is_same(a: &OutImage, b: &OutImage) -> bool
     a == b
 }
 
-fn is_safe(answer: &Answer) -> bool
+pub(crate) fn is_safe(answer: &Answer) -> bool
     ensures { IsTrue result ↔ IsSafe answer.now }
 {
     match answer {
@@ -60,22 +47,39 @@ fn is_safe(answer: &Answer) -> bool
 }
 
 fn is_state(state: &Option<PrimaryState>) -> bool
-    ensures { IsTrue result ↔ (IsState (option_map state_of state.now) × IsOfEntries (option_map (λ (s : PrimaryState). s.log) state.now)) }
+    ensures { IsTrue result ↔ IsState state.now }
 {
     match state {
         None => true,
-        Some(state) => is_kept(&state.log),
+        Some(state) => is_log(&state.log),
     }
 }
 
+/// Whether a log's checkpoint, if it has one, is past this op number.
+pub(crate) fn is_past(op_number: u64, log: &Log) -> bool
+    ensures value { result ≡ is_past op_number log.now.checkpoint }
+    ensures lawful { IsTrue result ↔ IsPast op_number log.now.checkpoint }
+{
+    match log.checkpoint() {
+        None => true,
+        Some(checkpoint) => op_number < checkpoint.base,
+    }
+}
+
+fn is_handed_on(op_number: u64, log: &Log) -> bool
+    ensures { IsTrue result ↔ (IsLog log.now × IsPast op_number log.now.checkpoint) }
+{
+    is_log(log) && is_past(op_number, log)
+}
+
 fn is_body(body: &Body) -> bool
-    ensures { IsTrue result ↔ (IsBody (body_of body.now) × IsOfEntries (carried body.now)) }
+    ensures { IsTrue result ↔ IsBody body.now }
 {
     match body {
         Body::Reply { answer, .. } => is_safe(answer),
-        Body::DoViewChange { log, .. } | Body::StartView { log, .. } | Body::NewState { log, .. } =>
-            is_kept(log),
+        Body::DoViewChange { log, .. } | Body::StartView { log, .. } => is_log(log),
         Body::RecoveryResponse { state, .. } => is_state(state),
+        Body::NewState { op_number, log, .. } => is_handed_on(*op_number, log),
         Body::Request(_)
         | Body::Prepare { .. }
         | Body::PrepareOk { .. }
@@ -86,9 +90,9 @@ fn is_body(body: &Body) -> bool
     }
 }
 
-/// Whether the sender, the receiver and each field have a lawful value. A checkpoint is none so far.
+/// Whether the sender, the receiver and each field have a lawful value.
 pub(crate) fn is_lawful(message: &Message) -> bool
-    ensures { IsTrue result ↔ (IsLawful (message_of message.now) × HasNoCheckpoint message.now) }
+    ensures { IsTrue result ↔ IsLawful message.now }
 {
     is_end(may_send(&message.body), message.from)
         && is_end(may_receive(&message.body), message.to)

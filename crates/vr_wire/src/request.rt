@@ -1,9 +1,10 @@
-//! Requests and logs, both ways.
+//! Requests and the entries of a log, both ways.
 
-ghost use Rattle.std.specs.Prelude.{◌≡◌, ◌<◌, ◌^◌, ◌++◌, OnOk, length, option_map};
-ghost use Rattle.vr_model.specs.StandsFor.{request_of, requests_of};
-ghost use Rattle.vr_wire.specs.Frames.{request_bytes, log_bytes, FitsRequest, FitsLog};
-ghost use Rattle.vr_wire.specs.Reading.{Gives, client_of, request_at, items_at, log_at, end_of, closed};
+ghost use Rattle.std.specs.Prelude.{◌≡◌, ◌<◌, ◌^◌, ◌++◌, OnOk, length};
+ghost use Rattle.std.specs.List.{AllByRecursion};
+ghost use Rattle.vr_wire.specs.Logs.{request_bytes, entries_bytes, FitsRequest};
+ghost use Rattle.vr_wire.specs.MessageReading.{client_of, request_at, entries_at};
+ghost use Rattle.vr_wire.specs.Reading.{Gives, items_at, end_of, closed};
 
 use crate::command::{command_at, command_end, put_command};
 use crate::fault::ReadError;
@@ -13,35 +14,35 @@ use std::alloc::{AllocError, Global};
 use vr_model::{ClientNumber, Request};
 
 pub(crate) fn put_request(out: &mut Vec<u8>, request: &Request) -> Result<(), AllocError>
-    ensures text { OnOk result (out.new.items ≡ out.old.items ++ request_bytes (request_of request.now)) }
-    ensures fits { OnOk result (FitsRequest (request_of request.now)) }
+    ensures text { OnOk result (out.new.items ≡ out.old.items ++ request_bytes request.now) }
+    ensures fits { OnOk result (FitsRequest request.now) }
 {
     put_u8(out, request.client.number)?;
     put_u64(out, request.number)?;
     put_command(out, &request.command)
 }
 
-pub(crate) fn put_log(out: &mut Vec<u8>, log: &[Request]) -> Result<(), AllocError>
-    requires { length log.now < 2 ^ 32 }
-    ensures text { OnOk result (out.new.items ≡ out.old.items ++ log_bytes (requests_of log.now)) }
-    ensures fits { OnOk result (FitsLog (requests_of log.now)) }
+pub(crate) fn put_entries(out: &mut Vec<u8>, entries: &[Request]) -> Result<(), AllocError>
+    requires { length entries.now < 2 ^ 32 }
+    ensures text { OnOk result (out.new.items ≡ out.old.items ++ entries_bytes entries.now) }
+    ensures fits { OnOk result (AllByRecursion FitsRequest entries.now) }
 {
-    put_u32(out, log.len() as u32)?;
-    for request in log {
+    put_u32(out, entries.len() as u32)?;
+    for request in entries {
         put_request(out, request)?;
     }
     Ok(())
 }
 
 /// A client, by its number.
-fn client_of(number: u8) -> Option<ClientNumber>
-    ensures { option_map (λ client. client.number) result ≡ client_of number }
+pub(crate) fn client_of(number: u8) -> Option<ClientNumber>
+    ensures { result ≡ client_of number }
 {
     ClientNumber::new(number)
 }
 
 pub(crate) fn request_at(bytes: &[u8]) -> Result<(Request, &[u8]), ReadError>
-    ensures { Gives (λ x. (request_of x.0, x.1.now)) result (request_at bytes.now) }
+    ensures { Gives (λ x. (x.0, x.1.now)) result (request_at bytes.now) }
 {
     let (code, rest) = u8_at(bytes)?;
     let client = lawful(client_of(code))?;
@@ -79,7 +80,7 @@ fn requests_end(count: u32, bytes: &[u8]) -> Result<&[u8], ReadError>
 
 /// So many requests, in a vector that is asked for once, for all of them.
 fn requests_at(alloc: Global, count: u32, bytes: &[u8]) -> Result<(Vec<Request>, &[u8]), ReadError>
-    ensures { Gives (λ x. (requests_of x.0.items, x.1.now)) result (items_at request_at count bytes.now) }
+    ensures { Gives (λ x. (x.0.items, x.1.now)) result (items_at request_at count bytes.now) }
 {
     let mut requests = Vec::with_capacity(alloc, count as usize)?;
     let mut rest = bytes;
@@ -91,9 +92,9 @@ fn requests_at(alloc: Global, count: u32, bytes: &[u8]) -> Result<(Vec<Request>,
     Ok((requests, rest))
 }
 
-/// A log that is all of the bytes. It is judged whole before memory is asked for.
-pub(crate) fn whole_log(alloc: Global, bytes: &[u8]) -> Result<Vec<Request>, ReadError>
-    ensures { Gives (λ log. requests_of log.items) result (closed log_at bytes.now) }
+/// Entries that are all of the bytes. They are judged whole before memory is asked for.
+pub(crate) fn whole_entries(alloc: Global, bytes: &[u8]) -> Result<Vec<Request>, ReadError>
+    ensures { Gives (λ entries. entries.items) result (closed entries_at bytes.now) }
 {
     let (count, rest) = u32_at(bytes)?;
     let behind = requests_end(count, rest)?;

@@ -4,6 +4,7 @@
 #![tactic(auto)]
 
 mod blocks;
+mod checkpoints;
 mod clients;
 mod frames;
 mod messages;

@@ -1,13 +1,14 @@
 //! Messages between replicas as a row writes them: a line with the message's numbers, and behind it a line for each
-//! request of its log, or for its answer.
+//! request of its log, or for its answer; before the requests the lines of a checkpoint, if it has one.
 
+use crate::checkpoints;
 use crate::notation::{behind, cells_of, hexadecimal, number_of, unreadable};
 use il_model::{Answer, Command, InImage, Literal, OutImage, Refusal, Slot, Stop, Value, written};
 use std::alloc::Global;
 use std::io;
 use vr_model::{Body, ClientNumber, Log, Message, Party, PrimaryState, Request};
 
-fn client(text: &str) -> Option<ClientNumber> {
+pub fn client(text: &str) -> Option<ClientNumber> {
     ClientNumber::new(text.strip_prefix('C')?.parse::<u8>().ok()?)
 }
 
@@ -19,14 +20,14 @@ fn party(text: &str) -> Option<Party> {
     }
 }
 
-fn value(text: &str) -> Option<Value> {
+pub fn value(text: &str) -> Option<Value> {
     match written::literal(text.as_bytes())? {
         Literal::Typed(value) => Some(value),
         Literal::Bare(_) => None,
     }
 }
 
-fn slot(text: &str) -> Option<Slot> {
+pub fn slot(text: &str) -> Option<Slot> {
     Some(Slot(u16::try_from(hexadecimal(text)?).ok()?))
 }
 
@@ -89,7 +90,7 @@ fn refusal(text: &str) -> Option<Refusal> {
 }
 
 /// An answer, as `plc` prints it; the cells of an image have a `%`, and a stop may have some.
-fn answer(text: &str) -> Option<Answer> {
+pub fn answer(text: &str) -> Option<Answer> {
     let (name, rest) = text.split_once(' ').unwrap_or((text, ""));
     let (first, others) = rest.split_once(' ').unwrap_or((rest, ""));
     let image = OutImage {
@@ -113,13 +114,22 @@ fn answer(text: &str) -> Option<Answer> {
     })
 }
 
-/// The log of these requests, a line each.
+/// The log of these lines: those of a checkpoint, and a line for each request.
 fn log(alloc: Global, lines: &[&str]) -> io::Result<Log> {
+    let mut checkpoint = checkpoints::nothing(alloc)?;
+    let mut is_behind = false;
     let mut entries = Vec::new(alloc);
     for line in lines {
-        entries.push(request(line).ok_or(unreadable())?)?;
+        if checkpoints::put(alloc, &mut checkpoint, line)? {
+            is_behind = true;
+        } else {
+            entries.push(request(line).ok_or(unreadable())?)?;
+        }
     }
-    Ok(Log::of(entries))
+    if !is_behind {
+        return Ok(Log::of(entries));
+    }
+    Log::past(Box::new(alloc, checkpoint)?, entries).ok_or(unreadable())
 }
 
 /// What a message of the normal case says.

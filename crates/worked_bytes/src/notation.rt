@@ -24,16 +24,35 @@ pub fn hexadecimal(digits: &str) -> Option<u64> {
     Some(number)
 }
 
-/// The bytes of words in hexadecimal.
-pub fn bytes_of(alloc: Global, words: &str) -> io::Result<Vec<u8>> {
-    let mut bytes = Vec::new(alloc);
+/// Puts a text so many times.
+fn put_times(out: &mut String, count: u16, text: &str) -> Result<(), AllocError> {
+    for _ in 0..count {
+        out.push_str(text)?;
+    }
+    Ok(())
+}
+
+/// Words without the blanks between them; `576*00` is `00` so many times.
+pub fn spread(alloc: Global, words: &str) -> io::Result<String> {
+    let mut spread = String::new(alloc);
     for word in words.split_whitespace() {
-        match hex::decode(alloc, word) {
-            Ok(some) => bytes.extend_from_slice(some.as_slice())?,
-            Err(_) => return Err(unreadable()),
+        match word.split_once('*') {
+            None => spread.push_str(word)?,
+            Some((count, text)) => {
+                let count = count.parse::<u16>().map_err(|_| unreadable())?;
+                put_times(&mut spread, count, text)?;
+            }
         }
     }
-    Ok(bytes)
+    Ok(spread)
+}
+
+/// The bytes of words in hexadecimal.
+pub fn bytes_of(alloc: Global, words: &str) -> io::Result<Vec<u8>> {
+    match hex::decode(alloc, spread(alloc, words)?.as_str()) {
+        Ok(bytes) => Ok(bytes),
+        Err(_) => Err(unreadable()),
+    }
 }
 
 /// The lines of a section that are no remarks and aren't blank.

@@ -1,6 +1,6 @@
 //! The rows of a file. A section of a row hands something in or says what comes out; a table is a row a line.
 
-use crate::notation::{bytes_of, lines_of, plain, unreadable};
+use crate::notation::{bytes_of, lines_of, plain, spread, unreadable};
 use crate::sessions::Exchange;
 use crate::{blocks, frames, sessions};
 use std::alloc::{AllocError, Global};
@@ -90,6 +90,9 @@ fn check_table<R: Wait>(
             let came = given.exchange.request(rt, alloc, cell, said);
             let reply = hexadecimals(alloc, said)?;
             found.count(alloc, line, reply.as_str(), came)?;
+        } else if title == "byte replaced" {
+            let letters = spread(alloc, said)?;
+            found.count(alloc, line, letters.as_str(), frames::replaced(alloc, cell))?;
         } else {
             found.count(alloc, line, said, comes_out(rt, alloc, given, title, cell))?;
         }
@@ -111,7 +114,6 @@ fn comes_out<R: Wait>(
         "field" => return blocks::field(alloc, cell),
         "count of releases" => return sessions::numbers_shown(rt, alloc, cell),
         "stream of frames" => return frames::stream(alloc, cell),
-        "byte replaced" => return frames::replaced(alloc, cell),
         "client" => given.exchange.with_client(rt, alloc, cell)?,
         "stream of requests" => sessions::stream(rt, alloc, cell)?,
         "fault for good" => sessions::fault(alloc, cell)?,

@@ -1,14 +1,10 @@
-use Rattle.std.proofs.Common.{◌≡◌, ℕ, ◌++◌, ◌∷◌, [], List, refl, subst}
-use Rattle.std.proofs.lemmas.List.{map_push}
+use Rattle.std.proofs.Common.{ℕ, ◌++◌, ◌∷◌, [], List, refl, subst}
 use Rattle.il_model.specs.Stream.{Rest, Took, ending_of}
-use Rattle.il_model.specs.declared.command.Command.{Command}
-use Rattle.il_model.specs.declared.command.Answer.{Answer}
-use Rattle.vr_model.specs.Messages.{Message}
-use Rattle.vr_wire.specs.Entries.{message_of, messages_of}
+use Rattle.vr_model.specs.declared.message.Message.{Message}
 use Rattle.vr_wire.specs.Frames.{IsPartial, IsBroken}
 use Rattle.vr_wire.specs.Shown.{IsWhole}
 use Rattle.vr_wire.specs.Feeding.{frames}
-use Rattle.vr_wire.proofs.Pieces.{goes_on_waiting, goes_on_broken, goes_on_whole, begins_same, begins_more, on_err, pushed}
+use Rattle.vr_wire.proofs.Pieces.{goes_on_waiting, goes_on_broken, goes_on_whole, begins_same, begins_more, on_err}
 use Rattle.vr_wire.proofs.feed.go_on.Goals as goal
 
 pub returns-in_err-push-in-Ok-Some-clause-err : goal.returns-in_err-push-in-Ok-Some-clause-err
@@ -25,38 +21,25 @@ returns-in_err-held-in-Ok-Some-clause-err c =
 
 pub returns-in_ok-held-in-Ok-Some-clause-ok : goal.returns-in_ok-held-in-Ok-Some-clause-ok
 returns-in_ok-held-in-Ok-Some-clause-ok c =
-    let shown = rw c.in-Ok-Some.field-0-is at c.in-Ok-Some.ensures.shows in
-    let m = message_of c.in-Ok-Some.message in
-    let before = messages_of c.args.out.now.items in
-    let after = messages_of c.frames_of.new.out.items in
-    let grown : messages_of c.push.new.self.items ≡ before ++ m ∷ [] = rw c.in_ok-push-in-Ok-Some.ensures.items (map_push _ c.args.out.now.items c.in-Ok-Some.message) in
+    let shown = rw c.in-Ok-Some.field-0-is at c.in-Ok-Some.ensures in
+    let m = c.in-Ok-Some.message in
+    let before = c.args.out.now.items in
+    let after = c.frames_of.new.out.items in
     let ending = ending_of c.in_ok-tail-in-Ok-Some.tail.now c.in_ok-tail-in-Ok-Some.fault in
-    let more : Took frames (Rest []) c.in_ok-rest.rest.now ending (before ++ m ∷ []) after = subst (λ (ms : List (Message Command Answer)). Took frames (Rest []) c.in_ok-rest.rest.now ending ms after) grown c.in_ok-tail-in-Ok-Some.ensures.ok in
+    let more : Took frames (Rest []) c.in_ok-rest.rest.now ending (before ++ m ∷ []) after = subst (λ (ms : List Message). Took frames (Rest []) c.in_ok-rest.rest.now ending ms after) c.in_ok-push-in-Ok-Some.ensures.items c.in_ok-tail-in-Ok-Some.ensures.ok in
     rw c.in_ok-held-in-Ok-Some.ensures.items
     (goes_on_whole c.args.held.now.items c.args.piece.now c.fill_frame.new.held.items c.in_ok-rest.rest.now c.in_ok-rest.ensures.ok m c.in-Ok-Some.field-0-0-1.now ending before after (subst (λ (bytes : List ℕ). IsWhole bytes m c.in-Ok-Some.field-0-0-1.now) c.as_slice.ensures.value shown) more)
 
 pub returns-in-Ok-None-clause-ok : goal.returns-in-Ok-None-clause-ok
 returns-in-Ok-None-clause-ok c =
-    let shown = rw c.in-Ok-None.field-0-is at c.in-Ok-None.ensures.shows in
-    goes_on_waiting c.args.held.now.items c.args.piece.now c.fill_frame.new.held.items c.in_ok-rest.rest.now c.in_ok-rest.ensures.ok (messages_of c.args.out.now.items) (subst IsPartial c.as_slice.ensures.value shown)
+    let shown = rw c.in-Ok-None.field-0-is at c.in-Ok-None.ensures in
+    goes_on_waiting c.args.held.now.items c.args.piece.now c.fill_frame.new.held.items c.in_ok-rest.rest.now c.in_ok-rest.ensures.ok c.args.out.now.items (subst IsPartial c.as_slice.ensures.value shown)
 
 pub returns-in-Err-Fault-clause-ok : goal.returns-in-Err-Fault-clause-ok
 returns-in-Err-Fault-clause-ok c =
-    let shown = rw c.in-Err-Fault.field-0-is at c.in-Err-Fault.ensures.shows in
+    let shown = rw c.in-Err-Fault.field-0-is at c.in-Err-Fault.ensures in
     rw c.in-Err-Fault.fault-is
-    (goes_on_broken c.args.held.now.items c.args.piece.now c.fill_frame.new.held.items c.in_ok-rest.rest.now c.in_ok-rest.ensures.ok (messages_of c.args.out.now.items) c.in-Err-Fault.fault (subst (IsBroken c.in-Err-Fault.fault) c.as_slice.ensures.value shown))
+    (goes_on_broken c.args.held.now.items c.args.piece.now c.fill_frame.new.held.items c.in_ok-rest.rest.now c.in_ok-rest.ensures.ok c.args.out.now.items c.in-Err-Fault.fault (subst (IsBroken c.in-Err-Fault.fault) c.as_slice.ensures.value shown))
 
 pub returns-in-Err-Memory-clause-err : goal.returns-in-Err-Memory-clause-err
 returns-in-Err-Memory-clause-err c = (c.fill_frame.ensures.grown, begins_same c.args.out.now.items c.args.out.now.items refl)
-
-pub returns-in_err-tail-in-Ok-Some-clause-entries : goal.returns-in_err-tail-in-Ok-Some-clause-entries
-returns-in_err-tail-in-Ok-Some-clause-entries c = λ all.
-    c.frames_of.ensures.entries (pushed c.args.out.now.items c.push.new.self.items c.in-Ok-Some.message c.in_ok-push-in-Ok-Some.ensures.items (rw c.in-Ok-Some.field-0-is at c.in-Ok-Some.ensures.entries) all)
-
-pub returns-in_err-held-in-Ok-Some-clause-entries : goal.returns-in_err-held-in-Ok-Some-clause-entries
-returns-in_err-held-in-Ok-Some-clause-entries c = λ all.
-    c.frames_of.ensures.entries (pushed c.args.out.now.items c.push.new.self.items c.in-Ok-Some.message c.in_ok-push-in-Ok-Some.ensures.items (rw c.in-Ok-Some.field-0-is at c.in-Ok-Some.ensures.entries) all)
-
-pub returns-in_ok-held-in-Ok-Some-clause-entries : goal.returns-in_ok-held-in-Ok-Some-clause-entries
-returns-in_ok-held-in-Ok-Some-clause-entries c = λ all.
-    c.frames_of.ensures.entries (pushed c.args.out.now.items c.push.new.self.items c.in-Ok-Some.message c.in_ok-push-in-Ok-Some.ensures.items (rw c.in-Ok-Some.field-0-is at c.in-Ok-Some.ensures.entries) all)

@@ -1,5 +1,6 @@
 use Rattle.std.proofs.lemmas.Result.{err_from_is_err_and}
-use Rattle.vr_wire.specs.Reading.{request_at, items_at, end_of}
+use Rattle.vr_wire.specs.MessageReading.{request_at}
+use Rattle.vr_wire.specs.Reading.{items_at, end_of}
 use Rattle.vr_wire.proofs.Items.{end_goes_on, end_fails, end_done}
 use Rattle.vr_wire.proofs.request.requests_end.Goals as goal
 

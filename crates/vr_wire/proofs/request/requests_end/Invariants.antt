@@ -1,5 +1,6 @@
 use Rattle.std.proofs.Common.{◌≡◌, ◌-◌}
-use Rattle.vr_wire.specs.Reading.{request_at, items_at, end_of}
+use Rattle.vr_wire.specs.MessageReading.{request_at}
+use Rattle.vr_wire.specs.Reading.{items_at, end_of}
 use Rattle.vr_wire.proofs.request.requests_end.Given as goal
 
 abbrev pub invariant-loop : goal.invariant-loop
