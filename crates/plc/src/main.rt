@@ -113,6 +113,7 @@ fn perform<W: Write, E: CountedWrite>(
             period,
             budget,
             idle,
+            over_tcp,
         } => {
             let settings = Settings {
                 config,
@@ -121,6 +122,7 @@ fn perform<W: Write, E: CountedWrite>(
                 period,
                 scans,
                 idle,
+                over_tcp,
             };
             match Service::new(*rt, source, store, settings) {
                 Ok(service) => return Outcome::Serve(service),

@@ -1,21 +1,18 @@
 //! The group of replicas, with their stores and links.
 
-ghost use Rattle.std.specs.Prelude.{◌≡◌, IfOk, vec_len};
+ghost use Rattle.std.specs.Prelude.{◌≡◌, IfErr, IfOk, vec_len};
 ghost use Rattle.vr_model.specs.Groups.{group_size};
 ghost use Rattle.plc_tool.specs.Status.{status_of};
 
 use crate::health::{Health, HealthGate, HealthStore};
 use crate::watch::Watch;
 use plc_tool::Fault;
-use replicas::{ChannelLink, ClusterError, FileStore, MachineClock, Seat, Switchboard};
+use replicas::{ClusterError, FileStore, MachineClock, Seat};
 use std::alloc::{AllocError, Global};
 use std::rt::Files;
-use std::sync::{Arc, Wait};
+use std::sync::Arc;
 use std::time::{Clock, Duration};
-use vr_model::{Config, Party};
-
-/// For so many milliseconds a link waits for a message: a clock may be late by that.
-const WAIT: u64 = 50;
+use vr_model::Config;
 
 /// For so many milliseconds a replica hears nothing of its view before it begins another.
 const TIMEOUT: u64 = 2000;
@@ -24,7 +21,7 @@ const TIMEOUT: u64 = 2000;
 const RESEND: u64 = 300;
 
 /// What a replica of the group is given.
-pub(crate) type GroupSeat<R, S> = Seat<ChannelLink<R>, HealthStore<S>, MachineClock<R>, HealthGate>;
+pub(crate) type GroupSeat<R, L, S> = Seat<L, HealthStore<S>, MachineClock<R>, HealthGate>;
 
 /// The stores of a group, in files of a directory: none is opened yet.
 pub(crate) fn stores<R: Files + Copy + Drop>(
@@ -42,36 +39,27 @@ pub(crate) fn stores<R: Files + Copy + Drop>(
     Ok(stores)
 }
 
-/// The link of a party, by which a receive waits for so many milliseconds at most.
-pub(crate) fn link_of<R: Wait + Clock + Copy + Drop>(
+/// A seat for each of these stores, of the replica with its number and the link at its place; it's watched from now on.
+pub(crate) fn seats<R: Clock + Copy + Drop, L: Drop, S: Drop>(
     rt: R,
     alloc: Global,
-    board: &Arc<Switchboard>,
-    party: Party,
-    most: u64,
-) -> Result<ChannelLink<R>, AllocError> {
-    let wait = Duration::from_millis(WAIT.min(most));
-    ChannelLink::new(rt, alloc, Arc::try_clone(board)?, party, wait)
-}
-
-/// A seat for each of these stores, of the replica with its number, which is watched from now on.
-pub(crate) fn seats<R: Wait + Clock + Copy + Drop, S: Drop>(
-    rt: R,
-    alloc: Global,
-    board: &Arc<Switchboard>,
+    links: Vec<L>,
     watch: &mut Watch,
     stores: Vec<S>,
-) -> Result<Vec<GroupSeat<R, S>>, AllocError>
-    ensures { IfOk result (λ v. vec_len v ≡ vec_len stores) }
+) -> Result<Vec<GroupSeat<R, L, S>>, Fault>
+    ensures seats { IfOk result (λ v. vec_len v ≡ vec_len stores) }
+    ensures err { IfErr result (λ e. status_of e ≡ 2) }
 {
+    let mut links = links.into_iter();
     let mut seats = Vec::new(alloc);
     for store in stores {
-        let number = u8::try_from(seats.len()).unwrap_or(u8::MAX);
-        let replica = Party::Replica(number);
+        let Some(link) = links.next() else {
+            return Err(Fault::Device);
+        };
         let health = Health::new(alloc)?;
         watch.add(Arc::try_clone(&health)?)?;
         seats.push(Seat {
-            link: link_of(rt, alloc, board, replica, WAIT)?,
+            link,
             store: HealthStore {
                 store,
                 health: Arc::try_clone(&health)?,

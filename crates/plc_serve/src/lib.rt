@@ -8,6 +8,7 @@ mod door;
 mod driving;
 mod group;
 mod health;
+mod links;
 mod notice;
 mod pace;
 mod places;

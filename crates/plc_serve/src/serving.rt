@@ -12,7 +12,8 @@ ghost use Rattle.plc_serve.specs.Serving.{scans_line, IsPortTold, IsServingTold,
 use crate::directory::Directory;
 use crate::door::Door;
 use crate::driving::Drive;
-use crate::group::{fault_of, link_of, seats};
+use crate::group::{fault_of, seats};
+use crate::links::{Board, links_over_channels, links_over_tcp};
 use crate::pace::Pace;
 use crate::places::Places;
 use crate::sessions::{OpenServer, Server};
@@ -29,13 +30,11 @@ use std::rt::Files;
 use std::sync::{Arc, Wait};
 use std::thread::Threads;
 use std::time::{Clock, Duration, Instant};
-use vr_model::{ClientNumber, Config, Party};
+use tcp_links::TcpGroup;
+use vr_model::Config;
 
 /// So many sessions are served at once.
 const SESSIONS: usize = 16;
-
-/// The driver is this client of the group, and there is no other.
-const DRIVER: ClientNumber = ClientNumber { number: 0 };
 
 /// How a controller is served.
 #[derive(Clone, Copy)]
@@ -50,6 +49,8 @@ pub struct Settings {
     pub scans: u32,
     /// In seconds, from 1: a session ends whose client sends nothing, or takes nothing, for so long.
     pub idle: u32,
+    /// The replicas' messages go over connections, and not through channels.
+    pub over_tcp: bool,
 }
 
 /// Judges the text, then the directory, and serves the controller until it has released so many scans: the status. What it serves is the
@@ -140,7 +141,7 @@ where
     Ok(out.flush()?)
 }
 
-/// Serves the controller of the image of a text, and ends each thread that it began. Where no client was served, no file is left.
+/// Serves the controller of the image of a text, over links of one kind. Where no client was served, no file is left.
 fn control<J, R, S, E: CountedWrite>(
     rt: R,
     alloc: Global,
@@ -164,6 +165,55 @@ where
     ensures at_most { IsAtMostServingTold E.CountedWrite err.old err.new }
     ensures err { IfErr result (λ e. status_of e ≡ 2) }
 {
+    let Settings {
+        config,
+        period,
+        over_tcp,
+        ..
+    } = settings;
+    if over_tcp {
+        let TcpGroup { links, board } = links_over_tcp(&rt, alloc, config, period)?;
+        return control_over::<J, R, _, _, S, E>(
+            rt, alloc, list, _source, image, directory, links, &board, stores, settings, err,
+        );
+    }
+    let board = Arc::new(alloc, Switchboard::new(alloc, config.group_size(), 1)?)?;
+    let links = links_over_channels(rt, alloc, &board, config, period)?;
+    control_over::<J, R, _, _, S, E>(
+        rt, alloc, list, _source, image, directory, links, &board, stores, settings, err,
+    )
+}
+
+/// The same over these links, those of the replicas and last that of the driver; it ends each thread that it began.
+fn control_over<J, R, L, B: Board, S, E: CountedWrite>(
+    rt: R,
+    alloc: Global,
+    list: NewList,
+    _source: &[u8],
+    image: &Image,
+    directory: Directory<'_>,
+    mut links: Vec<L>,
+    board: &B,
+    stores: Vec<S>,
+    settings: Settings,
+    err: &mut E,
+) -> Result<(), Fault>
+where
+    J: Naming + Send + Sync + 'static,
+    R: Threads + Wait + Net<Listener = TcpListener, Stream = TcpStream> + Clock + Files,
+    R: Copy + Send + Sync + Drop + 'static,
+    L: Link + Send + Drop + 'static,
+    S: Starts + Send + Drop + 'static,
+    requires list { list ≡ J.book }
+    requires stores { vec_len stores ≡ group_size settings.config.f }
+    requires program { IsTypedProgramOfText _source.now image.now }
+    ensures told { OnOk result (IsServingTold E.CountedWrite err.old err.new) }
+    ensures at_most { IsAtMostServingTold E.CountedWrite err.old err.new }
+    ensures err { IfErr result (λ e. status_of e ≡ 2) }
+{
+    let Some(link) = links.pop() else {
+        return Err(Fault::Device);
+    };
     let config = settings.config;
     let pace = Pace::new(Instant::now(&rt)?, settings.period);
     let door = Door::open(&rt, settings.port)?;
@@ -172,13 +222,11 @@ where
     };
     let idle = Duration::from_secs(u64::from(settings.idle));
     let server = Server::new(alloc, door, Places::new(alloc, readers)?, idle);
-    let board = Arc::new(alloc, Switchboard::new(alloc, config.group_size(), 1)?)?;
     let mut watch = Watch::new(alloc, config);
-    let seats = seats(rt, alloc, &board, &mut watch, stores)?;
-    let most = u64::from(settings.period);
+    let seats = seats(rt, alloc, links, &mut watch, stores)?;
     let mut drive = Drive {
         driver: ScanDriver::new(&config, 0),
-        link: link_of(rt, alloc, &board, Party::Client(DRIVER), most)?,
+        link,
         writer,
         watch,
         is_stopped: false,

@@ -28,6 +28,13 @@ const SCANS: &str = "scans";
 /// The word of the option `--port`.
 const PORT: &str = "port";
 
+/// The word of the option `--links`, and its values.
+const LINKS: &str = "links";
+
+const TCP: &str = "tcp";
+
+const KINDS_OF_LINKS: [&str; 2] = ["channel", TCP];
+
 /// The word of the option `--period`.
 const PERIOD: &str = "period";
 
@@ -207,6 +214,8 @@ pub enum Words<'a> {
         period: u32,
         budget: Budget,
         idle: u32,
+        /// Over connections, and not through channels.
+        over_tcp: bool,
     },
 }
 
@@ -295,7 +304,8 @@ fn serve_command<'a>(alloc: Global) -> Result<Command<'a>, AllocError> {
                 .default_value("300")
                 .help("Seconds until a silent client is let go"),
         )?
-        .arg(budget(alloc))
+        .arg(budget(alloc))?
+        .arg(links(alloc))
 }
 
 fn file<'a>(alloc: Global, name: &'a str) -> Arg<'a> {
@@ -360,6 +370,16 @@ fn port<'a>(alloc: Global) -> Arg<'a> {
         .help("The port of 127.0.0.1, 1 to 65535")
 }
 
+/// The option is refused where it is given twice, or is none of its two words.
+fn links<'a>(alloc: Global) -> Arg<'a> {
+    Arg::new(alloc, LINKS)
+        .long(LINKS)
+        .value_name("KIND")
+        .value_parser(ValueParser::Names(&KINDS_OF_LINKS))
+        .default_value(TCP)
+        .help("How messages go from replica to replica")
+}
+
 /// The size of the group, and how often its replicas make checkpoints.
 fn group(inner: &ArgMatches) -> Option<Config> {
     Config::new(inner.get_one::<u8>(FAILURES)?, inner.get_one::<u16>(EVERY)?)
@@ -395,6 +415,7 @@ fn form_of<'a>(matches: &ArgMatches<'a>) -> Option<Words<'a>> {
             period: inner.get_one::<u32>(PERIOD)?,
             budget: Budget::new(inner.get_one::<u32>(BUDGET)?)?,
             idle: inner.get_one::<u32>(IDLE)?,
+            over_tcp: inner.get_str(LINKS)? == TCP,
         }),
         _ => None,
     }

@@ -1,6 +1,7 @@
 -- The frames of messages as a format of frames, and what a feed does with a piece of a stream.
 use Rattle.std.specs.Prelude.{◌≡◌, ℕ, ◌+◌, ◌≤◌, ◌⊎◌, List, [], ◌++◌, length, Result, Ok, Err}
-use Rattle.il_model.specs.Stream.{Format, Ending, Fault, IsRest, Took}
+use Rattle.std.specs.List.{flat_map, AllByRecursion}
+use Rattle.il_model.specs.Stream.{Format, Ending, Fault, IsRest, Splits, Took}
 use Rattle.vr_model.specs.declared.message.Message.{Message}
 use Rattle.vr_wire.specs.declared.fault.WireFault.{WireFault}
 use Rattle.vr_wire.specs.declared.fault.WireError.{WireError}
@@ -15,6 +16,14 @@ abbrev pub Feeding : Result (Unit {0}) WireError → Ending WireFault → List �
 Feeding (Ok done) before piece after out out' = Took frames before piece after out out' × IsRest after
 Feeding (Err (errors.Fault fault)) before piece after out out' = Took frames before piece after out out' × (after ≡ Fault fault)
 Feeding (Err errors.Memory) before piece after out out' = Unit {0}
+
+-- Where the bytes are a beginning of the frames of these messages, what they split into is a beginning of the messages, in
+-- order, and no fault.
+abbrev pub OnlyFramed : Type 0
+OnlyFramed =
+    (stream more : List ℕ) (sent given : List Message) (ending : Ending WireFault)
+    → AllByRecursion IsFramed sent → stream ++ more ≡ flat_map frame_of sent → Splits frames stream given ending
+    → (later : List Message) × (sent ≡ given ++ later) × IsRest ending
 
 -- ---- within a piece
 

@@ -3,7 +3,7 @@
 ghost use Rattle.std.specs.Prelude.{◌≡◌, ◌-◌, ◌++◌, [], List, length, take, drop, IfOk, OnErr, Err};
 ghost use Rattle.il_model.specs.Stream.{Rest, IsOneStream, Took, ending_of};
 ghost use Rattle.vr_wire.specs.Frames.{IsShort};
-ghost use Rattle.vr_wire.specs.Feeding.{frames, Begins, Fills, Feeding};
+ghost use Rattle.vr_wire.specs.Feeding.{frames, Begins, Fills, Feeding, OnlyFramed};
 
 use crate::fault::{WireError, WireFault};
 use crate::front::{front_of, told_size};
@@ -171,4 +171,9 @@ impl Feed {
 /// and that no frame begins another.
 pub fn any_pieces()
     ensures { IsOneStream frames }
+{}
+
+/// That of a beginning of the frames of messages only a beginning of those messages is found, and no fault.
+pub fn only_framed_are_found()
+    ensures { OnlyFramed }
 {}

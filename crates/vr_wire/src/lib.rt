@@ -29,5 +29,5 @@ mod value;
 mod writing;
 
 pub use fault::{WireError, WireFault};
-pub use feed::{Feed, any_pieces};
+pub use feed::{Feed, any_pieces, only_framed_are_found};
 pub use writing::write;

@@ -16,6 +16,7 @@ use std::test::Fail;
 use std::thread::Threads;
 use std::time::Duration;
 use std::{thread, time};
+use tcp_links::TcpGroup;
 use vr_model::{Body, ClientNumber, Message, Party, Request};
 
 fn wire(alloc: Global) -> Result<Image, Fail> {
@@ -72,16 +73,16 @@ impl<R: time::Clock + Drop> Gate for MeetingGate<R> {
     fn after(&mut self, _call: u64, _normal: bool) {}
 }
 
-type MeetingSeat<R> = Seat<ChannelLink<R>, Shelf, OnceClock, MeetingGate<R>>;
+type MeetingSeat<R, L> = Seat<L, Shelf, OnceClock, MeetingGate<R>>;
 
 /// The seat of a replica whose gate raises one flag and waits for the other.
-fn meeting_seat<R: Wait + time::Clock + Copy + Drop>(
+fn meeting_seat<R: time::Clock + Drop, L: Drop>(
     rt: R,
-    link: ChannelLink<R>,
+    link: L,
     mine: &Arc<AtomicBool>,
     other: &Arc<AtomicBool>,
     met: &Arc<AtomicU64>,
-) -> Result<MeetingSeat<R>, AllocError> {
+) -> Result<MeetingSeat<R, L>, AllocError> {
     Ok(Seat {
         link,
         store: Shelf::new(0),
@@ -112,19 +113,20 @@ fn link_of<R: Wait + time::Clock + Copy + Drop>(
 }
 
 /// Replicas 1 and 2 wait for one another, and replica 0 for itself, which nobody counts.
-fn meeting<R: Wait + time::Clock + Copy + Drop>(
+fn meeting<R: time::Clock + Copy + Drop, L: Drop>(
     rt: R,
     alloc: Global,
+    links: Vec<L>,
     met: &Arc<AtomicU64>,
-) -> Result<Vec<MeetingSeat<R>>, AllocError> {
-    let board = Arc::new(alloc, Switchboard::new(alloc, 3, 0)?)?;
+) -> Result<Vec<MeetingSeat<R, L>>, Fail> {
     let one = Arc::new(alloc, AtomicBool::new(false))?;
     let two = Arc::new(alloc, AtomicBool::new(false))?;
     let alone = Arc::new(alloc, AtomicBool::new(false))?;
     let itself = Arc::new(alloc, AtomicU64::new(0))?;
-    let first = link_of(rt, alloc, &board, 0)?;
-    let second = link_of(rt, alloc, &board, 1)?;
-    let third = link_of(rt, alloc, &board, 2)?;
+    let mut links = links.into_iter();
+    let first = links.next().ok_or("no link")?;
+    let second = links.next().ok_or("no link")?;
+    let third = links.next().ok_or("no link")?;
     let mut seats = Vec::new(alloc);
     seats.push(meeting_seat(rt, first, &alone, &alone, &itself)?)?;
     seats.push(meeting_seat(rt, second, &one, &two, met)?)?;
@@ -132,13 +134,15 @@ fn meeting<R: Wait + time::Clock + Copy + Drop>(
     Ok(seats)
 }
 
-fn meet<R: Threads + Wait + time::Clock + Copy + Send + Drop + 'static>(
-    rt: R,
-    alloc: Global,
-) -> Result<u64, Fail> {
+/// How many of three replicas over these links met another.
+fn meet<R, L>(rt: R, alloc: Global, links: Vec<L>) -> Result<u64, Fail>
+where
+    R: Threads + Wait + time::Clock + Copy + Send + Drop + 'static,
+    L: Link + Send + Drop + 'static,
+{
     let (config, budget) = group_of_three()?;
     let met = Arc::new(alloc, AtomicU64::new(0))?;
-    let seats = meeting(rt, alloc, &met)?;
+    let seats = meeting(rt, alloc, links, &met)?;
     if seats.len() != usize::from(config.group_size()) {
         return Err("another number of seats")?;
     }
@@ -149,9 +153,36 @@ fn meet<R: Threads + Wait + time::Clock + Copy + Send + Drop + 'static>(
     Ok(met.load(Ordering::SeqCst))
 }
 
+/// The links of three replicas over channels.
+fn channel_links<R: Wait + time::Clock + Copy + Drop>(
+    rt: R,
+    alloc: Global,
+) -> Result<Vec<ChannelLink<R>>, AllocError> {
+    let board = Arc::new(alloc, Switchboard::new(alloc, 3, 0)?)?;
+    let mut links = Vec::new(alloc);
+    for replica in 0..3u8 {
+        links.push(link_of(rt, alloc, &board, replica)?)?;
+    }
+    Ok(links)
+}
+
 #[test]
 fn replicas_run_at_once(rt: HostRuntime) -> Result<(), Fail> {
-    assert_eq!(rt; meet(rt, rt.alloc())?, 2);
+    let links = channel_links(rt, rt.alloc())?;
+    assert_eq!(rt; meet(rt, rt.alloc(), links)?, 2);
+    Ok(())
+}
+
+#[test]
+fn replicas_run_at_once_over_tcp(rt: HostRuntime) -> Result<(), Fail> {
+    let TcpGroup { links, board: _ } = TcpGroup::new(
+        &rt,
+        rt.alloc(),
+        3,
+        0,
+        Duration::from_millis(5),
+    )?;
+    assert_eq!(rt; meet(rt, rt.alloc(), links)?, 2);
     Ok(())
 }
 

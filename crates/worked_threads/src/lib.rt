@@ -7,6 +7,8 @@ mod cluster_rows;
 #[cfg(test)]
 mod image_rows;
 #[cfg(test)]
+mod link_rows;
+#[cfg(test)]
 mod serve_rows;
 #[cfg(test)]
 mod serving_rows;

@@ -95,6 +95,7 @@ fn asked<R: Files + Alloc<A = Global> + Copy + Drop>(
             period,
             budget,
             idle,
+            over_tcp: true,
         },
     ) = read_words(rt.alloc(), words)
     else {
@@ -107,6 +108,7 @@ fn asked<R: Files + Alloc<A = Global> + Copy + Drop>(
         period,
         scans,
         idle,
+        over_tcp: true,
     };
     match Service::new(rt, source, store, settings) {
         Ok(service) => Ok(service),

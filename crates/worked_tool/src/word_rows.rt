@@ -52,6 +52,7 @@ fn serve(
         period,
         budget: Budget::new(10_000).ok_or("no budget")?,
         idle,
+        over_tcp: true,
     })
 }
 

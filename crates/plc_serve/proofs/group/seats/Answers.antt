@@ -3,8 +3,8 @@ use Rattle.std.proofs.lemmas.Iterator.Consumers.{YieldsList-end}
 use Rattle.std.proofs.lemmas.Iterator.Adapters.{YieldsList-from_vec}
 use Rattle.plc_serve.proofs.group.seats.Goals as goal
 
-pub returns : goal.returns
-returns g c =
+pub returns-clause-seats : goal.returns-clause-seats
+returns-clause-seats g c =
     let gives = c.into_iter-store-iterator.ensures.into_iter_gives in
     let end = YieldsList-end (YieldsList-from_vec c.args.stores.items gives.0 (gives.1 ∙ c.args.stores.ok.0)) c.loop-store.yielded c.loop-store.store-iterator c.loop-store.yielded_by c.next.result c.next.new.self c.in-None.is c.next.ensures.steps in
     let all : c.loop-store.yielded ≡ c.args.stores.items = sym (map-id c.loop-store.yielded) ∙ end.0 in

@@ -1,5 +1,5 @@
 use Rattle.plc_serve.proofs.Endings.{good, at_most}
-use Rattle.plc_serve.proofs.serving.control.Goals as goal
+use Rattle.plc_serve.proofs.serving.control_over.Goals as goal
 
 pub returns-clause-told : goal.returns-clause-told
 returns-clause-told g c = good g.E.CountedWrite c.args.err.now c.opened-opened.new.err c.attend-done.new.err c.opened-opened.result c.attend-done.result c.opened-opened.ensures.told c.attend-done.ensures.opened c.attend-done.ensures.told
