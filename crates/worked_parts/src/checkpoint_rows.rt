@@ -1,13 +1,13 @@
 //! One replica of three that makes checkpoints or takes up those of others, by single events.
 
-use crate::images::{COUNTING, WIRE, image};
-use crate::replica_rows::{Store, store_with};
-use il_model::{Answer, Budget, Command, InImage, OutImage};
+use crate::images::{COUNTING, WIRE};
+use crate::replica_rows::{Store, new_replica, store_with};
+use il_model::{Answer, Command, InImage, OutImage};
 use replica::{Replica, StepFault};
 use std::alloc::Global;
 use std::process::Abort;
 use std::test::Fail;
-use vr_model::{Body, ClientNumber, Config, Event, Log, Message, Party, PrimaryState, Request};
+use vr_model::{Body, ClientNumber, Event, Log, Message, Party, PrimaryState, Request};
 
 /// What a message carries.
 #[derive(Clone, Copy)]
@@ -88,11 +88,9 @@ fn answer(number: u64) -> Answer {
 
 /// A new replica of this program, with a checkpoint after every so many entries.
 fn new_node(alloc: Global, number: u8, every: u16, program: &[u8]) -> Result<Node, Fail> {
-    let config = Config::new(1, every).ok_or("no group")?;
-    let budget = Budget::new(10_000).ok_or("no budget")?;
     Ok(Node {
         number,
-        replica: Replica::new(alloc, config, number, image(alloc, program)?, budget)?,
+        replica: new_replica(alloc, number, every, program)?,
         store: store_with(0, 0, false),
     })
 }
@@ -120,29 +118,41 @@ impl Node {
         let _ = self.hears(alloc, Party::Replica(1), acknowledged)?;
         Ok(())
     }
+
+    /// The log with which a primary answers a GETSTATE.
+    fn log(&mut self, alloc: Global) -> Result<Log, Fail> {
+        let asks = Body::GetState {
+            view: 0,
+            op_number: 0,
+        };
+        let mut sent = self.hears(alloc, Party::Replica(1), asks)?;
+        carried(sent.pop().ok_or("no answer")?.body)
+    }
+
+    /// The log after so many scans.
+    fn log_after(&mut self, alloc: Global, scans: u64) -> Result<Log, Fail> {
+        for number in 0..scans {
+            self.commits(alloc, number.saturating_add(1))?;
+        }
+        let log = self.log(alloc)?;
+        (log.base() == scans)
+            .then_some(())
+            .ok_or("no checkpoint there")?;
+        Ok(log)
+    }
+}
+
+/// The log of a NEWSTATE.
+fn carried(body: Body) -> Result<Log, Fail> {
+    match body {
+        Body::NewState { log, .. } => Ok(log),
+        _other => Err(Fail::from("no NEWSTATE")),
+    }
 }
 
 /// The log of a primary of this program after so many scans, with a checkpoint after each.
 fn log_after(alloc: Global, program: &[u8], scans: u64) -> Result<Log, Fail> {
-    let mut primary = new_node(alloc, 0, 1, program)?;
-    for number in 0..scans {
-        primary.commits(alloc, number.saturating_add(1))?;
-    }
-    let asks = Body::GetState {
-        view: 0,
-        op_number: 0,
-    };
-    let mut sent = primary.hears(alloc, Party::Replica(1), asks)?;
-    let message = sent.pop().ok_or("no answer")?;
-    match message.body {
-        Body::NewState { log, .. } => {
-            if log.base() != scans {
-                return Err(Fail::from("no checkpoint there"));
-            }
-            Ok(log)
-        }
-        _other => Err(Fail::from("no NEWSTATE")),
-    }
+    new_node(alloc, 0, 1, program)?.log_after(alloc, scans)
 }
 
 fn log(alloc: Global, carries: Carries) -> Result<Log, Fail> {
@@ -258,23 +268,53 @@ fn kept(alloc: Global, replica: &Replica) -> Result<Vec<u64>, Fail> {
     Ok(kept)
 }
 
-/// Wants these of a new replica of WIRE, one after another; it makes a checkpoint after every so many entries.
-fn wants(rt: &impl Abort, alloc: Global, number: u8, every: u16, rows: &[Row]) -> Result<(), Fail> {
-    let mut node = new_node(alloc, number, every, WIRE)?;
-    for (n, (happens, wanted, commit, scans)) in rows.iter().enumerate() {
-        let sent = match happen(alloc, &mut node, *happens)? {
-            Ok(sent) => {
-                assert!(rt; are_once(sent.as_slice()), "in row {n}");
-                Ok(sent.len())
-            }
-            Err(fault) => Err(fault),
-        };
-        assert_eq!(rt; sent, *wanted, "in row {n}");
-        assert_eq!(rt; node.replica.commit(), *commit, "in row {n}");
-        let kept = kept(alloc, &node.replica)?;
-        assert_eq!(rt; kept.as_slice(), *scans, "in row {n}");
+/// How many messages an event makes the replica send, or its fault. Each reply answers its scan as one that ran once.
+fn sends(
+    alloc: Global,
+    node: &mut Node,
+    happens: Happens,
+) -> Result<Result<usize, StepFault>, Fail> {
+    Ok(match happen(alloc, node, happens)? {
+        Ok(sent) => {
+            are_once(sent.as_slice())
+                .then_some(())
+                .ok_or("another answer")?;
+            Ok(sent.len())
+        }
+        Err(fault) => Err(fault),
+    })
+}
+
+/// Wants the row of this number.
+fn wants_row(
+    rt: &impl Abort,
+    alloc: Global,
+    node: &mut Node,
+    n: usize,
+    row: &Row,
+) -> Result<(), Fail> {
+    let (happens, wanted, commit, scans) = *row;
+    let sent = sends(alloc, node, happens)?;
+    let kept = kept(alloc, &node.replica)?;
+    assert_eq!(rt;
+        (sent, node.replica.commit(), kept.as_slice()),
+        (wanted, commit, scans),
+        "in row {n}"
+    );
+    Ok(())
+}
+
+/// Wants these, one after another.
+fn wants_rows(rt: &impl Abort, alloc: Global, node: &mut Node, rows: &[Row]) -> Result<(), Fail> {
+    for (n, row) in rows.iter().enumerate() {
+        wants_row(rt, alloc, node, n, row)?;
     }
     Ok(())
+}
+
+/// Wants these of a new replica of WIRE, one after another; it makes a checkpoint after every so many entries.
+fn wants(rt: &impl Abort, alloc: Global, number: u8, every: u16, rows: &[Row]) -> Result<(), Fail> {
+    wants_rows(rt, alloc, &mut new_node(alloc, number, every, WIRE)?, rows)
 }
 
 #[test]

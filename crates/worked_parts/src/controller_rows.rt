@@ -1,23 +1,24 @@
 //! A controller, one command after another, and the slots of names.
 
 use crate::images::{NAMES, ONE_DIVIDED, WIRE_AND_FIVE, image};
+use crate::saved::{Row, answers};
 use debugger::{Controller, slot};
 use il_model::{Answer, Budget, Command, InImage, OutImage, Refusal, Slot, Stop, Value};
 use std::alloc::Global;
 use std::process::Abort;
 use std::test::Fail;
 
-/// A command, and its answer.
-type Row = (Command, Answer);
+/// Wants a controller of these bytes, and these answers of it, one after another.
+fn runs(rt: &impl Abort, controller: &mut Controller, bytes: &[u8], rows: &[Row]) {
+    assert_eq!(rt; controller.image().bytes(), bytes);
+    answers(rt, controller, rows);
+}
 
-/// Wants these answers, one after another, of a controller that never ran.
+/// Wants these of a controller that never ran.
 fn wants(rt: &impl Abort, alloc: Global, bytes: &[u8], rows: &[Row]) -> Result<(), Fail> {
     let budget = Budget::new(10_000).ok_or("no budget")?;
     let mut controller = Controller::new(alloc, image(alloc, bytes)?, budget)?;
-    assert_eq!(rt; controller.image().bytes(), bytes);
-    for (n, (command, answer)) in rows.iter().enumerate() {
-        assert_eq!(rt; controller.apply(command), *answer, "in row {n}");
-    }
+    runs(rt, &mut controller, bytes, rows);
     Ok(())
 }
 

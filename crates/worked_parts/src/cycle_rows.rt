@@ -83,26 +83,38 @@ fn shows(rt: &impl Abort, cycle: &ScanCycle, slot: u16, value: Value) {
     assert_eq!(rt; cycle.peek(Slot(slot)), Some(value));
 }
 
-#[test]
-fn a_cycle_runs_to_a_break_and_on(rt: HostRuntime) -> Result<(), Fail> {
-    let image = image(rt.alloc(), WIRE_AND_FIVE)?;
+/// Wants a new cycle to run to a break and on.
+fn runs_to_a_break_and_on(
+    rt: &impl Abort,
+    alloc: Global,
+    cycle: &mut ScanCycle,
+    image: &Image,
+) -> Result<(), Fail>
+    requires { IsCycleOf image.now cycle.old }
+{
     let budget = Budget::new(4).ok_or("no budget")?;
-    let mut cycle = ScanCycle::new(rt.alloc(), &image)?;
+    let third = break_at(alloc, image, 2)?;
     let mut inputs = InImage::clear();
     inputs.cells.bits[0] = true;
     cycle.begin(&inputs, 7);
-    stands(&rt, &cycle, 0, None);
-    let third = break_at(rt.alloc(), &image, 2)?;
-    runs(&rt, &mut cycle, &image, &third, budget, ScanOut::Held(2));
-    runs(&rt, &mut cycle, &image, &third, budget, ScanOut::Held(2));
-    stands(&rt, &cycle, 2, Some(Value::Bool(true)));
-    steps(&rt, &mut cycle, &image, budget, ScanOut::Held(3));
-    stands(&rt, &cycle, 3, Some(Value::Int(5)));
+    stands(rt, cycle, 0, None);
+    runs(rt, cycle, image, &third, budget, ScanOut::Held(2));
+    runs(rt, cycle, image, &third, budget, ScanOut::Held(2));
+    stands(rt, cycle, 2, Some(Value::Bool(true)));
+    steps(rt, cycle, image, budget, ScanOut::Held(3));
+    stands(rt, cycle, 3, Some(Value::Int(5)));
     let done = ScanOut::Done(outputs(true, 5));
-    goes_on(&rt, &mut cycle, &image, &third, budget, done);
-    stands(&rt, &cycle, 0, None);
-    shows(&rt, &cycle, 0x1400, Value::Int(5));
+    goes_on(rt, cycle, image, &third, budget, done);
+    stands(rt, cycle, 0, None);
+    shows(rt, cycle, 0x1400, Value::Int(5));
     Ok(())
+}
+
+#[test]
+fn a_cycle_runs_to_a_break_and_on(rt: HostRuntime) -> Result<(), Fail> {
+    let image = image(rt.alloc(), WIRE_AND_FIVE)?;
+    let mut cycle = ScanCycle::new(rt.alloc(), &image)?;
+    runs_to_a_break_and_on(&rt, rt.alloc(), &mut cycle, &image)
 }
 
 /// Wants a force to be taken or not.
@@ -120,27 +132,47 @@ fn forces(
     assert_eq!(rt; cycle.force(location, value), is_taken);
 }
 
+/// Wants a new cycle to take forces of inputs and outputs alone.
+fn takes_forces(rt: &impl Abort, cycle: &mut ScanCycle, image: &Image)
+    requires { IsCycleOf image.now cycle.old }
+    ensures { IsCycleOf image.now cycle.new }
+{
+    let (bit, word) = (Loc::Bit(Area::Input, 0), Loc::Word(Area::Output, 0));
+    let (past, memory) = (Loc::Word(Area::Output, 64), Loc::Bit(Area::Memory, 0));
+    forces(rt, cycle, image, bit, Value::Bool(true), true);
+    forces(rt, cycle, image, word, Value::Int(-3), true);
+    forces(rt, cycle, image, word, Value::Dint(9), false);
+    forces(rt, cycle, image, past, Value::Int(9), false);
+    forces(rt, cycle, image, memory, Value::Bool(true), false);
+}
+
+/// Wants the forces of a cycle to stay through a scan and a reset.
+fn keeps_forces(
+    rt: &impl Abort,
+    alloc: Global,
+    cycle: &mut ScanCycle,
+    image: &Image,
+) -> Result<(), Fail>
+    requires { IsCycleOf image.now cycle.old }
+{
+    let budget = Budget::new(10_000).ok_or("no budget")?;
+    let none = break_at(alloc, image, image.len())?;
+    cycle.begin(&InImage::clear(), 0);
+    let done = ScanOut::Done(outputs(true, -3));
+    runs(rt, cycle, image, &none, budget, done);
+    shows(rt, cycle, 0x1400, Value::Int(5));
+    cycle.reset(image);
+    shows(rt, cycle, 0x1400, Value::Int(0));
+    assert!(rt; cycle.unforce(Loc::Word(Area::Output, 0)));
+    assert!(rt; !cycle.unforce(Loc::Word(Area::Memory, 0)));
+    stands(rt, cycle, 0, None);
+    Ok(())
+}
+
 #[test]
 fn a_cycle_keeps_its_forces(rt: HostRuntime) -> Result<(), Fail> {
     let image = image(rt.alloc(), WIRE_AND_FIVE)?;
-    let budget = Budget::new(10_000).ok_or("no budget")?;
     let mut cycle = ScanCycle::new(rt.alloc(), &image)?;
-    let (bit, word) = (Loc::Bit(Area::Input, 0), Loc::Word(Area::Output, 0));
-    let (past, memory) = (Loc::Word(Area::Output, 64), Loc::Bit(Area::Memory, 0));
-    forces(&rt, &mut cycle, &image, bit, Value::Bool(true), true);
-    forces(&rt, &mut cycle, &image, word, Value::Int(-3), true);
-    forces(&rt, &mut cycle, &image, word, Value::Dint(9), false);
-    forces(&rt, &mut cycle, &image, past, Value::Int(9), false);
-    forces(&rt, &mut cycle, &image, memory, Value::Bool(true), false);
-    cycle.begin(&InImage::clear(), 0);
-    let done = ScanOut::Done(outputs(true, -3));
-    let none = break_at(rt.alloc(), &image, image.len())?;
-    runs(&rt, &mut cycle, &image, &none, budget, done);
-    shows(&rt, &cycle, 0x1400, Value::Int(5));
-    cycle.reset(&image);
-    shows(&rt, &cycle, 0x1400, Value::Int(0));
-    assert!(rt; cycle.unforce(Loc::Word(Area::Output, 0)));
-    assert!(rt; !cycle.unforce(Loc::Word(Area::Memory, 0)));
-    stands(&rt, &cycle, 0, None);
-    Ok(())
+    takes_forces(&rt, &mut cycle, &image);
+    keeps_forces(&rt, rt.alloc(), &mut cycle, &image)
 }

@@ -152,6 +152,30 @@ fn outcome_of<S: Staging>(
     })
 }
 
+/// One row.
+fn drive<S: Staging, R: Abort>(
+    rt: &R,
+    alloc: Global,
+    driver: &mut ScanDriver,
+    staging: &mut S,
+    row: &Row,
+) -> Result<(), Fail> {
+    let (event, to, number, release) = *row;
+    let client = ClientNumber::new(0).ok_or("a client")?;
+    let outcome = outcome_of(alloc, driver, staging, client, event)?;
+    let wanted = requests(alloc, client, to, number)?;
+    let asked = asked(alloc, outcome.sends.as_slice())?;
+    let release = release.map(|number| Release {
+        number,
+        image: image(),
+    });
+    assert!(rt;
+        asked == wanted && outcome.release == release,
+        "request {number}"
+    );
+    Ok(())
+}
+
 /// Each row in turn, over a staging of which one word is written.
 fn drives<S: Staging, R: Abort>(
     rt: &R,
@@ -159,20 +183,11 @@ fn drives<S: Staging, R: Abort>(
     staging: &mut S,
     rows: &[Row],
 ) -> Result<(), Fail> {
-    let client = ClientNumber::new(0).ok_or("a client")?;
     let config = Config::new(1, 64).ok_or("a group")?;
     let mut driver = ScanDriver::new(&config, 1);
     staging.write_words(5, &[7])?;
-    for (event, to, number, release) in rows {
-        let outcome = outcome_of(alloc, &mut driver, staging, client, *event)?;
-        let wanted = requests(alloc, client, to, *number)?;
-        let asked = asked(alloc, outcome.sends.as_slice())?;
-        assert!(rt; asked == wanted, "request {number}");
-        let release = release.map(|number| Release {
-            number,
-            image: image(),
-        });
-        assert!(rt; outcome.release == release, "reply {number}");
+    for row in rows {
+        drive(rt, alloc, &mut driver, staging, row)?;
     }
     Ok(())
 }

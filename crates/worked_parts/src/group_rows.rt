@@ -1,13 +1,13 @@
 //! Three replicas, by the messages that they send to one another.
 
-use crate::images::{WIRE, image};
-use crate::replica_rows::{Store, store_with};
-use il_model::{Answer, Budget, Command, InImage, OutImage};
+use crate::images::WIRE;
+use crate::replica_rows::{Store, new_replica, store_with};
+use il_model::{Answer, Command, InImage, OutImage};
 use replica::Replica;
 use std::alloc::Global;
 use std::process::Abort;
 use std::test::Fail;
-use vr_model::{Body, ClientNumber, Config, Event, Message, Party, Request};
+use vr_model::{Body, ClientNumber, Event, Message, Party, Request};
 
 /// What happens, to the replica of this number. Messages go by their places among all that were sent, from 0.
 #[derive(Clone, Copy)]
@@ -70,12 +70,10 @@ fn as_reply(message: &Message) -> Option<Reply> {
 
 impl Group {
     fn new(alloc: Global, every: u16) -> Result<Group, Fail> {
-        let config = Config::new(1, every).ok_or("no group")?;
-        let budget = Budget::new(10_000).ok_or("no budget")?;
         let mut replicas = Vec::new(alloc);
         let mut stores = Vec::new(alloc);
         for number in 0..3 {
-            replicas.push(Replica::new(alloc, config, number, image(alloc, WIRE)?, budget)?)?;
+            replicas.push(new_replica(alloc, number, every, WIRE)?)?;
             stores.push(store_with(0, 0, false))?;
         }
         Ok(Group {
@@ -129,6 +127,33 @@ impl Group {
             Restart(number) => self.step(alloc, number, Event::Restart(7)),
         }
     }
+
+    /// Wants these, one after another.
+    fn runs(&mut self, rt: &impl Abort, alloc: Global, rows: &[Row]) -> Result<(), Fail> {
+        for (n, (happens, sent)) in rows.iter().enumerate() {
+            assert_eq!(rt; self.happen(alloc, *happens)?, *sent, "in row {n}");
+        }
+        Ok(())
+    }
+
+    /// Wants each replica to be normal, with the scan executed; its log has this at first, and nothing more.
+    fn is_at_one(&self, rt: &impl Abort, first: Option<Request>) {
+        for replica in &self.replicas {
+            assert_eq!(rt; (replica.is_normal(), replica.commit()), (true, 1));
+            let entries = (replica.entry(0).copied(), replica.entry(1).copied());
+            assert_eq!(rt; entries, (first, None));
+        }
+    }
+
+    /// Wants the messages at these places to be replies to the scan.
+    fn replies(&self, rt: &impl Abort, replies: &[(usize, u8, u64)]) -> Result<(), Fail> {
+        for (place, from, view) in replies {
+            let message = self.sent.get(*place).ok_or("not yet sent")?;
+            let wanted = Some(reply(*from, *view)?);
+            assert_eq!(rt; as_reply(message), wanted);
+        }
+        Ok(())
+    }
 }
 
 /// Wants these of new groups, one without checkpoints and one with a checkpoint after each entry.
@@ -153,20 +178,9 @@ fn wants_of(
     replies: &[(usize, u8, u64)],
 ) -> Result<(), Fail> {
     let mut group = Group::new(alloc, every)?;
-    for (n, (happens, sent)) in rows.iter().enumerate() {
-        assert_eq!(rt; group.happen(alloc, *happens)?, *sent, "in row {n}");
-    }
-    for replica in &group.replicas {
-        assert!(rt; replica.is_normal());
-        assert_eq!(rt; replica.commit(), 1);
-        assert_eq!(rt; replica.entry(0).copied(), first);
-        assert_eq!(rt; replica.entry(1).copied(), None);
-    }
-    for (place, from, view) in replies {
-        let message = group.sent.get(*place).ok_or("not yet sent")?;
-        assert_eq!(rt; as_reply(message), Some(reply(*from, *view)?));
-    }
-    Ok(())
+    group.runs(rt, alloc, rows)?;
+    group.is_at_one(rt, first);
+    group.replies(rt, replies)
 }
 
 #[test]

@@ -43,15 +43,15 @@ fn fills_up<S: Staging, R: Abort>(rt: &R, staging: &mut S) {
     for number in 0..4096u64 {
         assert_eq!(rt; write_words(staging, 0, &[7]), Ok(Ticket { number }));
     }
-    assert_eq!(rt; write_words(staging, 0, &[8]), Err(StageError::Full));
-    assert_eq!(rt; write_bits(staging, 0, &[true]), Err(StageError::Full));
-    assert_eq!(rt;
-        write_bits(staging, 510, &[true; 3]),
-        Err(StageError::Address)
-    );
+    let full: [Row; 3] = [
+        (0, Write::Words(&[8]), Err(StageError::Full)),
+        (0, Write::Bits(&[true]), Err(StageError::Full)),
+        (510, Write::Bits(&[true; 3]), Err(StageError::Address)),
+    ];
+    writes(rt, staging, &full);
     let sample = staging.sample();
     assert_eq!(rt; (sample.inputs.cells.words[0], sample.next), (7, 4096));
-    assert_eq!(rt; write_words(staging, 0, &[8]), Ok(Ticket { number: 4096 }));
+    writes(rt, staging, &[(0, Write::Words(&[8]), ticket(4096))]);
 }
 
 #[test]
@@ -123,21 +123,19 @@ fn a_write_past_its_area_is_refused(rt: HostRuntime) {
     keeps_within_the_areas(&rt, &mut stage.handle(&rt));
 }
 
+/// Wants the write of a book to be shown, and to count.
+fn goes_on<S: Staging, R: Abort>(rt: &R, staging: &mut S) {
+    let words = staging.read().cells.words;
+    assert_eq!(rt; (words[62], words[63]), (-2, 9));
+    writes(rt, staging, &[(0, Write::Bits(&[true]), ticket(1))]);
+}
+
 #[test]
 fn a_book_keeps_its_writes_behind_a_lock(rt: HostRuntime) {
     let mut book = StageBook::new(rt.alloc());
-    assert_eq!(rt;
-        write_words(&mut book, 62, &[-2, 9]),
-        Ok(Ticket { number: 0 })
-    );
+    writes(&rt, &mut book, &[(62, Write::Words(&[-2, 9]), ticket(0))]);
     let stage = Stage::new(book);
-    let mut staging = stage.handle(&rt);
-    let words = staging.read().cells.words;
-    assert_eq!(rt; (words[62], words[63]), (-2, 9));
-    assert_eq!(rt;
-        write_bits(&mut staging, 0, &[true]),
-        Ok(Ticket { number: 1 })
-    );
+    goes_on(&rt, &mut stage.handle(&rt));
 }
 
 const WRITES: usize = 100;
@@ -248,7 +246,24 @@ fn word_below(writes: &[Written], number: u64) -> i16 {
         .map_or(0, |w| w.word)
 }
 
-// One round: each ticket is given once, and each sample replays the writes below its number.
+// Wants each ticket to be given once.
+fn are_given_once<R: Abort>(rt: &R, writes: &[Written]) {
+    assert_eq!(rt; writes.len(), 2 * WRITES);
+    for number in 0..200u64 {
+        assert_eq!(rt; writes.iter().filter(|w| w.number == number).count(), 1);
+    }
+}
+
+// Wants each sample to replay the writes below its number, and the last all of them.
+fn are_replayed<R: Abort>(rt: &R, writes: &[Written], samples: &[Sample]) {
+    for sample in samples {
+        let word = word_below(writes, sample.next);
+        assert!(rt; sample.inputs == full_of(word), "below {}", sample.next);
+    }
+    assert_eq!(rt; samples.last().map(|s| s.next), Some(200));
+}
+
+// One round.
 fn replays<R: Threads + Wait + Abort + Sync>(rt: &R, alloc: Global) -> Result<(), Fail> {
     let Test {
         first,
@@ -257,16 +272,8 @@ fn replays<R: Threads + Wait + Abort + Sync>(rt: &R, alloc: Global) -> Result<()
     } = in_three_threads(rt, alloc);
     let mut writes = first?;
     writes.extend_from_slice(second?.as_slice())?;
-    assert_eq!(rt; writes.len(), 2 * WRITES);
-    for number in 0..200u64 {
-        assert_eq!(rt; writes.iter().filter(|w| w.number == number).count(), 1);
-    }
-    let samples = samples?;
-    for sample in &samples {
-        let word = word_below(writes.as_slice(), sample.next);
-        assert!(rt; sample.inputs == full_of(word), "below {}", sample.next);
-    }
-    assert_eq!(rt; samples.last().map(|s| s.next), Some(200));
+    are_given_once(rt, writes.as_slice());
+    are_replayed(rt, writes.as_slice(), samples?.as_slice());
     Ok(())
 }
 
@@ -393,8 +400,8 @@ fn in_readers_threads<J: Naming + Send + Sync, R: Wait + Threads + Abort + Sync 
         || join(rt, || read_all(&mut first), || read_all(&mut second)),
     );
     assert_eq!(rt; (published, wrong), (1000, (0, 0)));
-    assert_eq!(rt; first.read(), view(RELEASES));
-    assert_eq!(rt; second.read(), view(RELEASES));
+    reads(rt, &mut first, RELEASES);
+    reads(rt, &mut second, RELEASES);
     Ok(())
 }
 

@@ -169,19 +169,22 @@ fn body(alloc: Global, says: Says) -> Result<Body, Fail> {
     })
 }
 
-fn event(alloc: Global, to: u8, happens: Happens) -> Result<Event, Fail> {
-    let (from, says) = match happens {
-        Timeout => return Ok(Event::Timeout),
-        Resend => return Ok(Event::Resend),
-        Restart(nonce) => return Ok(Event::Restart(nonce)),
-        Submits(number) => (Party::Client(client()?), Says::Request(number)),
-        Hears(sender, says) => (Party::Replica(sender), says),
-    };
+fn message(alloc: Global, from: Party, to: u8, says: Says) -> Result<Event, Fail> {
     Ok(Event::Message(Message {
         from,
         to: Party::Replica(to),
         body: body(alloc, says)?,
     }))
+}
+
+fn event(alloc: Global, to: u8, happens: Happens) -> Result<Event, Fail> {
+    match happens {
+        Timeout => Ok(Event::Timeout),
+        Resend => Ok(Event::Resend),
+        Restart(nonce) => Ok(Event::Restart(nonce)),
+        Submits(number) => message(alloc, Party::Client(client()?), to, Says::Request(number)),
+        Hears(sender, says) => message(alloc, Party::Replica(sender), to, says),
+    }
 }
 
 /// The length of a log without a checkpoint, whose requests are those from this number on.
@@ -262,6 +265,75 @@ fn shown(alloc: Global, from: u8, messages: &[Message]) -> Result<Vec<Sent>, Fai
 /// An event and what it sends, or its fault. Then: whether the replica is normal, and its commit number.
 type Row<'a> = (Happens, Result<&'a [Sent], StepFault>, bool, u64);
 
+/// A new replica of this program, with a checkpoint after every so many entries.
+pub fn new_replica(alloc: Global, number: u8, every: u16, program: &[u8]) -> Result<Replica, Fail> {
+    let config = Config::new(1, every).ok_or("no group")?;
+    let budget = Budget::new(10_000).ok_or("no budget")?;
+    let image = image(alloc, program)?;
+    Ok(Replica::new(alloc, config, number, image, budget)?)
+}
+
+/// A replica of WIRE that is down.
+fn down_replica(alloc: Global, number: u8) -> Result<Replica, Fail> {
+    let config = Config::new(1, 0).ok_or("no group")?;
+    let budget = Budget::new(10_000).ok_or("no budget")?;
+    let image = image(alloc, WIRE)?;
+    Ok(Replica::down(alloc, config, number, image, budget)?)
+}
+
+/// The replica of this number, new or down.
+fn replica(alloc: Global, number: u8, down: bool) -> Result<Replica, Fail> {
+    if down {
+        down_replica(alloc, number)
+    } else {
+        new_replica(alloc, number, 0, WIRE)
+    }
+}
+
+/// A replica of this number with its store.
+#[derive(Drop)]
+struct Node<'a> {
+    number: u8,
+    replica: &'a mut Replica,
+    store: &'a mut Store,
+}
+
+impl Node<'_> {
+    /// What an event makes it send, or its fault.
+    fn sends(
+        &mut self,
+        alloc: Global,
+        happens: Happens,
+    ) -> Result<Result<Vec<Sent>, StepFault>, Fail> {
+        let event = event(alloc, self.number, happens)?;
+        Ok(match self.replica.step(alloc, event, self.store) {
+            Ok(sent) => Ok(shown(alloc, self.number, sent.as_slice())?),
+            Err(fault) => Err(fault),
+        })
+    }
+
+    /// Wants the row of this number.
+    fn wants(&mut self, rt: &impl Abort, alloc: Global, n: usize, row: &Row) -> Result<(), Fail> {
+        let (happens, wanted, normal, commit) = *row;
+        match self.sends(alloc, happens)? {
+            Ok(shown) => assert_eq!(rt; Ok(shown.as_slice()), wanted, "in row {n}"),
+            Err(fault) => assert_eq!(rt; Err(fault), wanted, "in row {n}"),
+        }
+        let replica = &*self.replica;
+        let is = (replica.is_normal(), replica.is_down(), replica.commit());
+        assert_eq!(rt; is, (normal, wanted.is_err(), commit), "in row {n}");
+        Ok(())
+    }
+
+    /// Wants these, one after another.
+    fn wants_all(&mut self, rt: &impl Abort, alloc: Global, rows: &[Row]) -> Result<(), Fail> {
+        for (n, row) in rows.iter().enumerate() {
+            self.wants(rt, alloc, n, row)?;
+        }
+        Ok(())
+    }
+}
+
 /// Wants these of the replica of this number, one after another. It is new, or down with a store that keeps what it is told here.
 fn wants(
     rt: &impl Abort,
@@ -271,28 +343,13 @@ fn wants(
     store: &mut Store,
     rows: &[Row],
 ) -> Result<(), Fail> {
-    let config = Config::new(1, 0).ok_or("no group")?;
-    let budget = Budget::new(10_000).ok_or("no budget")?;
-    let image = image(alloc, WIRE)?;
-    let mut replica = if down {
-        Replica::down(alloc, config, number, image, budget)?
-    } else {
-        Replica::new(alloc, config, number, image, budget)?
+    let mut replica = replica(alloc, number, down)?;
+    let mut node = Node {
+        number,
+        replica: &mut replica,
+        store,
     };
-    for (n, (happens, wanted, normal, commit)) in rows.iter().enumerate() {
-        let sent = replica.step(alloc, event(alloc, number, *happens)?, store);
-        match sent {
-            Ok(sent) => {
-                let shown = shown(alloc, number, sent.as_slice())?;
-                assert_eq!(rt; Ok(shown.as_slice()), *wanted, "in row {n}");
-            }
-            Err(fault) => assert_eq!(rt; Err(fault), *wanted, "in row {n}"),
-        }
-        assert_eq!(rt; replica.is_normal(), *normal, "in row {n}");
-        assert_eq!(rt; replica.is_down(), wanted.is_err(), "in row {n}");
-        assert_eq!(rt; replica.commit(), *commit, "in row {n}");
-    }
-    Ok(())
+    node.wants_all(rt, alloc, rows)
 }
 
 /// A store that keeps this view. So many calls of it fail.

@@ -2,7 +2,7 @@
 
 use crate::saved::{
     NOT_HELD, Row, Saved, answers, counted, counting, divided, held, idle, one_divided, outputs,
-    parentheses, restored, run_before, scan, snapshot, stopped, timing,
+    parentheses, restored, restored_answers, run_before, scan, snapshot, stopped, timing,
 };
 use il_model::{Answer, Command, Slot, Snapshot, Stop, Value};
 use std::alloc::Global;
@@ -13,10 +13,8 @@ use std::test::Fail;
 fn comes_back(rt: &impl Abort, alloc: Global, given: Saved, rows: &[Row]) -> Result<(), Fail> {
     let mut one = run_before(rt, alloc, given)?;
     let snapshot = one.save(alloc)?;
-    let mut other = restored(alloc, given.bytes, given.instructions, &snapshot)?;
     answers(rt, &mut one, rows);
-    answers(rt, &mut other, rows);
-    Ok(())
+    restored_answers(rt, alloc, given.bytes, given.instructions, &snapshot, rows)
 }
 
 /// Wants these answers of the controller that is restored with this budget.
@@ -28,9 +26,7 @@ fn comes_back_within(
     rows: &[Row],
 ) -> Result<(), Fail> {
     let snapshot = snapshot(rt, alloc, given)?;
-    let mut other = restored(alloc, given.bytes, instructions, &snapshot)?;
-    answers(rt, &mut other, rows);
-    Ok(())
+    restored_answers(rt, alloc, given.bytes, instructions, &snapshot, rows)
 }
 
 #[test]
@@ -128,42 +124,63 @@ fn a_restored_counter_counts_on(rt: HostRuntime) -> Result<(), Fail> {
     comes_back(&rt, rt.alloc(), counting(&counted()), &rows)
 }
 
+/// Wants one instance, with these words.
+fn has_one_instance(rt: &impl Abort, snapshot: &Snapshot, words: [u64; 4]) {
+    assert_eq!(rt; snapshot.instances.len(), 1);
+    for instance in snapshot.instances.iter() {
+        assert_eq!(rt; instance.words, words);
+    }
+}
+
 /// Called, CU was TRUE; PV is 2, CV is 1.
 #[test]
 fn a_counter_is_saved_by_its_words(rt: HostRuntime) -> Result<(), Fail> {
     let snapshot = snapshot(&rt, rt.alloc(), counting(&counted()))?;
-    assert_eq!(rt; snapshot.instances.len(), 1);
-    for instance in snapshot.instances.iter() {
-        assert_eq!(rt; instance.words, [5, 0x2_0000_0001, 0, 0]);
-    }
+    has_one_instance(&rt, &snapshot, [5, 0x2_0000_0001, 0, 0]);
     Ok(())
+}
+
+/// Whether two snapshots have the same instances.
+fn have_same_instances(a: &Snapshot, b: &Snapshot) -> bool {
+    let mut pairs = a.instances.iter().zip(b.instances.iter());
+    a.instances.len() == b.instances.len()
+        && pairs.all(|(x, y)| {
+            x.kind == y.kind && x.words == y.words && x.inputs.as_slice() == y.inputs.as_slice()
+        })
+}
+
+/// Whether two snapshots stand at the same place of the same scan.
+fn stand_the_same(a: &Snapshot, b: &Snapshot) -> bool {
+    (a.cr, a.position, a.phase) == (b.cr, b.position, b.phase)
+        && (a.count, a.moment) == (b.count, b.moment)
+        && a.deferred.as_slice() == b.deferred.as_slice()
+        && a.breaks.as_slice() == b.breaks.as_slice()
+}
+
+/// Whether two snapshots have the same values, and the same forces.
+fn have_same_values(a: &Snapshot, b: &Snapshot) -> bool {
+    a.variables.as_slice() == b.variables.as_slice()
+        && (a.input, a.output, a.memory) == (b.input, b.output, b.memory)
+        && a.forces.as_slice() == b.forces.as_slice()
 }
 
 /// Wants two snapshots to be the same.
 fn same(rt: &impl Abort, a: &Snapshot, b: &Snapshot) {
-    assert_eq!(rt; a.variables.as_slice(), b.variables.as_slice());
-    assert_eq!(rt; a.instances.len(), b.instances.len());
-    for (x, y) in a.instances.iter().zip(b.instances.iter()) {
-        assert_eq!(rt; (x.kind, x.words), (y.kind, y.words));
-        assert_eq!(rt; x.inputs.as_slice(), y.inputs.as_slice());
-    }
-    assert_eq!(rt;
-        (a.input, a.output, a.memory),
-        (b.input, b.output, b.memory)
-    );
-    assert_eq!(rt; (a.cr, a.position, a.phase), (b.cr, b.position, b.phase));
-    assert_eq!(rt; a.deferred.as_slice(), b.deferred.as_slice());
-    assert_eq!(rt; (a.count, a.moment), (b.count, b.moment));
-    assert_eq!(rt; a.forces.as_slice(), b.forces.as_slice());
-    assert_eq!(rt; a.breaks.as_slice(), b.breaks.as_slice());
+    assert!(rt; have_same_instances(a, b));
+    assert!(rt; stand_the_same(a, b));
+    assert!(rt; have_same_values(a, b));
+}
+
+/// What the controller saves that a snapshot is restored to.
+fn saved_again(alloc: Global, given: Saved, snapshot: &Snapshot) -> Result<Snapshot, Fail> {
+    Ok(restored(alloc, given.bytes, given.instructions, snapshot)?.save(alloc)?)
 }
 
 /// Wants the copy of a snapshot, and what the restored controller saves, to be the same.
 fn is_saved_again(rt: &impl Abort, alloc: Global, given: Saved) -> Result<(), Fail> {
     let snapshot = snapshot(rt, alloc, given)?;
     same(rt, &snapshot.copy(alloc)?, &snapshot);
-    let other = restored(alloc, given.bytes, given.instructions, &snapshot)?;
-    same(rt, &other.save(alloc)?, &snapshot);
+    same(rt, &saved_again(alloc, given, &snapshot)?, &snapshot);
     Ok(())
 }
 

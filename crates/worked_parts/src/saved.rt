@@ -50,6 +50,16 @@ pub fn restore(
     Ok(Controller::restore(alloc, image, budget, snapshot))
 }
 
+/// Why a snapshot is not restored with this image and this budget; None where it is.
+pub fn refused(
+    alloc: Global,
+    bytes: &[u8],
+    instructions: u32,
+    snapshot: &Snapshot,
+) -> Result<Option<SnapError>, Fail> {
+    Ok(restore(alloc, bytes, instructions, snapshot)?.err())
+}
+
 /// The controller that a snapshot is of.
 pub fn restored(
     alloc: Global,
@@ -61,6 +71,20 @@ pub fn restored(
         Ok(controller) => Ok(controller),
         Err(_) => Err(Fail::from("not restored")),
     }
+}
+
+/// Wants these answers of the controller that a snapshot is restored to.
+pub fn restored_answers(
+    rt: &impl Abort,
+    alloc: Global,
+    bytes: &[u8],
+    instructions: u32,
+    snapshot: &Snapshot,
+    rows: &[Row],
+) -> Result<(), Fail> {
+    let mut controller = restored(alloc, bytes, instructions, snapshot)?;
+    answers(rt, &mut controller, rows);
+    Ok(())
 }
 
 /// A scan at a moment with this `%IX0.0`; all else is FALSE and 0.

@@ -2,8 +2,8 @@
 
 use crate::images::{NAMES, THREE_STORES, WIRE, WIRE_AND_FIVE};
 use crate::saved::{
-    NOT_HELD, Saved, answers, counted, counting, divided, held, idle, one_divided, parentheses,
-    restore, restored, snapshot, stopped, timing,
+    NOT_HELD, Saved, counted, counting, divided, held, one_divided, parentheses, refused,
+    restored_answers, snapshot, stopped,
 };
 use debugger::SnapError;
 use il_model::{
@@ -78,11 +78,25 @@ const BAD_SHAPE: Option<SnapError> = Some(SnapError::BadShape);
 
 const BAD_BLOCK: Option<SnapError> = Some(SnapError::BadBlock);
 
+/// Wants the snapshot with the change of this row to be refused, or restored, with this budget.
+fn refuses_row(
+    rt: &impl Abort,
+    alloc: Global,
+    given: Saved,
+    instructions: u32,
+    n: usize,
+    row: &Row,
+) -> Result<(), Fail> {
+    let (change, why) = *row;
+    let snapshot = spoilt(rt, alloc, given, change)?;
+    let refused = refused(alloc, given.bytes, instructions, &snapshot)?;
+    assert_eq!(rt; refused, why, "in row {n}");
+    Ok(())
+}
+
 fn refuses(rt: &impl Abort, alloc: Global, given: Saved, rows: &[Row]) -> Result<(), Fail> {
-    for (n, (change, why)) in rows.iter().enumerate() {
-        let snapshot = spoilt(rt, alloc, given, *change)?;
-        let refused = restore(alloc, given.bytes, given.instructions, &snapshot)?.err();
-        assert_eq!(rt; refused, *why, "in row {n}");
+    for (n, row) in rows.iter().enumerate() {
+        refuses_row(rt, alloc, given, given.instructions, n, row)?;
     }
     Ok(())
 }
@@ -91,7 +105,7 @@ fn refuses(rt: &impl Abort, alloc: Global, given: Saved, rows: &[Row]) -> Result
 fn a_snapshot_of_another_program_is_refused(rt: HostRuntime) -> Result<(), Fail> {
     let snapshot = snapshot(&rt, rt.alloc(), counting(&counted()))?;
     for bytes in [WIRE, NAMES, THREE_STORES] {
-        let refused = restore(rt.alloc(), bytes, 10, &snapshot)?.err();
+        let refused = refused(rt.alloc(), bytes, 10, &snapshot)?;
         assert_eq!(rt; refused, BAD_SHAPE);
     }
     Ok(())
@@ -326,19 +340,15 @@ fn steps(
     let before = held();
     let given = parentheses(&before);
     let snapshot = spoilt(rt, alloc, given, Change::Phase(phase))?;
-    let mut other = restored(alloc, given.bytes, instructions, &snapshot)?;
-    answers(rt, &mut other, &[(Command::Step, answer)]);
-    Ok(())
+    let rows = [(Command::Step, answer)];
+    restored_answers(rt, alloc, given.bytes, instructions, &snapshot, &rows)
 }
 
 #[test]
 fn a_held_scan_has_something_left_of_its_budget(rt: HostRuntime) -> Result<(), Fail> {
     let phase = SavedPhase::Held { performed: 3 };
-    let before = held();
-    let given = parentheses(&before);
-    let snapshot = spoilt(&rt, rt.alloc(), given, Change::Phase(phase))?;
-    let refused = restore(rt.alloc(), given.bytes, 3, &snapshot)?.err();
-    assert_eq!(rt; refused, BAD_SHAPE);
+    let refused = (Change::Phase(phase), BAD_SHAPE);
+    refuses_row(&rt, rt.alloc(), parentheses(&held()), 3, 0, &refused)?;
     steps(&rt, rt.alloc(), phase, 4, stopped(Stop::Budget, 3))?;
     // A stopped scan performs nothing more.
     steps(
