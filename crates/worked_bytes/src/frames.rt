@@ -5,24 +5,82 @@ use crate::messages::message;
 use crate::notation::{bytes_of, lines_of, otherwise, unreadable};
 use std::alloc::{AllocError, Global};
 use std::io;
+use vr_model::Message;
 use vr_wire::{Feed, WireError, WireFault, write};
+
+/// The longest body of a frame.
+const LONGEST: u32 = 67_108_864;
+
+/// The messages of a stream, and the fault behind them.
+type Fed = (Vec<Message>, Option<WireFault>);
 
 /// How many messages a stream has, and the fault behind them.
 type Seen = (usize, Option<WireFault>);
 
-/// What a new feed gives for a stream that comes in two pieces.
-fn seen(alloc: Global, stream: &[u8], cut: usize) -> Result<Seen, AllocError>
+/// What a new feed gives for a stream that comes in two pieces, and for nothing more.
+fn fed(alloc: Global, stream: &[u8], cut: usize) -> Result<Fed, AllocError>
     requires { cut ≤ length stream.now }
 {
     let (front, behind) = stream.split_at(cut);
     let mut feed = Feed::new(alloc);
     let mut out = Vec::new(alloc);
     let _first = feed.feed(alloc, front, &mut out);
-    match feed.feed(alloc, behind, &mut out) {
-        Ok(()) => Ok((out.len(), None)),
-        Err(WireError::Fault(fault)) => Ok((out.len(), Some(fault))),
+    let _second = feed.feed(alloc, behind, &mut out);
+    match feed.feed(alloc, b"", &mut out) {
+        Ok(()) => Ok((out, None)),
+        Err(WireError::Fault(fault)) => Ok((out, Some(fault))),
         Err(WireError::Memory) => Err(AllocError),
     }
+}
+
+fn seen(alloc: Global, stream: &[u8], cut: usize) -> Result<Seen, AllocError>
+    requires { cut ≤ length stream.now }
+{
+    let (messages, fault) = fed(alloc, stream, cut)?;
+    Ok((messages.len(), fault))
+}
+
+/// What stands behind the frames of these messages; none where a stream doesn't begin with them.
+fn behind<'a>(alloc: Global, stream: &'a [u8], messages: &[Message]) -> Option<&'a [u8]> {
+    let mut rest = stream;
+    for message in messages {
+        rest = rest.strip_prefix(write(alloc, message).ok()?.as_slice())?;
+    }
+    Some(rest)
+}
+
+/// Whether a rest is what is said of it: longer than a frame may be, whole and no frame, or none of these yet.
+fn is_judged(rest: &[u8], fault: Option<WireFault>) -> bool {
+    if rest.len() < 4 {
+        return fault.is_none();
+    }
+    let length = u32::from_be_bytes([rest[0], rest[1], rest[2], rest[3]]);
+    let is_whole = length as usize <= rest.len() - 4;
+    match fault {
+        Some(WireFault::TooLarge) => length > LONGEST,
+        Some(WireFault::BadFrame) => is_whole,
+        None => !is_whole && length <= LONGEST,
+    }
+}
+
+/// Whether just what a stream has is read of it: messages whose frames begin it, and behind them a fault or a rest that
+/// waits.
+fn is_read_as_framed(alloc: Global, stream: &[u8]) -> Result<bool, AllocError> {
+    let (messages, fault) = fed(alloc, stream, stream.len() / 2)?;
+    Ok(behind(alloc, stream, messages.as_slice()).is_some_and(|rest| is_judged(rest, fault)))
+}
+
+/// The same of each beginning of a stream, and of it with each byte replaced by `FF`.
+fn is_read_when_spoilt(alloc: Global, stream: &[u8]) -> Result<bool, AllocError> {
+    for place in 0..stream.len() {
+        let mut replaced = Vec::from_slice(alloc, stream)?;
+        replaced[place] = 0xff;
+        let beginning = is_read_as_framed(alloc, &stream[..place])?;
+        if !beginning || !is_read_as_framed(alloc, replaced.as_slice())? {
+            return Ok(false);
+        }
+    }
+    Ok(true)
 }
 
 fn told(alloc: Global, seen: Seen) -> Result<String, AllocError> {
@@ -43,7 +101,11 @@ pub fn stream(alloc: Global, text: &str) -> io::Result<String> {
             return Err(otherwise());
         }
     }
-    Ok(told(alloc, whole)?)
+    if is_read_when_spoilt(alloc, stream.as_slice())? {
+        Ok(told(alloc, whole)?)
+    } else {
+        Err(otherwise())
+    }
 }
 
 /// `m` a message, `.` none yet, `B` a bad frame, `L` too large.
@@ -87,8 +149,10 @@ pub fn frame(alloc: Global, text: &str) -> io::Result<String> {
         Err(WireError::Fault(WireFault::BadFrame)) => return Ok(String::from_str(alloc, "none")?),
         Err(_) => return Err(unreadable()),
     };
-    if !is_read_back(alloc, frame.as_slice()) {
-        return Err(otherwise());
+    let is_sound = is_read_back(alloc, frame.as_slice());
+    if is_sound && is_read_when_spoilt(alloc, frame.as_slice())? {
+        Ok(hex::encode(alloc, frame.as_slice())?)
+    } else {
+        Err(otherwise())
     }
-    Ok(hex::encode(alloc, frame.as_slice())?)
 }
