@@ -86,3 +86,9 @@ pub fn listed(alloc: Global, image: &[u8]) -> Written {
     written.status = plc_tool::list(alloc, image, &mut out, &mut err);
     written
 }
+
+/// Whether the listing of an image is assembled to the same image; so too where there is none.
+pub fn reads_back(alloc: Global, image: &[u8]) -> bool {
+    let listing = listed(alloc, image).out;
+    image.is_empty() || assembled(alloc, listing.as_slice()).image.as_slice() == image
+}

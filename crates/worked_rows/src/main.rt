@@ -3,6 +3,7 @@
 #![tactic(auto)]
 
 mod calls;
+mod changes;
 mod given;
 mod notation;
 mod rows;

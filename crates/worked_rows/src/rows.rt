@@ -1,6 +1,7 @@
 //! The rows of a file. A section of a row hands something in, or says what comes out; a table is a row a line.
 
-use crate::calls::{assembled, listed, ran, simulated};
+use crate::calls::{assembled, listed, ran, reads_back, simulated};
+use crate::changes;
 use crate::given::Given;
 use crate::notation::{bytes_of, lines_of};
 use std::alloc::{AllocError, Global};
@@ -88,6 +89,9 @@ fn comes_out(alloc: Global, given: &Given, title: &str, said: &str) -> io::Resul
         }
         "listing" | "image in bytes" => lists(alloc, given.image.as_slice(), lines),
         "every beginning" => all_list(alloc, given.image.as_slice(), lines),
+        "every other byte" => {
+            changes::what_comes(alloc, given.image.as_slice())?.as_str() == said.trim_end()
+        }
         _ => false,
     })
 }
@@ -119,12 +123,6 @@ fn lists(alloc: Global, image: &[u8], lines: &[u8]) -> bool {
     let written = listed(alloc, image);
     let is_good = written.status == 0;
     written.is(lines) && (!is_good || reads_back(alloc, image))
-}
-
-/// Whether the listing of an image is assembled to the same image; so too where there is none.
-fn reads_back(alloc: Global, image: &[u8]) -> bool {
-    let listing = listed(alloc, image).out;
-    image.is_empty() || assembled(alloc, listing.as_slice()).image.as_slice() == image
 }
 
 /// Whether `list` prints these lines of each beginning of an image.
