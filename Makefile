@@ -46,7 +46,7 @@ serve:
 	@cat $(IL)
 	@echo; echo "-- plc serve $(IL) on 127.0.0.1:$(PORT), three replicas, a scan each 100 ms; another shell may ask, as with mbpoll:"
 	@echo "   mbpoll -m tcp -p $(PORT) -0 -t 0 -r 0 127.0.0.1 1 1 1     sets %IX0.0 to %IX0.2"
-	@echo "   mbpoll -m tcp -p $(PORT) -0 -t 1 -r 0 -c 3 127.0.0.1     shows %QX0.0 to %QX0.2 each second, as [1] to [3]"
+	@echo "   mbpoll -m tcp -p $(PORT) -0 -t 1 -r 0 -c 3 127.0.0.1     shows %QX0.0 to %QX0.2 each second, in this order"
 	@echo "   python3 examples/client.py $(PORT)                         starts and stops the motor"
 	@if [ -x build/plc ] && [ -z "$$(find crates -name out -prune -o -name '*.rt' -newer build/plc -print)" ]; then \
 		build/plc serve $(IL) --store "$$(mktemp -d)" --scans 4294967295 --port $(PORT); \
@@ -71,7 +71,7 @@ picture-schedule:
 	@mkdir -p build
 	@report=$(if $(filter command,$(origin IL) $(origin EVENTS)),,$(EVENTS:.json=.txt)); if [ ! -e "$$report" ]; then report=build/report.txt; $(PROVED) && build/plc sim $(IL) $(EVENTS) > $$report || exit 1; fi; \
 	picture=build/$(basename $(notdir $(EVENTS))).svg; \
-	tools/sequence $(EVENTS) $$report > $$picture && echo "-- the messages of $(EVENTS), as a chart: $$picture"
+	tools/sequence $(EVENTS) $$report > $$picture && tools/sequence --text $(EVENTS) && echo "-- the messages of $(EVENTS), as a chart: $$picture"
 
 plc:
 	cd crates/plc && rt run -- --version

@@ -79,6 +79,8 @@ class Plc:
 
 def main():
     with Plc(port=int(sys.argv[1]) if len(sys.argv) > 1 else 5020) as plc:
+        plc.write_inputs(0, [False, False, True])  # STOP first: the motor may run already
+        time.sleep(0.5)
         for what, inputs in [('nobody presses', [False, True, True]), ('START is pressed', [True, True, True]),
                              ('and let go', [False, True, True]), ('STOP is pressed', [False, False, True])]:
             plc.write_inputs(0, inputs)
