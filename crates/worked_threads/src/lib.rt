@@ -3,7 +3,11 @@
 #![tactic(auto)]
 
 #[cfg(test)]
+mod clients;
+#[cfg(test)]
 mod cluster_rows;
+#[cfg(test)]
+mod falling;
 #[cfg(test)]
 mod image_rows;
 #[cfg(test)]

@@ -1,6 +1,4 @@
 //! The loop of one replica over scripted ends: what it polls, receives, tells its clock and calls its gate with.
-ghost use Rattle.std.specs.Prelude.{None};
-
 use crate::shelf::{Shelf, WIRE, group_of_three};
 use il_model::{Command, InImage};
 use loader::load;
@@ -19,64 +17,80 @@ enum Given {
     Closed,
 }
 
-/// Gives what is written, and then nothing. It counts.
+/// The request of this number, from a client.
+fn request(client: ClientNumber, number: u64) -> Message {
+    Message {
+        from: Party::Client(client),
+        to: Party::Replica(0),
+        body: Body::Request(Request {
+            client,
+            number,
+            command: Command::Scan {
+                inputs: InImage::clear(),
+                moment: 0,
+            },
+        }),
+    }
+}
+
+/// Gives what is written, and then nothing. It keeps what it gave, and what it was handed to send.
 #[derive(Drop)]
-struct ScriptedLink<'a> {
+struct ScriptedLink<'a, R: Abort + Drop> {
+    rt: R,
+    alloc: Global,
     script: &'a [Given],
     client: ClientNumber,
-    received: usize,
-    sent: u64,
+    given: Vec<Input>,
+    sent: Vec<Message>,
 }
 
-impl Link for ScriptedLink<'_> {
-    ghost inputs = { λ _. None };
+impl<R: Abort + Drop> Link for ScriptedLink<'_, R> {
+    ghost use Rattle.std.specs.Prelude.{Some};
 
-    ghost sent = { λ _. None };
+    ghost inputs = { λ l. Some l.given.items };
+
+    ghost sent = { λ l. Some l.sent.items };
 
     fn recv(&mut self) -> Input {
-        let given = self.script.get(self.received);
-        self.received = self.received.saturating_add(1);
-        match given {
-            Some(Given::Request(number)) => Input::Message(Message {
-                from: Party::Client(self.client),
-                to: Party::Replica(0),
-                body: Body::Request(Request {
-                    client: self.client,
-                    number: *number,
-                    command: Command::Scan {
-                        inputs: InImage::clear(),
-                        moment: 0,
-                    },
-                }),
-            }),
-            Some(Given::Nothing) | None => Input::Nothing,
-            Some(Given::Closed) => Input::Closed,
-        }
+        let (kept, input) = match self.script.get(self.given.len()) {
+            Some(Given::Request(number)) => {
+                let message = request(self.client, *number);
+                let copy = message.copy(self.alloc).expect(&self.rt, "memory");
+                (Input::Message(copy), Input::Message(message))
+            }
+            Some(Given::Closed) => (Input::Closed, Input::Closed),
+            Some(Given::Nothing) | None => (Input::Nothing, Input::Nothing),
+        };
+        self.given.push(kept).expect(&self.rt, "memory");
+        input
     }
 
-    fn send(&mut self, _message: Message) {
-        self.sent = self.sent.saturating_add(1);
+    fn send(&mut self, message: Message) {
+        self.sent.push(message).expect(&self.rt, "memory");
     }
 }
 
-/// Says what is written, and then nothing. It counts.
+/// Says what is written, and then nothing. It keeps what it said, and counts what was heard.
 #[derive(Drop)]
-struct ScriptedClock<'a> {
+struct ScriptedClock<'a, R: Abort + Drop> {
+    rt: R,
     script: &'a [Tick],
-    polled: usize,
+    said: Vec<Tick>,
     heard: u64,
 }
 
-impl Clock for ScriptedClock<'_> {
-    ghost ticks = { λ _. None };
+impl<R: Abort + Drop> Clock for ScriptedClock<'_, R> {
+    ghost use Rattle.std.specs.Prelude.{Some};
+
+    ghost ticks = { λ c. Some c.said.items };
 
     fn poll(&mut self) -> Tick {
-        let tick = self.script.get(self.polled);
-        self.polled = self.polled.saturating_add(1);
-        match tick {
+        let tick = match self.script.get(self.said.len()) {
             Some(tick) => *tick,
             None => Tick::None,
-        }
+        };
+        self.said.push(tick).expect(&self.rt, "memory");
+        tick
     }
 
     fn heard(&mut self, _message: &Message) {
@@ -125,10 +139,16 @@ impl Gate for CountingGate {
 }
 
 /// How often was polled, received, heard and sent, how many steps the gate saw in turn, and after how many of them the replica was normal.
-type Counts = (usize, usize, u64, u64, u64, u64);
+type Counts = (usize, usize, u64, usize, u64, u64);
 
 /// Replica 0 is served for so many turns.
-fn served(alloc: Global, turns: u64, ticks: &[Tick], inputs: &[Given]) -> Result<Counts, Fail> {
+fn served<R: Abort + Copy + Drop>(
+    rt: R,
+    alloc: Global,
+    turns: u64,
+    ticks: &[Tick],
+    inputs: &[Given],
+) -> Result<Counts, Fail> {
     let (config, budget) = group_of_three()?;
     let client = ClientNumber::new(0).ok_or("no client")?;
     let Ok(image) = load(alloc, WIRE) else {
@@ -136,14 +156,17 @@ fn served(alloc: Global, turns: u64, ticks: &[Tick], inputs: &[Given]) -> Result
     };
     let mut replica = Replica::new(alloc, config, 0, image, budget)?;
     let mut link = ScriptedLink {
+        rt,
+        alloc,
         script: inputs,
         client,
-        received: 0,
-        sent: 0,
+        given: Vec::new(alloc),
+        sent: Vec::new(alloc),
     };
     let mut clock = ScriptedClock {
+        rt,
         script: ticks,
-        polled: 0,
+        said: Vec::new(alloc),
         heard: 0,
     };
     let mut gate = CountingGate::new();
@@ -158,10 +181,10 @@ fn served(alloc: Global, turns: u64, ticks: &[Tick], inputs: &[Given]) -> Result
         turns,
     );
     Ok((
-        clock.polled,
-        link.received,
+        clock.said.len(),
+        link.given.len(),
         clock.heard,
-        link.sent,
+        link.sent.len(),
         gate.steps(),
         gate.normal,
     ))
@@ -188,12 +211,15 @@ const INPUTS: [Given; 4] = [
 #[test]
 fn each_turn_takes_one_event(rt: HostRuntime) -> Result<(), Fail> {
     let alloc = rt.alloc();
-    assert_eq!(rt; served(alloc, 0, &TICKS, &INPUTS)?, (0, 0, 0, 0, 0, 0));
-    assert_eq!(rt; served(alloc, 1, &TICKS, &INPUTS)?, (1, 1, 1, 2, 1, 1));
-    assert_eq!(rt; served(alloc, 2, &TICKS, &INPUTS)?, (2, 1, 1, 4, 2, 2));
-    assert_eq!(rt; served(alloc, 4, &TICKS, &INPUTS)?, (4, 3, 2, 4, 3, 3));
-    assert_eq!(rt; served(alloc, 5, &TICKS, &INPUTS)?, (5, 3, 2, 6, 4, 3));
-    assert_eq!(rt; served(alloc, 100, &TICKS, &INPUTS)?, (6, 4, 2, 6, 4, 3));
-    assert_eq!(rt; served(alloc, 9, &[], &[])?, (9, 9, 0, 0, 0, 0));
+    assert_eq!(rt; served(rt, alloc, 0, &TICKS, &INPUTS)?, (0, 0, 0, 0, 0, 0));
+    assert_eq!(rt; served(rt, alloc, 1, &TICKS, &INPUTS)?, (1, 1, 1, 2, 1, 1));
+    assert_eq!(rt; served(rt, alloc, 2, &TICKS, &INPUTS)?, (2, 1, 1, 4, 2, 2));
+    assert_eq!(rt; served(rt, alloc, 4, &TICKS, &INPUTS)?, (4, 3, 2, 4, 3, 3));
+    assert_eq!(rt; served(rt, alloc, 5, &TICKS, &INPUTS)?, (5, 3, 2, 6, 4, 3));
+    assert_eq!(rt;
+        served(rt, alloc, 100, &TICKS, &INPUTS)?,
+        (6, 4, 2, 6, 4, 3)
+    );
+    assert_eq!(rt; served(rt, alloc, 9, &[], &[])?, (9, 9, 0, 0, 0, 0));
     Ok(())
 }

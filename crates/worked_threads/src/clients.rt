@@ -1,0 +1,194 @@
+//! Clients of a served controller, by what they write and what they read until it follows.
+
+use std::alloc::Global;
+use std::io::{Read, Write};
+use std::net::{Net, TcpListener, TcpStream};
+use std::sync::atomic::{AtomicU64, Ordering};
+use std::time::{Clock, Duration, Instant};
+use std::{io, thread};
+
+/// What clients do.
+#[derive(Clone, Copy)]
+pub enum Visit {
+    Nothing,
+    /// A crowd, then those who come one behind another, then one that is silent, and then these steps.
+    All(&'static [Step]),
+    Steps(&'static [Step]),
+}
+
+/// An input is written, and the outputs become these: by function 05 a bit or by 06 a word, its address, its value; `%QX0.0` and `%QW0`.
+pub type Step = (u8, u8, u16, (u8, u16));
+
+/// So many of a crowd are answered.
+const CROWD: u8 = 15;
+
+/// So many come one behind another.
+const QUEUE: u8 = 20;
+
+/// What a visit gives that went well, beside its steps.
+pub const ALL: u8 = CROWD + QUEUE + 2;
+
+/// Reads the first two bits of `%I`, and what a new controller answers.
+const REQUEST: [u8; 12] = [0, 7, 0, 0, 0, 6, 1, 1, 0, 0, 0, 2];
+
+const REPLY: [u8; 10] = [0, 7, 0, 0, 0, 4, 1, 1, 1, 0];
+
+/// Sends a request, and reads a reply of as many bytes.
+fn reply_to<const N: usize>(stream: &mut TcpStream, request: [u8; 12]) -> io::Result<[u8; N]> {
+    stream.write_all(request.as_slice())?;
+    let mut reply = [0; N];
+    stream.read_exact(reply.as_mut_slice())?;
+    Ok(reply)
+}
+
+/// Whether a client is answered.
+fn is_answered(stream: &mut TcpStream) -> io::Result<bool> {
+    Ok(reply_to::<10>(stream, REQUEST)? == REPLY)
+}
+
+/// The request of a function, at an address, with a value or a quantity.
+fn request(function: u8, address: u8, value: u16) -> [u8; 12] {
+    let [high, low] = value.to_be_bytes();
+    [0, 7, 0, 0, 0, 6, 1, function, 0, address, high, low]
+}
+
+/// Writes a bit by function 05 or a word by 06: whether the reply is the request.
+fn is_written(stream: &mut TcpStream, function: u8, address: u8, value: u16) -> io::Result<bool> {
+    let asked = request(function, address, value);
+    Ok(reply_to::<12>(stream, asked)? == asked)
+}
+
+/// `%QX0.0` by function 02, and `%QW0` by 04.
+fn outputs(stream: &mut TcpStream) -> io::Result<(u8, u16)> {
+    let bits = reply_to::<10>(stream, request(2, 0, 1))?;
+    let words = reply_to::<11>(stream, request(4, 0, 1))?;
+    Ok((bits[9], u16::from_be_bytes([words[9], words[10]])))
+}
+
+/// Asks for the outputs until they are these, or the controller ends.
+fn are_outputs<R: Clock>(rt: &R, stream: &mut TcpStream, wanted: (u8, u16)) -> io::Result<bool> {
+    for _ in 0..20_000u32 {
+        if outputs(stream)? == wanted {
+            return Ok(true);
+        }
+        thread::sleep(rt, Duration::from_millis(1));
+    }
+    Ok(false)
+}
+
+/// How many of these steps went as they should, one after another.
+fn stepped<R: Clock>(rt: &R, stream: &mut TcpStream, steps: &[Step]) -> io::Result<u8> {
+    let mut count = 0u8;
+    for (function, address, value, wanted) in steps {
+        if is_written(stream, *function, *address, *value)? && are_outputs(rt, stream, *wanted)? {
+            count = count.saturating_add(1);
+        }
+    }
+    Ok(count)
+}
+
+/// How many of these connections are answered.
+fn answered(clients: &mut [TcpStream]) -> io::Result<u8> {
+    let mut count = 0u8;
+    for client in clients.iter_mut() {
+        if is_answered(client)? {
+            count = count.saturating_add(1);
+        }
+    }
+    Ok(count)
+}
+
+fn connect<R: Net<Listener = TcpListener, Stream = TcpStream>>(
+    rt: &R,
+    port: u16,
+) -> io::Result<TcpStream> {
+    TcpStream::connect(rt, ("127.0.0.1", port))
+}
+
+/// Sixteen clients that stay, the first of which is silent after half a request, and one more, which is not answered: how many went so.
+fn crowd<R: Net<Listener = TcpListener, Stream = TcpStream>>(
+    rt: &R,
+    alloc: Global,
+    port: u16,
+) -> io::Result<u8> {
+    let mut half = connect(rt, port)?;
+    half.write_all(&REQUEST[..5])?;
+    let mut clients = Vec::new(alloc);
+    for _ in 0..CROWD {
+        clients.push(connect(rt, port)?)?;
+    }
+    let count = answered(clients.as_mut_slice())?;
+    let mut late = connect(rt, port)?;
+    let is_answered = matches!(is_answered(&mut late), Ok(true));
+    Ok(count.saturating_add(u8::from(!is_answered)))
+}
+
+/// How many clients are answered, one behind another. A place may come free late.
+fn queue<R: Net<Listener = TcpListener, Stream = TcpStream> + Clock>(
+    rt: &R,
+    port: u16,
+) -> io::Result<u8> {
+    let mut count = 0u8;
+    for _ in 0..1000u32 {
+        match is_answered(&mut connect(rt, port)?) {
+            Ok(true) => count = count.saturating_add(1),
+            _ => thread::sleep(rt, Duration::from_millis(1)),
+        }
+        if count == QUEUE {
+            break;
+        }
+    }
+    Ok(count)
+}
+
+/// Whether a client that says nothing is let go after two seconds, and not before.
+fn silent<R: Net<Listener = TcpListener, Stream = TcpStream> + Clock>(
+    rt: &R,
+    port: u16,
+) -> io::Result<u8> {
+    let begun = Instant::now(rt)?;
+    let mut client = connect(rt, port)?;
+    let is_closed = !matches!(client.read(&mut [0; 1]), Ok(1));
+    let took = Instant::now(rt)?.saturating_duration_since(begun);
+    let is_in_time = took >= Duration::from_millis(1900) && took < Duration::from_secs(6);
+    Ok(u8::from(is_closed && is_in_time))
+}
+
+fn made_visit<R: Net<Listener = TcpListener, Stream = TcpStream> + Clock>(
+    rt: &R,
+    alloc: Global,
+    port: u16,
+    visit: Visit,
+) -> io::Result<u8> {
+    match visit {
+        Visit::Nothing => Ok(0),
+        Visit::Steps(steps) => stepped(rt, &mut connect(rt, port)?, steps),
+        Visit::All(steps) => {
+            let count = crowd(rt, alloc, port)?.saturating_add(queue(rt, port)?);
+            let count = count.saturating_add(silent(rt, port)?);
+            Ok(count.saturating_add(stepped(rt, &mut connect(rt, port)?, steps)?))
+        }
+    }
+}
+
+/// The port once it's told, and none where the controller ended first.
+fn told_port<R: Clock>(rt: &R, port: &AtomicU64) -> Option<u16> {
+    for _ in 0..30_000u32 {
+        let told = port.load(Ordering::SeqCst);
+        if told != 0 {
+            return u16::try_from(told).ok();
+        }
+        thread::sleep(rt, Duration::from_millis(1));
+    }
+    None
+}
+
+/// How much of a visit went as it should that begins once the port is told; none where it broke off.
+pub fn visit_once_told<R: Net<Listener = TcpListener, Stream = TcpStream> + Clock>(
+    rt: &R,
+    alloc: Global,
+    port: &AtomicU64,
+    visits: Visit,
+) -> Option<u8> {
+    made_visit(rt, alloc, told_port(rt, port)?, visits).ok()
+}
