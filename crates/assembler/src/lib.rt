@@ -1,5 +1,16 @@
 //! From a program to the bytes of its image: the one spelling of a typed program, or its first fault. It uses il_model,
 //! where the typing and the spelling are defined.
+//!
+//! ```rust
+//! let program = declarations::resolve(alloc, source).ok()?;
+//! let bytes = assembler::assemble(alloc, &program).ok()?;
+//! ```
+//!
+//! Proved: Ok exactly where the program has a typed program, each bare number with the type of its place, and then with
+//! exactly the bytes of that one's image; else the fault of the least instruction that has one (`exact`). Of a program
+//! that a text declares these bytes are an image, which the loader takes back (`image`).
+//!
+//! Only tested: nothing; `types.rows` and `images.rows` of `worked_rows` have faults, and images byte by byte.
 #![tactic(auto)]
 
 mod assembling;

@@ -1,7 +1,20 @@
-//! What a program does: the state of a run, one instruction, one scan, one command of a controller after another, and what slots
-//! and names of slots stand for. Definitions with the plain types that they speak of, and three laws: a typed program is never
-//! stuck, breakpoints change nothing but where a scan is held, and a snapshot tells its instances. It uses il_model, where programs
-//! and their types are defined, and function_blocks, where the blocks' equations are.
+//! What a program does: the state of a run, one instruction, one scan, one command of a controller after another, and
+//! what slots and names of slots stand for. Definitions with the plain types that they speak of, and three laws: a
+//! typed program is never stuck, breakpoints change nothing but where a scan is held, and a snapshot tells its
+//! instances. It uses il_model, where programs and their types are defined, and function_blocks, where the blocks'
+//! equations are.
+//!
+//! There is no code to call. A law is used by naming it in a function whose clause rests on it:
+//!
+//! ```rust
+//! controller_model::ends_the_same();
+//! ```
+//!
+//! Proved: the three laws, for every program, state, budget and list of commands. Worked sessions of the debugger are
+//! computed from the table of commands as proofs (`proofs/WorkedRows`), so that the definitions themselves were seen to
+//! give what was wanted.
+//!
+//! Only tested: nothing.
 #![tactic(auto)]
 
 ghost use Rattle.std.specs.Prelude.{ℕ, List};

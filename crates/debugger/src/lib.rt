@@ -1,6 +1,23 @@
-//! A controller of one program: it applies scans and debugger commands in any order, each with its answer; and the slots of names.
-//! It uses il_model (commands and answers), controller_model (the table that says what each does), loader (the image) and
-//! scan_cycle (one scan).
+//! A controller of one program: it applies scans and debugger commands in any order, each with its answer; and the
+//! slots of names. It uses il_model (commands and answers), controller_model (the table that says what each does),
+//! loader (the image) and scan_cycle (one scan).
+//!
+//! ```rust
+//! use debugger::Controller;
+//! use il_model::{Budget, Command, InImage};
+//!
+//! let mut controller = Controller::new(alloc, image, Budget::new(10_000)?).ok()?;
+//! let inputs = InImage::clear();
+//! let answer = controller.apply(&Command::Scan { inputs, moment: 0 });
+//! ```
+//!
+//! Proved: `apply` gives, in every state and for every command, the answer and the state of the table of commands
+//! (`controller_model/specs/Commands`), always returns, and takes no memory. `slot` gives exactly the slot of a name.
+//! What `save` tells is restored, with the same image and budget, to the same controller; a snapshot is refused exactly
+//! where it doesn't fit, or where the words of a block are no state of it.
+//!
+//! Only tested: nothing; `debugger.rows` of `worked_rows` has sessions, `restored_rows` and `spoilt_rows` of
+//! `worked_parts` snapshots that are restored, and spoilt ones.
 #![tactic(auto)]
 
 ghost use Rattle.std.specs.Prelude.{Result};

@@ -1,6 +1,22 @@
 //! The words of the language: plain types of an Instruction List program (IEC 61131-3:2003, 3.2), its tables of
 //! operators, types and codes, and the definitions that all other crates cite: values, operators, names, typing, the
 //! image's spelling. It uses no other crate of this repository.
+//!
+//! ```rust
+//! use il_model::op::operate;
+//! use il_model::{Op, Stop, Value};
+//!
+//! assert_eq!(rt; operate(Op::Add, Value::Int(2), Value::Int(3)), Some(Ok(Value::Int(5))));
+//! assert_eq!(rt; operate(Op::Add, Value::Int(32767), Value::Int(1)), Some(Err(Stop::Overflow)));
+//! ```
+//!
+//! Proved: each table of the code is its definition. An operator gives its result on unbounded numbers, or the stop
+//! where that doesn't fit; each code is read back as what it was written for; `literal` gives exactly the value of a
+//! literal. `check` answers exactly whether a program is typed, else the fault of the least instruction, and which that
+//! is is a law (`the_first_fault_is_told`). A program has at most one typed program (`settling`).
+//!
+//! Only tested: nothing; rows of `worked_rows` show it at work. By its code alone: that nothing but a failure of the
+//! reader or writer inside raises the count of a `Counted`.
 #![tactic(auto)]
 
 pub mod arguments;

@@ -1,5 +1,17 @@
-//! Reads an Instruction List text: what it says, or its first fault with its line and column.
-//! It stands on `il_model` (the operator words) and knows no program, no type and no location.
+//! Reads an Instruction List text: what it says, or its first fault with its line and column. It stands on `il_model`
+//! (the operator words) and knows no program, no type and no location.
+//!
+//! ```rust
+//! let source = il_reader::read(alloc, b"LD %IX0.0\nST %QX0.0\n").ok()?;
+//! let count = source.lines().len(); // 2
+//! ```
+//!
+//! Proved: `read` answers Ok exactly where the grammar (`specs/Spelling`, `specs/Grammar`) has a source for the text,
+//! and gives that one; else it tells which fault, and where (`exact`). A law over the grammar alone says that this is
+//! the first: the token at which no text of the grammar begins so (`fault_stands_first`).
+//!
+//! Only tested: nothing; `texts.rows` and `first_path.rows` of `worked_rows` have texts with their faults. A text over
+//! the limit of 2 MiB is told too long at 1:1, of which the law says nothing.
 #![tactic(auto)]
 
 mod blocks;

@@ -1,5 +1,18 @@
 //! Images from bytes: exactly the spellings of typed programs are loaded, each to its program. It uses il_model, where
 //! the spelling and the typing are defined.
+//!
+//! ```rust
+//! let image = loader::load(alloc, bytes.as_slice()).ok()?;
+//! let same = image.bytes() == bytes.as_slice(); // true
+//! ```
+//!
+//! Proved: `load` answers Ok exactly on the spelling of a typed program, and gives that program; else the first fault
+//! in the order of reading, with its position (`exact`). `bytes` is that spelling, `copy` an equal image. Each
+//! instruction's `Action` is the one that performs it, and of the instructions that `straight` gives none but the first
+//! has a label.
+//!
+//! Only tested: nothing; `images.rows` of `worked_rows` has images cut short, spoilt and too long. In no clause: that
+//! the instructions of `straight` reach as far as the next label; were they fewer, a run would only be slower.
 #![tactic(auto)]
 
 mod counts;

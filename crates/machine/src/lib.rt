@@ -1,5 +1,24 @@
-//! A machine that performs the instructions of a loaded image. It uses il_model and controller_model (the
-//! definitions), function_blocks (the blocks) and loader (the image).
+//! A machine that performs the instructions of a loaded image. It uses il_model and controller_model (the definitions),
+//! function_blocks (the blocks) and loader (the image).
+//!
+//! ```rust
+//! use il_model::InImage;
+//! use machine::Machine;
+//!
+//! let mut machine = Machine::new(alloc, &image).ok()?;
+//! machine.start(&InImage::clear());
+//! if image.len() > 0 {
+//!     let _ = machine.run_straight(&image, 0, image.straight(machine.pos())); // up to the next label or jump
+//! }
+//! ```
+//!
+//! Proved: each instruction that `run_straight` performs is the step of the definition at its position, behind the one
+//! before, and it tells how many it performed, or that the last one ended the run or stopped it (`HasRun`); it has no
+//! answer for a program that went wrong, since there is none. `reset` and `new` give the cold state; a snapshot's parts
+//! come back as the same machine.
+//!
+//! Only tested: nothing; `machine_rows` of `worked_parts` runs three stores. In no clause: that it doesn't stop early
+//! for nothing; the figures in `bench/README.md` would show it.
 #![tactic(auto)]
 
 mod arrival;

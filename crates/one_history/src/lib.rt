@@ -1,8 +1,21 @@
-//! The laws of replication. There is no code here: each function's clause states a law about the rules, the world and the
-//! runs that `vr_model` defines, and its empty body is proved to meet it. Each law is for every f, every type of commands
-//! and of answers, every answer function, and every list of events, each done, or lost for want of memory.
+//! The laws of replication. There is no code here: each function's clause states a law about the rules, the world and
+//! the runs that `vr_model` defines, and its empty body is proved to meet it. Each law is for every f, every type of
+//! commands and of answers, every answer function, and every list of events, each done, or lost for want of memory.
 //!
-//! They say nothing of progress: that anything is ever committed, answered or delivered.
+//! A law is used by naming it in a function whose clause rests on it, as `schedules` does:
+//!
+//! ```rust
+//! use il_model::{Answer, Command};
+//!
+//! one_history::one_history::<Command, Answer>();
+//! ```
+//!
+//! Proved: one list of commands that only grows and that every replica executes a beginning of (`one_history`), the
+//! report that tells it (`report_explains`), and that replicas which run each by itself are such a run (`interleave`,
+//! `running_replicas_agree`). Worked schedules are computed from the same definitions, and rules that are wrong by one
+//! change are shown to break the law (`wrong_rules_show`).
+//!
+//! Only tested: nothing. The laws say nothing of progress: that anything is ever committed, answered or delivered.
 #![tactic(auto)]
 
 ghost use Rattle.std.specs.Prelude.{ℕ, List, [], ◌++◌};

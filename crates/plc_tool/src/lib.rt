@@ -1,5 +1,28 @@
 //! What the program does, over byte slices and writers: tests call it with slices and vectors, `main` with files and
 //! streams. It may use every layer below and knows no runtime; the only file that it opens is a `NewFile`.
+//!
+//! ```rust
+//! use il_model::{Budget, Counted};
+//!
+//! let (mut out, mut err) = (Vec::new(alloc), Vec::new(alloc));
+//! let commands = br#"[{"scan":{"ix":[0],"iw":[],"moment":0}}]"#;
+//! let status = plc_tool::run(
+//!     alloc,
+//!     b"LD %IX0.0\nST %QX0.0\n",
+//!     commands,
+//!     Budget::new(10_000)?,
+//!     &mut Counted::new(&mut out),
+//!     &mut Counted::new(&mut err),
+//! ); // 0, and `out` is "outputs 1 QX0.0\n"
+//! ```
+//!
+//! Proved: a status of 0 only with exactly the lines of the answers (`run`), the image's bytes (`asm`), the listing
+//! (`list`) or the report of a run of the schedule (`sim`) written; 1 only where the text or the other file has the
+//! fault that is told, and nothing else was written; 2 only with a beginning of it, and a device is told only where a
+//! writer failed. Each text has one typed program or one fault, and never both (`a_text_means_one_thing`).
+//!
+//! Only tested: `NewFile`, which makes the file of an image at its first write (`image_rows` of `worked_threads`). Rows
+//! of `worked_rows` have every printed line; `worked_tool` has streams that fail.
 #![tactic(auto)]
 
 mod answering;

@@ -1,6 +1,23 @@
-//! The images that threads share: staged inputs, each write of which stands whole in the next sample, and released outputs, whose
-//! readers wait for nobody and never go back; and the client that submits scans of the one and takes the other. It may use
-//! `il_model`, the messages and client rules of `vr_model`, and the ported crates, and knows no program and no field protocol.
+//! The images that threads share: staged inputs, each write of which stands whole in the next sample, and released
+//! outputs, whose readers wait for nobody and never go back; and the client that submits scans of the one and takes the
+//! other. It may use `il_model`, the messages and client rules of `vr_model`, and the ported crates, and knows no
+//! program and no field protocol.
+//!
+//! ```rust
+//! use process_image::StageBook;
+//!
+//! let mut book = StageBook::new(alloc);
+//! let ticket = book.write_words(3, &[7, -2]); // Ok, with ticket 0; behind a lock: `Stage`
+//! let sample = book.sample(); // %IW3 is 7, %IW4 is -2, and the next ticket is 1
+//! ```
+//!
+//! Proved: over any list of calls each write that got a ticket stands whole, in ticket order, in the first sample after
+//! it (`each_sample_holds_its_writes`); a refusal changes nothing. A `read` of the outputs shows the last release of a
+//! list that begins with all that this reader saw before; of what a writer told and a reader saw, one list begins the
+//! other (`agree`). The `ScanDriver` is a client of the replication rules, and submits a scan of exactly its sample.
+//!
+//! Only tested: that each call of a `Stage` is one hold of its lock, and one call of its book (`process_image_rows` of
+//! `worked_parts`, by threads, in many rounds). That a reader waits for nobody is `left_right`'s.
 #![tactic(auto)]
 
 pub mod book;

@@ -1,5 +1,20 @@
 //! Links of replicas over connections of this machine: messages go as frames of `vr_wire` over TCP on 127.0.0.1, a
 //! connection for each pair of ends. What goes out and what comes in is told by the ends of a connection (`wire_ends`).
+//!
+//! ```rust
+//! use tcp_links::TcpGroup;
+//!
+//! // three replicas and a client; a receive waits for 50 ms at most
+//! let TcpGroup { links, board } = TcpGroup::new(&rt, alloc, 3, 1, Duration::from_millis(50)).ok()?;
+//! board.close(); // from any thread: each link gives Closed from now on
+//! ```
+//!
+//! Proved: a message that a link gives is for its own party; of what a connection brings exactly the messages from its
+//! other party to this one are kept (`keep_own`). Each call is safe and returns, but for the wait of a poll.
+//!
+//! Only tested (`link_rows` of `worked_threads`): that messages come in order, that a link is closed once all others
+//! are gone and by its board, that a message of another sender is dropped, that a stranger who was faster is refused.
+//! In no clause: that a socket delivers, what a poll reports, that a send doesn't wait.
 #![tactic(auto)]
 
 mod connecting;
