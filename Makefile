@@ -5,6 +5,7 @@
 # make serve [EXAMPLE=motor] [PORT=5020]        serves that program to Modbus clients, until it's interrupted; a new store in a temporary directory
 # make picture [EXAMPLE=crossing]             what plc run prints for it, as a picture over time: build/crossing.svg; also IL=.. COMMANDS=.. (with build/plc)
 # make picture SCHEDULE=crash                 the messages of that schedule as a chart: build/motor_crash.svg; also SCHEDULE=own EVENTS=FILE.json [IL=..]
+# make failover [TO=build/failover.svg]        a tank and its pump on three replicas that crash in turn, played by examples/failover.py: half a minute, and its picture (with build/plc)
 # make plc                                    proves the program and builds it: build/plc
 # make install [PREFIX=/usr/local] [DESTDIR=]  puts the proved program, its man page, README, FAULTS and the examples there
 # make test                                   the whole gate: that the rows of the examples are those of examples/, the table of crates is that of crates.txt, AUDIT names what is there and the pictures are those of examples/, and then rt ci
@@ -20,7 +21,7 @@ PICTURE := $(if $(SCHEDULE),schedule,run)
 SCHEDULE ?= crash
 EVENTS = examples/motor_$(SCHEDULE).json
 
-.PHONY: demo standby serve picture picture-run picture-schedule plc install test
+.PHONY: demo standby serve picture picture-run picture-schedule failover plc install test
 
 # Where build/plc is older than a source, or was never built, the same sources are built and run, unproved.
 demo:
@@ -72,6 +73,13 @@ picture-schedule:
 	@report=$(if $(filter command,$(origin IL) $(origin EVENTS)),,$(EVENTS:.json=.txt)); if [ ! -e "$$report" ]; then report=build/report.txt; $(PROVED) && build/plc sim $(IL) $(EVENTS) > $$report || exit 1; fi; \
 	picture=build/$(basename $(notdir $(EVENTS))).svg; \
 	tools/sequence $(EVENTS) $$report > $$picture && tools/sequence --text $(EVENTS) && echo "-- the messages of $(EVENTS), as a chart: $$picture"
+
+TO ?= build/failover.svg
+
+failover:
+	@$(PROVED)
+	@mkdir -p build
+	@python3 examples/failover.py build/plc $(TO) && echo "-- the same as a picture: $(TO)"
 
 plc:
 	cd crates/plc && rt run -- --version

@@ -2,7 +2,7 @@
 #![tactic(auto)]
 
 use il_model::{Budget, Counted, CountedWrite};
-use plc_serve::{Service, Settings};
+use plc_serve::{ReportFile, Service, Settings};
 use plc_tool::{Fault, NewFile};
 use plc_words::{Words, WordsError, read_words};
 use process_image::NewList;
@@ -15,6 +15,9 @@ use vr_model::Config;
 
 /// Standard input, standard output and standard error are the descriptors below it.
 const STREAMS: i32 = 3;
+
+/// In seconds: a served controller ends after so long without a majority of its replicas.
+const LOST_AFTER: u32 = 60;
 
 /// What the words of the call came to.
 #[derive(Drop)]
@@ -38,10 +41,11 @@ fn main(rt: HostRuntime) -> ExitCode {
                 Service {
                     source,
                     directory,
+                    report,
                     stores,
                     settings,
                 },
-            ) => plc_serve::serve::<Brand, _, _, _, _>(
+            ) => plc_serve::serve::<Brand, _, _, _, _, _>(
                 rt,
                 rt.alloc(),
                 NewList::new(),
@@ -49,6 +53,7 @@ fn main(rt: HostRuntime) -> ExitCode {
                 directory,
                 stores,
                 settings,
+                &mut Counted::new(ReportFile::at(&rt, text_of(&report))),
                 &mut out,
                 &mut err,
             ),
@@ -56,6 +61,13 @@ fn main(rt: HostRuntime) -> ExitCode {
         Err(error) => plc_tool::tell(Fault::from(error), &mut err),
     };
     ExitCode::from(status)
+}
+
+fn text_of(path: &Option<String>) -> Option<&str> {
+    match path {
+        Some(path) => Some(path.as_str()),
+        None => None,
+    }
 }
 
 /// Opens what can only be read, and is empty, at each of descriptors 0 to 2 that is closed: so no file or socket is opened there, and a write to a
@@ -114,6 +126,8 @@ fn perform<W: Write, E: CountedWrite>(
             budget,
             idle,
             over_tcp,
+            crash,
+            report,
         } => {
             let settings = Settings {
                 config,
@@ -123,8 +137,10 @@ fn perform<W: Write, E: CountedWrite>(
                 scans,
                 idle,
                 over_tcp,
+                crash,
+                lost_after: LOST_AFTER,
             };
-            match Service::new(*rt, source, store, settings) {
+            match Service::new(*rt, source, store, report, settings) {
                 Ok(service) => return Outcome::Serve(service),
                 Err(fault) => plc_tool::tell(fault, err),
             }

@@ -1,13 +1,15 @@
 -- What the end of a served controller tells, by what was done.
-use Rattle.std.proofs.Common.{◌≡◌, inl, inr, ℕ, List, Result, Ok, Err, subst, sym, ◌∙◌, arith}
+use Rattle.std.proofs.Common.{◌≡◌, inl, inr, ℕ, List, [], Result, Ok, Err, subst, sym, ◌∙◌, arith}
 use Rattle.std.specs.Prelude.{IfErr, IfOk, IsOk, OnErr, OnOk}
+use Rattle.std.specs.Io.KnownBytes.{Appends}
+use Rattle.std.proofs.KnownBytes.{Appends-trans}
 use Rattle.il_model.specs.declared.counted.CountedWrite.{Ghosts as CountedWriter}
 use Rattle.il_model.specs.declared.counted.DeviceFault.{DeviceFault}
 use Rattle.plc_tool.specs.declared.fault.Fault.{Fault}
 use Rattle.plc_tool.specs.Status.{status_of}
 use Rattle.plc_tool.specs.Telling.{Ends, IsTold, Sends, WentOut, fault_line}
 use Rattle.plc_serve.specs.Watching.{AreNoticesTold}
-use Rattle.plc_serve.specs.Serving.{IsAtMostServingTold, IsPortTold, IsServingTold, IsToldAtLast, port_line}
+use Rattle.plc_serve.specs.Serving.{IsAtMostServingTold, IsPortTold, IsReported, IsServingTold, IsToldAtLast, port_line, report_line}
 
 went_out : {W : Type 0} (w : CountedWriter W) (text : List ℕ) (old new : W) (r : Result (Unit {0}) DeviceFault) → Sends w text old new r → WentOut w text old new
 went_out w text old new (Ok done) sends = inl sends.sent
@@ -37,7 +39,7 @@ module _ {W : Type 0} (w : CountedWriter W) (status : ℕ) (old middle new : W) 
 
 -- The port was told or nothing, and where it was, notices behind it.
 module _ {W X : Type 0} (w : CountedWriter W) (old middle new : W) where
-  pub good : (r : Result X Fault) (s : Result (Unit {0}) Fault) → OnOk r (IsPortTold w old middle) → OnOk s (IsOk r) → IfOk r (λ _. AreNoticesTold w middle new) → OnOk s (IsServingTold w old new)
+  pub good : {Y : Type 0} (r : Result X Fault) (s : Result Y Fault) → OnOk r (IsPortTold w old middle) → OnOk s (IsOk r) → IfOk r (λ _. AreNoticesTold w middle new) → OnOk s (IsServingTold w old new)
   good (Ok x) (Ok done) port ok notices = record { opened = middle; port = port; notices = notices }
   good (Ok x) (Err e) port ok notices = tt
   good (Err f) (Ok done) port ok notices = absurd cc
@@ -46,3 +48,12 @@ module _ {W X : Type 0} (w : CountedWriter W) (old middle new : W) where
   pub at_most : (r : Result X Fault) → OnOk r (IsPortTold w old middle) → OnErr r (middle ≡ old) → IfOk r (λ _. AreNoticesTold w middle new) → OnErr r (new ≡ middle) → IsAtMostServingTold w old new
   at_most (Ok x) port same notices nothing = inr (record { opened = middle; port = port; notices = notices })
   at_most (Err f) port same notices nothing = inl (nothing ∙ same)
+
+-- no byte was written, and then the line of a report with so many scans
+pub reported : {W : Type 0} (w : CountedWriter W) (scans crashes counted sessions writes : ℕ) (old opened new : W) → counted ≡ scans → Appends (w.held old) (w.held opened) [] → Appends (w.held opened) (w.held new) (report_line crashes counted sessions writes) → IsReported w scans old new
+reported w scans crashes counted sessions writes old opened new is opening line = record {
+  crashes = crashes;
+  sessions = sessions;
+  writes = writes;
+  line = subst (λ (n : ℕ). Appends (w.held old) (w.held new) (report_line crashes n sessions writes)) is (Appends-trans (w.held old) (w.held opened) (w.held new) [] (report_line crashes counted sessions writes) opening line);
+}

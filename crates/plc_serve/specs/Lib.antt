@@ -1,4 +1,5 @@
 pub mod Driving
 pub mod Pacing
 pub mod Serving
+pub mod Tending
 pub mod Watching

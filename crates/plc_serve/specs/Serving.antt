@@ -1,6 +1,7 @@
 -- What a served controller tells, and how it ends.
 use Rattle.std.specs.Prelude.{◌≡◌, ◌⊎◌, ℕ, List, ◌++◌, codes}
 use Rattle.std.specs.Fmt.{decimal}
+use Rattle.std.specs.Io.KnownBytes.{Appends}
 use Rattle.il_model.specs.declared.counted.CountedWrite.{Ghosts as CountedWriter}
 use Rattle.plc_tool.specs.declared.fault.Fault.{Fault}
 use Rattle.plc_tool.specs.declared.fault.Fault.TheVariants.{Store}
@@ -15,6 +16,18 @@ scans_line scans = (codes "scans " ++ decimal scans) ++ codes "\n"
 -- the line that tells the port at which clients are served
 abbrev pub port_line : ℕ → List ℕ
 port_line port = (codes "serving on 127.0.0.1:" ++ decimal port) ++ codes "\n"
+
+-- the line of a report: compact JSON (RFC 8259), its keys in order
+abbrev pub report_line : ℕ → ℕ → ℕ → ℕ → List ℕ
+report_line crashes scans sessions writes =
+    codes "{\"crashes\":" ++ (decimal crashes ++ (codes ",\"scans\":" ++ (decimal scans ++ (codes ",\"sessions\":" ++ (decimal sessions ++ (codes ",\"writes\":" ++ (decimal writes ++ codes "}\n")))))))
+
+-- a report with so many scans was written
+pub record IsReported {W : Type 0} (w : CountedWriter W) (scans : ℕ) (old new : W) : Type 0 where
+  pub crashes : ℕ
+  pub sessions : ℕ
+  pub writes : ℕ
+  pub line : Appends (w.held old) (w.held new) (report_line crashes scans sessions writes)
 
 -- the line of a port went out, and nothing else was told
 pub record IsPortTold {W : Type 0} (w : CountedWriter W) (old new : W) : Type 0 where

@@ -15,6 +15,7 @@ abbrev pub notice_line : Notice → List ℕ
 notice_line (notices.Down number) = replica_line number (codes " down\n")
 notice_line (notices.Normal number) = replica_line number (codes " normal\n")
 notice_line (notices.Store number) = replica_line number (codes " store\n")
+notice_line (notices.Crashed number) = replica_line number (codes " crashed\n")
 notice_line (notices.Stopped stop position) = (codes "stopped " ++ (stop_name stop ++ (codes " " ++ decimal position))) ++ codes "\n"
 
 -- the lines of these went out, one behind the other, and nothing else
@@ -36,6 +37,11 @@ abbrev pub lapsed_since : Option ℕ → Bool → ℕ → Option ℕ
 lapsed_since since true now = None
 lapsed_since None false now = Some now
 lapsed_since (Some since) false now = Some since
+
+-- whether a group is lost, by how long it may be without a majority, and since when it is
+abbrev pub is_lost : ℕ → Option ℕ → ℕ → Bool
+is_lost longest None now = false
+is_lost longest (Some since) now = nat_le longest (now - since)
 
 -- what is to be told of a replica, by whether it was told down, and since when it hasn't been normal: that it's normal again, or that it's down
 abbrev pub change : Bool → Option ℕ → ℕ → Option Bool

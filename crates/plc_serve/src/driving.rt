@@ -9,15 +9,18 @@ ghost use Rattle.process_image.specs.Driver.{release_by};
 ghost use Rattle.plc_serve.specs.Driving.{Publishes, ReleasesWith, stop_by};
 ghost use Rattle.plc_serve.specs.Watching.{AreNoticesTold, IsStopTold};
 
+use crate::crashes::Crashes;
+use crate::group::Running;
 use crate::notice::{Notice, tell};
 use crate::pace::Pace;
 use crate::watch::Watch;
 use il_model::{Answer, CountedWrite, Stop};
 use plc_tool::Fault;
 use process_image::{Naming, Pen, ReleasedWriter, ScanDriver, Staging};
-use replicas::{Input, Link};
+use replicas::{Input, Link, Relink, Starts};
 use std::alloc::{AllocError, Global};
 use std::sync::Wait;
+use std::thread::Threads;
 use std::time::{Clock, Duration};
 use vr_model::{Body, Message, Sends};
 
@@ -48,48 +51,60 @@ pub(crate) struct Drive<L: Drop, J: Naming, P: Pen<J> + Drop> {
     pub(crate) link: L,
     pub(crate) writer: ReleasedWriter<J, P>,
     pub(crate) watch: Watch,
+    pub(crate) crashes: Crashes,
     /// Whether the last scan that was released had stopped.
     pub(crate) is_stopped: bool,
 }
 
 impl<L: Link + Drop, J: Naming, P: Pen<J> + Drop> Drive<L, J, P> {
     /// One scan a period, until so many were released. What changes meanwhile is told.
-    pub(crate) fn run<R: Wait + Clock, S: Staging, E: CountedWrite>(
+    pub(crate) fn run<R, T, S: Staging, E: CountedWrite>(
         &mut self,
         rt: &R,
         alloc: Global,
         staging: &mut S,
         pace: &mut Pace,
         scans: u32,
+        group: &mut Running<R, L, T>,
         err: &mut E,
     ) -> Result<(), Fault>
+    where
+        R: Threads + Wait + Clock + Copy + Send + Drop + 'static,
+        L: Relink + Send + 'static,
+        T: Starts + Send + Drop + 'static,
         ensures counted { OnOk result (length self.new.writer ≡ length self.old.writer + scans) }
         ensures told { AreNoticesTold E.CountedWrite err.old err.new }
         ensures err { IfErr result (λ e. status_of e ≡ 2) }
     {
         for _ in 0..scans {
-            self.rest(rt, alloc, pace, err)?;
+            self.rest(rt, alloc, pace, group, err)?;
             let moment = pace.await_scan(rt)?;
-            let stop = self.scan(rt, alloc, staging, pace, moment, err)?;
+            let stop = self.scan(rt, alloc, staging, pace, moment, group, err)?;
             self.tell_stop(alloc, stop, err)?;
+            self.crash_in_turn(alloc, group, err)?;
         }
         Ok(())
     }
 
     /// Sleeps until the next scan is nearly due, and looks at the replicas meanwhile.
-    fn rest<R: Wait + Clock, E: CountedWrite>(
+    fn rest<R, T, E: CountedWrite>(
         &mut self,
         rt: &R,
         alloc: Global,
         pace: &Pace,
+        group: &mut Running<R, L, T>,
         err: &mut E,
     ) -> Result<(), Fault>
+    where
+        R: Threads + Wait + Clock + Copy + Send + Drop + 'static,
+        L: Relink + Send + 'static,
+        T: Starts + Send + Drop + 'static,
         ensures same { self.new.writer ≡ self.old.writer }
         ensures told { AreNoticesTold E.CountedWrite err.old err.new }
         ensures err { IfErr result (λ e. status_of e ≡ 2) }
     {
         for _ in rt.forever() {
-            self.watch.look(alloc, pace.elapsed(rt)?, err)?;
+            group.tend(alloc, pace.elapsed(rt)?, &mut self.watch, err)?;
             if pace.rest(rt)? {
                 return Ok(());
             }
@@ -99,15 +114,20 @@ impl<L: Link + Drop, J: Naming, P: Pen<J> + Drop> Drive<L, J, P> {
 
     /// Submits a scan of the staged inputs, and publishes what it releases; it asks again after each period without a reply. Gives the
     /// stop of the scan, if it stopped.
-    fn scan<R: Wait + Clock, S: Staging, E: CountedWrite>(
+    fn scan<R, T, S: Staging, E: CountedWrite>(
         &mut self,
         rt: &R,
         alloc: Global,
         staging: &mut S,
         pace: &Pace,
         moment: u64,
+        group: &mut Running<R, L, T>,
         err: &mut E,
     ) -> Result<Option<(Stop, u16)>, Fault>
+    where
+        R: Threads + Wait + Clock + Copy + Send + Drop + 'static,
+        L: Relink + Send + 'static,
+        T: Starts + Send + Drop + 'static,
         ensures released { IfOk result (λ stop. ReleasesWith stop self.old.writer self.new.writer) }
         ensures counted { OnOk result (length self.new.writer ≡ length self.old.writer + 1) }
         ensures told { AreNoticesTold E.CountedWrite err.old err.new }
@@ -122,7 +142,7 @@ impl<L: Link + Drop, J: Naming, P: Pen<J> + Drop> Drive<L, J, P> {
                 return Ok(stop);
             }
             asked = self.ask_again(rt, alloc, pace, asked)?;
-            self.watch.look(alloc, pace.elapsed(rt)?, err)?;
+            group.tend(alloc, pace.elapsed(rt)?, &mut self.watch, err)?;
         }
         unreachable!()
     }
@@ -206,5 +226,32 @@ impl<L: Link + Drop, J: Naming, P: Pen<J> + Drop> Drive<L, J, P> {
         }
         self.is_stopped = stop.is_some();
         Ok(())
+    }
+
+    /// Counts a release. Where a replica is to crash behind it, that one is restarted, which is told.
+    #[tactic(auto, using(crate::proofs::Noticed::none))]
+    fn crash_in_turn<R, T, E: CountedWrite>(
+        &mut self,
+        alloc: Global,
+        group: &mut Running<R, L, T>,
+        err: &mut E,
+    ) -> Result<(), Fault>
+    where
+        R: Threads + Wait + Clock + Copy + Send + Drop + 'static,
+        L: Relink + Send + 'static,
+        T: Starts + Send + Drop + 'static,
+        ensures same { self.new.writer ≡ self.old.writer }
+        ensures told { AreNoticesTold E.CountedWrite err.old err.new }
+        ensures err { IfErr result (λ e. status_of e ≡ 2) }
+    {
+        let is_over = match self.crashes.last() {
+            Some(number) => group.is_normal(number),
+            None => true,
+        };
+        let Some(number) = self.crashes.released(is_over) else {
+            return Ok(());
+        };
+        group.restart(number)?;
+        Ok(tell(alloc, Notice::Crashed(number), err)?)
     }
 }

@@ -3,14 +3,17 @@
 ghost use Rattle.std.specs.Prelude.{◌≡◌, IfErr, IfOk, vec_len};
 ghost use Rattle.vr_model.specs.Groups.{group_size};
 ghost use Rattle.plc_tool.specs.Status.{status_of};
+ghost use Rattle.plc_serve.specs.Watching.{AreNoticesTold};
 
 use crate::health::{Health, HealthGate, HealthStore};
 use crate::watch::Watch;
+use il_model::CountedWrite;
 use plc_tool::Fault;
-use replicas::{ClusterError, FileStore, MachineClock, Seat};
+use replicas::{Cluster, ClusterError, FileStore, MachineClock, Relink, Seat, Starts};
 use std::alloc::{AllocError, Global};
 use std::rt::Files;
-use std::sync::Arc;
+use std::sync::{Arc, Wait};
+use std::thread::Threads;
 use std::time::{Clock, Duration};
 use vr_model::Config;
 
@@ -22,6 +25,63 @@ const RESEND: u64 = 300;
 
 /// What a replica of the group is given.
 pub(crate) type GroupSeat<R, L, S> = Seat<L, HealthStore<S>, MachineClock<R>, HealthGate>;
+
+/// The replicas with their threads.
+#[derive(Drop)]
+pub(crate) struct Running<R: Clock + Copy + Drop, L: Relink + Drop, S: Drop> {
+    pub(crate) rt: R,
+    pub(crate) cluster: Cluster<L, HealthStore<S>, MachineClock<R>, HealthGate>,
+}
+
+impl<R, L, S> Running<R, L, S>
+where
+    R: Threads + Wait + Clock + Copy + Send + Drop + 'static,
+    L: Relink + Send + Drop + 'static,
+    S: Starts + Send + Drop + 'static,
+{
+    /// Starts a replica anew from its store; one that is up crashes first. Where it fails, the replica is down.
+    pub(crate) fn restart(&mut self, number: u8) -> Result<(), Fault>
+        ensures { IfErr result (λ e. status_of e ≡ 2) }
+    {
+        match self.cluster.restart(&self.rt, number) {
+            Ok(()) => Ok(()),
+            Err(error) => Err(fault_of(error)),
+        }
+    }
+
+    /// What its thread told last, since it was started last; false until then.
+    pub(crate) fn is_normal(&self, number: u8) -> bool {
+        self.cluster.is_normal(number)
+    }
+
+    /// Tells what changed of the replicas since the last look at them, and starts those anew whose store failed, where that is due. Where
+    /// one can't be started, that's tried again at the next time.
+    pub(crate) fn tend<E: CountedWrite>(
+        &mut self,
+        alloc: Global,
+        now: Duration,
+        watch: &mut Watch,
+        err: &mut E,
+    ) -> Result<(), Fault>
+        ensures told { AreNoticesTold E.CountedWrite err.old err.new }
+        ensures err { IfErr result (λ e. status_of e ≡ 2) }
+    {
+        watch.look(alloc, now, err)?;
+        for number in 0..watch.size() {
+            if watch.is_due(number, now) {
+                let _ = self.restart(number);
+            }
+        }
+        Ok(())
+    }
+
+    /// Ends each replica, and waits for its thread.
+    pub(crate) fn end(self) {
+        let Running { rt, cluster } = self;
+        cluster.cut();
+        cluster.join(&rt);
+    }
+}
 
 /// The stores of a group, in files of a directory: none is opened yet.
 pub(crate) fn stores<R: Files + Copy + Drop>(
@@ -81,6 +141,6 @@ pub(crate) fn fault_of(error: ClusterError) -> Fault
 {
     match error {
         ClusterError::Memory => Fault::Memory,
-        ClusterError::Thread => Fault::Device,
+        ClusterError::Thread | ClusterError::Link => Fault::Device,
     }
 }

@@ -26,12 +26,20 @@ impl Health {
         )?)
     }
 
-    /// Whether its view went on normally after its last step.
+    /// Whether its view went on normally after its last step, and its store hasn't failed.
     pub(crate) fn is_normal(&self) -> bool {
-        self.is_normal.load(Ordering::SeqCst)
+        self.is_normal.load(Ordering::SeqCst) && !self.has_failed()
     }
 
-    /// Whether its store has failed: the replica is down by that, until it's started anew.
+    /// Its store has counted this start: the replica is not normal before its first step, unless it's the first start.
+    fn begun(&self, starts: u64) {
+        if starts > 1 {
+            self.is_normal.store(false, Ordering::SeqCst);
+        }
+        self.has_failed.store(false, Ordering::SeqCst);
+    }
+
+    /// Whether its store has failed since its last start: the replica is down by that, until it's started anew.
     pub(crate) fn has_failed(&self) -> bool {
         self.has_failed.load(Ordering::SeqCst)
     }
@@ -95,8 +103,9 @@ impl<S: Starts> Starts for HealthStore<S> {
 
     fn begin(&mut self) -> Result<Stored, StoreFault> {
         let begun = self.store.begin();
-        if begun.is_err() {
-            self.failed();
+        match &begun {
+            Ok(stored) => self.health.begun(stored.starts),
+            Err(_) => self.failed(),
         }
         begun
     }

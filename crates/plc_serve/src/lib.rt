@@ -3,11 +3,11 @@
 //! `modbus_gateway` and the image of a text by `plc_tool`; it knows no command words and names no runtime.
 //!
 //! ```rust
-//! let service = Service::new(rt, "motor.il", "stores", settings).ok()?;
-//! let Service { source, directory, stores, settings } = service;
-//! let list = NewList::new();
-//! let status = serve::<Brand, _, _, _, _>(
-//!     rt, alloc, list, source.as_slice(), directory, stores, settings, &mut out, &mut err,
+//! let service = Service::new(rt, "motor.il", "stores", None, settings).ok()?; // None: no report
+//! let Service { source, directory, report, stores, settings } = service;
+//! let mut file = Counted::new(ReportFile::at(&rt, report.as_ref().map(|path| path.as_str())));
+//! let status = serve::<Brand, _, _, _, _, _>(
+//!     rt, alloc, NewList::new(), source.as_slice(), directory, stores, settings, &mut file, &mut out, &mut err,
 //! ); // 0 after `settings.scans` scans
 //! ```
 //!
@@ -16,10 +16,11 @@
 //! used, and nothing started. The driver publishes just what its replies release, and ends well only after exactly so
 //! many releases; the scan behind one is due a period later, or a period after one that came late (`specs/Pacing`).
 //!
-//! Only tested: how threads, channels, sockets and locks are joined, and what a client sees of it (`serve_rows` of
-//! `worked_threads`, `tools/try-serve`, `tools/try-clients`). Nothing says when a scan comes, or that one does.
+//! Only tested: how threads, channels, sockets and locks are joined, and what a client sees of it (`serve_rows` and
+//! `failing_rows` of `worked_threads`, `tools/try-serve`, `tools/try-clients`). Nothing says when a scan comes, or that one does.
 #![tactic(auto)]
 
+mod crashes;
 mod directory;
 mod door;
 mod driving;
@@ -29,11 +30,14 @@ mod links;
 mod notice;
 mod pace;
 mod places;
+mod report;
+mod reviving;
 mod service;
 mod serving;
 mod sessions;
 mod watch;
 
 pub use pace::worked_dues;
+pub use report::ReportFile;
 pub use service::Service;
 pub use serving::{Settings, serve};

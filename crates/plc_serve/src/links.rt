@@ -9,7 +9,7 @@ use std::alloc::{AllocError, Global};
 use std::net::{Net, TcpListener, TcpStream};
 use std::sync::{Arc, Wait};
 use std::time::{Clock, Duration};
-use tcp_links::{TcpBoard, TcpGroup};
+use tcp_links::{TcpLink, links};
 use vr_model::{ClientNumber, Config, Party};
 
 /// For so many milliseconds a link waits for a message: a clock may be late by that.
@@ -17,23 +17,6 @@ const WAIT: u64 = 50;
 
 /// The driver is this client of the group, and there is no other.
 const DRIVER: ClientNumber = ClientNumber { number: 0 };
-
-/// What closes the links of a group.
-pub(crate) trait Board {
-    fn close<R: Wait>(&self, rt: &R);
-}
-
-impl Board for Arc<Switchboard> {
-    fn close<R: Wait>(&self, rt: &R) {
-        Switchboard::close(self, rt);
-    }
-}
-
-impl Board for TcpBoard {
-    fn close<R: Wait>(&self, _rt: &R) {
-        TcpBoard::close(self);
-    }
-}
 
 /// For so long the driver's link waits, with a scan in so many milliseconds.
 fn driver_wait(period: u32) -> Duration {
@@ -55,34 +38,36 @@ fn channel_link<R: Wait + Clock + Copy + Drop>(
 pub(crate) fn links_over_channels<R: Wait + Clock + Copy + Drop>(
     rt: R,
     alloc: Global,
-    board: &Arc<Switchboard>,
     config: Config,
     period: u32,
 ) -> Result<Vec<ChannelLink<R>>, AllocError> {
+    let board = Arc::new(alloc, Switchboard::new(alloc, config.group_size(), 1)?)?;
     let mut links = Vec::new(alloc);
     for number in 0..config.group_size() {
         let party = Party::Replica(number);
         let wait = Duration::from_millis(WAIT);
-        links.push(channel_link(rt, alloc, board, party, wait)?)?;
+        links.push(channel_link(rt, alloc, &board, party, wait)?)?;
     }
     let driver = Party::Client(DRIVER);
-    links.push(channel_link(rt, alloc, board, driver, driver_wait(period))?)?;
+    links.push(channel_link(rt, alloc, &board, driver, driver_wait(period))?)?;
     Ok(links)
 }
 
-/// The links of a group over connections, and what closes them.
-pub(crate) fn links_over_tcp<R: Net<Listener = TcpListener, Stream = TcpStream>>(
-    rt: &R,
+/// The links of a group over connections.
+pub(crate) fn links_over_tcp<R>(
+    rt: R,
     alloc: Global,
     config: Config,
     period: u32,
-) -> Result<TcpGroup, Fault>
+) -> Result<Vec<TcpLink<R>>, Fault>
+where
+    R: Wait + Net<Listener = TcpListener, Stream = TcpStream> + Copy + Drop,
     ensures { IfErr result (λ e. status_of e ≡ 2) }
 {
     let wait = Duration::from_millis(WAIT);
-    let mut group = TcpGroup::new(rt, alloc, config.group_size(), 1, wait)?;
-    if let Some(driver) = group.links.last_mut() {
+    let mut links = links(rt, alloc, config.group_size(), 1, wait)?;
+    if let Some(driver) = links.last_mut() {
         driver.wait_for(driver_wait(period));
     }
-    Ok(group)
+    Ok(links)
 }

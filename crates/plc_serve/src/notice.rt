@@ -19,6 +19,8 @@ pub(crate) enum Notice {
     Normal(u8),
     /// Its store failed.
     Store(u8),
+    /// It crashed because that was asked for, and was restarted.
+    Crashed(u8),
     /// A scan stopped, behind one that didn't.
     Stopped(Stop, u16),
 }
@@ -31,6 +33,7 @@ fn line_of(alloc: Global, notice: Notice) -> Result<String, AllocError>
         Notice::Down(number) => format!(in alloc; "replica {number} down\n"),
         Notice::Normal(number) => format!(in alloc; "replica {number} normal\n"),
         Notice::Store(number) => format!(in alloc; "replica {number} store\n"),
+        Notice::Crashed(number) => format!(in alloc; "replica {number} crashed\n"),
         Notice::Stopped(stop, position) => stopped_line(
             alloc,
             Answer::Stopped {

@@ -17,17 +17,20 @@ use std::rt::Files;
 pub struct Service<R: Files + Drop> {
     pub source: Vec<u8>,
     pub directory: String,
+    /// The path of the report's file, if one is wanted.
+    pub report: Option<String>,
     pub stores: Vec<FileStore<R>>,
     pub settings: Settings,
     ghost one_each: { vec_len stores ≡ group_size settings.config.f },
 }
 
 impl<R: Files + Alloc<A = Global> + Copy + Drop> Service<R> {
-    /// Of the text that this file holds, with stores in this directory.
+    /// Of the text that this file holds, with stores in this directory, and a report at this path, if one is wanted.
     pub fn new(
         rt: R,
         source: &str,
         directory: &str,
+        report: Option<&str>,
         settings: Settings,
     ) -> Result<Service<R>, Fault>
         ensures settings { IfOk result (λ service. service.settings ≡ settings) }
@@ -37,6 +40,10 @@ impl<R: Files + Alloc<A = Global> + Copy + Drop> Service<R> {
         Ok(Service {
             source: fs::read(&rt, source)?,
             directory: format!(in alloc; "{directory}")?,
+            report: match report {
+                Some(path) => Some(String::from_str(alloc, path)?),
+                None => None,
+            },
             stores: stores(rt, alloc, settings.config, directory)?,
             settings,
         })

@@ -1,36 +1,37 @@
 //! The controller from its text to its end.
 
-ghost use Rattle.std.specs.Prelude.{◌≡◌, ◌+◌, ◌≤◌, IfErr, IfOk, IsOk, OnErr, OnOk, length, vec_len};
+ghost use Rattle.std.specs.Prelude.{◌≡◌, ◌+◌, ◌≤◌, [], IfErr, IfOk, IsOk, OnErr, OnOk, length, vec_len};
 ghost use Rattle.vr_model.specs.Groups.{group_size};
 ghost use Rattle.std.specs.Io.KnownBytes.{Appends};
 ghost use Rattle.plc_tool.specs.Status.{status_of};
 ghost use Rattle.plc_tool.specs.Telling.{IsTold};
 ghost use Rattle.plc_tool.specs.Meaning.{IsGoodText, IsTypedProgramOfText};
 ghost use Rattle.plc_serve.specs.Watching.{AreNoticesTold};
-ghost use Rattle.plc_serve.specs.Serving.{scans_line, IsPortTold, IsServingTold, IsAtMostServingTold, IsWhyRefused, IsToldAtLast};
+ghost use Rattle.plc_serve.specs.Serving.{scans_line, IsReported, IsPortTold, IsServingTold, IsAtMostServingTold, IsWhyRefused, IsToldAtLast};
 
+use crate::crashes::Crashes;
 use crate::directory::Directory;
 use crate::door::Door;
 use crate::driving::Drive;
-use crate::group::{fault_of, seats};
-use crate::links::{Board, links_over_channels, links_over_tcp};
+use crate::group::{Running, fault_of, seats};
+use crate::links::{links_over_channels, links_over_tcp};
 use crate::pace::Pace;
 use crate::places::Places;
+use crate::report::{Counts, open, put_report};
 use crate::sessions::{OpenServer, Server};
 use crate::watch::Watch;
 use il_model::{Budget, CountedWrite};
 use loader::Image;
 use plc_tool::{Fault, ended, image};
 use process_image::{Naming, NewList, Pen, ScanDriver, released};
-use replicas::{Cluster, Link, Starts, Switchboard};
+use replicas::{Cluster, Relink, Starts};
 use std::alloc::Global;
 use std::io::Write;
 use std::net::{Net, TcpListener, TcpStream};
 use std::rt::Files;
-use std::sync::{Arc, Wait};
+use std::sync::Wait;
 use std::thread::Threads;
 use std::time::{Clock, Duration, Instant};
-use tcp_links::TcpGroup;
 use vr_model::Config;
 
 /// So many sessions are served at once.
@@ -51,13 +52,17 @@ pub struct Settings {
     pub idle: u32,
     /// The replicas' messages go over connections, and not through channels.
     pub over_tcp: bool,
+    /// Behind so many releases, from 1, one of the replicas crashes and is at once restarted, if that is asked for.
+    pub crash: Option<u32>,
+    /// In seconds: after so long with fewer than f+1 replicas that are normal it ends.
+    pub lost_after: u32,
 }
 
 /// Judges the text, then the directory, and serves the controller until it has released so many scans: the status. What it serves is the
 /// controller of the text's program, by replicas that each keep a file of the directory. Once it takes connections, `err` has
-/// the line that tells where, and then a line for each change of a replica, and for a stop. At the end `out` has the line that tells
-/// how many scans there were, or `err` that of the fault.
-pub fn serve<J, R, S, W: Write, E: CountedWrite>(
+/// the line that tells where, and then a line for each change of a replica, and for a stop. At the end `report` has its line, and `out` then
+/// the line that tells how many scans there were, or `err` that of the fault.
+pub fn serve<J, R, S, F: CountedWrite, W: Write, E: CountedWrite>(
     rt: R,
     alloc: Global,
     list: NewList,
@@ -65,6 +70,7 @@ pub fn serve<J, R, S, W: Write, E: CountedWrite>(
     directory: String,
     stores: Vec<S>,
     settings: Settings,
+    report: &mut F,
     out: &mut W,
     err: &mut E,
 ) -> u8
@@ -77,16 +83,17 @@ where
     requires stores { vec_len stores ≡ group_size settings.config.f }
     ensures status { result ≤ 2 }
     ensures served { result ≡ 0 → Appends (W.contents out.old) (W.contents out.new) (scans_line settings.scans) }
+    ensures reported { result ≡ 0 → IsReported F.CountedWrite settings.scans report.old report.new }
     ensures good { result ≡ 0 → IsGoodText source.now }
     // On `err` there is the line of a port, then those of what changed, and nothing else.
     ensures told { result ≡ 0 → IsServingTold E.CountedWrite err.old err.new }
     // Nothing is started then.
-    ensures refused { result ≡ 1 → IsTold E.CountedWrite (IsWhyRefused source.now) result err.old err.new × (out.new ≡ out.old) }
+    ensures refused { result ≡ 1 → IsTold E.CountedWrite (IsWhyRefused source.now) result err.old err.new × ((out.new ≡ out.old) × (report.new ≡ report.old)) }
     // Before it these lines were told, or nothing.
     ensures failed { result ≡ 2 → IsToldAtLast E.CountedWrite result err.old err.new }
 {
     ended(
-        served::<J, R, S, W, E>(
+        served::<J, R, S, F, W, E>(
             rt,
             alloc,
             list,
@@ -94,6 +101,7 @@ where
             directory.as_str(),
             stores,
             settings,
+            report,
             out,
             err,
         ),
@@ -101,7 +109,7 @@ where
     )
 }
 
-fn served<J, R, S, W: Write, E: CountedWrite>(
+fn served<J, R, S, F: CountedWrite, W: Write, E: CountedWrite>(
     rt: R,
     alloc: Global,
     list: NewList,
@@ -109,6 +117,7 @@ fn served<J, R, S, W: Write, E: CountedWrite>(
     directory: &str,
     stores: Vec<S>,
     settings: Settings,
+    report: &mut F,
     out: &mut W,
     err: &mut E,
 ) -> Result<(), Fault>
@@ -120,10 +129,11 @@ where
     requires list { list ≡ J.book }
     requires stores { vec_len stores ≡ group_size settings.config.f }
     ensures served { OnOk result (Appends (W.contents out.old) (W.contents out.new) (scans_line settings.scans)) }
+    ensures reported { OnOk result (IsReported F.CountedWrite settings.scans report.old report.new) }
     ensures good { OnOk result (IsGoodText source.now) }
     ensures told { OnOk result (IsServingTold E.CountedWrite err.old err.new) }
     ensures at_most { IsAtMostServingTold E.CountedWrite err.old err.new }
-    ensures refused { IfErr result (λ e. status_of e ≡ 1 → IsWhyRefused source.now e × (err.new ≡ err.old) × (out.new ≡ out.old)) }
+    ensures refused { IfErr result (λ e. status_of e ≡ 1 → IsWhyRefused source.now e × (err.new ≡ err.old) × ((out.new ≡ out.old) × (report.new ≡ report.old))) }
 {
     let image = image(alloc, source)?;
     let directory = Directory {
@@ -131,18 +141,19 @@ where
         config: settings.config,
     };
     let taken = directory.take(rt, alloc)?;
-    let done = control::<J, R, S, E>(
-        rt, alloc, list, source, &image, directory, stores, settings, err,
+    let done = control::<J, R, S, F, E>(
+        rt, alloc, list, source, &image, directory, stores, settings, report, err,
     );
     taken.leave(&rt);
-    done?;
+    let counts = done?;
+    put_report(alloc, counts, report)?;
     let scans = settings.scans;
     writeln!(out, "scans {scans}")?;
     Ok(out.flush()?)
 }
 
 /// Serves the controller of the image of a text, over links of one kind. Where no client was served, no file is left.
-fn control<J, R, S, E: CountedWrite>(
+fn control<J, R, S, F: CountedWrite, E: CountedWrite>(
     rt: R,
     alloc: Global,
     list: NewList,
@@ -151,8 +162,9 @@ fn control<J, R, S, E: CountedWrite>(
     directory: Directory<'_>,
     stores: Vec<S>,
     settings: Settings,
+    report: &mut F,
     err: &mut E,
-) -> Result<(), Fault>
+) -> Result<Counts, Fault>
 where
     J: Naming + Send + Sync + 'static,
     R: Threads + Wait + Net<Listener = TcpListener, Stream = TcpStream> + Clock + Files,
@@ -161,10 +173,13 @@ where
     requires list { list ≡ J.book }
     requires stores { vec_len stores ≡ group_size settings.config.f }
     requires program { IsTypedProgramOfText _source.now image.now }
+    ensures scans { IfOk result (λ counts. counts.scans ≡ settings.scans) }
+    ensures opened { OnOk result (Appends (F.held report.old) (F.held report.new) []) }
     ensures told { OnOk result (IsServingTold E.CountedWrite err.old err.new) }
     ensures at_most { IsAtMostServingTold E.CountedWrite err.old err.new }
     ensures err { IfErr result (λ e. status_of e ≡ 2) }
 {
+    open(report)?;
     let Settings {
         config,
         period,
@@ -172,20 +187,20 @@ where
         ..
     } = settings;
     if over_tcp {
-        let TcpGroup { links, board } = links_over_tcp(&rt, alloc, config, period)?;
-        return control_over::<J, R, _, _, S, E>(
-            rt, alloc, list, _source, image, directory, links, &board, stores, settings, err,
-        );
+        let links = links_over_tcp(rt, alloc, config, period)?;
+        control_over::<J, R, _, S, E>(
+            rt, alloc, list, _source, image, directory, links, stores, settings, err,
+        )
+    } else {
+        let links = links_over_channels(rt, alloc, config, period)?;
+        control_over::<J, R, _, S, E>(
+            rt, alloc, list, _source, image, directory, links, stores, settings, err,
+        )
     }
-    let board = Arc::new(alloc, Switchboard::new(alloc, config.group_size(), 1)?)?;
-    let links = links_over_channels(rt, alloc, &board, config, period)?;
-    control_over::<J, R, _, _, S, E>(
-        rt, alloc, list, _source, image, directory, links, &board, stores, settings, err,
-    )
 }
 
 /// The same over these links, those of the replicas and last that of the driver; it ends each thread that it began.
-fn control_over<J, R, L, B: Board, S, E: CountedWrite>(
+fn control_over<J, R, L, S, E: CountedWrite>(
     rt: R,
     alloc: Global,
     list: NewList,
@@ -193,20 +208,20 @@ fn control_over<J, R, L, B: Board, S, E: CountedWrite>(
     image: &Image,
     directory: Directory<'_>,
     mut links: Vec<L>,
-    board: &B,
     stores: Vec<S>,
     settings: Settings,
     err: &mut E,
-) -> Result<(), Fault>
+) -> Result<Counts, Fault>
 where
     J: Naming + Send + Sync + 'static,
     R: Threads + Wait + Net<Listener = TcpListener, Stream = TcpStream> + Clock + Files,
     R: Copy + Send + Sync + Drop + 'static,
-    L: Link + Send + Drop + 'static,
+    L: Relink + Send + Drop + 'static,
     S: Starts + Send + Drop + 'static,
     requires list { list ≡ J.book }
     requires stores { vec_len stores ≡ group_size settings.config.f }
     requires program { IsTypedProgramOfText _source.now image.now }
+    ensures scans { IfOk result (λ counts. counts.scans ≡ settings.scans) }
     ensures told { OnOk result (IsServingTold E.CountedWrite err.old err.new) }
     ensures at_most { IsAtMostServingTold E.CountedWrite err.old err.new }
     ensures err { IfErr result (λ e. status_of e ≡ 2) }
@@ -214,7 +229,13 @@ where
     let Some(link) = links.pop() else {
         return Err(Fault::Device);
     };
-    let config = settings.config;
+    let Settings {
+        config,
+        budget,
+        crash,
+        lost_after,
+        ..
+    } = settings;
     let pace = Pace::new(Instant::now(&rt)?, settings.period);
     let door = Door::open(&rt, settings.port)?;
     let Ok((writer, readers)) = released::<J, R>(list, alloc, rt, SESSIONS) else {
@@ -222,27 +243,29 @@ where
     };
     let idle = Duration::from_secs(u64::from(settings.idle));
     let server = Server::new(alloc, door, Places::new(alloc, readers)?, idle);
-    let mut watch = Watch::new(alloc, config);
+    let mut watch = Watch::new(alloc, config, Duration::from_secs(u64::from(lost_after)));
     let seats = seats(rt, alloc, links, &mut watch, stores)?;
     let mut drive = Drive {
         driver: ScanDriver::new(&config, 0),
         link,
         writer,
         watch,
+        crashes: Crashes::new(config, crash),
         is_stopped: false,
     };
-    let group = match Cluster::start(&rt, alloc, config, image, settings.budget, u64::MAX, seats) {
-        Ok(group) => group,
+    let cluster = match Cluster::start(&rt, alloc, config, image, budget, u64::MAX, seats) {
+        Ok(cluster) => cluster,
         Err(error) => {
             directory.clear(rt, alloc);
             return Err(fault_of(error));
         }
     };
+    let mut group = Running { rt, cluster };
     let opened = opened(rt, alloc, directory, server, err);
     let was_opened = opened.is_ok();
-    let done = attend(&rt, alloc, opened, &mut drive, pace, settings.scans, err);
-    board.close(&rt);
-    group.join(&rt);
+    let scans = settings.scans;
+    let done = attend(&rt, alloc, opened, &mut drive, pace, scans, &mut group, err);
+    group.end();
     if !was_opened {
         directory.clear(rt, alloc);
     }
@@ -271,30 +294,39 @@ where
 }
 
 /// Has the group scan while connections are served, until so many scans are released, and ends the sessions.
-fn attend<J, P, L, R, E: CountedWrite>(
+fn attend<J, P, L, R, S, E: CountedWrite>(
     rt: &R,
     alloc: Global,
     opened: Result<OpenServer<J>, Fault>,
     drive: &mut Drive<L, J, P>,
     mut pace: Pace,
     scans: u32,
+    group: &mut Running<R, L, S>,
     err: &mut E,
-) -> Result<(), Fault>
+) -> Result<Counts, Fault>
 where
     J: Naming + Send + Sync + 'static,
     P: Pen<J> + Drop,
-    L: Link + Drop,
-    R: Threads + Wait + Clock + Copy + Send + Sync + 'static,
+    L: Relink + Send + Drop + 'static,
+    R: Threads + Wait + Clock + Copy + Send + Sync + Drop + 'static,
+    S: Starts + Send + Drop + 'static,
     requires opened { IfErr opened (λ e. status_of e ≡ 2) }
     ensures opened { OnOk result (IsOk opened) }
     ensures counted { OnOk result (length drive.new.writer ≡ length drive.old.writer + scans) }
+    ensures scans { IfOk result (λ counts. counts.scans ≡ scans) }
     ensures told { IfOk opened (λ _. AreNoticesTold E.CountedWrite err.old err.new) }
     ensures nothing { OnErr opened (err.new ≡ err.old) }
     ensures err { IfErr result (λ e. status_of e ≡ 2) }
 {
     let open = opened?;
     let mut stage = open.stage().handle(rt);
-    let done = drive.run(rt, alloc, &mut stage, &mut pace, scans, err);
-    open.close(rt);
-    done
+    let done = drive.run(rt, alloc, &mut stage, &mut pace, scans, group, err);
+    let (sessions, writes) = open.close(rt);
+    done?;
+    Ok(Counts {
+        crashes: drive.crashes.count(),
+        scans,
+        sessions,
+        writes,
+    })
 }

@@ -10,9 +10,10 @@ use crate::places::Places;
 use il_model::{Counted, CountedWrite};
 use modbus_gateway::serve_session;
 use plc_tool::{Fault, put};
-use process_image::{Naming, Stage, StageBook};
+use process_image::{Naming, Stage, StageBook, Staging};
 use std::alloc::{AllocError, Global};
 use std::net::TcpStream;
+use std::sync::atomic::{AtomicU64, Ordering};
 use std::sync::{Arc, Wait};
 use std::thread::{JoinHandle, Threads};
 use std::time::{Clock, Duration};
@@ -32,6 +33,8 @@ pub(crate) struct Server<J: Naming> {
     stage: Stage,
     /// A session ends whose client sends nothing, or takes nothing, for so long.
     idle: Duration,
+    /// How many connections were given a session.
+    sessions: AtomicU64,
 }
 
 impl<J: Naming> Server<J> {
@@ -42,6 +45,7 @@ impl<J: Naming> Server<J> {
             places,
             stage: Stage::new(StageBook::new(alloc)),
             idle,
+            sessions: AtomicU64::new(0),
         }
     }
 }
@@ -115,6 +119,7 @@ fn accept_all<R: Wait + Threads + Clock + Sync, J: Naming + Send + Sync>(
         places,
         stage,
         idle,
+        sessions,
     } = server;
     thread::scope(thread::scope_env(), rt, |scope| {
         for _ in 0..u64::MAX {
@@ -123,7 +128,9 @@ fn accept_all<R: Wait + Threads + Clock + Sync, J: Naming + Send + Sync>(
             };
             if let Some(place) = admit(rt, places, &stream, *idle) {
                 let session = scope.spawn(move || attend(rt, alloc, stage, places, place, &stream));
-                if session.is_err() {
+                if session.is_ok() {
+                    sessions.fetch_add(1, Ordering::SeqCst);
+                } else {
                     places.leave(rt, place);
                 }
             }
@@ -186,11 +193,15 @@ impl<J: Naming + Send + Sync + 'static> OpenServer<J> {
         &self.server.stage
     }
 
-    /// Takes no connection any more, and ends each session and the thread.
-    pub(crate) fn close<R: Threads + Wait>(self, rt: &R) {
+    /// Takes no connection any more, and ends each session and the thread. How many connections were given a session, and how many writes
+    /// got a ticket.
+    pub(crate) fn close<R: Threads + Wait>(self, rt: &R) -> (u64, u64) {
         let OpenServer { server, acceptor } = self;
         server.door.shut();
         server.places.close(rt);
         acceptor.join(rt);
+        // Tickets are numbered from 0.
+        let writes = server.stage.handle(rt).sample().next;
+        (server.sessions.load(Ordering::SeqCst), writes)
     }
 }

@@ -3,10 +3,11 @@
 ghost use Rattle.std.specs.Prelude.{◌≡◌, IfErr, option_map};
 ghost use Rattle.std.specs.Duration.{as_nanos};
 ghost use Rattle.plc_tool.specs.Status.{status_of};
-ghost use Rattle.plc_serve.specs.Watching.{AreNoticesTold, change, lapsed_since};
+ghost use Rattle.plc_serve.specs.Watching.{AreNoticesTold, change, is_lost, lapsed_since};
 
 use crate::health::Health;
 use crate::notice::{Notice, tell};
+use crate::reviving::Revival;
 use il_model::CountedWrite;
 use plc_tool::Fault;
 use std::alloc::{AllocError, Global};
@@ -24,6 +25,17 @@ struct Seen {
     since: Option<Duration>,
     /// It was told that it's down, and not since that it's normal.
     is_told_down: bool,
+}
+
+/// Since when something hasn't been well, by whether it's well now.
+fn lapsed_since(since: Option<Duration>, is_well: bool, now: Duration) -> Option<Duration>
+    ensures { option_map as_nanos result ≡ lapsed_since (option_map as_nanos since) is_well (as_nanos now) }
+{
+    if is_well {
+        None
+    } else {
+        Some(since.unwrap_or(now))
+    }
 }
 
 impl Seen {
@@ -44,11 +56,7 @@ impl Seen {
         ensures since { option_map as_nanos self.new.since ≡ lapsed_since (option_map as_nanos self.old.since) is_normal (as_nanos now) }
         ensures same { self.new.is_told_down ≡ self.old.is_told_down }
     {
-        self.since = if is_normal {
-            None
-        } else {
-            Some(self.since.unwrap_or(now))
-        };
+        self.since = lapsed_since(self.since, is_normal, now);
     }
 }
 
@@ -58,6 +66,8 @@ struct Watched {
     health: Arc<Health>,
     seen: Seen,
     is_told_failed: bool,
+    /// Where its store failed, and it hasn't been normal since.
+    revival: Option<Revival>,
 }
 
 impl Watched {
@@ -112,6 +122,24 @@ impl Watched {
         self.seen.is_told_down = !is_normal;
         Ok(())
     }
+
+    /// Whether it's to be started anew now: its store failed some time ago, and it hasn't been normal since.
+    fn is_due(&mut self, now: Duration) -> bool {
+        if self.health.is_normal() {
+            self.revival = None;
+            self.is_told_failed = false;
+            return false;
+        }
+        match &mut self.revival {
+            Some(revival) => revival.is_due(now),
+            None => {
+                if self.health.has_failed() {
+                    self.revival = Some(Revival::new(now));
+                }
+                false
+            }
+        }
+    }
 }
 
 /// Tells that a replica is normal again, or down.
@@ -135,14 +163,20 @@ fn tell_change<E: CountedWrite>(
 pub(crate) struct Watch {
     config: Config,
     replicas: Vec<Watched>,
+    /// After so long with fewer than f+1 replicas that are normal the group is lost.
+    patience: Duration,
+    /// Since when that is so.
+    without_majority: Option<Duration>,
 }
 
 impl Watch {
-    /// Of a group none of whose replicas is there yet.
-    pub(crate) fn new(alloc: Global, config: Config) -> Watch {
+    /// Of a group none of whose replicas is there yet, which is lost after so long without a majority.
+    pub(crate) fn new(alloc: Global, config: Config, patience: Duration) -> Watch {
         Watch {
             config,
             replicas: Vec::new(alloc),
+            patience,
+            without_majority: None,
         }
     }
 
@@ -156,11 +190,12 @@ impl Watch {
                     is_told_down: false,
                 },
                 is_told_failed: false,
+                revival: None,
             })?,
         )
     }
 
-    /// Tells what changed since the last look. Where fewer than f+1 replicas are left whose store works, it's a device fault.
+    /// Tells what changed since the last look. Where fewer than f+1 replicas have been normal for too long, it's a device fault.
     pub(crate) fn look<E: CountedWrite>(
         &mut self,
         alloc: Global,
@@ -170,20 +205,32 @@ impl Watch {
         ensures told { AreNoticesTold E.CountedWrite err.old err.new }
         ensures err { IfErr result (λ e. status_of e ≡ 2) }
     {
-        let mut working = 0u8;
+        let mut normal = 0u8;
         for number in 0..self.config.group_size() {
             if self.look_at(alloc, number, now, err)? {
-                working = working.saturating_add(1);
+                normal = normal.saturating_add(1);
             }
         }
-        if working > self.config.f {
-            Ok(())
-        } else {
+        if self.is_lost(normal > self.config.f, now) {
             Err(Fault::Device)
+        } else {
+            Ok(())
         }
     }
 
-    /// Tells what changed of a replica since the last look. Whether its store works.
+    /// Whether the group is lost, by whether a majority is normal now.
+    fn is_lost(&mut self, is_majority: bool, now: Duration) -> bool
+        ensures since { option_map as_nanos self.new.without_majority ≡ lapsed_since (option_map as_nanos self.old.without_majority) is_majority (as_nanos now) }
+        ensures lost { result ≡ is_lost (as_nanos self.old.patience) (option_map as_nanos self.new.without_majority) (as_nanos now) }
+    {
+        self.without_majority = lapsed_since(self.without_majority, is_majority, now);
+        match self.without_majority {
+            Some(since) => now.saturating_sub(since).as_nanos() >= self.patience.as_nanos(),
+            None => false,
+        }
+    }
+
+    /// Tells what changed of a replica since the last look. Whether it's normal.
     #[tactic(auto, using(crate::proofs::Noticed::none))]
     fn look_at<E: CountedWrite>(
         &mut self,
@@ -198,6 +245,19 @@ impl Watch {
             return Ok(false);
         };
         watched.look(alloc, number, now, err)?;
-        Ok(!watched.health.has_failed())
+        Ok(watched.health.is_normal())
+    }
+
+    /// Whether this replica is to be started anew now.
+    pub(crate) fn is_due(&mut self, number: u8, now: Duration) -> bool {
+        match self.replicas.get_mut(usize::from(number)) {
+            Some(watched) => watched.is_due(now),
+            None => false,
+        }
+    }
+
+    /// So many replicas there are.
+    pub(crate) fn size(&self) -> u8 {
+        self.config.group_size()
     }
 }

@@ -41,6 +41,12 @@ const PERIOD: &str = "period";
 /// The word of the option `--idle`.
 const IDLE: &str = "idle";
 
+/// The word of the option `--crash`.
+const CRASH: &str = "crash";
+
+/// The word of the option `--report`.
+const REPORT: &str = "report";
+
 const NO_FORM: &str = "error: the words name no form of call\n";
 
 const STATUSES: &str = "Exit status:
@@ -171,10 +177,18 @@ nothing has started.
 What changes is told by a line on standard error, and the status stays:
   replica I down             replica I has not been normal for a second
   replica I normal           it's normal again
-  replica I store            its file couldn't be written, and it's down for good
+  replica I store            its file couldn't be written: it's down, and started anew after 5 s, then
+                             after 10 s, up to each minute, until it's normal again
+  replica I crashed          it was crashed and restarted, as --crash asks for
   stopped WHY P              the program stopped at instruction P: overflow, zerodivisor or budget; all
                              outputs are FALSE or 0 from then on
-With the stores of more than F replicas failed it ends with 'plc: device'.
+Where fewer than F+1 replicas have been normal for a minute it ends with 'plc: device'.
+
+The report is one line of JSON, written at the end before 'scans N':
+  crashes                    how often a replica was crashed by --crash
+  scans                      how many scans were released
+  sessions                   how many clients were served
+  writes                     how many of their writes were taken
 "
 );
 
@@ -216,6 +230,10 @@ pub enum Words<'a> {
         idle: u32,
         /// Over connections, and not through channels.
         over_tcp: bool,
+        /// Behind so many releases a replica crashes, if that is asked for.
+        crash: Option<u32>,
+        /// The file of the report, if one is wanted.
+        report: Option<&'a str>,
     },
 }
 
@@ -305,7 +323,11 @@ fn serve_command<'a>(alloc: Global) -> Result<Command<'a>, AllocError> {
                 .help("Seconds until a silent client is let go"),
         )?
         .arg(budget(alloc))?
-        .arg(links(alloc))
+        .arg(links(alloc))?
+        .arg(count(alloc, CRASH, "K").help(
+            "Crashes a replica after every K scans, and restarts it",
+        ))?
+        .arg(report(alloc))
 }
 
 fn file<'a>(alloc: Global, name: &'a str) -> Arg<'a> {
@@ -350,6 +372,15 @@ fn directory<'a>(alloc: Global) -> Arg<'a> {
         .required(true)
         .value_parser(ValueParser::NonEmptyString)
         .help("The directory for the stores of the replicas")
+}
+
+/// The option is refused where it is given twice or empty.
+fn report<'a>(alloc: Global) -> Arg<'a> {
+    Arg::new(alloc, REPORT)
+        .long(REPORT)
+        .value_name("FILE")
+        .value_parser(ValueParser::NonEmptyString)
+        .help("The file for a report at the end")
 }
 
 /// The option is refused where it is given twice, or no number of 32 bits above 0.
@@ -416,6 +447,8 @@ fn form_of<'a>(matches: &ArgMatches<'a>) -> Option<Words<'a>> {
             budget: Budget::new(inner.get_one::<u32>(BUDGET)?)?,
             idle: inner.get_one::<u32>(IDLE)?,
             over_tcp: inner.get_str(LINKS)? == TCP,
+            crash: inner.get_one::<u32>(CRASH),
+            report: inner.get_str(REPORT),
         }),
         _ => None,
     }

@@ -2,7 +2,7 @@
 
 ghost use Rattle.std.specs.Prelude.{None};
 
-use crate::ends::{Input, Link};
+use crate::ends::{Cutter, Input, Link, Relink, Unlinked};
 use crossbeam_channel::{Receiver, RecvTimeoutError, Sender, unbounded};
 use std::alloc::{AllocError, Global};
 use std::sync::{Arc, Mutex, Wait};
@@ -46,13 +46,6 @@ impl Switchboard {
         }
     }
 
-    /// Disconnects every party: each link is closed once it gave what was sent before.
-    pub fn close<R: Wait>(&self, rt: &R) {
-        for way in &self.ways {
-            *way.lock(rt) = None;
-        }
-    }
-
     /// A message to a party that is not connected is lost.
     fn send<R: Wait>(&self, rt: &R, message: Message) {
         if let Some(way) = self.way(message.to) {
@@ -67,6 +60,8 @@ impl Switchboard {
 #[derive(Drop)]
 pub struct ChannelLink<R: Wait + time::Clock + Drop> {
     rt: R,
+    alloc: Global,
+    party: Party,
     board: Arc<Switchboard>,
     inbox: Receiver<Message>,
     wait: Duration,
@@ -85,6 +80,8 @@ impl<R: Wait + time::Clock + Drop> ChannelLink<R> {
         board.connect(&rt, party, Some(sender));
         Ok(ChannelLink {
             rt,
+            alloc,
+            party,
             board,
             inbox,
             wait,
@@ -107,5 +104,41 @@ impl<R: Wait + time::Clock + Drop> Link for ChannelLink<R> {
 
     fn send(&mut self, message: Message) {
         self.board.send(&self.rt, message);
+    }
+}
+
+/// Cuts the link of a party.
+#[derive(Drop)]
+pub struct ChannelCutter<R: Wait + Drop> {
+    rt: R,
+    board: Arc<Switchboard>,
+    party: Party,
+}
+
+impl<R: Wait + Drop> Cutter for ChannelCutter<R> {
+    fn cut(&self) {
+        self.board.connect(&self.rt, self.party, None);
+    }
+}
+
+impl<R: Wait + time::Clock + Copy + Send + Drop + 'static> Relink for ChannelLink<R> {
+    type Cutter = ChannelCutter<R>;
+
+    fn cutter(&self) -> Result<ChannelCutter<R>, AllocError> {
+        Ok(ChannelCutter {
+            rt: self.rt,
+            board: Arc::try_clone(&self.board)?,
+            party: self.party,
+        })
+    }
+
+    fn renew(&mut self) -> Result<(), Unlinked> {
+        let Ok((sender, inbox)) = unbounded(self.alloc) else {
+            self.board.connect(&self.rt, self.party, None);
+            return Err(Unlinked);
+        };
+        self.inbox = inbox;
+        self.board.connect(&self.rt, self.party, Some(sender));
+        Ok(())
     }
 }

@@ -1,6 +1,8 @@
 //! What a served replica stands on, beside its store.
 
 use replica::{StoreFault, ViewStore};
+use std::alloc::AllocError;
+use thiserror::Error;
 use vr_model::{Message, Stored};
 
 /// What a receive gave.
@@ -45,6 +47,27 @@ pub trait Link {
     fn send(&mut self, message: Message)
         ensures took { Grows (sent self.old) (sent self.new) (message ∷ []) }
         ensures same { inputs self.new ≡ inputs self.old };
+}
+
+/// Cuts a link, from any thread: nothing more comes in, and it is closed, at once or when it gave what came before.
+pub trait Cutter {
+    fn cut(&self);
+}
+
+/// The connections of a link could not be made.
+#[derive(Clone, Copy, Debug, PartialEq, Eq, Error)]
+#[error("no connections")]
+pub struct Unlinked;
+
+/// A link that can be cut, and whose connections can be made anew at both ends.
+pub trait Relink: Link {
+    type Cutter: Cutter + Send + Drop + 'static;
+
+    /// What cuts it. It fails only where memory runs out.
+    fn cutter(&self) -> Result<Self::Cutter, AllocError>;
+
+    /// Makes its connections anew, whether or not it was cut; what was on its way is lost. Where it fails, the link is closed.
+    fn renew(&mut self) -> Result<(), Unlinked>;
 }
 
 /// Says when a replica is late. A clock tells what it said, or tells nothing.

@@ -28,11 +28,13 @@ mod laws;
 mod machine_clock;
 mod serving;
 mod starting;
+mod working;
 
-pub use channels::{ChannelLink, Switchboard};
-pub use cluster::{Cluster, ClusterError, Seat};
-pub use ends::{Clock, Gate, Input, Link, Starts, Tick};
+pub use channels::{ChannelCutter, ChannelLink, Switchboard};
+pub use cluster::{Cluster, ClusterError};
+pub use ends::{Clock, Cutter, Gate, Input, Link, Relink, Starts, Tick, Unlinked};
 pub use file_store::FileStore;
 pub use laws::{observations_join, restart_is_observed, served_is_observed};
 pub use machine_clock::MachineClock;
 pub use serving::serve;
+pub use working::Seat;

@@ -5,10 +5,10 @@ ghost use Rattle.std.specs.Prelude.{None};
 use crate::ends::{Clock, Tick};
 use std::time;
 use std::time::{Duration, Instant};
-use vr_model::{Body, Message};
+use vr_model::{Body, Message, Party};
 
-/// A replica times out where nothing showed for a while that its view goes on, and sends again after each pause. It tells nothing. Where the
-/// machine's time cannot be read, no time passes.
+/// A replica times out where nothing showed for a while that its view goes on, and at once where its primary came up again, which has lost
+/// the view. It sends again after each pause. It tells nothing. Where the machine's time cannot be read, no time passes.
 #[derive(Drop)]
 pub struct MachineClock<R: time::Clock + Drop> {
     rt: R,
@@ -17,6 +17,10 @@ pub struct MachineClock<R: time::Clock + Drop> {
     /// Since when nothing showed it: not known before the next poll.
     silent_since: Option<Instant>,
     resent: Option<Instant>,
+    /// Who showed last that it is the primary of a view that goes on.
+    primary: Option<Party>,
+    /// Whether that one has come up again since, with nothing of its view.
+    is_lost: bool,
 }
 
 /// Whether so much time went by since then.
@@ -27,15 +31,19 @@ fn is_over(now: Instant, since: Option<Instant>, time: Duration) -> bool {
     }
 }
 
-/// Whether the message shows that the view goes on: a backup hears its primary, or a primary its backups.
-fn goes_on(message: &Message) -> bool {
+/// Whether the message shows that its sender is the primary of a view that goes on.
+fn is_of_primary(message: &Message) -> bool {
     matches!(
         message.body,
-        Body::Prepare { .. }
-            | Body::PrepareOk { .. }
-            | Body::Commit { .. }
-            | Body::StartView { .. }
-            | Body::NewState { .. }
+        Body::Prepare { .. } | Body::Commit { .. } | Body::StartView { .. } | Body::NewState { .. }
+    )
+}
+
+/// Whether the message shows that another view is to begin.
+fn is_of_change(message: &Message) -> bool {
+    matches!(
+        message.body,
+        Body::StartViewChange { .. } | Body::DoViewChange { .. }
     )
 }
 
@@ -48,6 +56,8 @@ impl<R: time::Clock + Drop> MachineClock<R> {
             pause,
             silent_since: None,
             resent: None,
+            primary: None,
+            is_lost: false,
         }
     }
 }
@@ -59,8 +69,10 @@ impl<R: time::Clock + Drop> Clock for MachineClock<R> {
         let Ok(now) = Instant::now(&self.rt) else {
             return Tick::None;
         };
-        if is_over(now, self.silent_since, self.patience) {
+        if self.is_lost || is_over(now, self.silent_since, self.patience) {
             self.silent_since = Some(now);
+            self.primary = None;
+            self.is_lost = false;
             return Tick::Timeout;
         }
         if is_over(now, self.resent, self.pause) {
@@ -73,8 +85,16 @@ impl<R: time::Clock + Drop> Clock for MachineClock<R> {
     }
 
     fn heard(&mut self, message: &Message) {
-        if goes_on(message) {
+        if is_of_primary(message) {
             self.silent_since = None;
+            self.primary = Some(message.from);
+            self.is_lost = false;
+        } else if is_of_change(message) {
+            self.primary = None;
+        } else if matches!(message.body, Body::PrepareOk { .. }) {
+            self.silent_since = None;
+        } else if matches!(message.body, Body::Recovery { .. }) {
+            self.is_lost = self.is_lost || self.primary == Some(message.from);
         }
     }
 }

@@ -4,15 +4,16 @@ ghost use Rattle.std.specs.Prelude.{◌≡◌, None, IfSome, true};
 ghost use Rattle.vr_model.specs.declared.message.Party.{Party as Whose};
 ghost use Rattle.tcp_links.specs.Own.{is_same, AreTo, IsTo};
 
+use crate::connecting::pair;
+use crate::hub::{Arrival, Hub, TcpCutter};
 use crate::peer::Peer;
 use mio::net::TcpStream as Wire;
-use mio::{Events, Interest, Poll, Token, Waker};
-use replicas::{Input, Link};
-use std::alloc::Global;
+use mio::{Events, Interest, Poll, Token};
+use replicas::{Input, Link, Relink, Unlinked};
+use std::alloc::{AllocError, Global};
 use std::io;
 use std::net::{Net, TcpListener, TcpStream};
-use std::sync::Arc;
-use std::sync::atomic::{AtomicBool, Ordering};
+use std::sync::{Arc, Wait};
 use std::time::Duration;
 use vr_model::{Message, Party};
 
@@ -23,18 +24,20 @@ const MOST_UNSEEN: u32 = 64;
 const EVENTS: usize = 32;
 
 /// The token of what wakes a link: no connection has it.
-const WAKER: usize = usize::MAX;
+pub(crate) const WAKER: usize = usize::MAX;
 
 /// The link of one party. It tells nothing: no socket says what it delivers. A receive sleeps until a connection has
 /// something, or the wait is over; a send never waits. It's closed once all of its connections are over.
 #[derive(Drop)]
-pub struct TcpLink {
+pub struct TcpLink<R: Wait + Drop> {
+    rt: R,
     alloc: Global,
-    is_closed: Arc<AtomicBool>,
+    hub: Arc<Hub>,
+    place: usize,
     party: Party,
     poll: Poll,
     events: Events<Global>,
-    /// By the tokens of their connections; none where that's over.
+    /// By the places of the parties, which are the tokens of the connections; none where there is none.
     peers: Vec<Option<Peer>>,
     /// The place of the connection that is read first.
     next: usize,
@@ -46,35 +49,35 @@ pub struct TcpLink {
     ghost own: { AreTo party arrived.items },
 }
 
-impl TcpLink {
-    /// A link that has no connection yet, and what wakes it.
-    pub(crate) fn new<R: Net<Listener = TcpListener, Stream = TcpStream>>(
-        rt: &R,
+impl<R: Wait + Net<Listener = TcpListener, Stream = TcpStream> + Copy + Drop> TcpLink<R> {
+    /// A link that has no connection yet.
+    pub(crate) fn new(
+        rt: R,
         alloc: Global,
-        is_closed: Arc<AtomicBool>,
+        hub: Arc<Hub>,
+        place: usize,
         party: Party,
+        poll: Poll,
         wait: Duration,
-    ) -> io::Result<(TcpLink, Waker)> {
-        let poll = Poll::new(rt)?;
-        let waker = Waker::new(poll.registry(), Token(WAKER))?;
-        let link = TcpLink {
+    ) -> io::Result<TcpLink<R>> {
+        let mut peers = Vec::new(alloc);
+        for _ in 0..hub.count() {
+            peers.push(None)?;
+        }
+        Ok(TcpLink {
+            rt,
             alloc,
-            is_closed,
+            hub,
+            place,
             party,
             poll,
             events: Events::with_capacity(alloc, EVENTS)?,
-            peers: Vec::new(alloc),
+            peers,
             next: 0,
             arrived: Vec::new(alloc),
             unseen: 0,
             wait,
-        };
-        Ok((link, waker))
-    }
-
-    /// Whose link it is.
-    pub(crate) fn party(&self) -> Party {
-        self.party
+        })
     }
 
     /// From now on a receive waits for so long.
@@ -82,24 +85,71 @@ impl TcpLink {
         self.wait = wait;
     }
 
-    /// From now on this is a connection to another party.
-    pub(crate) fn connect(&mut self, party: Party, stream: TcpStream) -> io::Result<()> {
-        stream.set_nodelay(true)?;
-        stream.set_nonblocking(true)?;
-        let mut wire = Wire::from_std(stream);
-        let token = Token(self.peers.len());
-        let both = Interest::READABLE | Interest::WRITABLE;
-        self.poll.registry().register(&mut wire, token, both)?;
-        self.peers.push(Some(Peer::new(self.alloc, party, wire)?))?;
+    /// Makes a connection to each other party below this place whose link isn't cut.
+    pub(crate) fn connect_below(&mut self, places: usize) -> io::Result<()>
+        ensures { self.new.party ≡ self.old.party }
+    {
+        for other in 0..places {
+            if other != self.place && !self.hub.is_cut(&self.rt, other) {
+                self.connect(other)?;
+            }
+        }
         Ok(())
     }
 
-    /// Ends all of its connections, once its group is closed.
-    fn obey(&mut self)
+    /// Makes a connection to the party with this place, which is handed its end.
+    fn connect(&mut self, other: usize) -> io::Result<()>
         ensures { self.new.party ≡ self.old.party }
     {
-        if self.is_closed.load(Ordering::SeqCst) {
-            self.close();
+        let listener = TcpListener::bind(&self.rt, ("127.0.0.1", 0))?;
+        let (near, far) = pair(&self.rt, &listener)?;
+        let arrival = Arrival {
+            from: self.place,
+            stream: far,
+        };
+        if self.hub.hand(&self.rt, other, arrival) {
+            self.keep(other, near)?;
+        }
+        Ok(())
+    }
+
+    /// From now on this is the connection to the party with this place; what was there before is closed.
+    fn keep(&mut self, other: usize, stream: TcpStream) -> io::Result<()>
+        ensures { self.new.party ≡ self.old.party }
+    {
+        let Some(party) = self.hub.party(other) else {
+            return Ok(());
+        };
+        stream.set_nodelay(true)?;
+        stream.set_nonblocking(true)?;
+        let mut wire = Wire::from_std(stream);
+        let both = Interest::READABLE | Interest::WRITABLE;
+        self.poll
+            .registry()
+            .register(&mut wire, Token(other), both)?;
+        let peer = Peer::new(self.alloc, party, wire)?;
+        if let Some(slot) = self.peers.get_mut(other) {
+            *slot = Some(peer);
+        }
+        Ok(())
+    }
+
+    /// Takes the ends of connections that were handed to it; ends all of its connections where it was cut.
+    pub(crate) fn obey(&mut self)
+        ensures { self.new.party ≡ self.old.party }
+    {
+        match self.hub.take(&self.rt, self.alloc, self.place) {
+            Some(arrivals) => self.keep_all(arrivals),
+            None => self.close(),
+        }
+    }
+
+    /// Where one can't be kept, it's closed.
+    fn keep_all(&mut self, arrivals: Vec<Arrival>)
+        ensures { self.new.party ≡ self.old.party }
+    {
+        for Arrival { from, stream } in arrivals {
+            let _ = self.keep(from, stream);
         }
     }
 
@@ -107,7 +157,9 @@ impl TcpLink {
     fn close(&mut self)
         ensures { self.new.party ≡ self.old.party }
     {
-        self.peers.clear();
+        for slot in self.peers.iter_mut() {
+            *slot = None;
+        }
         self.arrived.clear();
     }
 
@@ -255,7 +307,7 @@ fn send_over(slot: &mut Option<Peer>, alloc: Global, message: &Message) -> bool 
     true
 }
 
-impl Link for TcpLink {
+impl<R: Wait + Net<Listener = TcpListener, Stream = TcpStream> + Copy + Drop> Link for TcpLink<R> {
     ghost inputs = { λ _. None };
 
     ghost sent = { λ _. None };
@@ -270,5 +322,32 @@ impl Link for TcpLink {
                 return;
             }
         }
+    }
+}
+
+impl<R> Relink for TcpLink<R>
+where
+    R: Wait + Net<Listener = TcpListener, Stream = TcpStream> + Copy + Send + Drop + 'static,
+{
+    type Cutter = TcpCutter<R>;
+
+    fn cutter(&self) -> Result<TcpCutter<R>, AllocError> {
+        Ok(TcpCutter {
+            rt: self.rt,
+            hub: Arc::try_clone(&self.hub)?,
+            place: self.place,
+        })
+    }
+
+    fn renew(&mut self) -> Result<(), Unlinked> {
+        self.close();
+        self.hub.open(&self.rt, self.place);
+        let places = self.peers.len();
+        if self.connect_below(places).is_ok() {
+            return Ok(());
+        }
+        self.hub.cut(&self.rt, self.place);
+        self.close();
+        Err(Unlinked)
     }
 }

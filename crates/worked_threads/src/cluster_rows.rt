@@ -6,7 +6,7 @@ use il_model::cells::InImage;
 use il_model::{Answer, Command};
 use loader::{Image, load};
 use replicas::{
-    ChannelLink, Clock, Cluster, Gate, Input, Link, MachineClock, Seat, Switchboard, Tick,
+    ChannelLink, Clock, Cluster, Gate, Input, Link, MachineClock, Relink, Seat, Switchboard, Tick,
 };
 use std::alloc::{AllocError, Global};
 use std::process::Abort;
@@ -16,7 +16,7 @@ use std::test::Fail;
 use std::thread::Threads;
 use std::time::Duration;
 use std::{thread, time};
-use tcp_links::TcpGroup;
+use tcp_links::links;
 use vr_model::{Body, ClientNumber, Message, Party, Request};
 
 fn wire(alloc: Global) -> Result<Image, Fail> {
@@ -96,18 +96,18 @@ fn meeting_seat<R: time::Clock + Drop, L: Drop>(
     })
 }
 
-/// The link of a replica.
+/// The link of a party.
 fn link_of<R: Wait + time::Clock + Copy + Drop>(
     rt: R,
     alloc: Global,
     board: &Arc<Switchboard>,
-    replica: u8,
+    party: Party,
 ) -> Result<ChannelLink<R>, AllocError> {
     ChannelLink::new(
         rt,
         alloc,
         Arc::try_clone(board)?,
-        Party::Replica(replica),
+        party,
         Duration::from_millis(5),
     )
 }
@@ -138,7 +138,7 @@ fn meeting<R: time::Clock + Copy + Drop, L: Drop>(
 fn meet<R, L>(rt: R, alloc: Global, links: Vec<L>) -> Result<u64, Fail>
 where
     R: Threads + Wait + time::Clock + Copy + Send + Drop + 'static,
-    L: Link + Send + Drop + 'static,
+    L: Relink + Send + Drop + 'static,
 {
     let (config, budget) = group_of_three()?;
     let met = Arc::new(alloc, AtomicU64::new(0))?;
@@ -161,7 +161,7 @@ fn channel_links<R: Wait + time::Clock + Copy + Drop>(
     let board = Arc::new(alloc, Switchboard::new(alloc, 3, 0)?)?;
     let mut links = Vec::new(alloc);
     for replica in 0..3u8 {
-        links.push(link_of(rt, alloc, &board, replica)?)?;
+        links.push(link_of(rt, alloc, &board, Party::Replica(replica))?)?;
     }
     Ok(links)
 }
@@ -175,67 +175,59 @@ fn replicas_run_at_once(rt: HostRuntime) -> Result<(), Fail> {
 
 #[test]
 fn replicas_run_at_once_over_tcp(rt: HostRuntime) -> Result<(), Fail> {
-    let TcpGroup { links, board: _ } = TcpGroup::new(
-        &rt,
-        rt.alloc(),
-        3,
-        0,
-        Duration::from_millis(5),
-    )?;
+    let links = links(rt, rt.alloc(), 3, 0, Duration::from_millis(5))?;
     assert_eq!(rt; meet(rt, rt.alloc(), links)?, 2);
     Ok(())
 }
 
-/// A gate that tells whether its replica is normal.
+/// A gate whose steps wait until they are let go.
 #[derive(Drop)]
-struct TellingGate {
-    normal: Arc<AtomicBool>,
-}
-
-impl Gate for TellingGate {
-    fn before(&mut self, _call: u64) {}
-
-    fn after(&mut self, _call: u64, normal: bool) {
-        self.normal.store(normal, Ordering::SeqCst);
-    }
-}
-
-type GroupSeat<R> = Seat<ChannelLink<R>, Shelf, MachineClock<R>, TellingGate>;
-
-/// The seat of a replica on the machine's time, that was started so often.
-fn group_seat<R: Wait + time::Clock + Copy + Drop>(
+struct HoldingGate<R: time::Clock + Drop> {
     rt: R,
-    link: ChannelLink<R>,
-    starts: u64,
-    normal: &Arc<AtomicBool>,
-) -> Result<GroupSeat<R>, AllocError> {
-    Ok(Seat {
-        link,
-        store: Shelf::new(starts),
-        clock: MachineClock::new(rt, Duration::from_secs(2), Duration::from_millis(20)),
-        gate: TellingGate {
-            normal: Arc::try_clone(normal)?,
-        },
-    })
+    goes: Arc<AtomicBool>,
 }
 
-/// Three replicas, of which the last was started before.
-fn group<R: Wait + time::Clock + Copy + Drop>(
+impl<R: time::Clock + Drop> Gate for HoldingGate<R> {
+    fn before(&mut self, _call: u64) {
+        for _ in 0..10_000u32 {
+            if self.goes.load(Ordering::SeqCst) {
+                return;
+            }
+            thread::sleep(&self.rt, Duration::from_millis(1));
+        }
+    }
+
+    fn after(&mut self, _call: u64, _normal: bool) {}
+}
+
+type HoldingSeat<R, L> = Seat<L, Shelf, MachineClock<R>, HoldingGate<R>>;
+
+/// Three replicas on the machine's time, of which the last was started before. The first waits until it's let go.
+fn holding<R: time::Clock + Copy + Drop, L: Drop>(
     rt: R,
     alloc: Global,
-    board: &Arc<Switchboard>,
-    recovered: &Arc<AtomicBool>,
-) -> Result<Vec<GroupSeat<R>>, AllocError> {
-    let others = Arc::new(alloc, AtomicBool::new(false))?;
+    links: Vec<L>,
+    goes: &Arc<AtomicBool>,
+) -> Result<Vec<HoldingSeat<R, L>>, Fail> {
+    let always = Arc::new(alloc, AtomicBool::new(true))?;
     let mut seats = Vec::new(alloc);
-    seats.push(group_seat(rt, link_of(rt, alloc, board, 0)?, 0, &others)?)?;
-    seats.push(group_seat(rt, link_of(rt, alloc, board, 1)?, 0, &others)?)?;
-    seats.push(group_seat(rt, link_of(rt, alloc, board, 2)?, 4, recovered)?)?;
+    for (number, link) in links.into_iter().enumerate() {
+        let flag = if number == 0 { goes } else { &always };
+        seats.push(Seat {
+            link,
+            store: Shelf::new(if number == 2 { 4 } else { 0 }),
+            clock: MachineClock::new(rt, Duration::from_millis(500), Duration::from_millis(20)),
+            gate: HoldingGate {
+                rt,
+                goes: Arc::try_clone(flag)?,
+            },
+        })?;
+    }
     Ok(seats)
 }
 
-/// The first scan of a client, with no input TRUE.
-fn request(client: ClientNumber, replica: u8) -> Message {
+/// A scan of a client, with no input TRUE.
+fn request(client: ClientNumber, number: u64, replica: u8) -> Message {
     let command = Command::Scan {
         inputs: InImage::clear(),
         moment: 0,
@@ -245,38 +237,46 @@ fn request(client: ClientNumber, replica: u8) -> Message {
         to: Party::Replica(replica),
         body: Body::Request(Request {
             client,
-            number: 1,
+            number,
             command,
         }),
     }
 }
 
 /// Whether its answer comes, however often it has to be asked for.
-fn is_answered<L: Link>(link: &mut L, client: ClientNumber) -> bool {
+fn is_answered<L: Link>(link: &mut L, client: ClientNumber, number: u64) -> bool {
     for turn in 0..10_000u32 {
         if turn % 100 == 0 {
             for replica in 0..3u8 {
-                link.send(request(client, replica));
+                link.send(request(client, number, replica));
             }
         }
         if let Input::Message(message) = link.recv() {
             if let Body::Reply {
-                number: 1,
+                number: answered,
                 answer: Answer::Outputs { .. },
                 ..
             } = message.body
             {
-                return true;
+                if answered == number {
+                    return true;
+                }
             }
         }
     }
     false
 }
 
-/// Whether the flag is raised, in time.
-fn is_raised<R: time::Clock>(rt: &R, flag: &AtomicBool) -> bool {
+type HoldingCluster<R, L> = Cluster<L, Shelf, MachineClock<R>, HoldingGate<R>>;
+
+/// Whether a replica is normal, in time.
+fn gets_normal<R, L>(rt: &R, cluster: &HoldingCluster<R, L>, number: u8) -> bool
+where
+    R: time::Clock + Send + Drop + 'static,
+    L: Relink + Send + Drop + 'static,
+{
     for _ in 0..10_000u32 {
-        if flag.load(Ordering::SeqCst) {
+        if cluster.is_normal(number) {
             return true;
         }
         thread::sleep(rt, Duration::from_millis(1));
@@ -284,40 +284,118 @@ fn is_raised<R: time::Clock>(rt: &R, flag: &AtomicBool) -> bool {
     false
 }
 
-/// Whether a request is answered, and the replica that was started before is normal again.
-fn served<R: Threads + Wait + time::Clock + Copy + Send + Drop + 'static>(
-    rt: R,
-    alloc: Global,
-) -> Result<(bool, bool), Fail> {
+/// What is seen of a group whose primary crashes and comes back: a step that has not been taken yet makes no replica normal, and a request is
+/// answered before the crash, after it, and once the replica is back.
+fn seen_of_a_crash<R, L>(
+    rt: &R,
+    cluster: &mut HoldingCluster<R, L>,
+    link: &mut L,
+    client: ClientNumber,
+    goes: &AtomicBool,
+) -> [bool; 9]
+where
+    R: Threads + Wait + time::Clock + Copy + Send + Drop + 'static,
+    L: Relink + Send + Drop + 'static,
+{
+    let early = cluster.is_normal(0);
+    goes.store(true, Ordering::SeqCst);
+    let answered = is_answered(link, client, 1);
+    let recovered = gets_normal(rt, cluster, 2);
+    cluster.crash(rt, 0);
+    let down = cluster.is_normal(0);
+    let answered_without = is_answered(link, client, 2);
+    goes.store(false, Ordering::SeqCst);
+    let restarted = cluster.restart(rt, 0).is_ok();
+    let held = cluster.is_normal(0);
+    goes.store(true, Ordering::SeqCst);
+    let back = gets_normal(rt, cluster, 0);
+    let answered_again = is_answered(link, client, 3);
+    [
+        early,
+        answered,
+        recovered,
+        down,
+        answered_without,
+        restarted,
+        held,
+        back,
+        answered_again,
+    ]
+}
+
+const WANTED: [bool; 9] = [false, true, true, false, true, true, false, true, true];
+
+/// What is seen of a crash over these links, those of three replicas and that of a client.
+fn crashed<R, L>(rt: R, alloc: Global, mut links: Vec<L>) -> Result<[bool; 9], Fail>
+where
+    R: Threads + Wait + time::Clock + Copy + Send + Drop + 'static,
+    L: Relink + Send + Drop + 'static,
+{
     let (config, budget) = group_of_three()?;
     let client = ClientNumber::new(0).ok_or("no client")?;
-    let board = Arc::new(alloc, Switchboard::new(alloc, 3, 1)?)?;
-    let recovered = Arc::new(alloc, AtomicBool::new(false))?;
-    let seats = group(rt, alloc, &board, &recovered)?;
+    let goes = Arc::new(alloc, AtomicBool::new(false))?;
+    let mut link = links.pop().ok_or("no link")?;
+    let seats = holding(rt, alloc, links, &goes)?;
     if seats.len() != usize::from(config.group_size()) {
         return Err("another number of seats")?;
     }
-    let mut link = ChannelLink::new(
-        rt,
-        alloc,
-        Arc::try_clone(&board)?,
-        Party::Client(client),
-        Duration::from_millis(5),
-    )?;
-    let Ok(cluster) = Cluster::start(&rt, alloc, config, &wire(alloc)?, budget, u64::MAX, seats)
+    let Ok(mut cluster) = Cluster::start(&rt, alloc, config, &wire(alloc)?, budget, u64::MAX, seats)
     else {
         return Err("no cluster")?;
     };
-    let answered = is_answered(&mut link, client);
-    let normal = is_raised(&rt, &recovered);
-    board.close(&rt);
+    let seen = seen_of_a_crash(&rt, &mut cluster, &mut link, client, &goes);
+    cluster.cut();
     cluster.join(&rt);
-    Ok((answered, normal))
+    Ok(seen)
 }
 
 #[test]
-fn a_group_answers_and_one_recovers(rt: HostRuntime) -> Result<(), Fail> {
-    assert_eq!(rt; served(rt, rt.alloc())?, (true, true));
+fn a_group_goes_on_while_its_primary_crashes(rt: HostRuntime) -> Result<(), Fail> {
+    let alloc = rt.alloc();
+    let client = ClientNumber::new(0).ok_or("no client")?;
+    let board = Arc::new(alloc, Switchboard::new(alloc, 3, 1)?)?;
+    let mut over_channels = Vec::new(alloc);
+    for replica in 0..3u8 {
+        over_channels.push(link_of(rt, alloc, &board, Party::Replica(replica))?)?;
+    }
+    over_channels.push(link_of(rt, alloc, &board, Party::Client(client))?)?;
+    assert_eq!(rt; crashed(rt, alloc, over_channels)?, WANTED);
+    let over_tcp = links(rt, alloc, 3, 1, Duration::from_millis(5))?;
+    assert_eq!(rt; crashed(rt, alloc, over_tcp)?, WANTED);
+    Ok(())
+}
+
+/// A message of replica 0 to replica 1.
+const fn said(body: Body) -> Message {
+    Message {
+        from: Party::Replica(0),
+        to: Party::Replica(1),
+        body,
+    }
+}
+
+/// A primary that comes up again has lost its view; another replica that does has not.
+#[test]
+fn a_clock_times_out_once_its_primary_comes_up_again(rt: HostRuntime) -> Result<(), Fail> {
+    let mut clock = MachineClock::new(rt, Duration::from_secs(600), Duration::from_secs(600));
+    let up = Body::Recovery {
+        nonce: 2,
+        stored_view: 0,
+    };
+    clock.heard(&said(up));
+    assert_eq!(rt; clock.poll(), Tick::None);
+    clock.heard(&said(Body::Commit {
+        view: 0,
+        commit_number: 0,
+    }));
+    assert_eq!(rt; clock.poll(), Tick::None);
+    let up = Body::Recovery {
+        nonce: 3,
+        stored_view: 0,
+    };
+    clock.heard(&said(up));
+    assert_eq!(rt; clock.poll(), Tick::Timeout);
+    assert_eq!(rt; clock.poll(), Tick::None);
     Ok(())
 }
 

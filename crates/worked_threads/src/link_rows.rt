@@ -1,25 +1,28 @@
 //! Links over TCP: what comes, in which order, and how they end.
 
-use replicas::{Input, Link};
+use replicas::{Cutter, Input, Link, Relink};
 use std::alloc::Global;
 use std::io::{Read, Write};
 use std::net::{Net, TcpListener, TcpStream};
 use std::process::Abort;
+use std::sync::Wait;
 use std::test::Fail;
-use std::time::Duration;
-use tcp_links::{TcpBoard, TcpGroup, TcpLink, pair};
+use std::thread;
+use std::time::{Duration, Instant};
+use tcp_links::{TcpLink, links, pair};
 use vr_model::{Body, Message, Party};
 use wire_ends::{Flow, Inbox};
 
-/// The links of two replicas, whose receives wait for 50 milliseconds, and what closes them.
-fn two<R: Net<Listener = TcpListener, Stream = TcpStream>>(
-    rt: &R,
+/// The links of two replicas, whose receives wait for so many milliseconds.
+fn two<R: Wait + Net<Listener = TcpListener, Stream = TcpStream> + Copy + Drop>(
+    rt: R,
     alloc: Global,
-) -> Result<(TcpLink, TcpLink, TcpBoard), Fail> {
-    let TcpGroup { mut links, board } = TcpGroup::new(rt, alloc, 2, 0, Duration::from_millis(50))?;
+    wait: u64,
+) -> Result<(TcpLink<R>, TcpLink<R>), Fail> {
+    let mut links = links(rt, alloc, 2, 0, Duration::from_millis(wait))?;
     let second = links.pop().ok_or("no link")?;
     let first = links.pop().ok_or("no link")?;
-    Ok((first, second, board))
+    Ok((first, second))
 }
 
 /// A COMMIT to replica 0.
@@ -61,7 +64,7 @@ fn sum_of<L: Link>(link: &mut L, count: u32) -> u64 {
 
 /// Whether it is closed soon.
 fn is_closed<L: Link>(link: &mut L) -> bool {
-    for _ in 0..3u32 {
+    for _ in 0..10u32 {
         if matches!(link.recv(), Input::Closed) {
             return true;
         }
@@ -71,7 +74,7 @@ fn is_closed<L: Link>(link: &mut L) -> bool {
 
 #[test]
 fn messages_come_in_order_until_the_others_are_gone(rt: HostRuntime) -> Result<(), Fail> {
-    let (mut first, mut second, _board) = two(&rt, rt.alloc())?;
+    let (mut first, mut second) = two(rt, rt.alloc(), 50)?;
     for number in 1..=100u64 {
         second.send(commit(1, number));
     }
@@ -82,20 +85,38 @@ fn messages_come_in_order_until_the_others_are_gone(rt: HostRuntime) -> Result<(
     Ok(())
 }
 
+/// A link is cut while it waits for ten seconds, and so is closed long before. Then it's made anew.
 #[test]
-fn links_are_closed_by_their_board(rt: HostRuntime) -> Result<(), Fail> {
-    let (mut first, mut second, board) = two(&rt, rt.alloc())?;
-    board.close();
-    assert_eq!(rt;
-        (is_closed(&mut first), is_closed(&mut second)),
-        (true, true)
-    );
+fn a_link_is_cut_and_made_anew(rt: HostRuntime) -> Result<(), Fail> {
+    let (mut first, mut second) = two(rt, rt.alloc(), 10_000)?;
+    second.wait_for(Duration::from_millis(50));
+    let cutter = first.cutter()?;
+    let cut = move || {
+        thread::sleep(&rt, Duration::from_millis(20));
+        let begun = Instant::now(&rt);
+        cutter.cut();
+        begun
+    };
+    let Ok(cutting) = thread::spawn(&rt, cut) else {
+        return Err("no thread")?;
+    };
+    let closed = is_closed(&mut first);
+    let ended = Instant::now(&rt)?;
+    let took = ended
+        .saturating_duration_since(cutting.join(&rt)?)
+        .as_micros();
+    assert!(rt; closed && took < 5_000_000, "{took}");
+    assert!(rt; is_closed(&mut second));
+    assert!(rt; first.renew().is_ok());
+    assert!(rt; matches!(second.recv(), Input::Nothing));
+    second.send(commit(1, 7));
+    assert_eq!(rt; sum_of(&mut first, 1), 7);
     Ok(())
 }
 
 #[test]
 fn a_message_of_another_sender_is_dropped(rt: HostRuntime) -> Result<(), Fail> {
-    let (mut first, mut second, _board) = two(&rt, rt.alloc())?;
+    let (mut first, mut second) = two(rt, rt.alloc(), 50)?;
     second.send(commit(2, 1));
     second.send(commit(1, 2));
     assert_eq!(rt; sum_of(&mut first, 3), 2);

@@ -4,7 +4,7 @@ ghost use Rattle.std.specs.Prelude.{◌≡◌};
 use crate::clients::{ALL, Step, Visit, visit_once_told};
 use crate::falling::with_falling;
 use il_model::Counted;
-use plc_serve::{Service, Settings, serve};
+use plc_serve::{ReportFile, Service, Settings, serve};
 use plc_words::{Words, read_words};
 use process_image::NewList;
 use std::alloc::Global;
@@ -378,6 +378,8 @@ fn asked<R: Files + Alloc<A = Global> + Copy + Drop>(
             budget,
             idle,
             over_tcp,
+            crash,
+            report,
         },
     ) = read_words(rt.alloc(), words)
     else {
@@ -391,8 +393,10 @@ fn asked<R: Files + Alloc<A = Global> + Copy + Drop>(
         scans,
         idle,
         over_tcp,
+        crash,
+        lost_after: 0,
     };
-    match Service::new(rt, source, store, settings) {
+    match Service::new(rt, source, store, report, settings) {
         Ok(service) => Ok(service),
         Err(_) => Err("no service")?,
     }
@@ -468,6 +472,7 @@ fn controllers_are_served(rt: HostRuntime) -> Result<(), Fail> {
         let Service {
             source,
             directory,
+            report,
             stores,
             settings,
         } = prepared(rt, row, in_use)?;
@@ -478,7 +483,8 @@ fn controllers_are_served(rt: HostRuntime) -> Result<(), Fail> {
         let clients = visiting(&rt, alloc, &told, row.visit)?;
         let mut out = Vec::new(alloc);
         let mut operator = Operator::new(alloc, &told);
-        let status = serve::<Brand, _, _, _, _>(
+        let path = report.as_ref().map(|path| path.as_str());
+        let status = serve::<Brand, _, _, _, _, _>(
             rt,
             alloc,
             NewList::new(),
@@ -486,6 +492,7 @@ fn controllers_are_served(rt: HostRuntime) -> Result<(), Fail> {
             directory,
             stores,
             settings,
+            &mut Counted::new(ReportFile::at(&rt, path)),
             &mut out,
             &mut Counted::new(&mut operator),
         );

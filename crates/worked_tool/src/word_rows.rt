@@ -34,7 +34,7 @@ fn sim(failures: u8, every: u16) -> Result<Words<'static>, Fail> {
     })
 }
 
-/// So many scans of `a.il`, with stores in `d`.
+/// So many scans of `a.il`, with stores in `d`; with crashes, a report in `r`.
 fn serve(
     scans: u32,
     failures: u8,
@@ -42,6 +42,7 @@ fn serve(
     port: u16,
     period: u32,
     idle: u32,
+    crash: Option<u32>,
 ) -> Result<Words<'static>, Fail> {
     Ok(Words::Serve {
         source: "a.il",
@@ -53,6 +54,11 @@ fn serve(
         budget: Budget::new(10_000).ok_or("no budget")?,
         idle,
         over_tcp: true,
+        crash,
+        report: match crash {
+            Some(_) => Some("r"),
+            None => None,
+        },
     })
 }
 
@@ -69,14 +75,16 @@ fn words_ask_to_serve(rt: HostRuntime) -> Result<(), Fail> {
         "--port=65535",
         "--period=4294967295",
         "--idle=4294967295",
+        "--crash=4294967295",
+        "--report=r",
         "a.il",
     ];
     let least: &[&str] = &[
         "plc", "serve", "a.il", "--store", "d", "--scans", "9", "--port", "1", "--period", "1",
-        "--idle", "1",
+        "--idle", "1", "--crash", "1", "--report", "r",
     ];
     let rows: [(&[&str], Words); 3] = [
-        (first, serve(1, 1, 64, 5020, 100, 300)?),
+        (first, serve(1, 1, 64, 5020, 100, 300, None)?),
         (
             greatest,
             serve(
@@ -86,9 +94,10 @@ fn words_ask_to_serve(rt: HostRuntime) -> Result<(), Fail> {
                 65_535,
                 4_294_967_295,
                 4_294_967_295,
+                Some(4_294_967_295),
             )?,
         ),
-        (least, serve(9, 1, 64, 1, 1, 1)?),
+        (least, serve(9, 1, 64, 1, 1, 1, Some(1))?),
     ];
     ask_for(&rt, rt.alloc(), &rows);
     Ok(())
@@ -271,7 +280,7 @@ fn words_of_sim_out_of_range_are_bad(rt: HostRuntime) -> Result<(), Fail> {
 
 #[test]
 fn words_of_serve_out_of_range_are_bad(rt: HostRuntime) -> Result<(), Fail> {
-    let rows: [Row; 10] = [
+    let rows: [Row; 12] = [
         (
             &["--scans", "1"],
             "error: the following required arguments were not provided:\n  --store <DIR>\n",
@@ -311,6 +320,14 @@ fn words_of_serve_out_of_range_are_bad(rt: HostRuntime) -> Result<(), Fail> {
         (
             &["--store", "d", "--scans", "1", "--f", "4"],
             "error: invalid value '4' for '--f <F>'",
+        ),
+        (
+            &["--store", "d", "--scans", "1", "--crash", "0"],
+            "error: invalid value '0' for '--crash <K>'",
+        ),
+        (
+            &["--store", "d", "--scans", "1", "--report", ""],
+            "error: a value is required for '--report <FILE>' but none was supplied",
         ),
     ];
     are_bad(&rt, rt.alloc(), &["plc", "serve", "a.il"], &rows)

@@ -3,4 +3,4 @@ use Rattle.tcp_links.proofs.tcp_link.TcpLink.read_ready.Given as goal
 
 -- whose link it is stays
 abbrev pub invariant-loop : goal.invariant-loop
-invariant-loop l = l.self.party ≡ l.initial.self.party
+invariant-loop g l = l.self.party ≡ l.initial.self.party
