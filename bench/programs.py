@@ -1,5 +1,5 @@
 #!/usr/bin/env python3
-"""programs.py NAME [--loops L]: prints one of the programs arith, logic, jumps, blocks.
+"""programs.py NAME [--loops L]: prints one of the programs arith, logic, jumps, blocks, dints, lints.
 
 Each is made by a generator of fixed seed, and none stops: sums are kept small by MOD. The body runs L times in each scan.
 """
@@ -159,7 +159,32 @@ def blocks(loops=1, count=1000):
     return program(declarations, body + outputs, loops)
 
 
-PROGRAMS = {'arith': arith, 'logic': logic, 'jumps': jumps, 'blocks': blocks}
+def sums(of, narrowed, loops, count=1000):
+    """Sums of 16 variables of one type, below 4 * 10^6; `narrowed` makes a result that fits DINT a DINT, in one instruction."""
+    rng = random.Random(5)
+    declarations = [f'X{k} : {of} := {k * 1000 - 7000};' for k in range(16)]
+    outputs = [it for k in range(4) for it in (f'LD X{k}', narrowed, 'DINT_TO_INT', f'ST %QW{k}')]
+    body = []
+    while len(body) < count - len(outputs):
+        body += [f'LD {one_of(rng, "X", 16)}', f'ADD {one_of(rng, "X", 16)}', f'SUB {one_of(rng, "X", 16)}',
+                 f'MUL {rng.choice([-31, 17, 101])}', f'ADD {one_of(rng, "X", 16)}', f'MOD {rng.randrange(7000, 9999)}',
+                 f'ST {one_of(rng, "X", 16)}']
+    return program(declarations, body + outputs, loops)
+
+
+def dints(loops=1):
+    """DINT alone."""
+    return sums('DINT', 'SUB 0', loops)
+
+
+def lints(loops=1):
+    """The same sums in LINT, with the same results."""
+    return sums('LINT', 'LINT_TO_DINT', loops)
+
+
+PROGRAMS = {'arith': arith, 'logic': logic, 'jumps': jumps, 'blocks': blocks, 'dints': dints, 'lints': lints}
+# What the interpreter doesn't know, beside the program with as many instructions and the same answers.
+TWINS = {'lints': 'dints'}
 
 
 def inputs(length=64):

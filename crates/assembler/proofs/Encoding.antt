@@ -1,11 +1,13 @@
 -- The bytes told by a program and the literals of its typed program are the typed program's spelling.
 use Rattle.std.proofs.Common.{◌≡◌, ℕ, List, [], ◌∷◌, ◌++◌, length, Option, Some, None, Ok, refl, sym, ap, ◌∙◌}
-use Rattle.std.specs.Prelude.{map}
-use Rattle.std.specs.List.{flat_map}
+use Rattle.std.specs.Prelude.{Bool, ◌||◌, if◌then◌else◌, map}
+use Rattle.std.specs.List.{flat_map, list_any}
 use Rattle.std.specs.Option.{option_map, option_and_then}
 use Rattle.std.proofs.lemmas.List.{map-append}
 use Rattle.il_model.specs.declared.value.Ty.{Ty}
 use Rattle.il_model.specs.declared.value.Value.{Value}
+use Rattle.il_model.specs.declared.codes.Version.{Version}
+use Rattle.il_model.specs.declared.codes.Version.TheVariants as versions
 use Rattle.il_model.specs.declared.kind.BlockKind.{BlockKind}
 use Rattle.il_model.specs.declared.program.Variable.{Variable}
 use Rattle.il_model.specs.declared.program.Instance.{Instance}
@@ -19,13 +21,13 @@ use Rattle.il_model.specs.Resolved.{target_of, instance_in, kind_in, called_kind
 use Rattle.il_model.specs.Marks.{Mark, marks_from, words_in, address_of}
 use Rattle.il_model.specs.Constants.{same_value, operand_literal, joined_constants, constants_from, operands_in, operands_of}
 use Rattle.il_model.specs.CodedOperands.{code_of}
-use Rattle.il_model.specs.Image.{number_or_unused, coded_operand, operand_code, coded_word, op_code, modifier_code, side_code, field_number_code, word_bytes, argument_bytes, instruction_bytes, header_bytes, variable_bytes, instance_bytes, mark_bytes, constant_bytes, spelling}
+use Rattle.il_model.specs.Image.{number_or_unused, coded_operand, operand_code, coded_word, op_code, modifier_code, side_code, field_number_code, word_bytes, argument_bytes, instruction_bytes, is_long_variable, is_long_value, version_with, header_bytes, variable_bytes, instance_bytes, mark_bytes, constant_bytes, spelling}
 use Rattle.il_model.specs.Settled.{settled_argument, settled_line, typed_program_of}
 use Rattle.il_model.proofs.ArgumentFaults.{settled_argument_none}
 use Rattle.il_model.proofs.Settling.{Alike, literal_is, settled_none, called_settled, settling_alike, target_alike, typed_program}
 use Rattle.assembler.specs.Encoded.{literals_of, constants_in, literals_in, all_literals, settled_code, settled_passing_word, settled_instruction, settled_words, settled_bytes}
 use Rattle.assembler.proofs.Gathered.{passing_literals}
-use Rattle.assembler.proofs.SettledLines.{AreSettledLines, settled_lines, same_words, same_address, same_marks}
+use Rattle.assembler.proofs.SettledLines.{AreSettledLines, settled_lines, same_words, same_address, same_marks, same_long}
 
 -- ---- constants
 
@@ -122,21 +124,29 @@ same_code_words P Q constants (p ∷ ps) (q ∷ qs) a are =
 
 -- ---- all of it
 
-abbrev parts : List Variable → List Instance → List Mark → List Value → ℕ → List ℕ → List ℕ
-parts variables instances marks constants count words =
-    header_bytes (length variables) (length instances) (length marks) (length constants) count
-    ++ (flat_map variable_bytes variables ++ (flat_map instance_bytes instances ++ (flat_map mark_bytes marks ++ (flat_map constant_bytes constants ++ words))))
+abbrev parts : Version → List Variable → List Instance → List Mark → List Value → ℕ → List ℕ → List ℕ
+parts version variables instances marks constants count words =
+    header_bytes version (length variables) (length instances) (length marks) (length constants) count
+    ++ (flat_map (variable_bytes version) variables ++ (flat_map instance_bytes instances ++ (flat_map mark_bytes marks ++ (flat_map (constant_bytes version) constants ++ words))))
+
+-- a program and its typed program have one version
+version_alike : (P Q : Text) (constants : List Value) → Alike P Q → AreSettledLines P.code Q.code → version_with P.variables constants P.code ≡ version_with Q.variables constants Q.code
+version_alike P Q constants a are =
+    ap (λ (vs : List Variable). version_with vs constants P.code) (sym a.variables)
+    ∙ ap (λ (b : Bool). if list_any is_long_variable Q.variables || (list_any is_long_value constants || b) then versions.Two else versions.One) (same_long P.code Q.code are)
 
 spelled : (P Q : Text) → Alike P Q → AreSettledLines P.code Q.code → settled_bytes P (constants_in [] (all_literals P.code (literals_of Q.code))) (literals_of Q.code) ≡ spelling Q
 spelled P Q a are =
     let cs : List Value = constants_in [] (all_literals P.code (literals_of Q.code)) in
     let words = settled_words P cs P.code (literals_of Q.code) in
-    ap (λ (vs : List Variable). parts vs P.instances (marks_from 0 P.code) cs (words_in P.code) words) (sym a.variables)
-    ∙ ap (λ (xs : List Instance). parts Q.variables xs (marks_from 0 P.code) cs (words_in P.code) words) (sym a.instances)
-    ∙ ap (λ (ms : List Mark). parts Q.variables Q.instances ms cs (words_in P.code) words) (same_marks 0 P.code Q.code are)
-    ∙ ap (λ (k : ℕ). parts Q.variables Q.instances (marks_from 0 Q.code) cs k words) (same_words P.code Q.code are)
-    ∙ ap (parts Q.variables Q.instances (marks_from 0 Q.code) cs (words_in Q.code)) (same_code_words P Q cs P.code Q.code (record { alike = a; address = λ n. same_address P.code Q.code n are }) are)
-    ∙ ap (λ (ks : List Value). parts Q.variables Q.instances (marks_from 0 Q.code) ks (words_in Q.code) (flat_map (instruction_bytes Q ks) Q.code)) (same_constants P.code Q.code are)
+    let version = version_with P.variables cs P.code in
+    ap (λ (vs : List Variable). parts version vs P.instances (marks_from 0 P.code) cs (words_in P.code) words) (sym a.variables)
+    ∙ ap (λ (xs : List Instance). parts version Q.variables xs (marks_from 0 P.code) cs (words_in P.code) words) (sym a.instances)
+    ∙ ap (λ (ms : List Mark). parts version Q.variables Q.instances ms cs (words_in P.code) words) (same_marks 0 P.code Q.code are)
+    ∙ ap (λ (k : ℕ). parts version Q.variables Q.instances (marks_from 0 Q.code) cs k words) (same_words P.code Q.code are)
+    ∙ ap (parts version Q.variables Q.instances (marks_from 0 Q.code) cs (words_in Q.code)) (same_code_words P Q cs P.code Q.code (record { alike = a; address = λ n. same_address P.code Q.code n are }) are)
+    ∙ ap (λ (v : Version). parts v Q.variables Q.instances (marks_from 0 Q.code) cs (words_in Q.code) (flat_map (instruction_bytes Q cs) Q.code)) (version_alike P Q cs a are)
+    ∙ ap (λ (ks : List Value). parts (version_with Q.variables ks Q.code) Q.variables Q.instances (marks_from 0 Q.code) ks (words_in Q.code) (flat_map (instruction_bytes Q ks) Q.code)) (same_constants P.code Q.code are)
 
 -- the literals of a typed program tell its spelling
 pub settled_spelling : (P Q : Text) (literals : List (Option Value)) → typed_program_of P ≡ Ok Q → literals ≡ literals_of Q.code → settled_bytes P (constants_in [] (all_literals P.code literals)) literals ≡ spelling Q

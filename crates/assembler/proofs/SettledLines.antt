@@ -1,7 +1,7 @@
 -- The instructions of a program and of its typed program, side by side.
 use Rattle.std.proofs.Common.{◌≡◌, ℕ, zero, suc, ◌+◌, ◌≤◌, List, [], ◌∷◌, length, Option, Some, Ok, refl, sym, ap, ◌∙◌, arith}
-use Rattle.std.specs.Prelude.{slice_get}
-use Rattle.std.specs.List.{AllByRecursion}
+use Rattle.std.specs.Prelude.{slice_get, Bool, ◌||◌}
+use Rattle.std.specs.List.{AllByRecursion, list_any}
 use Rattle.std.specs.Option.{option_map}
 use Rattle.std.proofs.lemmas.List.{length-map}
 use Rattle.std.proofs.lemmas.Option.{slice_get_within}
@@ -10,6 +10,7 @@ use Rattle.il_model.specs.declared.program.Instr.{Instr}
 use Rattle.il_model.specs.Text.{Text}
 use Rattle.il_model.specs.Typing.{shape_at, typing_end}
 use Rattle.il_model.specs.Marks.{with_mark, marks_from, word_count, words_in, address_of}
+use Rattle.il_model.specs.Image.{is_long_line}
 use Rattle.il_model.specs.Settled.{settled_argument, settled_line, typed_program_of, IsTypedProgramOf}
 use Rattle.il_model.proofs.Settling.{some_is, typed_program}
 use Rattle.il_model.proofs.TypedLines.{bind_ok, ok_before}
@@ -68,6 +69,15 @@ same_marks n (p ∷ ps) (q ∷ qs) are =
     ap (λ (k : ℕ). with_mark n p.label (marks_from (n + k) ps)) (same_count are.0.0 p q are.0.1)
     ∙ ap (with_mark n p.label) (same_marks (n + word_count q) ps qs are.1)
     ∙ ap (λ (line : Instr). with_mark n line.label (marks_from (n + word_count q) qs)) (sym are.0.1)
+
+-- ---- the same operators
+
+pub same_long : (ps qs : List Instr) → AreSettledLines ps qs → list_any is_long_line ps ≡ list_any is_long_line qs
+same_long [] [] are = refl
+same_long [] (q ∷ qs) are = absurd are
+same_long (p ∷ ps) [] are = absurd are
+same_long (p ∷ ps) (q ∷ qs) are =
+    ap (λ (b : Bool). b || list_any is_long_line ps) (sym (ap is_long_line are.0.1)) ∙ ap (λ (b : Bool). is_long_line q || b) (same_long ps qs are.1)
 
 -- ---- few arguments
 

@@ -14,7 +14,7 @@ use Rattle.il_model.specs.Marks.{marks_from, words_in, word_count}
 use Rattle.il_model.specs.Settled.{typed_program_of, settled_argument}
 use Rattle.il_model.specs.Constants.{same_value, operand_literal, joined_constants}
 use Rattle.il_model.specs.CodedOperands.{code_of}
-use Rattle.il_model.specs.Image.{coded_literal, operand_code, coded_word, op_code, modifier_code, side_code, field_number_code, header_bytes, variable_bytes, instance_bytes, mark_bytes, constant_bytes}
+use Rattle.il_model.specs.Image.{coded_literal, operand_code, coded_word, op_code, modifier_code, side_code, field_number_code, version_with, header_bytes, variable_bytes, instance_bytes, mark_bytes, constant_bytes}
 use Rattle.assembler.specs.declared.fault.AsmError.{AsmError}
 use Rattle.assembler.specs.Assembled.{Refuses}
 
@@ -65,8 +65,9 @@ settled_words P constants (line ∷ code) (literal ∷ literals) = settled_instr
 
 abbrev pub settled_bytes : Text → List Value → List (Option Value) → List ℕ
 settled_bytes P constants literals =
-    header_bytes (length P.variables) (length P.instances) (length (marks_from 0 P.code)) (length constants) (words_in P.code)
-    ++ (flat_map variable_bytes P.variables ++ (flat_map instance_bytes P.instances ++ (flat_map mark_bytes (marks_from 0 P.code) ++ (flat_map constant_bytes constants ++ settled_words P constants P.code literals))))
+    let version = version_with P.variables constants P.code in
+    header_bytes version (length P.variables) (length P.instances) (length (marks_from 0 P.code)) (length constants) (words_in P.code)
+    ++ (flat_map (variable_bytes version) P.variables ++ (flat_map instance_bytes P.instances ++ (flat_map mark_bytes (marks_from 0 P.code) ++ (flat_map (constant_bytes version) constants ++ settled_words P constants P.code literals))))
 
 -- a call has no more arguments than its block has fields
 abbrev pub HasFewArguments : Instr → Type 0

@@ -1,20 +1,24 @@
 //! The bytes of a program.
 
-ghost use Rattle.std.specs.Prelude.{◌≡◌, ◌≤◌, ◌++◌, OnOk, IfOk, length, count_by, is_some, [], slice_get};
+ghost use Rattle.std.specs.Prelude.{◌≡◌, ◌≤◌, ◌++◌, OnOk, IfOk, length, count_by, is_some, [], slice_get, true, false};
 ghost use Rattle.std.specs.Option.{option_and_then};
 ghost use Rattle.assembler.specs.Encoded.{constants_in, all_literals, settled_code, settled_passing_word, settled_instruction, settled_words, settled_bytes, HasFewArguments, addresses_from};
-ghost use Rattle.std.specs.Int.{w8, w16, w32, to_be_bytes};
-ghost use Rattle.std.specs.List.{AllByRecursion, flat_map};
+ghost use Rattle.std.specs.Int.{w8, w16, w32, w64, to_be_bytes, cast_unsigned};
+ghost use Rattle.std.specs.List.{AllByRecursion, flat_map, list_any};
+ghost use Rattle.il_model.specs.Values.{number_of};
+ghost use Rattle.il_model.specs.Codes.{may_have};
 ghost use Rattle.il_model.specs.Kinds.{field_number};
 ghost use Rattle.il_model.specs.Marks.{with_mark, marks_from, words_in};
 ghost use Rattle.il_model.specs.declared.coded_operand.CodedOperand.TheVariants as coded;
 ghost use Rattle.il_model.specs.CodedOperands.{code_of};
-ghost use Rattle.il_model.specs.Image.{name_bytes, variable_bytes, instance_bytes, mark_bytes, constant_bytes, numbered, coded_literal, coded_field, number_or_unused, field_number_code, operand_code, coded_word, counts_bytes};
+ghost use Rattle.il_model.specs.Image.{name_bytes, number_bytes, is_long_value, is_long_variable, variable_bytes, instance_bytes, mark_bytes, constant_bytes, numbered, coded_literal, coded_field, number_or_unused, field_number_code, operand_code, coded_word, counts_bytes};
 
 use crate::constants::constants_of;
 use il_model::arguments::argument_literal;
 use il_model::coded_operand::FIRST_CONSTANT;
-use il_model::codes::{MAGIC, bits, location_code, modifier_code, op_code, side_code, type_code};
+use il_model::codes::{
+    MAGIC, Version, location_code, modifier_code, op_code, side_code, type_code, version_with,
+};
 use il_model::constant_table::Constants;
 use il_model::indexed::IndexedProgram;
 use il_model::{
@@ -44,6 +48,13 @@ fn put_u32(out: &mut Vec<u8>, n: u32) -> Result<(), AllocError>
     Ok(())
 }
 
+fn put_u64(out: &mut Vec<u8>, n: u64) -> Result<(), AllocError>
+    ensures { OnOk result (out.new.items ≡ out.old.items ++ to_be_bytes w64 n) }
+{
+    out.extend_from_slice(&n.to_be_bytes())?;
+    Ok(())
+}
+
 fn put_name(out: &mut Vec<u8>, name: &Name) -> Result<(), AllocError>
     ensures { OnOk result (out.new.items ≡ out.old.items ++ name_bytes name.now) }
 {
@@ -52,20 +63,47 @@ fn put_name(out: &mut Vec<u8>, name: &Name) -> Result<(), AllocError>
     Ok(())
 }
 
-fn put_variable(out: &mut Vec<u8>, v: &Variable) -> Result<(), AllocError>
-    ensures { OnOk result (out.new.items ≡ out.old.items ++ variable_bytes v.now) }
+/// The 32 bits of a value that isn't LINT.
+fn short_bits(v: Value) -> u32
+    requires { is_long_value v ≡ false }
+    ensures { result ≡ cast_unsigned w32 (number_of v) }
+{
+    match v {
+        Value::Bool(b) => b as u32,
+        Value::Int(z) => i32::from(z).cast_unsigned(),
+        Value::Dint(z) => z.cast_unsigned(),
+        Value::Time(z) => z.cast_unsigned(),
+        Value::Lint(_) => unreachable!(),
+    }
+}
+
+/// The number of a value as an image of this version has it; the first version has no LINT.
+fn put_number(out: &mut Vec<u8>, version: Version, v: Value) -> Result<(), AllocError>
+    requires { may_have version (is_long_value v) ≡ true }
+    ensures { OnOk result (out.new.items ≡ out.old.items ++ number_bytes version (number_of v)) }
+{
+    match version {
+        Version::One => put_u32(out, short_bits(v)),
+        Version::Two => put_u64(out, v.number().cast_unsigned()),
+    }
+}
+
+fn put_variable(out: &mut Vec<u8>, version: Version, v: &Variable) -> Result<(), AllocError>
+    requires { may_have version (is_long_variable v.now) ≡ true }
+    ensures { OnOk result (out.new.items ≡ out.old.items ++ variable_bytes version v.now) }
 {
     put_name(out, &v.name)?;
     put_u8(out, type_code(v.ty))?;
     put_u16(out, location_code(v.location))?;
-    put_u32(out, bits(v.initial))
+    put_number(out, version, v.initial)
 }
 
-fn put_constant(out: &mut Vec<u8>, v: Value) -> Result<(), AllocError>
-    ensures { OnOk result (out.new.items ≡ out.old.items ++ constant_bytes v) }
+fn put_constant(out: &mut Vec<u8>, version: Version, v: Value) -> Result<(), AllocError>
+    requires { may_have version (is_long_value v) ≡ true }
+    ensures { OnOk result (out.new.items ≡ out.old.items ++ constant_bytes version v) }
 {
     put_u8(out, type_code(v.ty()))?;
-    put_u32(out, bits(v))
+    put_number(out, version, v)
 }
 
 /// The code of a literal's constant.
@@ -242,11 +280,12 @@ fn put_counts(
     put_u16(out, words)
 }
 
-fn put_variables(out: &mut Vec<u8>, vs: &[Variable]) -> Result<(), AllocError>
-    ensures { OnOk result (out.new.items ≡ out.old.items ++ flat_map variable_bytes vs.now) }
+fn put_variables(out: &mut Vec<u8>, version: Version, vs: &[Variable]) -> Result<(), AllocError>
+    requires { may_have version (list_any is_long_variable vs.now) ≡ true }
+    ensures { OnOk result (out.new.items ≡ out.old.items ++ flat_map (variable_bytes version) vs.now) }
 {
     for v in vs {
-        put_variable(out, v)?;
+        put_variable(out, version, v)?;
     }
     Ok(())
 }
@@ -317,11 +356,12 @@ fn label_count(code: &[Instr]) -> usize
     labelled_count(code)
 }
 
-fn put_constants(out: &mut Vec<u8>, constants: &[Value]) -> Result<(), AllocError>
-    ensures { OnOk result (out.new.items ≡ out.old.items ++ flat_map constant_bytes constants.now) }
+fn put_constants(out: &mut Vec<u8>, version: Version, constants: &[Value]) -> Result<(), AllocError>
+    requires { may_have version (list_any is_long_value constants.now) ≡ true }
+    ensures { OnOk result (out.new.items ≡ out.old.items ++ flat_map (constant_bytes version) constants.now) }
 {
     for v in constants {
-        put_constant(out, *v)?;
+        put_constant(out, version, *v)?;
     }
     Ok(())
 }
@@ -361,9 +401,10 @@ pub fn encode(
     let constants = constants_of(alloc, code, literals)?;
     let (addresses, words) = addresses_of(alloc, code)?;
     let addresses = addresses.as_slice();
+    let version = version_with(variables, constants.values(), code);
     let mut out = Vec::new(alloc);
     out.extend_from_slice(&MAGIC)?;
-    put_u16(&mut out, 1)?;
+    put_u16(&mut out, version.number() as usize)?;
     put_counts(
         &mut out,
         variables.len(),
@@ -372,10 +413,10 @@ pub fn encode(
         constants.values().len(),
         words,
     )?;
-    put_variables(&mut out, variables)?;
+    put_variables(&mut out, version, variables)?;
     put_instances(&mut out, instances)?;
     put_labels(&mut out, addresses, code)?;
-    put_constants(&mut out, constants.values())?;
+    put_constants(&mut out, version, constants.values())?;
     put_words(&mut out, program, addresses, &constants, code, literals)?;
     Ok(out)
 }

@@ -2,7 +2,6 @@
 use Rattle.std.proofs.Common.{◌≡◌, Bool, true, false, cond, ltb, List, [], ◌∷◌, ◌++◌, length, map, Option, Some, None, refl, sym, ap, ◌∙◌}
 use Rattle.std.specs.Prelude.{ℤ, pos, negsuc, unwrap_or, slice_set}
 use Rattle.std.specs.Option.{option_and_then}
-use Rattle.std.specs.Int.{w32, cast_signed, cast_unsigned}
 use Rattle.std.proofs.lemmas.List.{length-set}
 use Rattle.il_model.specs.declared.value.Ty.{Ty}
 use Rattle.il_model.specs.declared.value.Ty.TheVariants as types
@@ -45,15 +44,14 @@ made_ty types.Bool z v e = truth_ty z v e
 made_ty types.Int z v e = ap ty_of (sym (some_of (is_within 32768 z) (values.Int z) v e))
 made_ty types.Dint z v e = ap ty_of (sym (some_of (is_within 2147483648 z) (values.Dint z) v e))
 made_ty types.Time z v e = ap ty_of (sym (some_of (is_within 2147483648 z) (values.Time z) v e))
+made_ty types.Lint z v e = ap ty_of (sym (some_of (is_within 9223372036854775808 z) (values.Lint z) v e))
 
 first_ty : (loc : Option Loc) (t : Ty) (o : Option Value) (v : Value) → ((x : Value) → o ≡ Some x → ty_of x ≡ t) → option_and_then (if_passes (may_start_with loc)) o ≡ Some v → ty_of v ≡ t
 first_ty loc t None v typed e = absurd cc
 first_ty loc t (Some x) v typed e = ap ty_of (sym (some_of (may_start_with loc x) x v e)) ∙ typed x refl
 
 variable_ty : (seen : List Variable) (v : Variable) → IsVariable seen v → ty_of v.initial ≡ v.ty
-variable_ty seen v is =
-    let z = cast_signed w32 (cast_unsigned w32 (number_of v.initial)) in
-    first_ty v.location v.ty (typed_value v.ty z) v.initial (λ x e. made_ty v.ty z x e) is.initial
+variable_ty seen v is = first_ty v.location v.ty (typed_value v.ty (number_of v.initial)) v.initial (λ x e. made_ty v.ty (number_of v.initial) x e) is.initial
 
 pub firsts_typed : (seen vs : List Variable) → AreItems IsVariable seen vs → map ty_of (map (λ (v : Variable). v.initial) vs) ≡ map (λ (v : Variable). v.ty) vs
 firsts_typed seen [] are = refl
@@ -70,10 +68,12 @@ written_are c (Bit a n) (values.Bool b) is = set_by (ltb n (length c.bits)) c (r
 written_are c (Bit a n) (values.Int z) is = is
 written_are c (Bit a n) (values.Dint z) is = is
 written_are c (Bit a n) (values.Time z) is = is
+written_are c (Bit a n) (values.Lint z) is = is
 written_are c (Word a n) (values.Bool b) is = is
 written_are c (Word a n) (values.Int z) is = set_by (ltb n (length c.words)) c (record c { words = slice_set c.words n z }) is (record { bits = is.bits; words = length-set c.words n z ∙ is.words })
 written_are c (Word a n) (values.Dint z) is = is
 written_are c (Word a n) (values.Time z) is = is
+written_are c (Word a n) (values.Lint z) is = is
 
 chosen_are : (b : Bool) (c d : Cells) → AreCells c → AreCells d → AreCells (cond b d c)
 chosen_are true c d is at = at

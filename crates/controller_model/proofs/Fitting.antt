@@ -44,6 +44,7 @@ same_type_self types.Bool = refl
 same_type_self types.Int = refl
 same_type_self types.Dint = refl
 same_type_self types.Time = refl
+same_type_self types.Lint = refl
 
 -- ---- values
 
@@ -166,6 +167,8 @@ op_again ops.Ret = refl
 op_again ops.Close = refl
 op_again ops.IntToDint = refl
 op_again ops.DintToInt = refl
+op_again ops.DintToLint = refl
+op_again ops.LintToDint = refl
 
 op_same : (a b : Op) → nat_eq (op_code a) (op_code b) ≡ true → a ≡ b
 op_same a b h =

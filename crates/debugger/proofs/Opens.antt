@@ -19,7 +19,7 @@ use Rattle.il_model.specs.declared.fetched.Deferred.{Deferred}
 use Rattle.il_model.specs.Text.{Text}
 use Rattle.il_model.specs.Typing.{IsTyped}
 use Rattle.controller_model.specs.State.{State, with_value_at}
-use Rattle.controller_model.specs.Step.{Outcome, Next, End, Stopped, Stuck, with_value, truth_in, negated_by, goes_on, source_value, place_in, target_in, instance_at, acts, to_dint, to_int, after_call, takes, close_at, close_with, after_opening, open_with, combine, set_where, act, step}
+use Rattle.controller_model.specs.Step.{Outcome, Next, End, Stopped, Stuck, with_value, truth_in, negated_by, goes_on, source_value, place_in, target_in, instance_at, acts, to_dint, to_int, to_lint, from_lint, after_call, takes, close_at, close_with, after_opening, open_with, combine, set_where, act, step}
 use Rattle.controller_model.specs.Scan as scans
 use Rattle.controller_model.specs.Scan.{RunEnd, after, ends_before, run_from, run_from_break, one_step_run, is_past_end, is_break}
 use Rattle.controller_model.specs.Suits.{Suits, IsSafe}
@@ -113,6 +113,8 @@ at_act Q now s ops.Ret m src args = at_value {X = Bool} s (acts m s) _ (λ b. at
 at_act Q now s ops.Close m src args = at_close Q s s.kept
 at_act Q now s ops.IntToDint m src args = at_value {X = Value} s s.cr _ (λ v. at_takes Q s (to_dint v))
 at_act Q now s ops.DintToInt m src args = at_value {X = Value} s s.cr _ (λ v. at_takes Q s (to_int v))
+at_act Q now s ops.DintToLint m src args = at_value {X = Value} s s.cr _ (λ v. at_takes Q s (to_lint v))
+at_act Q now s ops.LintToDint m src args = at_value {X = Value} s s.cr _ (λ v. at_takes Q s (from_lint v))
 at_act Q now s op m src args = at_combine Q s op m src
 
 stays : (Q : Text) (now : ℕ) (s : State) → IsStay s (step Q now s)

@@ -39,11 +39,11 @@ use Rattle.il_model.specs.Image.{type_code}
 use Rattle.il_model.specs.Areas.{area_of}
 use Rattle.il_model.specs.Typing.{is_writable_area}
 use Rattle.il_model.specs.Codes as codes_of
-use Rattle.il_model.specs.Codes.{is_new_name, is_taken, length_of, may_start_with, usage_of, has_form, allowed_by, formed_by, is_empty}
+use Rattle.il_model.specs.Codes.{is_new_name, is_taken, length_of, may_start_with, initial_of, usage_of, has_form, allowed_by, formed_by, is_empty}
 use Rattle.il_model.specs.Fits.{IsVariable, IsInstance, AreItems}
 use Rattle.il_model.specs.Lawful.{IsLabel}
 use Rattle.il_model.specs.Declarable.{IsOperand, as_value, IsArgument, IsInstruction, IsDeclared}
-use Rattle.il_model.proofs.LiteralLaws.{IsInRange, literal_good, IsStart, start_again}
+use Rattle.il_model.proofs.LiteralLaws.{IsInRange, literal_good, start_again}
 use Rattle.il_model.proofs.Positions.{position_first, position_later, position_past}
 use Rattle.il_reader.specs.declared.contents.Operator.{Operator}
 use Rattle.il_reader.specs.declared.operations.Form.{Form}
@@ -131,6 +131,11 @@ type_again types.Bool = refl
 type_again types.Int = refl
 type_again types.Dint = refl
 type_again types.Time = refl
+type_again types.Lint = refl
+
+-- a value that is made again of its own number at that place
+abbrev IsStart : Ty → Option Loc → Value → Type 0
+IsStart type loc v = initial_of type loc (number_of v) ≡ Some v
 
 record IsFreePlace (type : DeclaredType) (known : Declarations) (loc : Loc) : Type 0 where
   place : IsCell loc
@@ -153,10 +158,10 @@ variable_fits known t name type o v word new place start =
     fresh = rw (lawful, new.no_variable) refl
 
     by_place : (o : Option Loc) → ((loc : Loc) → o ≡ Some loc → IsFreePlace (Elementary type) known loc) → IsStart type o v → IsVariable known.variables (variable (capitals t.text) type o v)
-    by_place None place start = record { length = long_enough t word; name = fresh; type = type_again type; location = refl; location_small = omega arith; initial = start.again; initial_small = start.small }
+    by_place None place start = record { length = long_enough t word; name = fresh; type = type_again type; location = refl; location_small = omega arith; initial = start }
     by_place (Some loc) place start =
         let p = place loc refl in
-        record { length = long_enough t word; name = fresh; type = type_again type; location = located_again known.variables type loc p.place p.suits p.free; location_small = omega (arith, loc_small loc p.place); initial = start.again; initial_small = start.small }
+        record { length = long_enough t word; name = fresh; type = type_again type; location = located_again known.variables type loc p.place p.suits p.free; location_small = omega (arith, loc_small loc p.place); initial = start }
 
 abbrev instance : List ℕ → BlockKind → Instance
 instance name kind = record { name = name; kind = kind }
@@ -218,6 +223,7 @@ zero_made types.Bool = refl
 zero_made types.Int = refl
 zero_made types.Dint = refl
 zero_made types.Time = refl
+zero_made types.Lint = refl
 
 zero_may : (type : Ty) (loc : Option Loc) → may_start_with loc (zero_of type) ≡ true
 zero_may type None = refl
@@ -225,6 +231,7 @@ zero_may types.Bool (Some loc) = or_true (is_writable_area (area_of loc))
 zero_may types.Int (Some loc) = or_true (is_writable_area (area_of loc))
 zero_may types.Dint (Some loc) = or_true (is_writable_area (area_of loc))
 zero_may types.Time (Some loc) = or_true (is_writable_area (area_of loc))
+zero_may types.Lint (Some loc) = or_true (is_writable_area (area_of loc))
 
 abbrev one_value : Value → Option Value
 one_value v = Some v

@@ -36,6 +36,7 @@ type_of word =
     else if spells (codes "INT") word then Some types.Int
     else if spells (codes "DINT") word then Some types.Dint
     else if spells (codes "TIME") word then Some types.Time
+    else if spells (codes "LINT") word then Some types.Lint
     else None
 
 -- what a type word stands for: an elementary type or the kind of a function block

@@ -62,6 +62,8 @@ fn elementary(word: &[u8]) -> Option<Ty>
         Some(Ty::Dint)
     } else if is_spelled(b"TIME", word) {
         Some(Ty::Time)
+    } else if is_spelled(b"LINT", word) {
+        Some(Ty::Lint)
     } else {
         None
     }

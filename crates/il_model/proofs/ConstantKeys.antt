@@ -25,6 +25,7 @@ key_same (values.Bool false) (values.Bool true) = refl
 key_same (values.Bool false) (values.Bool false) = refl
 key_same (values.Int a) (values.Int b) = number_key a b
 key_same (values.Dint a) (values.Dint b) = number_key a b
+key_same (values.Lint a) (values.Lint b) = number_key a b
 key_same (values.Time a) (values.Time b) = number_key a b
 key_same _ _ = refl
 
@@ -38,6 +39,7 @@ value_same (values.Bool false) (values.Bool true) e = absurd cc
 value_same (values.Bool false) (values.Bool false) e = refl
 value_same (values.Int a) (values.Int b) e = ap values.Int (number_same a b e)
 value_same (values.Dint a) (values.Dint b) e = ap values.Dint (number_same a b e)
+value_same (values.Lint a) (values.Lint b) e = ap values.Lint (number_same a b e)
 value_same (values.Time a) (values.Time b) e = ap values.Time (number_same a b e)
 value_same _ _ e = absurd cc
 

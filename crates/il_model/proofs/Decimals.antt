@@ -8,8 +8,8 @@ use Rattle.il_model.specs.Literal.{digit_of, decimals, held_integer}
 use Rattle.std.specs.Prelude.{option_map}
 use Rattle.il_model.specs.Durations.{digit_list, whole_part, PartText, part_by, sum_of_parts, parts_by, past_join}
 
-pub small_product : (n u : ℕ) → n ≤ 4294967296 → u ≤ 86400000 → n * u ≤ 371085174374400000
-small_product n u a b = mul-le n u 4294967296 86400000 a b
+pub small_product : (n u : ℕ) → n < 2 ^ 64 → u ≤ 86400000 → n * u ≤ 18446744073709551615 * 86400000
+small_product n u a b = mul-le n u 18446744073709551615 86400000 (omega (arith, a)) b
 
 -- so many milliseconds are the part of the unit that the decimals say
 abbrev pub IsFraction : ℕ → List ℕ → ℕ → Type 0

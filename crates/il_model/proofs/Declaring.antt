@@ -52,6 +52,7 @@ made_again types.Bool (pos n) v e = truth_again (ltb n 1) (ltb n 2) v e
 made_again types.Bool (negsuc n) v e = absurd cc
 made_again types.Int z v e = let k = keeps (is_within 32768 z) (values.Int z) v e in subst (λ (w : Value). typed_value (ty_of w) (number_of w) ≡ Some w) k.1 (rw k.0 refl)
 made_again types.Dint z v e = let k = keeps (is_within 2147483648 z) (values.Dint z) v e in subst (λ (w : Value). typed_value (ty_of w) (number_of w) ≡ Some w) k.1 (rw k.0 refl)
+made_again types.Lint z v e = let k = keeps (is_within 9223372036854775808 z) (values.Lint z) v e in subst (λ (w : Value). typed_value (ty_of w) (number_of w) ≡ Some w) k.1 (rw k.0 refl)
 made_again types.Time z v e = let k = keeps (is_within 2147483648 z) (values.Time z) v e in subst (λ (w : Value). typed_value (ty_of w) (number_of w) ≡ Some w) k.1 (rw k.0 refl)
 
 by_type : (wanted : Option Ty) (z : ℤ) (v : Value) → option_and_then (λ t. typed_value t z) wanted ≡ Some v → typed_value (ty_of v) (number_of v) ≡ Some v

@@ -294,6 +294,14 @@ to_int_told : (within room : Bool) (cr : Option Ty) (held : Option Held) (n c b 
 to_int_told within room None held n c b kind = refl
 to_int_told within room (Some x) held n c b kind = unless (same_type x types.Dint) (Sets (Some types.Int))
 
+to_lint_told : (within room : Bool) (cr : Option Ty) (held : Option Held) (n c b : Bool) (kind : OperandKind) → fault_of (convert_row cr types.Dint types.Lint) ≡ first_found (row_has within room cr held ops.DintToLint (letters n c b) kind)
+to_lint_told within room None held n c b kind = refl
+to_lint_told within room (Some x) held n c b kind = unless (same_type x types.Dint) (Sets (Some types.Lint))
+
+from_lint_told : (within room : Bool) (cr : Option Ty) (held : Option Held) (n c b : Bool) (kind : OperandKind) → fault_of (convert_row cr types.Lint types.Dint) ≡ first_found (row_has within room cr held ops.LintToDint (letters n c b) kind)
+from_lint_told within room None held n c b kind = refl
+from_lint_told within room (Some x) held n c b kind = unless (same_type x types.Lint) (Sets (Some types.Dint))
+
 -- the operators on the current result and an operand have one row each way
 abbrev operand_has : Bool → Option Ty → Op → Modifier → OperandKind → TypeFault → Bool
 operand_has room cr op m kind TooDeep = m.opens && not room
@@ -344,6 +352,8 @@ row_told cr held depth ops.Ret n c b kind = return_told (nat_lt 0 depth) (nat_lt
 row_told cr held depth ops.Close n c b kind = close_told (nat_lt 0 depth) (nat_lt depth 16) cr held n c b kind
 row_told cr held depth ops.IntToDint n c b kind = to_dint_told (nat_lt 0 depth) (nat_lt depth 16) cr held n c b kind
 row_told cr held depth ops.DintToInt n c b kind = to_int_told (nat_lt 0 depth) (nat_lt depth 16) cr held n c b kind
+row_told cr held depth ops.DintToLint n c b kind = to_lint_told (nat_lt 0 depth) (nat_lt depth 16) cr held n c b kind
+row_told cr held depth ops.LintToDint n c b kind = from_lint_told (nat_lt 0 depth) (nat_lt depth 16) cr held n c b kind
 row_told cr held depth op n c b kind = operand_told (nat_lt depth 16) cr op n c b kind
 
 -- ---- an operand that stands for nothing

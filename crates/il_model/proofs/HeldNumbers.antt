@@ -1,4 +1,4 @@
--- What is told of numbers from 2^32 on makes no difference to a literal.
+-- What is told of numbers from 2^64 - 1 on makes no difference to a literal.
 use Rattle.std.proofs.Common.{◌≡◌, ℕ, zero, suc, ◌+◌, ◌*◌, ◌<◌, ◌≤◌, ◌^◌, ◌⊎◌, inl, inr, min, Bool, true, false, cond, ltb, eqb, List, [], ◌∷◌, length, take, drop, Option, Some, None, refl, sym, ap, subst, arith, codes}
 use Rattle.std.specs.Prelude.{ℤ, pos, negsuc, option_map}
 use Rattle.std.specs.Option.{option_and_then}
@@ -13,15 +13,15 @@ use Rattle.il_model.specs.Durations.{PartText, unit_of, unit_len, digits_len, fr
 use Rattle.il_model.specs.Literals.{positive, minus, signed_by, hash_at, based_by, whole_by, time_by, typed_literal, bare_literal, prefixed_literal, literal_by, literal_of}
 
 abbrev top : ℕ
-top = 4294967296
+top = 18446744073709551615
 
 record Far (a b : Option ℕ) : Type 0 where
   one : ℕ
   other : ℕ
   is_one : a ≡ Some one
   is_other : b ≡ Some other
-  one_far : 4294967296 ≤ one
-  other_far : 4294967296 ≤ other
+  one_far : 18446744073709551615 ≤ one
+  other_far : 18446744073709551615 ≤ other
 
 record Near (a b : Option ℕ) : Type 0 where
   near : (a ≡ b) ⊎ Far a b
@@ -29,14 +29,14 @@ record Near (a b : Option ℕ) : Type 0 where
 same_near : (a b : Option ℕ) → a ≡ b → Near a b
 same_near a b e = record { near = inl e }
 
-far_near : (x y : ℕ) → 4294967296 ≤ x → 4294967296 ≤ y → Near (Some x) (Some y)
+far_near : (x y : ℕ) → 18446744073709551615 ≤ x → 18446744073709551615 ≤ y → Near (Some x) (Some y)
 far_near x y a b = record { near = inr (record { one = x; other = y; is_one = refl; is_other = refl; one_far = a; other_far = b }) }
 
-held_near : (o : Option ℕ) → Near (option_map (λ n. min n 4294967296) o) o
+held_near : (o : Option ℕ) → Near (option_map (λ n. min n 18446744073709551615) o) o
 held_near None = same_near None None refl
-held_near (Some n) = elim (cases_lt n 4294967296) [
-  | inl small ↦ let e : min n 4294967296 ≡ n = omega arith in same_near _ _ (ap (λ (x : ℕ). Some x) e)
-  | inr large ↦ far_near (min n 4294967296) n (omega arith) large
+held_near (Some n) = elim (cases_lt n 18446744073709551615) [
+  | inl small ↦ let e : min n 18446744073709551615 ≡ n = omega arith in same_near _ _ (ap (λ (x : ℕ). Some x) e)
+  | inr large ↦ far_near (min n 18446744073709551615) n (omega arith) large
 ]
 
 integer_near : (base : ℕ) (bs : List ℕ) → Near (held_integer base bs) (integer_of base bs)
@@ -45,7 +45,7 @@ integer_near base bs = held_near (integer_of base bs)
 -- ---- numbers with a sign
 
 abbrev IsOut : ℤ → Type 0
-IsOut z = is_within (2 ^ 31) z ≡ false
+IsOut z = is_within (2 ^ 63) z ≡ false
 
 record FarSigned (a b : Option ℤ) : Type 0 where
   one : ℤ
@@ -58,14 +58,14 @@ record FarSigned (a b : Option ℤ) : Type 0 where
 record NearSigned (a b : Option ℤ) : Type 0 where
   near : (a ≡ b) ⊎ FarSigned a b
 
-positive_out : (n : ℕ) → 4294967296 ≤ n → IsOut (positive n)
-positive_out n le = le-ltb n (2 ^ 31) (omega (arith, le))
+positive_out : (n : ℕ) → 18446744073709551615 ≤ n → IsOut (positive n)
+positive_out n le = le-ltb n (2 ^ 63) (omega (arith, le))
 
-minus_out : (n : ℕ) → 4294967296 ≤ n → IsOut (minus n)
+minus_out : (n : ℕ) → 18446744073709551615 ≤ n → IsOut (minus n)
 minus_out zero le = absurd (omega (arith, le))
-minus_out (suc n) le = le-ltb n (2 ^ 31) (omega (arith, le))
+minus_out (suc n) le = le-ltb n (2 ^ 63) (omega (arith, le))
 
-signed_near : (f : ℕ → ℤ) → ((n : ℕ) → 4294967296 ≤ n → IsOut (f n)) → (a b : Option ℕ) → Near a b → NearSigned (option_map f a) (option_map f b)
+signed_near : (f : ℕ → ℤ) → ((n : ℕ) → 18446744073709551615 ≤ n → IsOut (f n)) → (a b : Option ℕ) → Near a b → NearSigned (option_map f a) (option_map f b)
 signed_near f out a b n = elim n.near [
   | inl e ↦ record { near = inl (ap (option_map f) e) }
   | inr d ↦ record { near = inr (record { one = f d.one; other = f d.other; is_one = rw d.is_one refl; is_other = rw d.is_other refl; one_out = out d.one d.one_far; other_out = out d.other d.other_far }) }
@@ -114,8 +114,8 @@ record FarParts (a b : Option PartText) : Type 0 where
   rank : one.rank ≡ other.rank
   broken : one.broken ≡ other.broken
   rest : one.rest ≡ other.rest
-  one_far : 4294967296 ≤ one.milliseconds
-  other_far : 4294967296 ≤ other.milliseconds
+  one_far : 18446744073709551615 ≤ one.milliseconds
+  other_far : 18446744073709551615 ≤ other.milliseconds
 
 record NearParts (a b : Option PartText) : Type 0 where
   near : (a ≡ b) ⊎ FarParts a b
@@ -142,7 +142,7 @@ unit_length w =
     (unit_either (spells (codes "S") w) (unit 1 1000) _ (record { has = omega arith })
     (unit_either (spells (codes "MS") w) (unit 0 1) None (record { has = omega arith }) (record { has = tt })))))
 
-times_far : (n u : ℕ) → 4294967296 ≤ n → 0 < u → 4294967296 ≤ n * u
+times_far : (n u : ℕ) → 18446744073709551615 ≤ n → 0 < u → 18446744073709551615 ≤ n * u
 times_far n u le some =
     let one : 1 ≤ u = omega (arith, some) in
     let h : n * 1 ≤ n * u = mul-le-mul_left n one in
@@ -151,12 +151,12 @@ times_far n u le some =
 abbrev some_part : PartText → Option PartText
 some_part p = Some p
 
-plain_far : (x y : ℕ) (rest : List ℕ) (o : Option TimeUnit) → 4294967296 ≤ x → 4294967296 ≤ y → HasLength o → NearParts (option_map (plain_part x rest) o) (option_map (plain_part y rest) o)
+plain_far : (x y : ℕ) (rest : List ℕ) (o : Option TimeUnit) → 18446744073709551615 ≤ x → 18446744073709551615 ≤ y → HasLength o → NearParts (option_map (plain_part x rest) o) (option_map (plain_part y rest) o)
 plain_far x y rest None a b u = record { near = inl refl }
 plain_far x y rest (Some u) a b l =
     record { near = inr (record { one = plain_part x rest u; other = plain_part y rest u; is_one = refl; is_other = refl; rank = refl; broken = refl; rest = refl; one_far = times_far x u.milliseconds a l.has; other_far = times_far y u.milliseconds b l.has }) }
 
-broken_far : (x y : ℕ) (rest : List ℕ) (u : TimeUnit) (f : Option ℕ) → 4294967296 ≤ x → 4294967296 ≤ y → 0 < u.milliseconds
+broken_far : (x y : ℕ) (rest : List ℕ) (u : TimeUnit) (f : Option ℕ) → 18446744073709551615 ≤ x → 18446744073709551615 ≤ y → 0 < u.milliseconds
     → NearParts (option_map (λ (n : ℕ). record { rank = u.rank; broken = true; milliseconds = x * u.milliseconds + n; rest = rest }) f) (option_map (λ (n : ℕ). record { rank = u.rank; broken = true; milliseconds = y * u.milliseconds + n; rest = rest }) f)
 broken_far x y rest u None a b l = record { near = inl refl }
 broken_far x y rest u (Some f) a b l =
@@ -164,11 +164,11 @@ broken_far x y rest u (Some f) a b l =
     let q = times_far y u.milliseconds b l in
     record { near = inr (record { one = record { rank = u.rank; broken = true; milliseconds = x * u.milliseconds + f; rest = rest }; other = record { rank = u.rank; broken = true; milliseconds = y * u.milliseconds + f; rest = rest }; is_one = refl; is_other = refl; rank = refl; broken = refl; rest = refl; one_far = omega (arith, p); other_far = omega (arith, q) }) }
 
-decimals_far : (x y : ℕ) (fraction rest : List ℕ) (o : Option TimeUnit) → 4294967296 ≤ x → 4294967296 ≤ y → HasLength o → NearParts (option_and_then (broken_part x fraction rest) o) (option_and_then (broken_part y fraction rest) o)
+decimals_far : (x y : ℕ) (fraction rest : List ℕ) (o : Option TimeUnit) → 18446744073709551615 ≤ x → 18446744073709551615 ≤ y → HasLength o → NearParts (option_and_then (broken_part x fraction rest) o) (option_and_then (broken_part y fraction rest) o)
 decimals_far x y fraction rest None a b u = record { near = inl refl }
 decimals_far x y fraction rest (Some u) a b l = broken_far x y rest u (fraction_of u.milliseconds fraction) a b l.has
 
-number_far : (bytes : List ℕ) (x y : ℕ) → 4294967296 ≤ x → 4294967296 ≤ y → NearParts (behind_number bytes x) (behind_number bytes y)
+number_far : (bytes : List ℕ) (x y : ℕ) → 18446744073709551615 ≤ x → 18446744073709551615 ≤ y → NearParts (behind_number bytes x) (behind_number bytes y)
 number_far bytes x y a b = chosen (begins_dot bytes)
   where
     unit_text : List ℕ
@@ -197,8 +197,8 @@ more_near n a b h = elim h.near [
   | inr d ↦ let l = d.one_far in let r = d.other_far in rw (d.is_one, d.is_other) (far_near (n + d.one) (n + d.other) (omega (arith, l)) (omega (arith, r)))
 ]
 
--- two numbers from 2^32 on, with what follows
-far_more : (n m : ℕ) (a b : Option ℕ) → 4294967296 ≤ n → 4294967296 ≤ m → Near a b → Near (option_map (λ (k : ℕ). n + k) a) (option_map (λ (k : ℕ). m + k) b)
+-- two numbers from 2^64 - 1 on, with what follows
+far_more : (n m : ℕ) (a b : Option ℕ) → 18446744073709551615 ≤ n → 18446744073709551615 ≤ m → Near a b → Near (option_map (λ (k : ℕ). n + k) a) (option_map (λ (k : ℕ). m + k) b)
 far_more n m a b x y h = elim h.near [
   | inl e ↦ subst (λ (o : Option ℕ). Near (option_map (λ (k : ℕ). n + k) a) (option_map (λ (k : ℕ). m + k) o)) e (same a)
   | inr d ↦ rw (d.is_one, d.is_other) (far_near (n + d.one) (m + d.other) (omega (arith, x)) (omega (arith, y)))
@@ -226,7 +226,7 @@ added_near f g near limit p =
 abbrev part : ℕ → Bool → ℕ → List ℕ → PartText
 part r b n rest = record { rank = r; broken = b; milliseconds = n; rest = rest }
 
-added_far : (f g : ℕ → List ℕ → Option ℕ) → ((limit : ℕ) (bytes : List ℕ) → Near (f limit bytes) (g limit bytes)) → (limit r x y : ℕ) (b : Bool) (rest : List ℕ) → 4294967296 ≤ x → 4294967296 ≤ y
+added_far : (f g : ℕ → List ℕ → Option ℕ) → ((limit : ℕ) (bytes : List ℕ) → Near (f limit bytes) (g limit bytes)) → (limit r x y : ℕ) (b : Bool) (rest : List ℕ) → 18446744073709551615 ≤ x → 18446744073709551615 ≤ y
     → Near (sum_of_parts f limit (part r b x rest)) (sum_of_parts g limit (part r b y rest))
 added_far f g near limit r x y b rest i j =
     choose_near (ltb r limit) _ _ None None
@@ -269,36 +269,45 @@ time_is (b ∷ bs) =
 
 -- ---- literals
 
-narrow_out : (z : ℤ) → IsOut z → is_within (2 ^ 15) z ≡ false
-narrow_out (pos n) e = le-ltb n (2 ^ 15) (let h = ltb-false n (2 ^ 31) e in omega (arith, h))
-narrow_out (negsuc n) e = le-ltb n (2 ^ 15) (let h = ltb-false n (2 ^ 31) e in omega (arith, h))
+narrow_out : (limit : ℕ) (z : ℤ) → limit ≤ 2 ^ 63 → IsOut z → is_within limit z ≡ false
+narrow_out limit (pos n) low e = le-ltb n limit (let h = ltb-false n (2 ^ 63) e in omega (arith, h, low))
+narrow_out limit (negsuc n) low e = le-ltb n limit (let h = ltb-false n (2 ^ 63) e in omega (arith, h, low))
+
+outside : (limit : ℕ) → limit ≤ 2 ^ 63 → {a b : Option ℤ} (d : FarSigned a b) → (is_within limit d.one ≡ false) × (is_within limit d.other ≡ false)
+outside limit low d = (narrow_out limit d.one low d.one_out, narrow_out limit d.other low d.other_out)
 
 int_same : (a b : Option ℤ) → NearSigned a b → typed_literal types.Int a ≡ typed_literal types.Int b
 int_same a b n = elim n.near [
   | inl e ↦ ap (typed_literal types.Int) e
-  | inr d ↦ let x = narrow_out d.one d.one_out in let y = narrow_out d.other d.other_out in rw (d.is_one, d.is_other, x, y) refl
+  | inr d ↦ let o = outside (2 ^ 15) (omega arith) d in rw (d.is_one, d.is_other, o.0, o.1) refl
 ]
 
 dint_same : (a b : Option ℤ) → NearSigned a b → typed_literal types.Dint a ≡ typed_literal types.Dint b
 dint_same a b n = elim n.near [
   | inl e ↦ ap (typed_literal types.Dint) e
+  | inr d ↦ let o = outside (2 ^ 31) (omega arith) d in rw (d.is_one, d.is_other, o.0, o.1) refl
+]
+
+lint_same : (a b : Option ℤ) → NearSigned a b → typed_literal types.Lint a ≡ typed_literal types.Lint b
+lint_same a b n = elim n.near [
+  | inl e ↦ ap (typed_literal types.Lint) e
   | inr d ↦ rw (d.is_one, d.is_other, d.one_out, d.other_out) refl
 ]
 
 time_same : (a b : Option ℤ) → NearSigned a b → typed_literal types.Time a ≡ typed_literal types.Time b
 time_same a b n = elim n.near [
   | inl e ↦ ap (typed_literal types.Time) e
-  | inr d ↦ rw (d.is_one, d.is_other, d.one_out, d.other_out) refl
+  | inr d ↦ let o = outside (2 ^ 31) (omega arith) d in rw (d.is_one, d.is_other, o.0, o.1) refl
 ]
 
 bare_same : (a b : Option ℤ) → NearSigned a b → option_and_then bare_literal a ≡ option_and_then bare_literal b
 bare_same a b n = elim n.near [
   | inl e ↦ ap (option_and_then bare_literal) e
-  | inr d ↦ rw (d.is_one, d.is_other, d.one_out, d.other_out) refl
+  | inr d ↦ let o = outside (2 ^ 31) (omega arith) d in rw (d.is_one, d.is_other, o.0, o.1) refl
 ]
 
 prefixed_same : (word bytes : List ℕ) → prefixed_literal held_integer word bytes ≡ prefixed_literal integer_of word bytes
-prefixed_same word bytes = rw (int_same _ _ (whole_is bytes), dint_same _ _ (whole_is bytes), time_same _ _ (time_is bytes), bare_same _ _ (based_is word bytes)) refl
+prefixed_same word bytes = rw (int_same _ _ (whole_is bytes), dint_same _ _ (whole_is bytes), lint_same _ _ (whole_is bytes), time_same _ _ (time_is bytes), bare_same _ _ (based_is word bytes)) refl
 
 pub literal_same : (bytes : List ℕ) → literal_by held_integer bytes ≡ literal_of bytes
 unfolding literal_of

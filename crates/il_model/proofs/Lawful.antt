@@ -1,11 +1,9 @@
 -- A typed program whose parts are lawful each for itself has an image.
-use Rattle.std.proofs.Common.{inl, inr, ◌⊎◌, ◌≡◌, ℕ, suc, ◌+◌, ◌-◌, ◌^◌, ◌<◌, ◌≤◌, Bool, true, false, cond, ltb, eqb, List, [], ◌∷◌, ◌++◌, length, get_or, Option, Some, None, Result, Ok, Err, refl, sym, ap, subst, ◌∙◌, append_assoc, arith}
+use Rattle.std.proofs.Common.{inl, inr, ◌⊎◌, ◌≡◌, ℕ, suc, ◌+◌, ◌^◌, ◌<◌, ◌≤◌, Bool, true, false, cond, ltb, eqb, List, [], ◌∷◌, ◌++◌, length, get_or, Option, Some, None, Result, Ok, Err, refl, sym, ap, subst, ◌∙◌, append_assoc, arith}
 use Rattle.std.specs.Prelude.{ℤ, pos, negsuc, map, slice_get, is_some, not, nat_eq, ◌&&◌, ◌||◌}
 use Rattle.std.specs.List.{position, AllByRecursion}
 use Rattle.std.specs.Option.{option_map, option_and_then}
-use Rattle.std.specs.Int.{w32, cast_signed, cast_unsigned}
-use Rattle.std.proofs.lemmas.Bool.{eqb-true, ltb-true, ltb-false, or_left, or_right}
-use Rattle.std.proofs.lemmas.Int.{ints, to_z-of_z}
+use Rattle.std.proofs.lemmas.Bool.{eqb-true, ltb-false, or_left, or_right}
 use Rattle.std.proofs.lemmas.List.{length-append, append-nil}
 use Rattle.std.proofs.lemmas.Option.{slice_get-get_or}
 use Rattle.std.proofs.lemmas.List.Quantifiers.{position-Some}
@@ -35,7 +33,7 @@ use Rattle.il_model.specs.declared.codes.OperandForm.{OperandForm}
 use Rattle.il_model.specs.declared.codes.OperandForm.TheVariants as forms
 use Rattle.il_model.specs.declared.typing.TypeFault.{TypeFault}
 use Rattle.il_model.specs.declared.typing.TypeFault.TheVariants.{Unbalanced, DuplicateLabel}
-use Rattle.il_model.specs.Values.{ty_of, number_of, typed_value, is_within}
+use Rattle.il_model.specs.Values.{ty_of, number_of, typed_value}
 use Rattle.il_model.specs.Operators.{same_truth, same_number}
 use Rattle.il_model.specs.Names.{same_name, is_lawful_name}
 use Rattle.il_model.specs.Kinds.{field_name}
@@ -46,7 +44,7 @@ use Rattle.il_model.specs.Marks.{Mark, with_mark, word_count, words_in, address_
 use Rattle.il_model.specs.Constants.{same_value, operand_literal, joined_constants, constants_from, operands_in, operands_of, constants_of}
 use Rattle.il_model.specs.CodedOperands.{code_of}
 use Rattle.il_model.specs.Image.{type_code, op_code, flag, modifier_code, numbered, coded_literal, coded_operand, number_or_unused, operand_code}
-use Rattle.il_model.specs.Codes.{if_passes, type_of, is_known, usage_of, allows, has_form, allowed_by, formed_by, op_list, modifier_of, letters_of, named_operand, value_operand, label_there, is_jump, is_call, numbered_operand}
+use Rattle.il_model.specs.Codes.{if_passes, type_of, is_known, usage_of, allows, has_form, allowed_by, formed_by, op_of, modifier_of, letters_of, named_operand, value_operand, label_there, is_jump, is_call, numbered_operand}
 use Rattle.il_model.specs.Fits.{IsVariable, IsInstance, IsMark, IsConstant, IsPassing, IsWord, AreItems, IsImage}
 use Rattle.il_model.specs.Lawful.{IsOperand, IsLabel, IsPassed, IsLawful, AreLawful}
 use Rattle.il_model.proofs.TypedLines.{bind_ok, ok_before, typed_line, IsArgumentOf, arguments_typed, no_arguments}
@@ -62,7 +60,7 @@ again test o x e h = rw (e, h) refl
 
 -- ---- operators and letters
 
-listed : (op : Op) → slice_get op_list (op_code op) ≡ Some op
+pub listed : (op : Op) → op_of (op_code op) ≡ Some op
 listed ops.Empty = refl
 listed ops.Ld = refl
 listed ops.St = refl
@@ -89,6 +87,8 @@ listed ops.Ret = refl
 listed ops.Close = refl
 listed ops.IntToDint = refl
 listed ops.DintToInt = refl
+listed ops.DintToLint = refl
+listed ops.LintToDint = refl
 
 op_below : (op : Op) → op_code op < 2 ^ 8
 op_below ops.Empty = omega arith
@@ -117,6 +117,8 @@ op_below ops.Ret = omega arith
 op_below ops.Close = omega arith
 op_below ops.IntToDint = omega arith
 op_below ops.DintToInt = omega arith
+op_below ops.DintToLint = omega arith
+op_below ops.LintToDint = omega arith
 
 not_both : (l : LetterSet) (n c o : Bool) → (let m : Modifier = record { negated = n; conditional = c; opens = o } in allows l m ≡ true) → (c && o) ≡ false
 not_both letters.None true true true e = absurd cc
@@ -201,6 +203,8 @@ jump_row ops.Ret = refl
 jump_row ops.Close = refl
 jump_row ops.IntToDint = refl
 jump_row ops.DintToInt = refl
+jump_row ops.DintToLint = refl
+jump_row ops.LintToDint = refl
 
 -- CAL alone takes an instance
 call_row : (op : Op) → is_call op ≡ is_instance_form (usage_of op).form
@@ -230,6 +234,8 @@ call_row ops.Ret = refl
 call_row ops.Close = refl
 call_row ops.IntToDint = refl
 call_row ops.DintToInt = refl
+call_row ops.DintToLint = refl
+call_row ops.LintToDint = refl
 
 abbrev is_label : Operand → Bool
 is_label (operands.Label name) = true
@@ -343,59 +349,37 @@ same_value_is (values.Bool a) (values.Bool b) e = ap (λ (x : Bool). values.Bool
 same_value_is (values.Int a) (values.Int b) e = ap (λ (x : ℤ). values.Int x) (same_number_is a b e)
 same_value_is (values.Dint a) (values.Dint b) e = ap (λ (x : ℤ). values.Dint x) (same_number_is a b e)
 same_value_is (values.Time a) (values.Time b) e = ap (λ (x : ℤ). values.Time x) (same_number_is a b e)
+same_value_is (values.Lint a) (values.Lint b) e = ap (λ (x : ℤ). values.Lint x) (same_number_is a b e)
 same_value_is (values.Bool a) (values.Int b) e = absurd cc
 same_value_is (values.Bool a) (values.Dint b) e = absurd cc
 same_value_is (values.Bool a) (values.Time b) e = absurd cc
+same_value_is (values.Bool a) (values.Lint b) e = absurd cc
 same_value_is (values.Int a) (values.Bool b) e = absurd cc
 same_value_is (values.Int a) (values.Dint b) e = absurd cc
 same_value_is (values.Int a) (values.Time b) e = absurd cc
+same_value_is (values.Int a) (values.Lint b) e = absurd cc
 same_value_is (values.Dint a) (values.Bool b) e = absurd cc
 same_value_is (values.Dint a) (values.Int b) e = absurd cc
 same_value_is (values.Dint a) (values.Time b) e = absurd cc
+same_value_is (values.Dint a) (values.Lint b) e = absurd cc
 same_value_is (values.Time a) (values.Bool b) e = absurd cc
 same_value_is (values.Time a) (values.Int b) e = absurd cc
 same_value_is (values.Time a) (values.Dint b) e = absurd cc
+same_value_is (values.Time a) (values.Lint b) e = absurd cc
+same_value_is (values.Lint a) (values.Bool b) e = absurd cc
+same_value_is (values.Lint a) (values.Int b) e = absurd cc
+same_value_is (values.Lint a) (values.Dint b) e = absurd cc
+same_value_is (values.Lint a) (values.Time b) e = absurd cc
 
-type_again : (t : Ty) → type_of (type_code t) ≡ Some t
+pub type_again : (t : Ty) → type_of (type_code t) ≡ Some t
 type_again types.Bool = refl
 type_again types.Int = refl
 type_again types.Dint = refl
 type_again types.Time = refl
-
--- a number of 32 bits
-record IsWord32 (z : ℤ) : Type 0 where
-  back : cast_signed w32 (cast_unsigned w32 z) ≡ z
-  small : cast_unsigned w32 z < 2 ^ 32
-
-word_pos : (n : ℕ) → n < 2 ^ 31 → IsWord32 (pos n)
-word_pos n lt = record { back = to_z-of_z w32 (pos n) (search (arith, ints)); small = omega (arith, ints) }
-
-word_neg : (n : ℕ) → n < 2 ^ 31 → IsWord32 (negsuc n)
-word_neg n lt = record { back = to_z-of_z w32 (negsuc n) (search (arith, ints)); small = omega (arith, ints) }
-
-truth_32 : (b : Bool) → IsWord32 (number_of (values.Bool b))
-truth_32 true = word_pos 1 (omega arith)
-truth_32 false = word_pos 0 (omega arith)
-
-kept_by : (b : Bool) (x v : Value) → cond b (Some x) None ≡ Some v → b ≡ true
-kept_by true x v e = refl
-kept_by false x v e = absurd cc
-
-within_32 : (limit : ℕ) (z : ℤ) → limit ≤ 2 ^ 31 → is_within limit z ≡ true → IsWord32 z
-within_32 limit (pos n) le e = let lt = ltb-true n limit e in word_pos n (omega arith)
-within_32 limit (negsuc n) le e = let lt = ltb-true n limit e in word_neg n (omega arith)
-
-value_32 : (v : Value) → typed_value (ty_of v) (number_of v) ≡ Some v → IsWord32 (number_of v)
-value_32 (values.Bool b) e = truth_32 b
-value_32 (values.Int z) e = within_32 (2 ^ 15) z (omega arith) (kept_by (is_within (2 ^ 15) z) (values.Int z) (values.Int z) e)
-value_32 (values.Dint z) e = within_32 (2 ^ 31) z (omega arith) (kept_by (is_within (2 ^ 31) z) (values.Dint z) (values.Dint z) e)
-value_32 (values.Time z) e = within_32 (2 ^ 31) z (omega arith) (kept_by (is_within (2 ^ 31) z) (values.Time z) (values.Time z) e)
+type_again types.Lint = refl
 
 constant_fits : (seen : List Value) (v : Value) → typed_value (ty_of v) (number_of v) ≡ Some v → is_known seen v ≡ false → IsConstant seen v
-constant_fits seen v e new =
-    let w = value_32 v e in
-    let read : typed_value (ty_of v) (cast_signed w32 (cast_unsigned w32 (number_of v))) ≡ Some v = ap (typed_value (ty_of v)) w.back ∙ e in
-    record { type = type_again (ty_of v); value = again (λ v. not (is_known seen v)) (typed_value (ty_of v) (cast_signed w32 (cast_unsigned w32 (number_of v)))) v read (ap not new); small = w.small }
+constant_fits seen v e new = record { type = type_again (ty_of v); value = again (λ v. not (is_known seen v)) (typed_value (ty_of v) (number_of v)) v e (ap not new) }
 
 -- ---- the table of constants
 

@@ -25,3 +25,4 @@ pub mod WrittenLocations
 pub mod HeldNumbers
 pub mod ConstantKeys
 pub mod Streams
+pub mod Versions

@@ -1,11 +1,7 @@
 -- The values of literals and of initial values are in their ranges.
-use Rattle.std.proofs.Common.{◌≡◌, ℕ, ◌+◌, ◌<◌, ◌^◌, Bool, true, false, cond, ltb, List, length, take, drop, Option, Some, None, refl, subst, arith, ◌||◌, codes}
+use Rattle.std.proofs.Common.{◌≡◌, ℕ, ◌+◌, ◌^◌, Bool, true, false, cond, ltb, List, length, take, drop, Option, Some, None, refl, subst, ◌||◌, codes}
 use Rattle.std.specs.Prelude.{ℤ, pos, negsuc, option_map}
 use Rattle.std.specs.Option.{option_and_then}
-use Rattle.std.specs.Int.{w32, cast_signed, cast_unsigned}
-use Rattle.std.proofs.lemmas.Bool.{ltb-true, lt-ltb}
-use Rattle.std.proofs.Common.{SFits, to_z-of_z}
-use Rattle.std.proofs.Math.Facts.{Fits-of_z}
 use Rattle.il_model.specs.declared.value.Ty.{Ty}
 use Rattle.il_model.specs.declared.value.Ty.TheVariants as types
 use Rattle.il_model.specs.declared.value.Value.{Value}
@@ -46,6 +42,10 @@ dint_good : (b : Bool) (z : ℤ) → is_within (2 ^ 31) z ≡ b → Good (option
 dint_good true z e = record { good = rw e refl }
 dint_good false z e = record { good = tt }
 
+lint_good : (b : Bool) (z : ℤ) → is_within (2 ^ 63) z ≡ b → Good (option_map Typed (cond b (Some (values.Lint z)) None))
+lint_good true z e = record { good = rw e refl }
+lint_good false z e = record { good = tt }
+
 time_good : (b : Bool) (z : ℤ) → is_within (2 ^ 31) z ≡ b → Good (option_map Typed (cond b (Some (values.Time z)) None))
 time_good true z e = record { good = rw e refl }
 time_good false z e = record { good = tt }
@@ -57,6 +57,10 @@ int_typed (Some z) = int_good (is_within (2 ^ 15) z) z refl
 dint_typed : (o : Option ℤ) → Good (typed_literal types.Dint o)
 dint_typed None = record { good = tt }
 dint_typed (Some z) = dint_good (is_within (2 ^ 31) z) z refl
+
+lint_typed : (o : Option ℤ) → Good (typed_literal types.Lint o)
+lint_typed None = record { good = tt }
+lint_typed (Some z) = lint_good (is_within (2 ^ 63) z) z refl
 
 time_typed : (o : Option ℤ) → Good (typed_literal types.Time o)
 time_typed None = record { good = tt }
@@ -75,7 +79,8 @@ prefixed_good word bytes =
     either (spells (codes "BOOL") word) (truth_literal bytes) _ (truth_good bytes)
     (either (spells (codes "INT") word) (typed_literal types.Int (whole_by integer_of bytes)) _ (int_typed (whole_by integer_of bytes))
     (either (spells (codes "DINT") word) (typed_literal types.Dint (whole_by integer_of bytes)) _ (dint_typed (whole_by integer_of bytes))
-    (either (spells (codes "T") word || spells (codes "TIME") word) (typed_literal types.Time (time_by integer_of bytes)) (option_and_then bare_literal (based_by integer_of word bytes)) (time_typed (time_by integer_of bytes)) (bare_good (based_by integer_of word bytes)))))
+    (either (spells (codes "LINT") word) (typed_literal types.Lint (whole_by integer_of bytes)) _ (lint_typed (whole_by integer_of bytes))
+    (either (spells (codes "T") word || spells (codes "TIME") word) (typed_literal types.Time (time_by integer_of bytes)) (option_and_then bare_literal (based_by integer_of word bytes)) (time_typed (time_by integer_of bytes)) (bare_good (based_by integer_of word bytes))))))
 
 good_literal : (bytes : List ℕ) → Good (literal_of bytes)
 unfolding literal_of
@@ -98,21 +103,12 @@ some_of : (b : Bool) (x v : Value) → cond b (Some x) None ≡ one_value v → 
 some_of true x v e = (refl, value_is x v e)
 some_of false x v e = absurd cc
 
-fits_by : (z : ℤ) → is_within (2 ^ 31) z ≡ true → SFits w32 z
-fits_by (pos n) e = record { sfits = ltb-true n (2 ^ 31) e }
-fits_by (negsuc n) e = record { sfits = ltb-true n (2 ^ 31) e }
-
-wider : (z : ℤ) → is_within (2 ^ 15) z ≡ true → is_within (2 ^ 31) z ≡ true
-wider (pos n) e = let lt = ltb-true n (2 ^ 15) e in lt-ltb n (2 ^ 31) (omega (arith, lt))
-wider (negsuc n) e = let lt = ltb-true n (2 ^ 15) e in lt-ltb n (2 ^ 31) (omega (arith, lt))
-
 record IsMade (type : Ty) (v : Value) : Type 0 where
   again : typed_value type (number_of v) ≡ Some v
-  within : is_within (2 ^ 31) (number_of v) ≡ true
 
 truth_by : (a b : Bool) (v : Value) → cond a (Some (values.Bool false)) (cond b (Some (values.Bool true)) None) ≡ one_value v → IsMade types.Bool v
-truth_by true b v e = subst (IsMade types.Bool) (value_is (values.Bool false) v e) (record { again = refl; within = refl })
-truth_by false true v e = subst (IsMade types.Bool) (value_is (values.Bool true) v e) (record { again = refl; within = refl })
+truth_by true b v e = subst (IsMade types.Bool) (value_is (values.Bool false) v e) (record { again = refl })
+truth_by false true v e = subst (IsMade types.Bool) (value_is (values.Bool true) v e) (record { again = refl })
 truth_by false false v e = absurd cc
 
 truth_is : (z : ℤ) (v : Value) → truth_made z ≡ Some v → IsMade types.Bool v
@@ -123,23 +119,19 @@ made_is : (type : Ty) (z : ℤ) (v : Value) → typed_value type z ≡ Some v �
 made_is types.Bool z v e = truth_is z v e
 made_is types.Int z v e =
     let m = some_of (is_within (2 ^ 15) z) (values.Int z) v e in
-    subst (IsMade types.Int) m.1 (record { again = rw m.0 refl; within = wider z m.0 })
+    subst (IsMade types.Int) m.1 (record { again = rw m.0 refl })
 made_is types.Dint z v e =
     let m = some_of (is_within (2 ^ 31) z) (values.Dint z) v e in
-    subst (IsMade types.Dint) m.1 (record { again = rw m.0 refl; within = m.0 })
+    subst (IsMade types.Dint) m.1 (record { again = rw m.0 refl })
+made_is types.Lint z v e =
+    let m = some_of (is_within (2 ^ 63) z) (values.Lint z) v e in
+    subst (IsMade types.Lint) m.1 (record { again = rw m.0 refl })
 made_is types.Time z v e =
     let m = some_of (is_within (2 ^ 31) z) (values.Time z) v e in
-    subst (IsMade types.Time) m.1 (record { again = rw m.0 refl; within = m.0 })
+    subst (IsMade types.Time) m.1 (record { again = rw m.0 refl })
 
--- an initial value reads back from its bits
-pub record IsStart (type : Ty) (loc : Option Loc) (v : Value) : Type 0 where
-  pub again : initial_of type loc (cast_unsigned w32 (number_of v)) ≡ Some v
-  pub small : cast_unsigned w32 (number_of v) < 2 ^ 32
-
-pub start_again : (type : Ty) (loc : Option Loc) (z : ℤ) (v : Value) → typed_value type z ≡ Some v → may_start_with loc v ≡ true → IsStart type loc v
+-- an initial value is made again of its number
+pub start_again : (type : Ty) (loc : Option Loc) (z : ℤ) (v : Value) → typed_value type z ≡ Some v → may_start_with loc v ≡ true → initial_of type loc (number_of v) ≡ Some v
 start_again type loc z v e may =
     let m = made_is type z v e in
-    let fits = fits_by (number_of v) m.within in
-    let back : cast_signed w32 (cast_unsigned w32 (number_of v)) ≡ number_of v = to_z-of_z fits in
-    let small = (Fits-of_z fits).fits in
-    record { again = rw (back, m.again, may) refl; small = small }
+    rw (m.again, may) refl

@@ -348,10 +348,11 @@ truth_number_is : (z : ℤ) (v : Value) → truth_made z ≡ Some v → number_o
 truth_number_is (pos n) v e = truth_by (nat_lt n 1) (nat_lt n 2) n v refl refl e
 truth_number_is (negsuc n) v e = absurd cc
 
-made_number : (t : Ty) (z : ℤ) (v : Value) → typed_value t z ≡ Some v → number_of v ≡ z
+pub made_number : (t : Ty) (z : ℤ) (v : Value) → typed_value t z ≡ Some v → number_of v ≡ z
 made_number types.Bool z v e = truth_number_is z v e
 made_number types.Int z v e = sym (ap number_of (some_yes (is_within (2 ^ 15) z) (values.Int z) v e).1)
 made_number types.Dint z v e = sym (ap number_of (some_yes (is_within (2 ^ 31) z) (values.Dint z) v e).1)
+made_number types.Lint z v e = sym (ap number_of (some_yes (is_within (2 ^ 63) z) (values.Lint z) v e).1)
 made_number types.Time z v e = sym (ap number_of (some_yes (is_within (2 ^ 31) z) (values.Time z) v e).1)
 
 wanted_number : (w : Option Ty) (z : ℤ) (v : Value) → option_and_then (λ (t : Ty). typed_value t z) w ≡ Some v → number_of v ≡ z

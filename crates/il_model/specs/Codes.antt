@@ -1,14 +1,15 @@
 -- What the numbers in an image stand for: types, locations, operators, letters, operands.
-use Rattle.std.specs.Prelude.{ℕ, zero, suc, Bool, true, false, not, ◌&&◌, ◌||◌, List, [], ◌∷◌, slice_get, Option, Some, None, is_some, is_none, nat_lt, nat_eq, if◌then◌else◌}
+use Rattle.std.specs.Prelude.{ℕ, zero, suc, Bool, true, false, not, ◌&&◌, ◌||◌, List, [], ◌∷◌, slice_get, Option, Some, None, ℤ, is_some, is_none, nat_lt, nat_eq, if◌then◌else◌}
 use Rattle.std.specs.List.{position}
 use Rattle.std.specs.Option.{option_map, option_and_then}
-use Rattle.std.specs.Int.{w32, cast_signed}
 use Rattle.il_model.specs.declared.value.Ty.{Ty}
 use Rattle.il_model.specs.declared.value.Ty.TheVariants as types
 use Rattle.il_model.specs.declared.value.Value.{Value}
 use Rattle.il_model.specs.declared.op.Op.{Op}
 use Rattle.il_model.specs.declared.op.Op.TheVariants as ops
 use Rattle.il_model.specs.declared.op.Modifier.{Modifier}
+use Rattle.il_model.specs.declared.codes.Version.{Version}
+use Rattle.il_model.specs.declared.codes.Version.TheVariants as versions
 use Rattle.il_model.specs.declared.program.Loc.{Loc}
 use Rattle.il_model.specs.declared.program.Variable.{Variable}
 use Rattle.il_model.specs.declared.program.Instance.{Instance}
@@ -34,6 +35,7 @@ use Rattle.il_model.specs.Areas.{area_of}
 use Rattle.il_model.specs.Typing.{loc_type, is_writable_area}
 use Rattle.il_model.specs.Marks.{Mark}
 use Rattle.il_model.specs.Constants.{same_value}
+use Rattle.il_model.specs.Image.{is_long_type, converts_long}
 use Rattle.il_model.specs.declared.coded_operand.CodedOperand.{CodedOperand}
 use Rattle.il_model.specs.declared.coded_operand.CodedOperand.TheVariants as coded
 use Rattle.il_model.specs.CodedOperands.{loc_code, with_code}
@@ -64,7 +66,22 @@ type_of zero = Some types.Bool
 type_of (suc zero) = Some types.Int
 type_of (suc (suc zero)) = Some types.Dint
 type_of (suc (suc (suc zero))) = Some types.Time
+type_of (suc (suc (suc (suc zero)))) = Some types.Lint
 type_of n = None
+
+abbrev pub version_numbered : ℕ → Option Version
+version_numbered (suc zero) = Some versions.One
+version_numbered (suc (suc zero)) = Some versions.Two
+version_numbered n = None
+
+-- the first version has nothing long
+abbrev pub may_have : Version → Bool → Bool
+may_have versions.One long = not long
+may_have versions.Two long = true
+
+-- the type of a code in an image of this version
+abbrev pub type_in : Version → ℕ → Option Ty
+type_in version n = option_and_then (if_passes (λ t. may_have version (is_long_type t))) (type_of n)
 
 abbrev pub has_code : ℕ → Option Loc → Bool
 has_code n None = false
@@ -96,15 +113,15 @@ abbrev pub may_start_with : Option Loc → Value → Bool
 may_start_with None v = true
 may_start_with (Some loc) v = is_writable_area (area_of loc) || is_zero (number_of v)
 
-abbrev pub initial_of : Ty → Option Loc → ℕ → Option Value
-initial_of type loc bits = option_and_then (if_passes (may_start_with loc)) (typed_value type (cast_signed w32 bits))
+abbrev pub initial_of : Ty → Option Loc → ℤ → Option Value
+initial_of type loc z = option_and_then (if_passes (may_start_with loc)) (typed_value type z)
 
 abbrev pub is_known : List Value → Value → Bool
 is_known seen v = is_some (position (same_value v) seen)
 
 -- a constant that wasn't there before
-abbrev pub constant_of : List Value → Ty → ℕ → Option Value
-constant_of seen type bits = option_and_then (if_passes (λ v. not (is_known seen v))) (typed_value type (cast_signed w32 bits))
+abbrev pub constant_of : List Value → Ty → ℤ → Option Value
+constant_of seen type z = option_and_then (if_passes (λ v. not (is_known seen v))) (typed_value type z)
 
 -- the letters that a number stands for
 abbrev pub modifier_of : ℕ → Option Modifier
@@ -158,6 +175,8 @@ usage_of ops.Ret = record { letters = letters.C; form = forms.Absent }
 usage_of ops.Close = record { letters = letters.None; form = forms.Absent }
 usage_of ops.IntToDint = record { letters = letters.None; form = forms.Absent }
 usage_of ops.DintToInt = record { letters = letters.None; form = forms.Absent }
+usage_of ops.DintToLint = record { letters = letters.None; form = forms.Absent }
+usage_of ops.LintToDint = record { letters = letters.None; form = forms.Absent }
 
 -- no letter; N or none; C, CN or none; a parenthesis or none; that with N or without
 abbrev pub allows : LetterSet → Modifier → Bool
@@ -187,7 +206,7 @@ formed_by usage m o = has_form usage.form m.opens o
 
 -- ---- words
 
--- the operators in the order of their codes
+-- the operators in the order of their codes; 26 and 27 are the codes of arguments
 abbrev pub op_list : List Op
 op_list =
     ops.Empty ∷ ops.Ld ∷ ops.St ∷ ops.S ∷ ops.R ∷ ops.And ∷ ops.Or ∷ ops.Xor ∷ ops.Not ∷
@@ -196,7 +215,11 @@ op_list =
 
 -- the operator of a code
 abbrev pub op_of : ℕ → Option Op
-op_of n = slice_get op_list n
+op_of n = if nat_eq n 28 then Some ops.DintToLint else (if nat_eq n 29 then Some ops.LintToDint else slice_get op_list n)
+
+-- the operator of a code in an image of this version
+abbrev pub op_in : Version → ℕ → Option Op
+op_in version n = option_and_then (if_passes (λ op. may_have version (converts_long op))) (op_of n)
 
 -- the letters of an operator
 abbrev pub letters_of : Op → ℕ → Option Modifier

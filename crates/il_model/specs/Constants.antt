@@ -15,6 +15,7 @@ abbrev pub same_value : Value → Value → Bool
 same_value (values.Bool a) (values.Bool b) = same_truth a b
 same_value (values.Int a) (values.Int b) = same_number a b
 same_value (values.Dint a) (values.Dint b) = same_number a b
+same_value (values.Lint a) (values.Lint b) = same_number a b
 same_value (values.Time a) (values.Time b) = same_number a b
 same_value a b = false
 

@@ -1,5 +1,5 @@
 -- What a program is that a text declares: its parts have lawful forms. Once its bare numbers have types it has an image.
-use Rattle.std.specs.Prelude.{◌≡◌, ◌≤◌, ◌^◌, true, false, [], length, Some}
+use Rattle.std.specs.Prelude.{◌≡◌, ◌≤◌, ◌^◌, true, false, [], length}
 use Rattle.std.specs.List.{AllByRecursion}
 use Rattle.il_model.specs.declared.value.Value.TheVariants as values
 use Rattle.il_model.specs.declared.codes.OperandForm.TheVariants as forms
@@ -9,7 +9,6 @@ use Rattle.il_model.specs.declared.program.Operand.TheVariants as operands
 use Rattle.il_model.specs.declared.program.Instr.{Instr}
 use Rattle.il_model.specs.Values.{is_within}
 use Rattle.il_model.specs.Text.{Text, Declarations, declared_by}
-use Rattle.il_model.specs.CodedOperands.{IsCell}
 use Rattle.il_model.specs.Codes.{usage_of, allowed_by, formed_by, has_form, is_pointless}
 use Rattle.il_model.specs.Lawful.{IsOperandOf, IsLabel}
 use Rattle.il_model.specs.Fits.{IsVariable, IsInstance, AreItems}

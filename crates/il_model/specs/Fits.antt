@@ -2,7 +2,6 @@
 use Rattle.std.specs.Prelude.{◌≡◌, ℕ, ◌||◌, nat_eq, ◌<◌, ◌≤◌, ◌^◌, true, false, List, [], ◌∷◌, ◌++◌, length, Option, Some}
 use Rattle.std.specs.List.{AllByRecursion}
 use Rattle.std.specs.Option.{option_and_then}
-use Rattle.std.specs.Int.{w32, cast_unsigned}
 use Rattle.il_model.specs.declared.value.Value.{Value}
 use Rattle.il_model.specs.declared.op.Op.{Op}
 use Rattle.il_model.specs.declared.op.Modifier.{Modifier}
@@ -29,8 +28,7 @@ pub record IsVariable (seen : List Variable) (v : Variable) : Type 0 where
   pub type : type_of (type_code v.ty) ≡ Some v.ty
   pub location : coded_location seen v.ty (location_code v.location) ≡ Some v.location
   pub location_small : location_code v.location < 2 ^ 16
-  pub initial : initial_of v.ty v.location (cast_unsigned w32 (number_of v.initial)) ≡ Some v.initial
-  pub initial_small : cast_unsigned w32 (number_of v.initial) < 2 ^ 32
+  pub initial : initial_of v.ty v.location (number_of v.initial) ≡ Some v.initial
 
 -- an instance behind the variables and those before it
 pub record IsInstance (vs : List Variable) (seen : List Instance) (x : Instance) : Type 0 where
@@ -46,8 +44,7 @@ pub record IsMark (seen : List Mark) (m : Mark) : Type 0 where
 -- a constant behind those before it
 pub record IsConstant (seen : List Value) (v : Value) : Type 0 where
   pub type : type_of (type_code (ty_of v)) ≡ Some (ty_of v)
-  pub value : constant_of seen (ty_of v) (cast_unsigned w32 (number_of v)) ≡ Some v
-  pub small : cast_unsigned w32 (number_of v) < 2 ^ 32
+  pub value : constant_of seen (ty_of v) (number_of v) ≡ Some v
 
 -- an operator with its letters and its operand, which is a number
 pub record IsCoded (ds : Declarations) (marks : List Mark) (constants : List Value) (op : Op) (m : Modifier) (operand : Operand) (code : ℕ) : Type 0 where

@@ -1,12 +1,14 @@
 -- The bytes of a program: one spelling for each. In this order: a header, the variables, the instances, the labels, the
 -- constants, the words. All numbers are big-endian.
-use Rattle.std.specs.Prelude.{ℕ, ◌+◌, Bool, true, false, List, ◌++◌, length, codes, Option, Some, None}
+use Rattle.std.specs.Prelude.{ℕ, ℤ, ◌+◌, Bool, true, false, ◌||◌, if◌then◌else◌, List, ◌++◌, length, codes, Option, Some, None}
 use Rattle.std.specs.Option.{option_map, option_and_then}
-use Rattle.std.specs.List.{flat_map}
-use Rattle.std.specs.Int.{w8, w16, w32, to_be_bytes, cast_unsigned}
+use Rattle.std.specs.List.{flat_map, list_any}
+use Rattle.std.specs.Int.{Width, w8, w16, w32, w64, to_be_bytes, cast_unsigned}
 use Rattle.il_model.specs.declared.value.Ty.{Ty}
 use Rattle.il_model.specs.declared.value.Ty.TheVariants as types
 use Rattle.il_model.specs.declared.op.Op.{Op}
+use Rattle.il_model.specs.declared.codes.Version.{Version}
+use Rattle.il_model.specs.declared.codes.Version.TheVariants as versions
 use Rattle.il_model.specs.declared.op.Op.TheVariants as ops
 use Rattle.il_model.specs.declared.op.Modifier.{Modifier}
 use Rattle.il_model.specs.declared.program.Loc.{Loc}
@@ -39,6 +41,7 @@ type_code types.Bool = 0
 type_code types.Int = 1
 type_code types.Dint = 2
 type_code types.Time = 3
+type_code types.Lint = 4
 
 abbrev pub location_code : Option Loc → ℕ
 location_code None = code_of coded.Unused
@@ -47,8 +50,49 @@ location_code (Some loc) = code_of (coded.Location loc)
 abbrev pub name_bytes : List ℕ → List ℕ
 name_bytes name = to_be_bytes w8 (length name) ++ name
 
-abbrev pub variable_bytes : Variable → List ℕ
-variable_bytes v = name_bytes v.name ++ (to_be_bytes w8 (type_code v.ty) ++ (to_be_bytes w16 (location_code v.location) ++ to_be_bytes w32 (cast_unsigned w32 (number_of v.initial))))
+-- ---- versions: the second has numbers of 64 bits
+
+abbrev pub version_number : Version → ℕ
+version_number versions.One = 1
+version_number versions.Two = 2
+
+abbrev pub number_width : Version → Width
+number_width versions.One = w32
+number_width versions.Two = w64
+
+abbrev pub is_long_type : Ty → Bool
+is_long_type types.Lint = true
+is_long_type _ = false
+
+abbrev pub is_long_value : Value → Bool
+is_long_value v = is_long_type (ty_of v)
+
+-- a LINT by its type or by its first value: in each program that has an image the two are of one type
+abbrev pub is_long_variable : Variable → Bool
+is_long_variable v = is_long_type v.ty || is_long_value v.initial
+
+-- the conversions from LINT and to it
+abbrev pub converts_long : Op → Bool
+converts_long ops.DintToLint = true
+converts_long ops.LintToDint = true
+converts_long _ = false
+
+abbrev pub is_long_line : Instr → Bool
+is_long_line line = converts_long line.op
+
+-- the second version exactly where a variable or a constant is LINT, or an instruction converts to it or from it
+abbrev pub version_with : List Variable → List Value → List Instr → Version
+version_with variables constants code = if list_any is_long_variable variables || (list_any is_long_value constants || list_any is_long_line code) then versions.Two else versions.One
+
+abbrev pub version_of : Text → Version
+version_of Q = version_with Q.variables (constants_of Q) Q.code
+
+-- a number as an image of this version has it
+abbrev pub number_bytes : Version → ℤ → List ℕ
+number_bytes version z = to_be_bytes (number_width version) (cast_unsigned (number_width version) z)
+
+abbrev pub variable_bytes : Version → Variable → List ℕ
+variable_bytes version v = name_bytes v.name ++ (to_be_bytes w8 (type_code v.ty) ++ (to_be_bytes w16 (location_code v.location) ++ number_bytes version (number_of v.initial)))
 
 abbrev pub op_code : Op → ℕ
 op_code ops.Empty = 0
@@ -77,6 +121,8 @@ op_code ops.Ret = 22
 op_code ops.Close = 23
 op_code ops.IntToDint = 24
 op_code ops.DintToInt = 25
+op_code ops.DintToLint = 28
+op_code ops.LintToDint = 29
 
 abbrev pub flag : Bool → ℕ → ℕ
 flag true n = n
@@ -89,8 +135,8 @@ modifier_code m = flag m.negated 1 + (flag m.conditional 2 + flag m.opens 4)
 abbrev pub mark_bytes : Mark → List ℕ
 mark_bytes m = name_bytes m.name ++ to_be_bytes w16 m.at
 
-abbrev pub constant_bytes : Value → List ℕ
-constant_bytes v = to_be_bytes w8 (type_code (ty_of v)) ++ to_be_bytes w32 (cast_unsigned w32 (number_of v))
+abbrev pub constant_bytes : Version → Value → List ℕ
+constant_bytes version v = to_be_bytes w8 (type_code (ty_of v)) ++ number_bytes version (number_of v)
 
 -- what stands there under a number, if it is there
 abbrev pub numbered : (ℕ → CodedOperand) → Option ℕ → CodedOperand
@@ -162,13 +208,13 @@ abbrev pub magic : List ℕ
 magic = codes "ILPC"
 
 -- that, the version, and the counts
-abbrev pub header_bytes : ℕ → ℕ → ℕ → ℕ → ℕ → List ℕ
-header_bytes variables instances labels constants words = magic ++ (to_be_bytes w16 1 ++ counts_bytes variables instances labels constants words)
+abbrev pub header_bytes : Version → ℕ → ℕ → ℕ → ℕ → ℕ → List ℕ
+header_bytes version variables instances labels constants words = magic ++ (to_be_bytes w16 (version_number version) ++ counts_bytes variables instances labels constants words)
 
-abbrev pub spelled_with : Text → List Mark → List Value → List ℕ
-spelled_with Q labels constants =
-    header_bytes (length Q.variables) (length Q.instances) (length labels) (length constants) (words_in Q.code)
-    ++ (flat_map variable_bytes Q.variables ++ (flat_map instance_bytes Q.instances ++ (flat_map mark_bytes labels ++ (flat_map constant_bytes constants ++ flat_map (instruction_bytes Q constants) Q.code))))
+abbrev pub spelled_with : Version → Text → List Mark → List Value → List ℕ
+spelled_with version Q labels constants =
+    header_bytes version (length Q.variables) (length Q.instances) (length labels) (length constants) (words_in Q.code)
+    ++ (flat_map (variable_bytes version) Q.variables ++ (flat_map instance_bytes Q.instances ++ (flat_map mark_bytes labels ++ (flat_map (constant_bytes version) constants ++ flat_map (instruction_bytes Q constants) Q.code))))
 
 abbrev pub spelling : Text → List ℕ
-spelling Q = spelled_with Q (marks_from 0 Q.code) (constants_of Q)
+spelling Q = spelled_with (version_of Q) Q (marks_from 0 Q.code) (constants_of Q)

@@ -60,6 +60,8 @@ combines ops.Ret = false
 combines ops.Close = false
 combines ops.IntToDint = false
 combines ops.DintToInt = false
+combines ops.DintToLint = false
+combines ops.LintToDint = false
 combines op = true
 
 -- a value or a place follows it
@@ -135,6 +137,8 @@ takes cr held ops.Ret m kind = if m.conditional then result_is is_bool cr else t
 takes cr held ops.Close m kind = result_is (fits_held held) cr
 takes cr held ops.IntToDint m kind = result_is (λ c. same_type c types.Int) cr
 takes cr held ops.DintToInt m kind = result_is (λ c. same_type c types.Dint) cr
+takes cr held ops.DintToLint m kind = result_is (λ c. same_type c types.Dint) cr
+takes cr held ops.LintToDint m kind = result_is (λ c. same_type c types.Lint) cr
 takes cr held op m kind =
     if m.opens then result_is (λ c. joins op c c) cr && begins_inside kind
     else both_are (λ c t. negatable m.negated t && joins op c t) cr kind

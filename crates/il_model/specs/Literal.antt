@@ -37,6 +37,6 @@ decimals (d ∷ ds) = d * 10 ^ length ds + decimals ds
 abbrev pub Digits : Type 0
 Digits = ℕ → List ℕ → Option ℕ
 
--- That, with all numbers from 2^32 on, which lie above every range, told as 2^32: what code of fixed width computes.
+-- That, with all numbers from 2^64 - 1 on, which lie above every range, told as 2^64 - 1: what code of fixed width computes.
 abbrev pub held_integer : Digits
-held_integer base bs = option_map (λ n. min n 4294967296) (integer_of base bs)
+held_integer base bs = option_map (λ n. min n 18446744073709551615) (integer_of base bs)

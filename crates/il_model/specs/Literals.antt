@@ -75,6 +75,7 @@ prefixed_literal read word bytes =
     if spells (codes "BOOL") word then truth_literal bytes
     else if spells (codes "INT") word then typed_literal types.Int (whole_by read bytes)
     else if spells (codes "DINT") word then typed_literal types.Dint (whole_by read bytes)
+    else if spells (codes "LINT") word then typed_literal types.Lint (whole_by read bytes)
     else if spells (codes "T") word || spells (codes "TIME") word then typed_literal types.Time (time_by read bytes)
     else option_and_then bare_literal (based_by read word bytes)
 

@@ -35,9 +35,16 @@ reserved_words =
     codes "BOOL" ∷ codes "INT" ∷ codes "DINT" ∷ codes "TIME" ∷
     codes "PROGRAM" ∷ codes "END_PROGRAM" ∷ codes "VAR" ∷ codes "END_VAR" ∷ codes "AT" ∷ codes "TRUE" ∷ codes "FALSE" ∷ []
 
+-- the conversions of LINT, which came later: programs may use the words as names
+abbrev pub unreserved_words : List (List ℕ)
+unreserved_words = codes "DINT_TO_LINT" ∷ codes "LINT_TO_DINT" ∷ []
+
+abbrev pub is_reserved_operator : List ℕ → Bool
+is_reserved_operator name = is_some (mnemonic_of name) && not (list_any (λ word. bytes_eq word name) unreserved_words)
+
 -- those, the operators with and without their letters, and the block kinds: what no variable, instance or label may be called
 abbrev pub is_reserved : List ℕ → Bool
-is_reserved name = is_some (mnemonic_of name) || is_some (kind_of_name name) || list_any (λ word. bytes_eq word name) reserved_words
+is_reserved name = is_reserved_operator name || is_some (kind_of_name name) || list_any (λ word. bytes_eq word name) reserved_words
 
 -- what a variable, an instance or a label may be called
 abbrev pub is_lawful_name : List ℕ → Bool

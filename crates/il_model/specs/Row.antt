@@ -18,6 +18,7 @@ abbrev pub same_type : Ty → Ty → Bool
 same_type types.Bool types.Bool = true
 same_type types.Int types.Int = true
 same_type types.Dint types.Dint = true
+same_type types.Lint types.Lint = true
 same_type types.Time types.Time = true
 same_type a b = false
 
@@ -117,6 +118,8 @@ row cr top depth ops.Ret m kind = outside depth (leave_row cr m.conditional)
 row cr top depth ops.Close m kind = close_row cr top
 row cr top depth ops.IntToDint m kind = convert_row cr types.Int types.Dint
 row cr top depth ops.DintToInt m kind = convert_row cr types.Dint types.Int
+row cr top depth ops.DintToLint m kind = convert_row cr types.Dint types.Lint
+row cr top depth ops.LintToDint m kind = convert_row cr types.Lint types.Dint
 row cr top depth op m kind = if m.opens then open_row cr depth op m.negated kind else combine_row cr op m.negated kind
 
 -- an operator is deferred only where there is room, and applied only where there is one

@@ -40,7 +40,8 @@ mnemonic_table =
     (codes "JMP", ops.Jmp, plain) ∷ (codes "JMPC", ops.Jmp, letter_c) ∷ (codes "JMPCN", ops.Jmp, letters_cn) ∷
     (codes "CAL", ops.Cal, plain) ∷ (codes "CALC", ops.Cal, letter_c) ∷ (codes "CALCN", ops.Cal, letters_cn) ∷
     (codes "RET", ops.Ret, plain) ∷ (codes "RETC", ops.Ret, letter_c) ∷ (codes "RETCN", ops.Ret, letters_cn) ∷
-    (codes "INT_TO_DINT", ops.IntToDint, plain) ∷ (codes "DINT_TO_INT", ops.DintToInt, plain) ∷ []
+    (codes "INT_TO_DINT", ops.IntToDint, plain) ∷ (codes "DINT_TO_INT", ops.DintToInt, plain) ∷
+    (codes "DINT_TO_LINT", ops.DintToLint, plain) ∷ (codes "LINT_TO_DINT", ops.LintToDint, plain) ∷ []
 
 -- the first entry that is spelled so
 unfoldable pub look : List (List ℕ × Op × Modifier) → List ℕ → Option Mnemonic

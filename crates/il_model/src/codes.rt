@@ -1,15 +1,14 @@
 //! The numbers that stand for the parts of a program in an image, both ways.
 
 ghost use Rattle.std.specs.Prelude.{◌≡◌, Some, false};
-ghost use Rattle.std.specs.Int.{w32, cast_signed, cast_unsigned};
+ghost use Rattle.std.specs.List.{list_any};
 ghost use Rattle.il_model.specs.declared.codes.OperandForm.TheVariants as forms;
-ghost use Rattle.il_model.specs.Values.{number_of};
-ghost use Rattle.il_model.specs.Image.{type_code, location_code, op_code, flag, modifier_code, side_code};
-ghost use Rattle.il_model.specs.Codes.{length_of, type_of, is_type, may_start_with, initial_of, op_of, modifier_of, usage_of, allows, has_form, allowed_by, formed_by, letters_of, side_of, is_pointless};
+ghost use Rattle.il_model.specs.Image.{type_code, location_code, op_code, version_number, is_long_variable, is_long_value, is_long_line, version_with, flag, modifier_code, side_code};
+ghost use Rattle.il_model.specs.Codes.{length_of, type_of, type_in, op_in, version_numbered, is_type, may_start_with, initial_of, op_of, modifier_of, usage_of, allows, has_form, allowed_by, formed_by, letters_of, side_of, is_pointless};
 
 use crate::coded_operand::CodedOperand;
 use crate::op::{Modifier, Op};
-use crate::program::{Instr, Loc, Operand, Side};
+use crate::program::{Instr, Loc, Operand, Side, Variable};
 use crate::resolve::in_writable_area;
 use crate::value::{Ty, Value, make};
 
@@ -24,6 +23,7 @@ pub fn type_code(ty: Ty) -> usize
         Ty::Int => 1,
         Ty::Dint => 2,
         Ty::Time => 3,
+        Ty::Lint => 4,
     }
 }
 
@@ -35,6 +35,7 @@ pub fn type_of(code: u8) -> Option<Ty>
         1 => Some(Ty::Int),
         2 => Some(Ty::Dint),
         3 => Some(Ty::Time),
+        4 => Some(Ty::Lint),
         _ => None,
     }
 }
@@ -59,15 +60,83 @@ pub fn is_type(ty: Ty, other: Option<Ty>) -> bool
     }
 }
 
-/// The bits of an initial value.
-pub fn bits(v: Value) -> u32
-    ensures { result ≡ cast_unsigned w32 (number_of v) }
+/// The version of an image: in the second each initial value and constant has 64 bits.
+#[derive(Clone, Copy, PartialEq, Eq)]
+pub enum Version {
+    One,
+    Two,
+}
+
+impl Version {
+    /// The version with a number.
+    pub fn of_number(number: u16) -> Option<Version>
+        ensures { result ≡ version_numbered number }
+    {
+        match number {
+            1 => Some(Version::One),
+            2 => Some(Version::Two),
+            _ => None,
+        }
+    }
+
+    /// Its number, 1 or 2.
+    pub fn number(self) -> u16
+        ensures { result ≡ version_number self }
+    {
+        match self {
+            Version::One => 1,
+            Version::Two => 2,
+        }
+    }
+}
+
+/// Whether a value is a LINT.
+pub fn is_long(v: Value) -> bool
+    ensures { result ≡ is_long_value v }
 {
-    match v {
-        Value::Bool(b) => b as u32,
-        Value::Int(z) => i32::from(z).cast_unsigned(),
-        Value::Dint(z) => z.cast_unsigned(),
-        Value::Time(z) => z.cast_unsigned(),
+    matches!(v, Value::Lint(_))
+}
+
+/// Whether a variable is a LINT, by its type or by its first value.
+fn is_long_variable(v: &Variable) -> bool
+    ensures { result ≡ is_long_variable v.now }
+{
+    v.ty == Ty::Lint || is_long(v.initial)
+}
+
+fn has_long_variable(variables: &[Variable]) -> bool
+    ensures { result ≡ list_any is_long_variable variables.now }
+{
+    variables.iter().any(|v| is_long_variable(v))
+}
+
+fn has_long_constant(constants: &[Value]) -> bool
+    ensures { result ≡ list_any is_long_value constants.now }
+{
+    constants.iter().any(|v| is_long(*v))
+}
+
+/// Whether an instruction converts to LINT or from it.
+fn converts_long(line: &Instr) -> bool
+    ensures { result ≡ is_long_line line.now }
+{
+    matches!(line.op, Op::DintToLint | Op::LintToDint)
+}
+
+fn has_long_line(code: &[Instr]) -> bool
+    ensures { result ≡ list_any is_long_line code.now }
+{
+    code.iter().any(|line| converts_long(line))
+}
+
+/// The version of a program with these variables, constants and instructions.
+pub fn version_with(variables: &[Variable], constants: &[Value], code: &[Instr]) -> Version
+    ensures { result ≡ version_with variables.now constants.now code.now }
+{
+    if has_long_variable(variables) || has_long_constant(constants) || has_long_line(code) {
+        Version::Two
+    } else {
+        Version::One
     }
 }
 
@@ -80,11 +149,11 @@ fn may_start_with(location: Option<Loc>, first: Value) -> bool
     }
 }
 
-/// The first value that bits stand for.
-pub fn initial_of(ty: Ty, location: Option<Loc>, bits: u32) -> Option<Value>
-    ensures { result ≡ initial_of ty location bits }
+/// The first value that a number stands for.
+pub fn initial_of(ty: Ty, location: Option<Loc>, number: i64) -> Option<Value>
+    ensures { result ≡ initial_of ty location number }
 {
-    let first = make(ty, i64::from(bits.cast_signed()))?;
+    let first = make(ty, number)?;
     if may_start_with(location, first) {
         Some(first)
     } else {
@@ -95,7 +164,27 @@ pub fn initial_of(ty: Ty, location: Option<Loc>, bits: u32) -> Option<Value>
 pub fn op_code(op: Op) -> usize
     ensures { result ≡ op_code op }
 {
-    op as usize
+    usize::from(op.code())
+}
+
+/// The type of a code in an image of this version.
+pub fn type_in(version: Version, code: u8) -> Option<Ty>
+    ensures { result ≡ type_in version code }
+{
+    match (version, type_of(code)?) {
+        (Version::One, Ty::Lint) => None,
+        (_, ty) => Some(ty),
+    }
+}
+
+/// The operator of a code in an image of this version.
+pub fn op_in(version: Version, code: u8) -> Option<Op>
+    ensures { result ≡ op_in version code }
+{
+    match (version, Op::of_code(code)?) {
+        (Version::One, Op::DintToLint | Op::LintToDint) => None,
+        (_, op) => Some(op),
+    }
 }
 
 /// The operator of a code.
@@ -200,9 +289,13 @@ fn usage_of(op: Op) -> Usage
         ),
         Op::Jmp => row(LetterSet::C, OperandForm::Label),
         Op::Ret => row(LetterSet::C, OperandForm::Absent),
-        Op::Empty | Op::Not | Op::Close | Op::IntToDint | Op::DintToInt => {
-            row(LetterSet::None, OperandForm::Absent)
-        }
+        Op::Empty
+        | Op::Not
+        | Op::Close
+        | Op::IntToDint
+        | Op::DintToInt
+        | Op::DintToLint
+        | Op::LintToDint => { row(LetterSet::None, OperandForm::Absent) }
         Op::Cal => row(LetterSet::C, OperandForm::Instance),
     }
 }

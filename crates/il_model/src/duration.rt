@@ -19,7 +19,7 @@ pub struct TimeUnit {
 pub struct TimePart<'a> {
     pub rank: u8,
     pub broken: bool,
-    pub milliseconds: u64,
+    pub milliseconds: u128,
     pub rest: &'a [u8],
 }
 
@@ -107,25 +107,23 @@ fn fraction(unit: u32, decimals: &[u8]) -> Option<u64>
 
 #[tactic(auto, using(crate::proofs::Decimals::small_product))]
 fn at_unit(n: u64, bytes: &[u8]) -> Option<TimePart<'_>>
-    requires { n ≤ 4294967296 }
     ensures value { option_map part_text result ≡ at_unit n bytes.now }
-    ensures small { IfSome result (λ p. p.milliseconds ≤ 400000000000000000) }
+    ensures small { IfSome result (λ p. p.milliseconds ≤ 2 ^ 91) }
 {
     let (word, rest) = bytes.split_at(letters(bytes));
     let unit = unit_from(word)?;
     Some(TimePart {
         rank: unit.rank,
         broken: false,
-        milliseconds: n * u64::from(unit.milliseconds),
+        milliseconds: u128::from(n) * u128::from(unit.milliseconds),
         rest,
     })
 }
 
 #[tactic(auto, using(crate::proofs::Decimals::small_product))]
 fn decimals_unit<'a>(n: u64, decimals: &[u8], bytes: &'a [u8]) -> Option<TimePart<'a>>
-    requires { n ≤ 4294967296 }
     ensures value { option_map part_text result ≡ decimals_unit n decimals.now bytes.now }
-    ensures small { IfSome result (λ p. p.milliseconds ≤ 400000000000000000) }
+    ensures small { IfSome result (λ p. p.milliseconds ≤ 2 ^ 91) }
 {
     let (word, rest) = bytes.split_at(letters(bytes));
     let unit = unit_from(word)?;
@@ -133,24 +131,22 @@ fn decimals_unit<'a>(n: u64, decimals: &[u8], bytes: &'a [u8]) -> Option<TimePar
     Some(TimePart {
         rank: unit.rank,
         broken: true,
-        milliseconds: n * u64::from(unit.milliseconds) + part,
+        milliseconds: u128::from(n) * u128::from(unit.milliseconds) + u128::from(part),
         rest,
     })
 }
 
 fn at_decimals(n: u64, bytes: &[u8]) -> Option<TimePart<'_>>
-    requires { n ≤ 4294967296 }
     ensures value { option_map part_text result ≡ at_decimals n bytes.now }
-    ensures small { IfSome result (λ p. p.milliseconds ≤ 400000000000000000) }
+    ensures small { IfSome result (λ p. p.milliseconds ≤ 2 ^ 91) }
 {
     let (decimals, others) = bytes.split_at(digits(bytes));
     decimals_unit(n, decimals, others)
 }
 
 fn behind_number(bytes: &[u8], n: u64) -> Option<TimePart<'_>>
-    requires { n ≤ 4294967296 }
     ensures value { option_map part_text result ≡ behind_number bytes.now n }
-    ensures small { IfSome result (λ p. p.milliseconds ≤ 400000000000000000) }
+    ensures small { IfSome result (λ p. p.milliseconds ≤ 2 ^ 91) }
 {
     match bytes {
         [b'.', others @ ..] => at_decimals(n, others),
@@ -161,7 +157,7 @@ fn behind_number(bytes: &[u8], n: u64) -> Option<TimePart<'_>>
 #[tactic(auto, unfolding(crate::specs::Durations::part_by))]
 fn part(bytes: &[u8]) -> Option<TimePart<'_>>
     ensures value { option_map part_text result ≡ part_by held_integer bytes.now }
-    ensures small { IfSome result (λ p. p.milliseconds ≤ 400000000000000000) }
+    ensures small { IfSome result (λ p. p.milliseconds ≤ 2 ^ 91) }
 {
     let (number, others) = bytes.split_at(digits(bytes));
     behind_number(others, integer(10, number)?)
@@ -177,13 +173,13 @@ fn past_join(bytes: &[u8]) -> &[u8]
 }
 
 /// The milliseconds of a duration without a sign: parts of falling units, of which the last may have decimals.
-pub fn duration(bytes: &[u8]) -> Option<u64>
+pub fn duration(bytes: &[u8]) -> Option<u128>
     ensures value { result ≡ duration_by held_integer bytes.now }
-    ensures small { IfSome result (λ n. n < 2 ^ 63) }
+    ensures small { IfSome result (λ n. n < 2 ^ 127) }
 {
     let mut rest = bytes;
     let mut limit = 5u8;
-    let mut total = 0u64;
+    let mut total = 0u128;
     for _ in 0..5u8 {
         let part = part(rest)?;
         if part.rank >= limit {

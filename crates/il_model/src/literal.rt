@@ -12,9 +12,6 @@ pub enum Literal {
     Typed(Value),
 }
 
-/// Above every number that a literal may have.
-const CAP: u64 = 4_294_967_296;
-
 /// The value of a digit, 99 for any other byte.
 pub fn digit(b: u8) -> u8
     ensures value { result ≡ digit_of b }
@@ -28,13 +25,12 @@ pub fn digit(b: u8) -> u8
     }
 }
 
-/// The number that digits stand for, or the cap where it is above that.
+/// The number that digits stand for, or the greatest `u64` where it is above that, which no literal may have.
 #[tactic(auto, unfolding(crate::specs::Literal::are_digits, crate::specs::Literal::value_behind))]
 pub fn integer(base: u8, bytes: &[u8]) -> Option<u64>
     requires low { 2 ≤ base }
     requires high { base ≤ 16 }
     ensures value { result ≡ held_integer base bytes.now }
-    ensures held { IfSome result (λ n. n ≤ 4294967296) }
 {
     let mut value = 0u64;
     let mut behind = false;
@@ -49,7 +45,9 @@ pub fn integer(base: u8, bytes: &[u8]) -> Option<u64>
             if d >= base {
                 return None;
             }
-            value = (value * u64::from(base) + u64::from(d)).min(CAP);
+            value = value
+                .saturating_mul(u64::from(base))
+                .saturating_add(u64::from(d));
             behind = true;
         }
     }

@@ -3,7 +3,7 @@
 ghost use Rattle.std.specs.Prelude.{◌≡◌, IfOk, List, ℕ};
 ghost use Rattle.std.specs.List.{list_all, list_any};
 ghost use Rattle.std.specs.Str.{bytes_eq};
-ghost use Rattle.il_model.specs.Names.{same_name, is_first_byte, is_name_byte, begins_name, begins_with, is_well_spelled, is_reserved, is_lawful_name};
+ghost use Rattle.il_model.specs.Names.{same_name, is_first_byte, is_name_byte, begins_name, begins_with, is_well_spelled, is_reserved_operator, is_reserved, is_lawful_name};
 
 use crate::kind::BlockKind;
 use crate::words::mnemonic_from;
@@ -126,11 +126,22 @@ fn has_word(words: &[&[u8]], name: &[u8]) -> bool
     words.iter().any(|word| *word == name)
 }
 
-/// Whether a word in upper case is reserved: an operator with or without its letters, a type, a block kind, a keyword.
+/// The conversions of LINT, which aren't reserved: they came later.
+static UNRESERVED: [&[u8]; 2] = [b"DINT_TO_LINT", b"LINT_TO_DINT"];
+
+/// Whether a word is an operator that is reserved.
+fn is_reserved_operator(name: &[u8]) -> bool
+    ensures { result ≡ is_reserved_operator name.now }
+{
+    mnemonic_from(name).is_some() && !has_word(&UNRESERVED, name)
+}
+
+/// Whether a word in upper case is reserved: an operator with or without its letters, a type, a block kind, a keyword;
+/// but not LINT and its two conversions.
 pub fn is_reserved(name: &[u8]) -> bool
     ensures { result ≡ is_reserved name.now }
 {
-    mnemonic_from(name).is_some() || BlockKind::of_name(name).is_some() || has_word(&RESERVED, name)
+    is_reserved_operator(name) || BlockKind::of_name(name).is_some() || has_word(&RESERVED, name)
 }
 
 /// Whether a variable, an instance or a label may be called so, in upper case.

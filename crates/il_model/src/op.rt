@@ -1,8 +1,11 @@
 //! Operators and their rows.
 
-ghost use Rattle.std.specs.Prelude.{◌≡◌, slice_get, length};
+ghost use Rattle.std.specs.Prelude.{◌≡◌};
+ghost use Rattle.il_model.specs.declared.value.Ty.TheVariants as types;
+ghost use Rattle.il_model.specs.Image.{op_code};
+ghost use Rattle.il_model.specs.Codes.{op_of};
 ghost use Rattle.il_model.specs.Values.{ty_of};
-ghost use Rattle.il_model.specs.Operators.{joined_type, numeric_type, operation_result, on_numbers, on_truths, in_type, quotient, remainder, calculation};
+ghost use Rattle.il_model.specs.Operators.{joined_type, numeric_type, operation_result, on_numbers, on_truths, in_type, bounded, quotient, remainder, calculation};
 ghost use Rattle.std.specs.Prelude.{◌*ℤ◌, int_div, int_rem, pos, ◌≢◌};
 
 use crate::value::{Stop, Ty, Value, make};
@@ -36,37 +39,9 @@ pub enum Op {
     Close,
     IntToDint,
     DintToInt,
+    DintToLint,
+    LintToDint,
 }
-
-/// The operators by code.
-pub const OPS: [Op; 26] = [
-    Op::Empty,
-    Op::Ld,
-    Op::St,
-    Op::S,
-    Op::R,
-    Op::And,
-    Op::Or,
-    Op::Xor,
-    Op::Not,
-    Op::Add,
-    Op::Sub,
-    Op::Mul,
-    Op::Div,
-    Op::Mod,
-    Op::Gt,
-    Op::Ge,
-    Op::Eq,
-    Op::Ne,
-    Op::Le,
-    Op::Lt,
-    Op::Jmp,
-    Op::Cal,
-    Op::Ret,
-    Op::Close,
-    Op::IntToDint,
-    Op::DintToInt,
-];
 
 /// The letters after an operator.
 #[derive(Clone, Copy, PartialEq, Eq)]
@@ -77,10 +52,16 @@ pub struct Modifier {
 }
 
 impl Op {
-    /// The operator of a code.
+    /// The operator of a code. 26 and 27 are the codes of arguments.
     pub fn of_code(code: u8) -> Option<Op>
-        ensures { result ≡ slice_get OPS code }
+        ensures { result ≡ op_of code }
     {
+        if code == 28 {
+            return Some(Op::DintToLint);
+        }
+        if code == 29 {
+            return Some(Op::LintToDint);
+        }
         if code >= 26 {
             return None;
         }
@@ -114,6 +95,42 @@ impl Op {
             _ => unreachable!(),
         }
     }
+
+    /// The code of an operator.
+    pub fn code(self) -> u8
+        ensures { result ≡ op_code self }
+    {
+        match self {
+            Op::Empty => 0,
+            Op::Ld => 1,
+            Op::St => 2,
+            Op::S => 3,
+            Op::R => 4,
+            Op::And => 5,
+            Op::Or => 6,
+            Op::Xor => 7,
+            Op::Not => 8,
+            Op::Add => 9,
+            Op::Sub => 10,
+            Op::Mul => 11,
+            Op::Div => 12,
+            Op::Mod => 13,
+            Op::Gt => 14,
+            Op::Ge => 15,
+            Op::Eq => 16,
+            Op::Ne => 17,
+            Op::Le => 18,
+            Op::Lt => 19,
+            Op::Jmp => 20,
+            Op::Cal => 21,
+            Op::Ret => 22,
+            Op::Close => 23,
+            Op::IntToDint => 24,
+            Op::DintToInt => 25,
+            Op::DintToLint => 28,
+            Op::LintToDint => 29,
+        }
+    }
 }
 
 /// The type that an operator with an operand gives, or none where it has no row at these types.
@@ -128,6 +145,7 @@ pub fn joined(op: Op, cr: Ty, operand: Ty) -> Option<Ty>
         },
         (Ty::Int, Ty::Int) => numeric(op, Ty::Int),
         (Ty::Dint, Ty::Dint) => numeric(op, Ty::Dint),
+        (Ty::Lint, Ty::Lint) => numeric(op, Ty::Lint),
         (Ty::Time, Ty::Time) => match op {
             Op::Add | Op::Sub => Some(Ty::Time),
             Op::Gt | Op::Ge | Op::Eq | Op::Ne | Op::Le | Op::Lt => Some(Ty::Bool),
@@ -156,6 +174,7 @@ pub fn operate(op: Op, cr: Value, operand: Value) -> Option<Result<Value, Stop>>
         (Value::Bool(a), Value::Bool(b)) => return truths(op, a, b),
         (Value::Int(a), Value::Int(b)) => (Ty::Int, a as i32, b as i32),
         (Value::Dint(a), Value::Dint(b)) => (Ty::Dint, a, b),
+        (Value::Lint(a), Value::Lint(b)) => return long_numbers(op, a, b),
         (Value::Time(a), Value::Time(b)) => match op {
             Op::Mul | Op::Div | Op::Mod => return None,
             _ => (Ty::Time, a, b),
@@ -232,6 +251,82 @@ fn numbers(op: Op, ty: Ty, a: i32, b: i32) -> Option<Result<Value, Stop>>
         Unbounded::Number(z) => Some(within(ty, z)),
         Unbounded::Truth(t) => Some(Ok(Value::Bool(t))),
         Unbounded::Stopped(stop) => Some(Err(stop)),
+    }
+}
+
+/// An operator on two numbers of 64 bits. It stands apart: what other types do is not to be longer for it.
+#[inline(never)]
+pub fn long_numbers(op: Op, a: i64, b: i64) -> Option<Result<Value, Stop>>
+    ensures { result ≡ on_numbers op types.Lint a b }
+{
+    match op {
+        Op::Add => Some(within_long(a as i128 + b as i128)),
+        Op::Sub => Some(within_long(a as i128 - b as i128)),
+        Op::Mul => Some(within_long(long_product(a, b))),
+        Op::Div => Some(long_quotient(a, b)),
+        Op::Mod => Some(long_remainder(a, b)),
+        Op::Gt => Some(Ok(Value::Bool(a > b))),
+        Op::Ge => Some(Ok(Value::Bool(a >= b))),
+        Op::Eq => Some(Ok(Value::Bool(a == b))),
+        Op::Ne => Some(Ok(Value::Bool(a != b))),
+        Op::Le => Some(Ok(Value::Bool(a <= b))),
+        Op::Lt => Some(Ok(Value::Bool(a < b))),
+        _ => None,
+    }
+}
+
+/// The LINT with a number, or the stop where it doesn't fit.
+fn within_long(z: i128) -> Result<Value, Stop>
+    ensures { result ≡ in_type types.Lint z }
+{
+    if -9223372036854775808 <= z && z < 9223372036854775808 {
+        Ok(Value::Lint(z as i64))
+    } else {
+        Err(Stop::Overflow)
+    }
+}
+
+fn long_product(a: i64, b: i64) -> i128
+    ensures { result ≡ a *ℤ b }
+{
+    a as i128 * b as i128
+}
+
+fn long_divided(a: i64, b: i64) -> i128
+    requires { b ≢ pos 0 }
+    ensures { result ≡ int_div a b }
+{
+    if b == -1 {
+        -(a as i128)
+    } else {
+        (a / b) as i128
+    }
+}
+
+fn long_rest(a: i64, b: i64) -> i128
+    requires { b ≢ pos 0 }
+    ensures { result ≡ int_rem a b }
+{
+    if b == -1 { 0 } else { (a % b) as i128 }
+}
+
+fn long_quotient(a: i64, b: i64) -> Result<Value, Stop>
+    ensures { result ≡ bounded types.Lint (quotient a b) }
+{
+    if b == 0 {
+        Err(Stop::ZeroDivisor)
+    } else {
+        within_long(long_divided(a, b))
+    }
+}
+
+fn long_remainder(a: i64, b: i64) -> Result<Value, Stop>
+    ensures { result ≡ bounded types.Lint (remainder a b) }
+{
+    if b == 0 {
+        Err(Stop::ZeroDivisor)
+    } else {
+        within_long(long_rest(a, b))
     }
 }
 

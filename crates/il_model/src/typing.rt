@@ -133,6 +133,8 @@ pub fn row_of(
         Op::Close => close_types(cr, top),
         Op::IntToDint => convert_types(cr, Ty::Int, Ty::Dint),
         Op::DintToInt => convert_types(cr, Ty::Dint, Ty::Int),
+        Op::DintToLint => convert_types(cr, Ty::Dint, Ty::Lint),
+        Op::LintToDint => convert_types(cr, Ty::Lint, Ty::Dint),
         _ => {
             if modifier.opens {
                 open_types(cr, depth, op, modifier, kind)

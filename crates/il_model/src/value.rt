@@ -10,6 +10,7 @@ pub enum Ty {
     Int,
     Dint,
     Time,
+    Lint,
 }
 
 /// A value of a type. A duration counts milliseconds.
@@ -19,6 +20,7 @@ pub enum Value {
     Int(i16),
     Dint(i32),
     Time(i32),
+    Lint(i64),
 }
 
 /// Why a run stops.
@@ -57,6 +59,7 @@ impl Value {
             Ty::Int => Value::Int(0),
             Ty::Dint => Value::Dint(0),
             Ty::Time => Value::Time(0),
+            Ty::Lint => Value::Lint(0),
         }
     }
 
@@ -69,6 +72,7 @@ impl Value {
             Value::Int(_) => Ty::Int,
             Value::Dint(_) => Ty::Dint,
             Value::Time(_) => Ty::Time,
+            Value::Lint(_) => Ty::Lint,
         }
     }
 
@@ -81,6 +85,7 @@ impl Value {
             Value::Int(z) => z as i64,
             Value::Dint(z) => z as i64,
             Value::Time(z) => z as i64,
+            Value::Lint(z) => z,
         }
     }
 }
@@ -121,6 +126,7 @@ pub fn make(ty: Ty, z: i64) -> Option<Value>
                 None
             }
         }
+        Ty::Lint => Some(Value::Lint(z)),
     }
 }
 

@@ -37,7 +37,7 @@ const CN: Modifier = Modifier {
 };
 
 /// Each operator word with what it stands for; of two words for one operator the one that is listed comes first.
-pub static MNEMONICS: [(&[u8], Op, Modifier); 37] = [
+pub static MNEMONICS: [(&[u8], Op, Modifier); 39] = [
     (b"LD", Op::Ld, PLAIN),
     (b"LDN", Op::Ld, N),
     (b"ST", Op::St, PLAIN),
@@ -75,6 +75,8 @@ pub static MNEMONICS: [(&[u8], Op, Modifier); 37] = [
     (b"RETCN", Op::Ret, CN),
     (b"INT_TO_DINT", Op::IntToDint, PLAIN),
     (b"DINT_TO_INT", Op::DintToInt, PLAIN),
+    (b"DINT_TO_LINT", Op::DintToLint, PLAIN),
+    (b"LINT_TO_DINT", Op::LintToDint, PLAIN),
 ];
 
 /// A byte, a small letter as its capital one.

@@ -2,6 +2,7 @@
 
 ghost use Rattle.std.specs.Prelude.{◌≡◌, ◌≤◌, ◌<◌, ◌^◌, length, option_map, IfSome};
 ghost use Rattle.il_model.specs.Literal.{held_integer};
+ghost use Rattle.il_model.specs.Values.{typed_value};
 ghost use Rattle.il_model.specs.Literals.{positive, minus, signed_by, is_no_hash, hash_at, based_by, whole_by, time_by, truth_literal, typed_literal, bare_literal, prefixed_literal, is_word, literal_by, literal_of};
 
 use crate::duration::duration;
@@ -9,34 +10,44 @@ use crate::literal::{Literal, integer};
 use crate::value::{Ty, Value, make};
 use crate::words::is_spelled;
 
-fn above(n: Option<u64>) -> Option<i64>
-    requires { IfSome n (λ n. n < 2 ^ 63) }
+fn above(n: Option<u128>) -> Option<i128>
+    requires { IfSome n (λ n. n < 2 ^ 127) }
     ensures { result ≡ option_map positive n }
 {
     match n {
-        Some(n) => Some(n as i64),
+        Some(n) => Some(n as i128),
         None => None,
     }
 }
 
-fn below(n: Option<u64>) -> Option<i64>
-    requires { IfSome n (λ n. n < 2 ^ 63) }
+fn below(n: Option<u128>) -> Option<i128>
+    requires { IfSome n (λ n. n < 2 ^ 127) }
     ensures { result ≡ option_map minus n }
 {
     match n {
-        Some(n) => Some(-(n as i64)),
+        Some(n) => Some(-(n as i128)),
         None => None,
     }
 }
 
-fn signed(bytes: &[u8]) -> Option<i64>
+/// The number that digits stand for, wide enough for a sign.
+fn wide(base: u8, bytes: &[u8]) -> Option<u128>
+    requires low { 2 ≤ base }
+    requires high { base ≤ 16 }
+    ensures value { result ≡ held_integer base bytes.now }
+    ensures small { IfSome result (λ n. n < 2 ^ 127) }
+{
+    Some(u128::from(integer(base, bytes)?))
+}
+
+fn signed(bytes: &[u8]) -> Option<i128>
     ensures { result ≡ signed_by held_integer bytes.now }
 {
     match bytes {
         [] => None,
-        [b'-', others @ ..] => below(integer(10, others)),
-        [b'+', others @ ..] => above(integer(10, others)),
-        _ => above(integer(10, bytes)),
+        [b'-', others @ ..] => below(wide(10, others)),
+        [b'+', others @ ..] => above(wide(10, others)),
+        _ => above(wide(10, bytes)),
     }
 }
 
@@ -47,21 +58,21 @@ fn hash(bytes: &[u8]) -> usize
     bytes.iter().take_while(|b| **b != b'#').count()
 }
 
-fn based(base: &[u8], bytes: &[u8]) -> Option<i64>
+fn based(base: &[u8], bytes: &[u8]) -> Option<i128>
     ensures { result ≡ based_by held_integer base.now bytes.now }
 {
     if is_spelled(b"2", base) {
-        above(integer(2, bytes))
+        above(wide(2, bytes))
     } else if is_spelled(b"8", base) {
-        above(integer(8, bytes))
+        above(wide(8, bytes))
     } else if is_spelled(b"16", base) {
-        above(integer(16, bytes))
+        above(wide(16, bytes))
     } else {
         None
     }
 }
 
-fn whole(bytes: &[u8]) -> Option<i64>
+fn whole(bytes: &[u8]) -> Option<i128>
     ensures { result ≡ whole_by held_integer bytes.now }
 {
     let hash = hash(bytes);
@@ -72,7 +83,7 @@ fn whole(bytes: &[u8]) -> Option<i64>
     }
 }
 
-fn time(bytes: &[u8]) -> Option<i64>
+fn time(bytes: &[u8]) -> Option<i128>
     ensures { result ≡ time_by held_integer bytes.now }
 {
     match bytes {
@@ -94,13 +105,24 @@ fn truth(bytes: &[u8]) -> Option<Literal>
     }
 }
 
-fn typed_literal(ty: Ty, z: Option<i64>) -> Option<Literal>
-    ensures { result ≡ typed_literal ty z }
+/// The value of a type with a number, which may lie past 64 bits, if it fits.
+fn make_wide(ty: Ty, z: i128) -> Option<Value>
+    ensures { result ≡ typed_value ty z }
 {
-    Some(Literal::Typed(make(ty, z?)?))
+    if -9223372036854775808 <= z && z < 9223372036854775808 {
+        make(ty, z as i64)
+    } else {
+        None
+    }
 }
 
-fn bare_literal(z: i64) -> Option<Literal>
+fn typed_literal(ty: Ty, z: Option<i128>) -> Option<Literal>
+    ensures { result ≡ typed_literal ty z }
+{
+    Some(Literal::Typed(make_wide(ty, z?)?))
+}
+
+fn bare_literal(z: i128) -> Option<Literal>
     ensures { result ≡ bare_literal z }
 {
     if -2147483648 <= z && z < 2147483648 {
@@ -119,6 +141,8 @@ fn prefixed_literal(word: &[u8], bytes: &[u8]) -> Option<Literal>
         typed_literal(Ty::Int, whole(bytes))
     } else if is_spelled(b"DINT", word) {
         typed_literal(Ty::Dint, whole(bytes))
+    } else if is_spelled(b"LINT", word) {
+        typed_literal(Ty::Lint, whole(bytes))
     } else if is_spelled(b"T", word) || is_spelled(b"TIME", word) {
         typed_literal(Ty::Time, time(bytes))
     } else {

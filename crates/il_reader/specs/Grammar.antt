@@ -153,6 +153,8 @@ form_of ops.Close = forms.Nothing
 form_of ops.Empty = forms.Nothing
 form_of ops.IntToDint = forms.Nothing
 form_of ops.DintToInt = forms.Nothing
+form_of ops.DintToLint = forms.Nothing
+form_of ops.LintToDint = forms.Nothing
 form_of op = forms.Either
 
 -- the right parenthesis

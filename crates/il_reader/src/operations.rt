@@ -32,7 +32,8 @@ fn follows(op: Op) -> Form
         Op::Ld | Op::St | Op::S | Op::R => Form::Operand,
         Op::Jmp => Form::Label,
         Op::Cal => Form::Call,
-        Op::Not | Op::Ret | Op::Close | Op::Empty | Op::IntToDint | Op::DintToInt => Form::Nothing,
+        Op::Not | Op::Ret | Op::Close | Op::Empty => Form::Nothing,
+        Op::IntToDint | Op::DintToInt | Op::DintToLint | Op::LintToDint => Form::Nothing,
         _ => Form::Either,
     }
 }

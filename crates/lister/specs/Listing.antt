@@ -45,6 +45,7 @@ abbrev pub literal_text : Value → List ℕ
 literal_text (values.Bool b) = truth_text b
 literal_text (values.Int z) = codes "INT#" ++ number_text z
 literal_text (values.Dint z) = codes "DINT#" ++ number_text z
+literal_text (values.Lint z) = codes "LINT#" ++ number_text z
 literal_text (values.Time z) = codes "T#" ++ (number_text z ++ codes "ms")
 
 abbrev pub area_letter : Area → List ℕ
@@ -64,6 +65,7 @@ type_name types.Bool = codes "BOOL"
 type_name types.Int = codes "INT"
 type_name types.Dint = codes "DINT"
 type_name types.Time = codes "TIME"
+type_name types.Lint = codes "LINT"
 
 abbrev pub at_text : Option Loc → List ℕ
 at_text None = []
@@ -110,6 +112,8 @@ op_name ops.Ret = codes "RET"
 op_name ops.Close = codes ")"
 op_name ops.IntToDint = codes "INT_TO_DINT"
 op_name ops.DintToInt = codes "DINT_TO_INT"
+op_name ops.DintToLint = codes "DINT_TO_LINT"
+op_name ops.LintToDint = codes "LINT_TO_DINT"
 
 abbrev pub letter : Bool → List ℕ → List ℕ
 letter b text = if b then text else []

@@ -16,15 +16,19 @@ pub fn write_literal<W: CountedWrite>(writer: &mut W, value: Value) -> Result<()
         Value::Bool(b) => write_truth(writer, b),
         Value::Int(number) => {
             write_text(writer, b"INT#")?;
-            write_number(writer, i32::from(number))
+            write_number(writer, i64::from(number))
         }
         Value::Dint(number) => {
             write_text(writer, b"DINT#")?;
+            write_number(writer, i64::from(number))
+        }
+        Value::Lint(number) => {
+            write_text(writer, b"LINT#")?;
             write_number(writer, number)
         }
         Value::Time(milliseconds) => {
             write_text(writer, b"T#")?;
-            write_number(writer, milliseconds)?;
+            write_number(writer, i64::from(milliseconds))?;
             write_text(writer, b"ms")
         }
     }

@@ -16,7 +16,7 @@ fn write_operand<W: CountedWrite>(writer: &mut W, operand: &Operand) -> Result<(
     match operand {
         Operand::Absent => Ok(()),
         Operand::Literal(value) => write_literal(writer, *value),
-        Operand::Bare(number) => write_number(writer, *number),
+        Operand::Bare(number) => write_number(writer, i64::from(*number)),
         Operand::Variable(name) => write_name(writer, name),
         Operand::Direct(location) => write_location(writer, *location),
         Operand::Label(name) => write_name(writer, name),

@@ -37,6 +37,7 @@ pub fn write_type<W: CountedWrite>(writer: &mut W, ty: Ty) -> Result<(), ListFau
         Ty::Int => write_text(writer, b"INT"),
         Ty::Dint => write_text(writer, b"DINT"),
         Ty::Time => write_text(writer, b"TIME"),
+        Ty::Lint => write_text(writer, b"LINT"),
     }
 }
 
@@ -77,6 +78,8 @@ fn op_name(op: Op) -> &'static [u8]
         Op::Close => b")",
         Op::IntToDint => b"INT_TO_DINT",
         Op::DintToInt => b"DINT_TO_INT",
+        Op::DintToLint => b"DINT_TO_LINT",
+        Op::LintToDint => b"LINT_TO_DINT",
     }
 }
 

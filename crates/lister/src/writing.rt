@@ -30,7 +30,7 @@ pub fn write_decimal<W: CountedWrite>(writer: &mut W, number: u16) -> Result<(),
 }
 
 /// A number in decimal digits, with its sign where it is below 0.
-pub fn write_number<W: CountedWrite>(writer: &mut W, number: i32) -> Result<(), ListFault>
+pub fn write_number<W: CountedWrite>(writer: &mut W, number: i64) -> Result<(), ListFault>
     ensures { Writes W.CountedWrite (number_text number) writer.old writer.new result }
 {
     let mut buffer = Buffer::new();

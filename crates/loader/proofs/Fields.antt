@@ -1,28 +1,31 @@
 -- What is read is spelled so, and what is spelled so is read: fields and records.
-use Rattle.std.proofs.Common.{◌≡◌, ℕ, zero, suc, ◌+◌, ◌^◌, ◌<◌, ◌≤◌, Bool, true, false, cond, ltb, List, [], ◌∷◌, ◌++◌, length, get_or, take, drop, Option, Some, None, Result, Ok, Err, refl, sym, ap, ◌∙◌, append_assoc, arith, inl, inr}
-use Rattle.std.specs.Prelude.{ℤ, pos, negsuc, ◌&&◌, not}
+use Rattle.std.proofs.Common.{◌≡◌, ℕ, zero, suc, ◌+◌, ◌^◌, ◌<◌, ◌≤◌, Bool, true, false, cond, ltb, List, [], ◌∷◌, ◌++◌, length, get_or, take, drop, Option, Some, None, Result, Ok, Err, refl, sym, ap, subst, ◌∙◌, append_assoc, arith, inl, inr}
+use Rattle.std.specs.Prelude.{ℤ, ◌&&◌, not}
 use Rattle.std.specs.Option.{option_and_then}
-use Rattle.std.specs.Int.{Width, w8, w16, w32, byte_len, from_be_bytes, to_be_bytes, cast_signed, cast_unsigned}
+use Rattle.std.specs.Int.{Width, w8, w16, w32, w64, byte_len, from_be_bytes, to_be_bytes, cast_signed, cast_unsigned}
 use Rattle.std.proofs.lemmas.Bool.{cases_lt, ltb-false, le-ltb, ltb-true}
 use Rattle.std.proofs.lemmas.Int.{of_z-to_z}
 use Rattle.std.proofs.lemmas.List.{take_at, drop_at, take-append-drop, length-append, length-take, get_or-drop, get_or-take, get_or_past}
-use Rattle.std.proofs.lemmas.Nat.{be_bytes_2, be_bytes_4, from_be_bytes-to_be_bytes_2, from_be_bytes-to_be_bytes_4}
+use Rattle.std.proofs.lemmas.Nat.{be_bytes_2, be_bytes_4, be_bytes_8, from_be_bytes-to_be_bytes_2, from_be_bytes-to_be_bytes_4, from_be_bytes-to_be_bytes_8}
 use Rattle.il_model.specs.declared.value.Ty.{Ty}
 use Rattle.il_model.specs.declared.value.Ty.TheVariants as types
 use Rattle.il_model.specs.declared.value.Value.{Value}
-use Rattle.il_model.specs.declared.value.Value.TheVariants as values
+use Rattle.il_model.specs.declared.codes.Version.{Version}
+use Rattle.il_model.specs.declared.codes.Version.TheVariants as versions
 use Rattle.il_model.specs.declared.program.Variable.{Variable}
 use Rattle.il_model.specs.declared.program.Loc.{Loc}
 use Rattle.il_model.specs.declared.coded_operand.CodedOperand.{CodedOperand}
 use Rattle.il_model.specs.declared.coded_operand.CodedOperand.TheVariants as coded
-use Rattle.il_model.specs.Values.{typed_value, truth_made, ty_of, number_of, is_within}
+use Rattle.il_model.specs.Values.{typed_value, ty_of, number_of}
 use Rattle.il_model.specs.CodedOperands.{code_of, with_code}
-use Rattle.il_model.specs.Image.{type_code, location_code}
+use Rattle.il_model.specs.Image.{type_code, location_code, number_width, number_bytes}
 use Rattle.il_model.proofs.CodedOperands.{coded_back}
+use Rattle.il_model.proofs.Settling.{made_number}
+use Rattle.il_model.proofs.Versions.{number_limit, IsKept, initial_made, made_type}
 use Rattle.loader.specs.declared.fault.LoadFault.{LoadFault}
 use Rattle.loader.specs.declared.fault.LoadFault.TheVariants.{Truncated}
-use Rattle.il_model.specs.Codes.{if_passes, length_of, type_of, is_free, free_loc, coded_location, may_start_with, initial_of, is_known, constant_of}
-use Rattle.loader.specs.Reading.{◌>>=◌, number_at, lawful, agrees}
+use Rattle.il_model.specs.Codes.{if_passes, length_of, type_of, is_free, free_loc, coded_location, initial_of, is_known, constant_of}
+use Rattle.loader.specs.Reading.{◌>>=◌, number_at, signed_at, lawful, agrees}
 
 abbrev pub IsBytes : List ℕ → Type 0
 IsBytes bytes = (i : ℕ) → get_or bytes i 0 < 256
@@ -100,6 +103,13 @@ wide16 = record { len = λ n. refl; back = λ bytes len fits. be_bytes_2 bytes _
 pub wide32 : IsWide w32 (2 ^ 32)
 wide32 = record { len = λ n. refl; back = λ bytes len fits. be_bytes_4 bytes _ len fits refl; again = λ n lt. from_be_bytes-to_be_bytes_4 n lt; below = λ bytes fits. omega (arith, fits 0, fits 1, fits 2, fits 3) }
 
+pub wide64 : IsWide w64 (2 ^ 64)
+wide64 = record { len = λ n. refl; back = λ bytes len fits. be_bytes_8 bytes _ len fits refl; again = λ n lt. from_be_bytes-to_be_bytes_8 n lt; below = λ bytes fits. omega (arith, fits 0, fits 1, fits 2, fits 3, fits 4, fits 5, fits 6, fits 7) }
+
+wide : (version : Version) → IsWide (number_width version) (number_limit version)
+wide versions.One = wide32
+wide versions.Two = wide64
+
 pub number_takes : (w : Width) (limit : ℕ) (wide : IsWide w limit) (bytes : List ℕ) (n : ℕ) (rest : List ℕ) → IsBytes bytes → number_at w bytes ≡ Ok (n, rest) → Takes bytes (to_be_bytes w n) rest × (n < limit)
 number_takes w limit wide bytes n rest fits e =
     let g = guard_ok (ltb (length bytes) (byte_len w)) Truncated (from_be_bytes w (take (byte_len w) bytes), drop (byte_len w) bytes) (n, rest) e in
@@ -114,6 +124,23 @@ number_again w limit wide n rest lt =
     let len = wide.len n in
     let long : ltb (length (to_be_bytes w n ++ rest)) (byte_len w) ≡ false = le-ltb _ _ (omega (arith, length-append (to_be_bytes w n) rest)) in
     rw (long, take_at (to_be_bytes w n) rest (byte_len w) len, drop_at (to_be_bytes w n) rest (byte_len w) len, wide.again n lt) refl
+
+-- ---- numbers with a sign, as an image of a version has them
+
+unsigned_again : (version : Version) (n : ℕ) → n < number_limit version → cast_unsigned (number_width version) (cast_signed (number_width version) n) ≡ n
+unsigned_again versions.One n lt = of_z-to_z w32 n lt
+unsigned_again versions.Two n lt = of_z-to_z w64 n lt
+
+pub signed_takes : (version : Version) (bytes : List ℕ) (z : ℤ) (rest : List ℕ) → IsBytes bytes → signed_at version bytes ≡ Ok (z, rest) → Takes bytes (number_bytes version z) rest
+signed_takes version bytes z rest fits e =
+    let w = number_width version in
+    let b = bind_ok (number_at w bytes) (λ n. Ok (cast_signed w n.0, n.1)) (z, rest) e in
+    let t = number_takes w (number_limit version) (wide version) bytes b.0.0 b.0.1 fits b.1 in
+    let same = ok_is (cast_signed w b.0.0, b.0.1) (z, rest) b.2 in
+    subst (λ (y : ℤ × List ℕ). Takes bytes (number_bytes version y.0) y.1) same (subst (λ (n : ℕ). Takes bytes (to_be_bytes w n) b.0.1) (sym (unsigned_again version b.0.0 t.1)) t.0)
+
+pub signed_again : (version : Version) (z : ℤ) (rest : List ℕ) → IsKept version z → signed_at version (number_bytes version z ++ rest) ≡ Ok (z, rest)
+signed_again version z rest kept = let w = number_width version in rw (number_again w (number_limit version) (wide version) (cast_unsigned w z) rest kept.small, kept.back) refl
 
 -- ---- names
 
@@ -135,13 +162,15 @@ type_is zero t e = let is : types.Bool ≡ t = cc in sym (ap type_code is)
 type_is (suc zero) t e = let is : types.Int ≡ t = cc in sym (ap type_code is)
 type_is (suc (suc zero)) t e = let is : types.Dint ≡ t = cc in sym (ap type_code is)
 type_is (suc (suc (suc zero))) t e = let is : types.Time ≡ t = cc in sym (ap type_code is)
-type_is (suc (suc (suc (suc n)))) t e = absurd cc
+type_is (suc (suc (suc (suc zero)))) t e = let is : types.Lint ≡ t = cc in sym (ap type_code is)
+type_is (suc (suc (suc (suc (suc n))))) t e = absurd cc
 
 pub type_small : (t : Ty) → type_code t < 2 ^ 8
 type_small types.Bool = omega arith
 type_small types.Int = omega arith
 type_small types.Dint = omega arith
 type_small types.Time = omega arith
+type_small types.Lint = omega arith
 
 free_is : (seen : List Variable) (t : Ty) (x : CodedOperand) (loc : Option Loc) → free_loc seen t x ≡ Some loc → location_code loc ≡ code_of x
 free_is seen t (coded.Location l) loc e = let y = some_yes (is_free seen t l) (Some l) loc e in sym (ap location_code y.1)
@@ -157,53 +186,16 @@ located_by seen t n (Some x) loc is e = free_is seen t x loc e ∙ (coded_back n
 pub location_is : (seen : List Variable) (t : Ty) (n : ℕ) (loc : Option Loc) → coded_location seen t n ≡ Some loc → location_code loc ≡ n
 location_is seen t n loc e = located_by seen t n (with_code n) loc refl e
 
--- the number of a value that was made is the number that it was made of
-pub truth_by : (a b : Bool) (n : ℕ) (v : Value) → ltb n 1 ≡ a → ltb n 2 ≡ b → cond a (Some (values.Bool false)) (cond b (Some (values.Bool true)) None) ≡ Some v → number_of v ≡ pos n
-truth_by true b n v e f h = let is : values.Bool false ≡ v = cc in let lt : n < 1 = ltb-true n 1 e in let z : 0 ≡ n = omega arith in sym (ap number_of is) ∙ ap pos z
-truth_by false true n v e f h = let is : values.Bool true ≡ v = cc in let lt : n < 2 = ltb-true n 2 f in let le : 1 ≤ n = ltb-false n 1 e in let z : 1 ≡ n = omega arith in sym (ap number_of is) ∙ ap pos z
-truth_by false false n v e f h = absurd cc
-
-pub truth_number_is : (z : ℤ) (v : Value) → truth_made z ≡ Some v → number_of v ≡ z
-truth_number_is (pos n) v e = truth_by (ltb n 1) (ltb n 2) n v refl refl e
-truth_number_is (negsuc n) v e = absurd cc
-
-pub made_number : (t : Ty) (z : ℤ) (v : Value) → typed_value t z ≡ Some v → number_of v ≡ z
-made_number types.Bool z v e = truth_number_is z v e
-made_number types.Int z v e = sym (ap number_of (some_yes (is_within (2 ^ 15) z) (values.Int z) v e).1)
-made_number types.Dint z v e = sym (ap number_of (some_yes (is_within (2 ^ 31) z) (values.Dint z) v e).1)
-made_number types.Time z v e = sym (ap number_of (some_yes (is_within (2 ^ 31) z) (values.Time z) v e).1)
-
-started_by : (b : Bool) (x v : Value) → cond b (Some x) None ≡ Some v → x ≡ v
-started_by b x v e = (some_yes b x v e).1
-
-made_start : (loc : Option Loc) (o : Option Value) (v : Value) → option_and_then (if_passes (may_start_with loc)) o ≡ Some v → o ≡ Some v
-made_start loc None v e = absurd cc
-made_start loc (Some x) v e = ap (λ (y : Value). Some y) (started_by (may_start_with loc x) x v e)
-
-pub initial_is : (t : Ty) (loc : Option Loc) (bits : ℕ) (v : Value) → bits < 2 ^ 32 → initial_of t loc bits ≡ Some v → cast_unsigned w32 (number_of v) ≡ bits
-initial_is t loc bits v lt e = ap (cast_unsigned w32) (made_number t (cast_signed w32 bits) v (made_start loc (typed_value t (cast_signed w32 bits)) v e)) ∙ of_z-to_z w32 bits lt
-
-truth_of : (a b : Bool) (v : Value) → cond a (Some (values.Bool false)) (cond b (Some (values.Bool true)) None) ≡ Some v → ty_of v ≡ types.Bool
-truth_of true b v e = let is : values.Bool false ≡ v = cc in ap ty_of (sym is)
-truth_of false true v e = let is : values.Bool true ≡ v = cc in ap ty_of (sym is)
-truth_of false false v e = absurd cc
-
-truth_ty : (z : ℤ) (v : Value) → truth_made z ≡ Some v → ty_of v ≡ types.Bool
-truth_ty (pos n) v e = truth_of (ltb n 1) (ltb n 2) v e
-truth_ty (negsuc n) v e = absurd cc
-
-made_ty : (t : Ty) (z : ℤ) (v : Value) → typed_value t z ≡ Some v → ty_of v ≡ t
-made_ty types.Bool z v e = truth_ty z v e
-made_ty types.Int z v e = ap ty_of (sym (some_yes (is_within (2 ^ 15) z) (values.Int z) v e).1)
-made_ty types.Dint z v e = ap ty_of (sym (some_yes (is_within (2 ^ 31) z) (values.Dint z) v e).1)
-made_ty types.Time z v e = ap ty_of (sym (some_yes (is_within (2 ^ 31) z) (values.Time z) v e).1)
+-- the number of a first value that was read is the one that stood there
+pub initial_is : (t : Ty) (loc : Option Loc) (z : ℤ) (v : Value) → initial_of t loc z ≡ Some v → number_of v ≡ z
+initial_is t loc z v e = made_number t z v (initial_made t loc z v e)
 
 pub tested_some : {A : Type 0} (test : A → Bool) (o : Option A) (y : A) → option_and_then (if_passes test) o ≡ Some y → (o ≡ Some y) × (test y ≡ true)
 tested_some test None y e = absurd cc
 tested_some test (Some x) y e = let r = some_yes (test x) x y e in (ap (λ (z : _). Some z) r.1, ap test (sym r.1) ∙ r.0)
 
 -- what a constant that was read is
-pub constant_is : (seen : List Value) (t : Ty) (bits : ℕ) (v : Value) → bits < 2 ^ 32 → constant_of seen t bits ≡ Some v → (ty_of v ≡ t) × (cast_unsigned w32 (number_of v) ≡ bits)
-constant_is seen t bits v lt e =
-    let m = (tested_some (λ v. not (is_known seen v)) (typed_value t (cast_signed w32 bits)) v e).0 in
-    (made_ty t (cast_signed w32 bits) v m, ap (cast_unsigned w32) (made_number t (cast_signed w32 bits) v m) ∙ of_z-to_z w32 bits lt)
+pub constant_is : (seen : List Value) (t : Ty) (z : ℤ) (v : Value) → constant_of seen t z ≡ Some v → (ty_of v ≡ t) × (number_of v ≡ z)
+constant_is seen t z v e =
+    let m = (tested_some (λ v. not (is_known seen v)) (typed_value t z) v e).0 in
+    (made_type t z v m, made_number t z v m)

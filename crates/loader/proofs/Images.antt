@@ -1,10 +1,12 @@
 -- The two laws: what is read is the spelling of a typed program, and that spelling is read.
-use Rattle.std.proofs.Common.{◌≡◌, ℕ, ◌+◌, ◌≤◌, Bool, true, false, cond, ltb, List, [], length, Option, Some, None, Result, Ok, Err, refl, sym, ap, subst, ◌∙◌, arith}
+use Rattle.std.proofs.Common.{◌≡◌, ℕ, ◌+◌, ◌≤◌, Bool, true, false, cond, ltb, List, [], ◌∷◌, length, Option, Some, None, Result, Ok, Err, refl, sym, ap, subst, ◌∙◌, arith}
 use Rattle.std.specs.Prelude.{nat_eq, nat_le, ◌||◌, IfOk}
-use Rattle.std.specs.List.{flat_map, position, AllByRecursion}
+use Rattle.std.specs.List.{flat_map, list_any, position, AllByRecursion}
 use Rattle.std.proofs.lemmas.Bool.{ltb-false, le-ltb, eqb-true, eq-eqb}
 use Rattle.std.proofs.lemmas.List.{take_all}
 use Rattle.il_model.specs.declared.value.Value.{Value}
+use Rattle.il_model.specs.declared.codes.Version.{Version}
+use Rattle.il_model.specs.declared.program.Instance.{Instance}
 use Rattle.il_model.specs.declared.program.Instr.{Instr}
 use Rattle.il_model.specs.declared.typing.TypeFault.{TypeFault}
 use Rattle.il_model.specs.Text.{Text}
@@ -12,21 +14,25 @@ use Rattle.il_model.specs.Limits.{program_of}
 use Rattle.il_model.specs.Typing.{judgement_of, IsTyped}
 use Rattle.il_model.specs.Marks.{Mark, marks_from, words_in, AreRising, AreStarts}
 use Rattle.il_model.specs.Constants.{same_value, operands_of, constants_from, constants_of}
-use Rattle.il_model.specs.Image.{instruction_bytes, spelling}
+use Rattle.il_model.specs.Image.{version_number, is_long_line, version_with, version_of, instruction_bytes, spelling}
+use Rattle.il_model.specs.Codes.{may_have}
 use Rattle.il_model.specs.Fits.{IsMark, IsConstant, AreItems, IsText, IsImage}
 use Rattle.il_model.proofs.Marks.{table_again, table_rises, table_starts, table_labels}
 use Rattle.il_model.proofs.Constants.{are_apart}
 use Rattle.il_model.proofs.Calls.{typed_lines}
+use Rattle.il_model.proofs.Versions.{same_version, version_may}
 use Rattle.loader.specs.declared.word.Word.{Word}
+use Rattle.loader.specs.declared.word.Content.{Content}
+use Rattle.loader.specs.declared.word.Content.TheVariants as contents
 use Rattle.loader.specs.declared.fault.LoadFault.{LoadFault}
-use Rattle.loader.specs.declared.fault.LoadFault.TheVariants.{BadWord}
+use Rattle.loader.specs.declared.fault.LoadFault.TheVariants.{BadVersion, BadWord}
 use Rattle.loader.specs.declared.fault.LoadError.{LoadError}
-use Rattle.loader.specs.Tables.{Tables, declared_in, lines_of}
-use Rattle.loader.specs.Reading.{◌>>=◌, Gives, tables_at}
-use Rattle.loader.specs.Judging.{constant_place, risen, used_from, earlier, sooner, stray_from, misspelled, at_word, words_fine, all_used, small, judged_tables, image_of}
+use Rattle.loader.specs.Tables.{Tables, declared_in, with_line, lines_of}
+use Rattle.loader.specs.Reading.{◌>>=◌, Gives, agrees, tables_at}
+use Rattle.loader.specs.Judging.{constant_place, risen, used_from, earlier, sooner, stray_from, misspelled, at_word, words_fine, all_used, is_same, small, judged_tables, image_of}
 use Rattle.loader.proofs.Fields.{IsBytes, bind_ok, agrees_ok, ok_is}
-use Rattle.loader.proofs.Records.{read_word_bytes}
-use Rattle.loader.proofs.Spelled.{tables_bytes, AreTables, tables_take, tables_again}
+use Rattle.loader.proofs.Records.{is_long_content, is_long_word, read_word_bytes}
+use Rattle.loader.proofs.Spelled.{tables_bytes, AreTables, AreShort, tables_take, tables_again}
 use Rattle.loader.proofs.Groups.{front, words_are, none_front, operands_are, word_operands, labels_read, risen_takes, risen_again}
 use Rattle.loader.proofs.Words.{AreKnown}
 use Rattle.loader.proofs.Used.{IsReadSomewhere, words_read, used_take, used_again_all}
@@ -79,13 +85,17 @@ sooner_none None p e = (refl, e)
 sooner_none (Some m) None e = absurd cc
 sooner_none (Some m) (Some n) e = absurd cc
 
-all_takes : (total words count : ℕ) (used : Result ℕ ℕ) (u : ℕ) (x : Unit {0}) → used ≡ Ok u → all_used total words count used ≡ Ok x → u ≡ count
-all_takes total words count used u x is e =
-    let f : all_used total words count (Ok u) ≡ Ok x = ap (all_used total words count) (sym is) ∙ e in
-    eqb-true u count (agrees_ok (BadWord (constant_place total words count u)) (nat_eq u count) x f)
+all_takes : (version : Version) (total words count : ℕ) (used : Result ℕ ℕ) (u : ℕ) (x : Unit {0}) → used ≡ Ok u → all_used version total words count used ≡ Ok x → u ≡ count
+all_takes version total words count used u x is e =
+    let f : all_used version total words count (Ok u) ≡ Ok x = ap (all_used version total words count) (sym is) ∙ e in
+    eqb-true u count (agrees_ok (BadWord (constant_place version total words count u)) (nat_eq u count) x f)
 
 abbrev program_in : Tables → Text
 program_in t = record { variables = t.variables; instances = t.instances; code = lines_of t.instances t.words }
+
+-- the version that a program of these tables has
+abbrev version_in : Tables → Version
+version_in t = version_with t.variables t.constants (lines_of t.instances t.words)
 
 record IsJudged (t : Tables) : Type 0 where
   short : length (lines_of t.instances t.words) ≤ 4096
@@ -95,16 +105,21 @@ record IsJudged (t : Tables) : Type 0 where
   loud : position silent t.words ≡ None
   stray : stray_from false t.words ≡ None
   typed : IsTyped (program_in t)
+  version : t.version ≡ version_in t
 
-judged_join : (total : ℕ) (t : Tables) (Q : Text) (x y z : Unit {0}) → program_of t.variables t.instances (lines_of t.instances t.words) ≡ Some Q → risen (constant_place total (length t.words) (length t.constants) 0) 0 t.words t.labels ≡ Ok x
-    → words_fine total (length t.words) (misspelled t.words (used_from 0 0 t.words)) (at_word Q (judgement_of Q)) ≡ Ok y → all_used total (length t.words) (length t.constants) (used_from 0 0 t.words) ≡ Ok z → IsJudged t × (program_in t ≡ Q)
-judged_join total t Q x y z small-is risen-is fine-is used-is =
+-- the version is that of the program
+abbrev is_own_version : Tables → Text → Bool
+is_own_version t Q = is_same t.version (version_with t.variables t.constants Q.code)
+
+judged_join : (total : ℕ) (t : Tables) (Q : Text) (x y z u : Unit {0}) → program_of t.variables t.instances (lines_of t.instances t.words) ≡ Some Q → risen (constant_place t.version total (length t.words) (length t.constants) 0) 0 t.words t.labels ≡ Ok x
+    → words_fine total (length t.words) (misspelled t.words (used_from 0 0 t.words)) (at_word Q (judgement_of Q)) ≡ Ok y → all_used t.version total (length t.words) (length t.constants) (used_from 0 0 t.words) ≡ Ok z → agrees BadVersion (is_own_version t Q) ≡ Ok u → IsJudged t × (program_in t ≡ Q)
+judged_join total t Q x y z u small-is risen-is fine-is used-is version-is =
     let p = program_by (ltb 512 (length t.variables)) (ltb 128 (length t.instances)) (ltb 4096 (length (lines_of t.instances t.words))) (program_in t) Q small-is in
     let fine = fine_takes total (length t.words) (misspelled t.words (used_from 0 0 t.words)) (at_word Q (judgement_of Q)) y fine-is in
     let used = earlier_none (sooner (position silent t.words) (stray_from false t.words)) (used_from 0 0 t.words) fine.none in
     let both = sooner_none (position silent t.words) (stray_from false t.words) used.none in
-    let all = all_takes total (length t.words) (length t.constants) (used_from 0 0 t.words) used.number z used.is used-is in
-    let labels = risen_takes t.instances (constant_place total (length t.words) (length t.constants) 0) 0 t.words t.labels x (none_front None t.words both.1).0 risen-is in (
+    let all = all_takes t.version total (length t.words) (length t.constants) (used_from 0 0 t.words) used.number z used.is used-is in
+    let labels = risen_takes t.instances (constant_place t.version total (length t.words) (length t.constants) 0) 0 t.words t.labels x (none_front None t.words both.1).0 risen-is in (
       record {
         short = ltb-false 4096 (length (lines_of t.instances t.words)) p.0;
         rising = labels.0;
@@ -113,6 +128,7 @@ judged_join total t Q x y z small-is risen-is fine-is used-is =
         loud = both.0;
         stray = both.1;
         typed = subst IsTyped (sym p.1) (word_ok Q (judgement_of Q) fine.typed);
+        version = same_version t.version (version_in t) (ap (is_own_version t) p.1 ∙ agrees_ok BadVersion (is_own_version t Q) u version-is);
       },
       p.1,
     )
@@ -120,21 +136,22 @@ judged_join total t Q x y z small-is risen-is fine-is used-is =
 judged_takes : (total : ℕ) (t : Tables) (Q : Text) → judged_tables total t ≡ Ok Q → IsJudged t × (program_in t ≡ Q)
 unfolding judged_tables
 judged_takes total t Q e =
-    let end = constant_place total (length t.words) (length t.constants) 0 in
+    let end = constant_place t.version total (length t.words) (length t.constants) 0 in
     let used = used_from 0 0 t.words in
     let wrong = misspelled t.words used in
-    let a = bind_ok (small (program_of t.variables t.instances (lines_of t.instances t.words))) (λ Q. risen end 0 t.words t.labels >>= λ rising. words_fine total (length t.words) wrong (at_word Q (judgement_of Q)) >>= λ fine. all_used total (length t.words) (length t.constants) used >>= λ used. Ok Q) Q e in
+    let a = bind_ok (small (program_of t.variables t.instances (lines_of t.instances t.words))) (λ Q. risen end 0 t.words t.labels >>= λ rising. words_fine total (length t.words) wrong (at_word Q (judgement_of Q)) >>= λ fine. all_used t.version total (length t.words) (length t.constants) used >>= λ used. agrees BadVersion (is_own_version t Q) >>= λ own. Ok Q) Q e in
     let P = a.0 in
-    let b = bind_ok (risen end 0 t.words t.labels) (λ rising. words_fine total (length t.words) wrong (at_word P (judgement_of P)) >>= λ fine. all_used total (length t.words) (length t.constants) used >>= λ used. Ok P) Q a.2 in
-    let c = bind_ok (words_fine total (length t.words) wrong (at_word P (judgement_of P))) (λ fine. all_used total (length t.words) (length t.constants) used >>= λ used. Ok P) Q b.2 in
-    let d = bind_ok (all_used total (length t.words) (length t.constants) used) (λ used. Ok P) Q c.2 in
-    let j = judged_join total t P b.0 c.0 d.0 (small_ok (program_of t.variables t.instances (lines_of t.instances t.words)) P a.1) b.1 c.1 d.1 in
-    (j.0, j.1 ∙ ok_is P Q d.2)
+    let b = bind_ok (risen end 0 t.words t.labels) (λ rising. words_fine total (length t.words) wrong (at_word P (judgement_of P)) >>= λ fine. all_used t.version total (length t.words) (length t.constants) used >>= λ used. agrees BadVersion (is_own_version t P) >>= λ own. Ok P) Q a.2 in
+    let c = bind_ok (words_fine total (length t.words) wrong (at_word P (judgement_of P))) (λ fine. all_used t.version total (length t.words) (length t.constants) used >>= λ used. agrees BadVersion (is_own_version t P) >>= λ own. Ok P) Q b.2 in
+    let d = bind_ok (all_used t.version total (length t.words) (length t.constants) used) (λ used. agrees BadVersion (is_own_version t P) >>= λ own. Ok P) Q c.2 in
+    let v = bind_ok (agrees BadVersion (is_own_version t P)) (λ own. Ok P) Q d.2 in
+    let j = judged_join total t P b.0 c.0 d.0 v.0 (small_ok (program_of t.variables t.instances (lines_of t.instances t.words)) P a.1) b.1 c.1 d.1 v.1 in
+    (j.0, j.1 ∙ ok_is P Q v.2)
 
 -- ---- what is read is spelled so
 
-spelled_join : (t : Tables) (Q : Text) → t.variables ≡ Q.variables → t.instances ≡ Q.instances → t.labels ≡ marks_from 0 Q.code → t.constants ≡ constants_of Q → length t.words ≡ words_in Q.code → flat_map read_word_bytes t.words ≡ flat_map (instruction_bytes Q (constants_of Q)) Q.code → tables_bytes t ≡ spelling Q
-spelled_join t Q vs-is xs-is ms-is cs-is long ws-is = rw (vs-is, xs-is, ms-is, cs-is, long, ws-is) refl
+spelled_join : (t : Tables) (Q : Text) → t.version ≡ version_of Q → t.variables ≡ Q.variables → t.instances ≡ Q.instances → t.labels ≡ marks_from 0 Q.code → t.constants ≡ constants_of Q → length t.words ≡ words_in Q.code → flat_map read_word_bytes t.words ≡ flat_map (instruction_bytes Q (constants_of Q)) Q.code → tables_bytes t ≡ spelling Q
+spelled_join t Q version-is vs-is xs-is ms-is cs-is long ws-is = rw (version-is, vs-is, xs-is, ms-is, cs-is, long, ws-is) refl
 
 tables_spelled : (t : Tables) → AreTables t → IsJudged t → IsImage (program_in t) × (tables_bytes t ≡ spelling (program_in t))
 tables_spelled t are judgement_of =
@@ -169,7 +186,7 @@ tables_spelled t are judgement_of =
       words = w.words;
       words_few = subst (λ (k : ℕ). k ≤ 36864) long few-ws;
     } in
-    (record { text = text; short = judgement_of.short; typed = judgement_of.typed }, spelled_join t Q refl refl (sym ms-is) (sym cs-is) long w.same)
+    (record { text = text; short = judgement_of.short; typed = judgement_of.typed }, spelled_join t Q (judgement_of.version ∙ ap (λ (cs : List Value). version_with t.variables cs Q.code) (sym cs-is)) refl refl (sym ms-is) (sym cs-is) long w.same)
 
 pub image_takes : (bytes : List ℕ) (Q : Text) → IsBytes bytes → image_of bytes ≡ Ok Q → IsImage Q × (bytes ≡ spelling Q)
 unfolding image_of
@@ -186,7 +203,7 @@ abbrev all_words : Text → List Word
 all_words Q = words_of Q (constants_of Q) Q.code
 
 abbrev tables_of : Text → Tables
-tables_of Q = record { variables = Q.variables; instances = Q.instances; labels = marks_from 0 Q.code; constants = constants_of Q; words = all_words Q }
+tables_of Q = record { version = version_of Q; variables = Q.variables; instances = Q.instances; labels = marks_from 0 Q.code; constants = constants_of Q; words = all_words Q }
 
 tables_fit : (Q : Text) → IsImage Q → AreTables (tables_of Q)
 tables_fit Q is =
@@ -199,6 +216,22 @@ tables_fit Q is =
       words = words_again Q [] [] Q.code text.words (table_labels Q.code);
       few = record { variables = text.variables_few; instances = text.instances_few; labels = text.labels_few; constants = text.constants_few; words = subst (λ (k : ℕ). k ≤ 36864) (sym (words_long Q (constants_of Q) Q.code)) text.words_few };
     }
+
+long_word : (xs : List Instance) (content : Content) (ws : List Word) → list_any is_long_word ws ≡ list_any is_long_line (lines_of xs ws) → (is_long_content content || list_any is_long_word ws) ≡ list_any is_long_line (with_line xs content ws (lines_of xs ws))
+long_word xs (contents.Instruction line) ws e = ap (λ b. is_long_line line || b) e
+long_word xs (contents.Argument side number operand) ws e = e
+
+-- an instruction's word is long where the instruction is
+long_words : (xs : List Instance) (ws : List Word) → list_any is_long_word ws ≡ list_any is_long_line (lines_of xs ws)
+long_words xs [] = refl
+long_words xs (w ∷ ws) = long_word xs w.content ws (long_words xs ws)
+
+tables_short : (Q : Text) → IsImage Q → AreShort (tables_of Q)
+tables_short Q is =
+    let cs = constants_of Q in
+    let may = version_may Q.variables cs Q.code in
+    let same : list_any is_long_word (all_words Q) ≡ list_any is_long_line Q.code = long_words Q.instances (all_words Q) ∙ ap (list_any is_long_line) (lines_again Q cs [] Q.code is.text.words) in
+    record { variables = may.0; constants = may.1; words = ap (may_have (version_of Q)) same ∙ may.2 }
 
 tables_judged : (total : ℕ) (Q : Text) → IsImage Q → judged_tables total (tables_of Q) ≡ Ok Q
 unfolding judged_tables
@@ -215,7 +248,7 @@ tables_judged total Q is =
     let all : cs ≡ constants_from same_value [] (word_operands ws) = ap (λ (code : List Instr). constants_from same_value [] (operands_of code)) (sym lines) ∙ ap (constants_from same_value []) (operands_are Q.instances ws stray) in
     let used : used_from 0 0 ws ≡ Ok (length cs) = used_again_all Q cs [] ws 0 is.text.constants_few (words_coded Q cs Q.code) all in
     let starts : AreStarts 0 (lines_of Q.instances ws) ms = subst (λ (code : List Instr). AreStarts 0 code ms) (sym lines) (table_starts Q.code 0) in
-    let rising : risen (constant_place total (length ws) (length cs) 0) 0 ws ms ≡ Ok tt = risen_again Q.instances (constant_place total (length ws) (length cs) 0) 0 (0 + words_in Q.code) ws ms (none_front None ws stray).0 (table_rises Q.code 0) starts in
+    let rising : risen (constant_place (version_of Q) total (length ws) (length cs) 0) 0 ws ms ≡ Ok tt = risen_again Q.instances (constant_place (version_of Q) total (length ws) (length cs) 0) 0 (0 + words_in Q.code) ws ms (none_front None ws stray).0 (table_rises Q.code 0) starts in
     rw (
       lines,
       le-ltb 512 (length Q.variables) vs-le,
@@ -227,14 +260,15 @@ tables_judged total Q is =
       loud,
       is.typed,
       eq-eqb (length cs) (length cs) refl,
+      eq-eqb (version_number (version_of Q)) (version_number (version_of Q)) refl,
     ) refl
 
 pub image_again : (Q : Text) → IsImage Q → image_of (spelling Q) ≡ Ok Q
 unfolding image_of
 image_again Q is =
     let t = tables_of Q in
-    let spelled : tables_bytes t ≡ spelling Q = spelled_join t Q refl refl refl refl (words_long Q (constants_of Q) Q.code) (bytes_again Q (constants_of Q) Q.code) in
-    let read : tables_at (spelling Q) ≡ Ok t = ap tables_at (sym spelled) ∙ tables_again t (tables_fit Q is) in
+    let spelled : tables_bytes t ≡ spelling Q = spelled_join t Q refl refl refl refl refl (words_long Q (constants_of Q) Q.code) (bytes_again Q (constants_of Q) Q.code) in
+    let read : tables_at (spelling Q) ≡ Ok t = ap tables_at (sym spelled) ∙ tables_again t (tables_fit Q is) (tables_short Q is) in
     rw read (tables_judged (length (spelling Q)) Q is)
 
 -- ---- what a function tells that reads so

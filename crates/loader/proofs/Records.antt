@@ -1,8 +1,8 @@
 -- What is read is spelled so, and what is spelled so is read: records and tables.
 use Rattle.std.proofs.Common.{◌≡◌, ℕ, zero, suc, ◌-◌, ◌^◌, ◌<◌, ◌≤◌, Bool, true, false, cond, ltb, eqb, List, [], ◌∷◌, ◌++◌, length, take, drop, Option, Some, None, Result, Ok, Err, refl, sym, ap, subst, ◌∙◌, append_assoc, arith}
-use Rattle.std.specs.Prelude.{slice_get, nat_eq, find}
+use Rattle.std.specs.Prelude.{ℤ, slice_get, nat_eq, find}
 use Rattle.std.specs.List.{flat_map}
-use Rattle.std.specs.Int.{w8, w16, w32, to_be_bytes, cast_unsigned}
+use Rattle.std.specs.Int.{w8, w16, to_be_bytes}
 use Rattle.std.proofs.lemmas.Bool.{ltb-false, ltb-true, lt-ltb, le-ltb, eqb-true}
 use Rattle.std.proofs.lemmas.List.{take_at, drop_at, take-append-drop, length-append, length-take, append-nil}
 use Rattle.std.proofs.lemmas.List.Concat.{flat_map-cons}
@@ -11,8 +11,10 @@ use Rattle.il_model.specs.declared.value.Value.{Value}
 use Rattle.il_model.specs.declared.op.Op.{Op}
 use Rattle.il_model.specs.declared.op.Op.TheVariants as ops
 use Rattle.il_model.specs.declared.op.Modifier.{Modifier}
+use Rattle.il_model.specs.declared.codes.Version.{Version}
 use Rattle.il_model.specs.declared.kind.BlockKind.{BlockKind}
 use Rattle.il_model.specs.declared.kind.BlockKind.TheVariants as kinds
+use Rattle.il_model.specs.declared.program.Loc.{Loc}
 use Rattle.il_model.specs.declared.program.Variable.{Variable}
 use Rattle.il_model.specs.declared.program.Instance.{Instance}
 use Rattle.il_model.specs.declared.program.Side.{Side}
@@ -23,17 +25,18 @@ use Rattle.il_model.specs.Values.{ty_of, number_of}
 use Rattle.il_model.specs.Kinds.{block_kinds, kind_code, kind_of_code}
 use Rattle.il_model.specs.Text.{Declarations}
 use Rattle.il_model.specs.Marks.{Mark}
-use Rattle.il_model.specs.Image.{type_code, location_code, name_bytes, variable_bytes, instance_bytes, mark_bytes, constant_bytes, op_code, modifier_code, side_code, coded_word}
-use Rattle.il_model.specs.Codes.{is_new_name, is_new_instance, is_new_label, length_of, type_of, coded_location, initial_of, constant_of, usage_of, allowed_by, op_list, op_of, modifier_of, letters_of, label_there, word_operand, side_of, argument_number, argument_operand}
+use Rattle.il_model.specs.Image.{type_code, location_code, name_bytes, is_long_type, is_long_value, is_long_variable, is_long_line, number_bytes, variable_bytes, instance_bytes, mark_bytes, constant_bytes, op_code, modifier_code, side_code, coded_word}
+use Rattle.il_model.specs.Codes.{is_new_name, is_new_instance, is_new_label, length_of, may_have, type_of, type_in, coded_location, initial_of, constant_of, usage_of, allowed_by, op_list, op_of, op_in, modifier_of, letters_of, label_there, word_operand, side_of, argument_number, argument_operand}
 use Rattle.il_model.specs.Fits.{IsVariable, IsInstance, IsMark, IsConstant, IsCoded, AreItems}
 use Rattle.il_model.proofs.BlockKinds.{kind_of_code-kind_code}
+use Rattle.il_model.proofs.Versions.{IsKept, or_may, variable_kept, constant_kept, type_in_again, type_in_is, op_in_again, op_in_is}
 use Rattle.loader.specs.declared.word.Word.{Word}
 use Rattle.loader.specs.declared.word.Content.{Content}
 use Rattle.loader.specs.declared.word.Content.TheVariants as contents
 use Rattle.loader.specs.declared.fault.LoadFault.{LoadFault}
 use Rattle.loader.specs.declared.fault.LoadFault.TheVariants.{Truncated, BadWord}
-use Rattle.loader.specs.Reading.{◌>>=◌, number_at, lawful, agrees, items_from, spelled_name_at, name_at, variable_at, instance_at, mark_at, constant_at, instruction_at, argument_at, word_by, word_at}
-use Rattle.loader.proofs.Fields.{IsBytes, IsBytes-drop, bind_ok, guard_no, agrees_ok, lawful_ok, some_yes, ok_is, Takes, Takes-then, wide8, wide16, wide32, number_takes, number_again, length_is, length_below, type_is, type_small, location_is, initial_is, tested_some, constant_is}
+use Rattle.loader.specs.Reading.{◌>>=◌, number_at, signed_at, lawful, agrees, items_from, spelled_name_at, name_at, first_value_at, variable_at, instance_at, mark_at, constant_at, instruction_at, argument_at, word_by, word_at}
+use Rattle.loader.proofs.Fields.{IsBytes, IsBytes-drop, bind_ok, guard_no, agrees_ok, lawful_ok, some_yes, ok_is, Takes, Takes-then, wide8, wide16, number_takes, number_again, signed_takes, signed_again, length_is, length_below, type_is, type_small, location_is, initial_is, tested_some, constant_is}
 
 record IsName (is_new : List ℕ → Bool) (name : List ℕ) : Type 0 where
   len : length_of (length name) ≡ Some (length name)
@@ -81,21 +84,37 @@ name_again : (p : ℕ) (is_new : List ℕ → Bool) (name rest : List ℕ) → l
 unfolding name_at
 name_again p is_new name rest len new = rw (spelled_again p name rest len, new) refl
 
+first_value_takes : (version : Version) (p : ℕ) (type : Ty) (loc : Option Loc) (bytes : List ℕ) (x : Value × List ℕ) → IsBytes bytes → first_value_at version p type loc bytes ≡ Ok x
+    → Takes bytes (number_bytes version (number_of x.0)) x.1 × (initial_of type loc (number_of x.0) ≡ Some x.0)
+unfolding first_value_at
+first_value_takes version p type loc bytes x fits e =
+    let b_number = bind_ok (signed_at version bytes) (λ number. lawful p (initial_of type loc number.0) >>= λ value. Ok (value, number.1)) x e in
+    let z = b_number.0.0 in
+    let b_value = bind_ok (lawful p (initial_of type loc z)) (λ value. Ok (value, b_number.0.1)) x b_number.2 in
+    let ok = lawful_ok p (initial_of type loc z) b_value.0 b_value.1 in
+    let is : z ≡ number_of b_value.0 = sym (initial_is type loc z b_value.0 ok) in
+    let t = subst (λ (k : ℤ). Takes bytes (number_bytes version k) b_number.0.1) is (signed_takes version bytes z b_number.0.1 fits b_number.1) in
+    subst (λ (y : Value × List ℕ). Takes bytes (number_bytes version (number_of y.0)) y.1 × (initial_of type loc (number_of y.0) ≡ Some y.0)) (ok_is (b_value.0, b_number.0.1) x b_value.2) (t, subst (λ (k : ℤ). initial_of type loc k ≡ Some b_value.0) is ok)
+
+first_value_again : (version : Version) (p : ℕ) (type : Ty) (loc : Option Loc) (v : Value) (rest : List ℕ) → initial_of type loc (number_of v) ≡ Some v → IsKept version (number_of v)
+    → first_value_at version p type loc (number_bytes version (number_of v) ++ rest) ≡ Ok (v, rest)
+unfolding first_value_at
+first_value_again version p type loc v rest is kept = rw (signed_again version (number_of v) rest kept, is) refl
+
 -- the parts of a variable, each with what was read of it
-variable_joins : (seen : List Variable) (bytes r0 r1 r2 rest : List ℕ) (v : Variable) (code place bits : ℕ)
-    → Takes bytes (name_bytes v.name) r0 → Takes r0 (to_be_bytes w8 code) r1 → Takes r1 (to_be_bytes w16 place) r2 → Takes r2 (to_be_bytes w32 bits) rest
-    → IsName (is_new_name seen) v.name → type_of code ≡ Some v.ty → coded_location seen v.ty place ≡ Some v.location → place < 2 ^ 16 → initial_of v.ty v.location bits ≡ Some v.initial → bits < 2 ^ 32
-    → Takes bytes (variable_bytes v) rest × IsVariable seen v
-variable_joins seen bytes r0 r1 r2 rest v code place bits t0 t1 t2 t3 name ty-ok loc-ok place-lt value-ok bits-lt =
+variable_joins : (version : Version) (seen : List Variable) (bytes r0 r1 r2 rest : List ℕ) (v : Variable) (code place : ℕ)
+    → Takes bytes (name_bytes v.name) r0 → Takes r0 (to_be_bytes w8 code) r1 → Takes r1 (to_be_bytes w16 place) r2 → Takes r2 (number_bytes version (number_of v.initial)) rest
+    → IsName (is_new_name seen) v.name → type_in version code ≡ Some v.ty → coded_location seen v.ty place ≡ Some v.location → place < 2 ^ 16 → initial_of v.ty v.location (number_of v.initial) ≡ Some v.initial
+    → Takes bytes (variable_bytes version v) rest × IsVariable seen v
+variable_joins version seen bytes r0 r1 r2 rest v code place t0 t1 t2 t3 name ty-in loc-ok place-lt value-ok =
+    let ty-ok = (type_in_is version code v.ty ty-in).0 in
     let ty-is = sym (type_is code v.ty ty-ok) in
     let loc-is = sym (location_is seen v.ty place v.location loc-ok) in
-    let value-is = sym (initial_is v.ty v.location bits v.initial bits-lt value-ok) in
-    let s3 = subst (λ (k : ℕ). Takes r2 (to_be_bytes w32 k) rest) value-is t3 in
     let s2 = subst (λ (k : ℕ). Takes r1 (to_be_bytes w16 k) r2) loc-is t2 in
     let s1 = subst (λ (k : ℕ). Takes r0 (to_be_bytes w8 k) r1) ty-is t1 in
-    let e23 = Takes-then r1 (to_be_bytes w16 (location_code v.location)) r2 (to_be_bytes w32 (cast_unsigned w32 (number_of v.initial))) rest s2 s3 in
-    let e13 = Takes-then r0 (to_be_bytes w8 (type_code v.ty)) r1 (to_be_bytes w16 (location_code v.location) ++ to_be_bytes w32 (cast_unsigned w32 (number_of v.initial))) rest s1 e23 in
-    let e03 = Takes-then bytes (name_bytes v.name) r0 (to_be_bytes w8 (type_code v.ty) ++ (to_be_bytes w16 (location_code v.location) ++ to_be_bytes w32 (cast_unsigned w32 (number_of v.initial)))) rest t0 e13 in (
+    let e23 = Takes-then r1 (to_be_bytes w16 (location_code v.location)) r2 (number_bytes version (number_of v.initial)) rest s2 t3 in
+    let e13 = Takes-then r0 (to_be_bytes w8 (type_code v.ty)) r1 (to_be_bytes w16 (location_code v.location) ++ number_bytes version (number_of v.initial)) rest s1 e23 in
+    let e03 = Takes-then bytes (name_bytes v.name) r0 (to_be_bytes w8 (type_code v.ty) ++ (to_be_bytes w16 (location_code v.location) ++ number_bytes version (number_of v.initial))) rest t0 e13 in (
       e03,
       record {
         length = name.len;
@@ -103,46 +122,43 @@ variable_joins seen bytes r0 r1 r2 rest v code place bits t0 t1 t2 t3 name ty-ok
         type = subst (λ (k : ℕ). type_of k ≡ Some v.ty) ty-is ty-ok;
         location = subst (λ (k : ℕ). coded_location seen v.ty k ≡ Some v.location) loc-is loc-ok;
         location_small = subst (λ (k : ℕ). k < 2 ^ 16) loc-is place-lt;
-        initial = subst (λ (k : ℕ). initial_of v.ty v.location k ≡ Some v.initial) value-is value-ok;
-        initial_small = subst (λ (k : ℕ). k < 2 ^ 32) value-is bits-lt;
+        initial = value-ok;
       },
     )
 
-variable_ends : (seen : List Variable) (bytes r0 r1 r2 rest : List ℕ) (v : Variable) (code place bits : ℕ) (x : Variable × List ℕ)
-    → Takes bytes (name_bytes v.name) r0 → Takes r0 (to_be_bytes w8 code) r1 → Takes r1 (to_be_bytes w16 place) r2 → Takes r2 (to_be_bytes w32 bits) rest
-    → IsName (is_new_name seen) v.name → type_of code ≡ Some v.ty → coded_location seen v.ty place ≡ Some v.location → place < 2 ^ 16 → initial_of v.ty v.location bits ≡ Some v.initial → bits < 2 ^ 32
+variable_ends : (version : Version) (seen : List Variable) (bytes r0 r1 r2 rest : List ℕ) (v : Variable) (code place : ℕ) (x : Variable × List ℕ)
+    → Takes bytes (name_bytes v.name) r0 → Takes r0 (to_be_bytes w8 code) r1 → Takes r1 (to_be_bytes w16 place) r2 → Takes r2 (number_bytes version (number_of v.initial)) rest
+    → IsName (is_new_name seen) v.name → type_in version code ≡ Some v.ty → coded_location seen v.ty place ≡ Some v.location → place < 2 ^ 16 → initial_of v.ty v.location (number_of v.initial) ≡ Some v.initial
     → (let r : Result (Variable × List ℕ) LoadFault = Ok (v, rest) in r ≡ Ok x)
-    → Takes bytes (variable_bytes x.0) x.1 × IsVariable seen x.0
-variable_ends seen bytes r0 r1 r2 rest v code place bits x t0 t1 t2 t3 name ty-ok loc-ok place-lt value-ok bits-lt e =
-    subst (λ (y : Variable × List ℕ). Takes bytes (variable_bytes y.0) y.1 × IsVariable seen y.0) (ok_is (v, rest) x e) (variable_joins seen bytes r0 r1 r2 rest v code place bits t0 t1 t2 t3 name ty-ok loc-ok place-lt value-ok bits-lt)
+    → Takes bytes (variable_bytes version x.0) x.1 × IsVariable seen x.0
+variable_ends version seen bytes r0 r1 r2 rest v code place x t0 t1 t2 t3 name ty-in loc-ok place-lt value-ok e =
+    subst (λ (y : Variable × List ℕ). Takes bytes (variable_bytes version y.0) y.1 × IsVariable seen y.0) (ok_is (v, rest) x e) (variable_joins version seen bytes r0 r1 r2 rest v code place t0 t1 t2 t3 name ty-in loc-ok place-lt value-ok)
 
 -- a variable behind its name and its type
-variable_tail : (p : ℕ) (seen : List Variable) (bytes r0 r1 name : List ℕ) (code : ℕ) (type : Ty) (x : Variable × List ℕ)
-    → Takes bytes (name_bytes name) r0 → IsName (is_new_name seen) name → Takes r0 (to_be_bytes w8 code) r1 → type_of code ≡ Some type
-    → (number_at w16 r1 >>= λ place. lawful p (coded_location seen type place.0) >>= λ loc. number_at w32 place.1 >>= λ first. lawful p (initial_of type loc first.0) >>= λ value. Ok (record { name = name; ty = type; location = loc; initial = value }, first.1)) ≡ Ok x
-    → Takes bytes (variable_bytes x.0) x.1 × IsVariable seen x.0
-variable_tail p seen bytes r0 r1 name code type x t0 named t1 ty-ok e =
-    let b_place = bind_ok (number_at w16 r1) (λ place. lawful p (coded_location seen type place.0) >>= λ loc. number_at w32 place.1 >>= λ first. lawful p (initial_of type loc first.0) >>= λ value. Ok (record { name = name; ty = type; location = loc; initial = value }, first.1)) x e in
-    let b_loc = bind_ok (lawful p (coded_location seen type b_place.0.0)) (λ loc. number_at w32 b_place.0.1 >>= λ first. lawful p (initial_of type loc first.0) >>= λ value. Ok (record { name = name; ty = type; location = loc; initial = value }, first.1)) x b_place.2 in
-    let b_first = bind_ok (number_at w32 b_place.0.1) (λ first. lawful p (initial_of type b_loc.0 first.0) >>= λ value. Ok (record { name = name; ty = type; location = b_loc.0; initial = value }, first.1)) x b_loc.2 in
-    let b_value = bind_ok (lawful p (initial_of type b_loc.0 b_first.0.0)) (λ value. Ok (record { name = name; ty = type; location = b_loc.0; initial = value }, b_first.0.1)) x b_first.2 in
+variable_tail : (version : Version) (p : ℕ) (seen : List Variable) (bytes r0 r1 name : List ℕ) (code : ℕ) (type : Ty) (x : Variable × List ℕ)
+    → Takes bytes (name_bytes name) r0 → IsName (is_new_name seen) name → Takes r0 (to_be_bytes w8 code) r1 → type_in version code ≡ Some type
+    → (number_at w16 r1 >>= λ place. lawful p (coded_location seen type place.0) >>= λ loc. first_value_at version p type loc place.1 >>= λ first. Ok (record { name = name; ty = type; location = loc; initial = first.0 }, first.1)) ≡ Ok x
+    → Takes bytes (variable_bytes version x.0) x.1 × IsVariable seen x.0
+variable_tail version p seen bytes r0 r1 name code type x t0 named t1 ty-in e =
+    let b_place = bind_ok (number_at w16 r1) (λ place. lawful p (coded_location seen type place.0) >>= λ loc. first_value_at version p type loc place.1 >>= λ first. Ok (record { name = name; ty = type; location = loc; initial = first.0 }, first.1)) x e in
+    let b_loc = bind_ok (lawful p (coded_location seen type b_place.0.0)) (λ loc. first_value_at version p type loc b_place.0.1 >>= λ first. Ok (record { name = name; ty = type; location = loc; initial = first.0 }, first.1)) x b_place.2 in
+    let b_first = bind_ok (first_value_at version p type b_loc.0 b_place.0.1) (λ first. Ok (record { name = name; ty = type; location = b_loc.0; initial = first.0 }, first.1)) x b_loc.2 in
     let t2 = number_takes w16 (2 ^ 16) wide16 r1 b_place.0.0 b_place.0.1 t1.rest_fits b_place.1 in
-    let t3 = number_takes w32 (2 ^ 32) wide32 b_place.0.1 b_first.0.0 b_first.0.1 t2.0.rest_fits b_first.1 in
+    let t3 = first_value_takes version p type b_loc.0 b_place.0.1 b_first.0 t2.0.rest_fits b_first.1 in
     let loc-ok = lawful_ok p (coded_location seen type b_place.0.0) b_loc.0 b_loc.1 in
-    let value-ok = lawful_ok p (initial_of type b_loc.0 b_first.0.0) b_value.0 b_value.1 in
-    variable_ends seen bytes r0 r1 b_place.0.1 b_first.0.1 (record { name = name; ty = type; location = b_loc.0; initial = b_value.0 }) code b_place.0.0 b_first.0.0 x t0 t1 t2.0 t3.0 named ty-ok loc-ok t2.1 value-ok t3.1 b_value.2
+    variable_ends version seen bytes r0 r1 b_place.0.1 b_first.0.1 (record { name = name; ty = type; location = b_loc.0; initial = b_first.0.0 }) code b_place.0.0 x t0 t1 t2.0 t3.0 named ty-in loc-ok t2.1 t3.1 b_first.2
 
-pub variable_takes : (total : ℕ) (seen : List Variable) (bytes : List ℕ) (x : Variable × List ℕ) → IsBytes bytes → variable_at total seen bytes ≡ Ok x → Takes bytes (variable_bytes x.0) x.1 × IsVariable seen x.0
+pub variable_takes : (version : Version) (total : ℕ) (seen : List Variable) (bytes : List ℕ) (x : Variable × List ℕ) → IsBytes bytes → variable_at version total seen bytes ≡ Ok x → Takes bytes (variable_bytes version x.0) x.1 × IsVariable seen x.0
 unfolding variable_at
-variable_takes total seen bytes x fits e =
+variable_takes version total seen bytes x fits e =
     let p = total - length bytes in
-    let b_name = bind_ok (name_at p (is_new_name seen) bytes) (λ name. number_at w8 name.1 >>= λ code. lawful p (type_of code.0) >>= λ type. number_at w16 code.1 >>= λ place. lawful p (coded_location seen type place.0) >>= λ loc. number_at w32 place.1 >>= λ first. lawful p (initial_of type loc first.0) >>= λ value. Ok (record { name = name.0; ty = type; location = loc; initial = value }, first.1)) x e in
-    let b_code = bind_ok (number_at w8 b_name.0.1) (λ code. lawful p (type_of code.0) >>= λ type. number_at w16 code.1 >>= λ place. lawful p (coded_location seen type place.0) >>= λ loc. number_at w32 place.1 >>= λ first. lawful p (initial_of type loc first.0) >>= λ value. Ok (record { name = b_name.0.0; ty = type; location = loc; initial = value }, first.1)) x b_name.2 in
-    let b_type = bind_ok (lawful p (type_of b_code.0.0)) (λ type. number_at w16 b_code.0.1 >>= λ place. lawful p (coded_location seen type place.0) >>= λ loc. number_at w32 place.1 >>= λ first. lawful p (initial_of type loc first.0) >>= λ value. Ok (record { name = b_name.0.0; ty = type; location = loc; initial = value }, first.1)) x b_code.2 in
+    let b_name = bind_ok (name_at p (is_new_name seen) bytes) (λ name. number_at w8 name.1 >>= λ code. lawful p (type_in version code.0) >>= λ type. number_at w16 code.1 >>= λ place. lawful p (coded_location seen type place.0) >>= λ loc. first_value_at version p type loc place.1 >>= λ first. Ok (record { name = name.0; ty = type; location = loc; initial = first.0 }, first.1)) x e in
+    let b_code = bind_ok (number_at w8 b_name.0.1) (λ code. lawful p (type_in version code.0) >>= λ type. number_at w16 code.1 >>= λ place. lawful p (coded_location seen type place.0) >>= λ loc. first_value_at version p type loc place.1 >>= λ first. Ok (record { name = b_name.0.0; ty = type; location = loc; initial = first.0 }, first.1)) x b_name.2 in
+    let b_type = bind_ok (lawful p (type_in version b_code.0.0)) (λ type. number_at w16 b_code.0.1 >>= λ place. lawful p (coded_location seen type place.0) >>= λ loc. first_value_at version p type loc place.1 >>= λ first. Ok (record { name = b_name.0.0; ty = type; location = loc; initial = first.0 }, first.1)) x b_code.2 in
     let t0 = name_takes p (is_new_name seen) bytes b_name.0 fits b_name.1 in
     let t1 = number_takes w8 (2 ^ 8) wide8 b_name.0.1 b_code.0.0 b_code.0.1 t0.0.rest_fits b_code.1 in
-    let ty-ok = lawful_ok p (type_of b_code.0.0) b_type.0 b_type.1 in
-    variable_tail p seen bytes b_name.0.1 b_code.0.1 b_name.0.0 b_code.0.0 b_type.0 x t0.0 t0.1 t1.0 ty-ok b_type.2
+    let ty-in = lawful_ok p (type_in version b_code.0.0) b_type.0 b_type.1 in
+    variable_tail version p seen bytes b_name.0.1 b_code.0.1 b_name.0.0 b_code.0.0 b_type.0 x t0.0 t0.1 t1.0 ty-in b_type.2
 
 -- four parts, and what follows
 regrouped_4 : (a b c d rest : List ℕ) → (a ++ (b ++ (c ++ d))) ++ rest ≡ a ++ (b ++ (c ++ (d ++ rest)))
@@ -151,15 +167,16 @@ regrouped_4 a b c d rest = append_assoc a (b ++ (c ++ d)) rest ∙ ap (λ (x : L
 regrouped_3 : (a b c rest : List ℕ) → (a ++ (b ++ c)) ++ rest ≡ a ++ (b ++ (c ++ rest))
 regrouped_3 a b c rest = append_assoc a (b ++ c) rest ∙ ap (λ (x : List ℕ). a ++ x) (append_assoc b c rest)
 
-pub variable_again : (total : ℕ) (seen : List Variable) (v : Variable) (rest : List ℕ) → IsVariable seen v → variable_at total seen (variable_bytes v ++ rest) ≡ Ok (v, rest)
+pub variable_again : (version : Version) (total : ℕ) (seen : List Variable) (v : Variable) (rest : List ℕ) → IsVariable seen v → may_have version (is_long_variable v) ≡ true → variable_at version total seen (variable_bytes version v ++ rest) ≡ Ok (v, rest)
 unfolding variable_at
-variable_again total seen v rest is =
-    let p = total - length (variable_bytes v ++ rest) in
+variable_again version total seen v rest is may =
+    let p = total - length (variable_bytes version v ++ rest) in
     let b1 = to_be_bytes w8 (type_code v.ty) in
     let b2 = to_be_bytes w16 (location_code v.location) in
-    let b3 = to_be_bytes w32 (cast_unsigned w32 (number_of v.initial)) in
-    let h0 : name_at p (is_new_name seen) (variable_bytes v ++ rest) ≡ Ok (v.name, b1 ++ (b2 ++ (b3 ++ rest))) = ap (name_at p (is_new_name seen)) (regrouped_4 (name_bytes v.name) b1 b2 b3 rest) ∙ name_again p (is_new_name seen) v.name (b1 ++ (b2 ++ (b3 ++ rest))) is.length is.name in
-    rw (h0, number_again w8 (2 ^ 8) wide8 (type_code v.ty) (b2 ++ (b3 ++ rest)) (type_small v.ty), is.type, number_again w16 (2 ^ 16) wide16 (location_code v.location) (b3 ++ rest) is.location_small, is.location, number_again w32 (2 ^ 32) wide32 (cast_unsigned w32 (number_of v.initial)) rest is.initial_small, is.initial) refl
+    let b3 = number_bytes version (number_of v.initial) in
+    let type = type_in_again version v.ty (or_may version (is_long_type v.ty) (is_long_value v.initial) may).0 in
+    let h0 : name_at p (is_new_name seen) (variable_bytes version v ++ rest) ≡ Ok (v.name, b1 ++ (b2 ++ (b3 ++ rest))) = ap (name_at p (is_new_name seen)) (regrouped_4 (name_bytes v.name) b1 b2 b3 rest) ∙ name_again p (is_new_name seen) v.name (b1 ++ (b2 ++ (b3 ++ rest))) is.length is.name in
+    rw (h0, number_again w8 (2 ^ 8) wide8 (type_code v.ty) (b2 ++ (b3 ++ rest)) (type_small v.ty), type, number_again w16 (2 ^ 16) wide16 (location_code v.location) (b3 ++ rest) is.location_small, is.location, first_value_again version p v.ty v.location v.initial rest is.initial (variable_kept version seen v is may)) refl
 
 -- ---- instances
 
@@ -242,42 +259,42 @@ mark_again total seen m rest is =
 
 -- ---- constants
 
-constant_joins : (seen : List Value) (bytes r0 rest : List ℕ) (v : Value) (code bits : ℕ) (t : Ty) → Takes bytes (to_be_bytes w8 code) r0 → Takes r0 (to_be_bytes w32 bits) rest → type_of code ≡ Some t → constant_of seen t bits ≡ Some v → bits < 2 ^ 32
-    → Takes bytes (constant_bytes v) rest × IsConstant seen v
-constant_joins seen bytes r0 rest v code bits t t0 t1 ty-ok value-ok lt =
-    let is = constant_is seen t bits v lt value-ok in
+constant_joins : (version : Version) (seen : List Value) (bytes r0 rest : List ℕ) (v : Value) (code : ℕ) (z : ℤ) (t : Ty) → Takes bytes (to_be_bytes w8 code) r0 → Takes r0 (number_bytes version z) rest
+    → type_in version code ≡ Some t → constant_of seen t z ≡ Some v → Takes bytes (constant_bytes version v) rest × IsConstant seen v
+constant_joins version seen bytes r0 rest v code z t t0 t1 ty-in value-ok =
+    let ty-ok = (type_in_is version code t ty-in).0 in
+    let is = constant_is seen t z v value-ok in
     let ty-is : t ≡ ty_of v = sym is.0 in
     let code-is : code ≡ type_code (ty_of v) = sym (type_is code t ty-ok) ∙ ap type_code ty-is in
-    let bits-is : bits ≡ cast_unsigned w32 (number_of v) = sym is.1 in
+    let number-is : z ≡ number_of v = sym is.1 in
     let s0 = subst (λ (k : ℕ). Takes bytes (to_be_bytes w8 k) r0) code-is t0 in
-    let s1 = subst (λ (k : ℕ). Takes r0 (to_be_bytes w32 k) rest) bits-is t1 in (
-      Takes-then bytes (to_be_bytes w8 (type_code (ty_of v))) r0 (to_be_bytes w32 (cast_unsigned w32 (number_of v))) rest s0 s1,
+    let s1 = subst (λ (k : ℤ). Takes r0 (number_bytes version k) rest) number-is t1 in (
+      Takes-then bytes (to_be_bytes w8 (type_code (ty_of v))) r0 (number_bytes version (number_of v)) rest s0 s1,
       record {
         type = subst (λ (k : ℕ). type_of k ≡ Some (ty_of v)) code-is (subst (λ (x : Ty). type_of code ≡ Some x) ty-is ty-ok);
-        value = subst (λ (k : ℕ). constant_of seen (ty_of v) k ≡ Some v) bits-is (subst (λ (x : Ty). constant_of seen x bits ≡ Some v) ty-is value-ok);
-        small = subst (λ (k : ℕ). k < 2 ^ 32) bits-is lt;
+        value = subst (λ (k : ℤ). constant_of seen (ty_of v) k ≡ Some v) number-is (subst (λ (x : Ty). constant_of seen x z ≡ Some v) ty-is value-ok);
       },
     )
 
-pub constant_takes : (total : ℕ) (seen : List Value) (bytes : List ℕ) (x : Value × List ℕ) → IsBytes bytes → constant_at total seen bytes ≡ Ok x → Takes bytes (constant_bytes x.0) x.1 × IsConstant seen x.0
+pub constant_takes : (version : Version) (total : ℕ) (seen : List Value) (bytes : List ℕ) (x : Value × List ℕ) → IsBytes bytes → constant_at version total seen bytes ≡ Ok x → Takes bytes (constant_bytes version x.0) x.1 × IsConstant seen x.0
 unfolding constant_at
-constant_takes total seen bytes x fits e =
+constant_takes version total seen bytes x fits e =
     let p = total - length bytes in
-    let b_code = bind_ok (number_at w8 bytes) (λ code. lawful p (type_of code.0) >>= λ type. number_at w32 code.1 >>= λ bits. lawful p (constant_of seen type bits.0) >>= λ value. Ok (value, bits.1)) x e in
-    let b_type = bind_ok (lawful p (type_of b_code.0.0)) (λ type. number_at w32 b_code.0.1 >>= λ bits. lawful p (constant_of seen type bits.0) >>= λ value. Ok (value, bits.1)) x b_code.2 in
-    let b_bits = bind_ok (number_at w32 b_code.0.1) (λ bits. lawful p (constant_of seen b_type.0 bits.0) >>= λ value. Ok (value, bits.1)) x b_type.2 in
-    let b_value = bind_ok (lawful p (constant_of seen b_type.0 b_bits.0.0)) (λ value. Ok (value, b_bits.0.1)) x b_bits.2 in
+    let b_code = bind_ok (number_at w8 bytes) (λ code. lawful p (type_in version code.0) >>= λ type. signed_at version code.1 >>= λ number. lawful p (constant_of seen type number.0) >>= λ value. Ok (value, number.1)) x e in
+    let b_type = bind_ok (lawful p (type_in version b_code.0.0)) (λ type. signed_at version b_code.0.1 >>= λ number. lawful p (constant_of seen type number.0) >>= λ value. Ok (value, number.1)) x b_code.2 in
+    let b_number = bind_ok (signed_at version b_code.0.1) (λ number. lawful p (constant_of seen b_type.0 number.0) >>= λ value. Ok (value, number.1)) x b_type.2 in
+    let b_value = bind_ok (lawful p (constant_of seen b_type.0 b_number.0.0)) (λ value. Ok (value, b_number.0.1)) x b_number.2 in
     let t0 = number_takes w8 (2 ^ 8) wide8 bytes b_code.0.0 b_code.0.1 fits b_code.1 in
-    let t1 = number_takes w32 (2 ^ 32) wide32 b_code.0.1 b_bits.0.0 b_bits.0.1 t0.0.rest_fits b_bits.1 in
-    let ty-ok = lawful_ok p (type_of b_code.0.0) b_type.0 b_type.1 in
-    let value-ok = lawful_ok p (constant_of seen b_type.0 b_bits.0.0) b_value.0 b_value.1 in
-    subst (λ (y : Value × List ℕ). Takes bytes (constant_bytes y.0) y.1 × IsConstant seen y.0) (ok_is (b_value.0, b_bits.0.1) x b_value.2) (constant_joins seen bytes b_code.0.1 b_bits.0.1 b_value.0 b_code.0.0 b_bits.0.0 b_type.0 t0.0 t1.0 ty-ok value-ok t1.1)
+    let t1 = signed_takes version b_code.0.1 b_number.0.0 b_number.0.1 t0.0.rest_fits b_number.1 in
+    let ty-in = lawful_ok p (type_in version b_code.0.0) b_type.0 b_type.1 in
+    let value-ok = lawful_ok p (constant_of seen b_type.0 b_number.0.0) b_value.0 b_value.1 in
+    subst (λ (y : Value × List ℕ). Takes bytes (constant_bytes version y.0) y.1 × IsConstant seen y.0) (ok_is (b_value.0, b_number.0.1) x b_value.2) (constant_joins version seen bytes b_code.0.1 b_number.0.1 b_value.0 b_code.0.0 b_number.0.0 b_type.0 t0.0 t1 ty-in value-ok)
 
-pub constant_again : (total : ℕ) (seen : List Value) (v : Value) (rest : List ℕ) → IsConstant seen v → constant_at total seen (constant_bytes v ++ rest) ≡ Ok (v, rest)
+pub constant_again : (version : Version) (total : ℕ) (seen : List Value) (v : Value) (rest : List ℕ) → IsConstant seen v → may_have version (is_long_value v) ≡ true → constant_at version total seen (constant_bytes version v ++ rest) ≡ Ok (v, rest)
 unfolding constant_at
-constant_again total seen v rest is =
-    let b1 = to_be_bytes w32 (cast_unsigned w32 (number_of v)) in
-    ap (constant_at total seen) (append_assoc (to_be_bytes w8 (type_code (ty_of v))) b1 rest) ∙ rw (number_again w8 (2 ^ 8) wide8 (type_code (ty_of v)) (b1 ++ rest) (type_small (ty_of v)), is.type, number_again w32 (2 ^ 32) wide32 (cast_unsigned w32 (number_of v)) rest is.small, is.value) refl
+constant_again version total seen v rest is may =
+    let b1 = number_bytes version (number_of v) in
+    ap (constant_at version total seen) (append_assoc (to_be_bytes w8 (type_code (ty_of v))) b1 rest) ∙ rw (number_again w8 (2 ^ 8) wide8 (type_code (ty_of v)) (b1 ++ rest) (type_small (ty_of v)), type_in_again version (ty_of v) may, signed_again version (number_of v) rest (constant_kept version seen v is may), is.value) refl
 
 -- ---- words
 
@@ -310,8 +327,14 @@ listed_is (suc (suc (suc (suc (suc (suc (suc (suc (suc (suc (suc (suc (suc (suc 
 listed_is (suc (suc (suc (suc (suc (suc (suc (suc (suc (suc (suc (suc (suc (suc (suc (suc (suc (suc (suc (suc (suc (suc (suc (suc (suc zero))))))))))))))))))))))))) op e = let is : ops.DintToInt ≡ op = cc in sym (ap op_code is)
 listed_is (suc (suc (suc (suc (suc (suc (suc (suc (suc (suc (suc (suc (suc (suc (suc (suc (suc (suc (suc (suc (suc (suc (suc (suc (suc (suc n)))))))))))))))))))))))))) op e = absurd cc
 
+-- the two codes behind those of arguments come first
+op_by : (a b : Bool) (n : ℕ) (op : Op) → eqb n 28 ≡ a → eqb n 29 ≡ b → cond a (Some ops.DintToLint) (cond b (Some ops.LintToDint) (slice_get op_list n)) ≡ Some op → op_code op ≡ n
+op_by true b n op e f h = let is : ops.DintToLint ≡ op = cc in sym (ap op_code is) ∙ sym (eqb-true n 28 e)
+op_by false true n op e f h = let is : ops.LintToDint ≡ op = cc in sym (ap op_code is) ∙ sym (eqb-true n 29 f)
+op_by false false n op e f h = listed_is n op h
+
 op_is : (n : ℕ) (op : Op) → op_of n ≡ Some op → op_code op ≡ n
-op_is n op e = listed_is n op e
+op_is n op e = op_by (eqb n 28) (eqb n 29) n op refl refl e
 
 modifier_is : (n : ℕ) (m : Modifier) → modifier_of n ≡ Some m → modifier_code m ≡ n
 modifier_is zero m e = let is : (let r : Modifier = record { negated = false; conditional = false; opens = false } in r) ≡ m = cc in sym (ap modifier_code is)
@@ -353,6 +376,8 @@ no_side ops.Ret = refl
 no_side ops.Close = refl
 no_side ops.IntToDint = refl
 no_side ops.DintToInt = refl
+no_side ops.DintToLint = refl
+no_side ops.LintToDint = refl
 
 side_by : (a b : Bool) (n : ℕ) (side : Side) → eqb n 26 ≡ a → eqb n 27 ≡ b → cond a (Some sides.Input) (cond b (Some sides.Output) None) ≡ Some side → side_code side ≡ n
 side_by true b n side e f h = let is : sides.Input ≡ side = cc in sym (ap side_code is) ∙ sym (eqb-true n 26 e)
@@ -419,22 +444,30 @@ instruction_joins ds marks constants n bytes r0 r1 rest a b op m operand code t0
       },
     )
 
+-- an operator that converts to LINT or from it
+abbrev pub is_long_content : Content → Bool
+is_long_content (contents.Instruction line) = is_long_line line
+is_long_content (contents.Argument side number operand) = false
+
+abbrev pub is_long_word : Word → Bool
+is_long_word w = is_long_content w.content
+
 -- a word that was read, and what follows it
 abbrev Reads : Declarations → List Mark → List Value → ℕ → List ℕ → Word × List ℕ → Type 0
 Reads ds marks constants n bytes y = Takes bytes (read_word_bytes y.0) y.1 × IsRead ds marks constants n y.0.code y.0.content
 
-instruction_takes : (p : ℕ) (ds : Declarations) (marks : List Mark) (constants : List Value) (n code : ℕ) (bytes r0 : List ℕ) (x : Word × List ℕ) → Takes bytes (to_be_bytes w8 code) r0 → code < 2 ^ 8
-    → instruction_at p ds marks constants n code r0 ≡ Ok x → Reads ds marks constants n bytes x
+instruction_takes : (version : Version) (p : ℕ) (ds : Declarations) (marks : List Mark) (constants : List Value) (n code : ℕ) (bytes r0 : List ℕ) (x : Word × List ℕ) → Takes bytes (to_be_bytes w8 code) r0 → code < 2 ^ 8
+    → instruction_at version p ds marks constants n code r0 ≡ Ok x → Reads ds marks constants n bytes x
 unfolding instruction_at
-instruction_takes p ds marks constants n code bytes r0 x t0 lt e =
-    let b_op = bind_ok (lawful p (op_of code)) (λ op. number_at w8 r0 >>= λ letters. lawful p (letters_of op letters.0) >>= λ m. number_at w16 letters.1 >>= λ slot. lawful p (word_operand ds marks constants op m slot.0) >>= λ operand. Ok (record { content = contents.Instruction (record { label = label_there marks n; op = op; modifier = m; operand = operand; arguments = [] }); code = slot.0 }, slot.1)) x e in
+instruction_takes version p ds marks constants n code bytes r0 x t0 lt e =
+    let b_op = bind_ok (lawful p (op_in version code)) (λ op. number_at w8 r0 >>= λ letters. lawful p (letters_of op letters.0) >>= λ m. number_at w16 letters.1 >>= λ slot. lawful p (word_operand ds marks constants op m slot.0) >>= λ operand. Ok (record { content = contents.Instruction (record { label = label_there marks n; op = op; modifier = m; operand = operand; arguments = [] }); code = slot.0 }, slot.1)) x e in
     let b_letters = bind_ok (number_at w8 r0) (λ letters. lawful p (letters_of b_op.0 letters.0) >>= λ m. number_at w16 letters.1 >>= λ slot. lawful p (word_operand ds marks constants b_op.0 m slot.0) >>= λ operand. Ok (record { content = contents.Instruction (record { label = label_there marks n; op = b_op.0; modifier = m; operand = operand; arguments = [] }); code = slot.0 }, slot.1)) x b_op.2 in
     let b_m = bind_ok (lawful p (letters_of b_op.0 b_letters.0.0)) (λ m. number_at w16 b_letters.0.1 >>= λ slot. lawful p (word_operand ds marks constants b_op.0 m slot.0) >>= λ operand. Ok (record { content = contents.Instruction (record { label = label_there marks n; op = b_op.0; modifier = m; operand = operand; arguments = [] }); code = slot.0 }, slot.1)) x b_letters.2 in
     let b_slot = bind_ok (number_at w16 b_letters.0.1) (λ slot. lawful p (word_operand ds marks constants b_op.0 b_m.0 slot.0) >>= λ operand. Ok (record { content = contents.Instruction (record { label = label_there marks n; op = b_op.0; modifier = b_m.0; operand = operand; arguments = [] }); code = slot.0 }, slot.1)) x b_m.2 in
     let b_operand = bind_ok (lawful p (word_operand ds marks constants b_op.0 b_m.0 b_slot.0.0)) (λ operand. Ok (record { content = contents.Instruction (record { label = label_there marks n; op = b_op.0; modifier = b_m.0; operand = operand; arguments = [] }); code = b_slot.0.0 }, b_slot.0.1)) x b_slot.2 in
     let t1 = number_takes w8 (2 ^ 8) wide8 r0 b_letters.0.0 b_letters.0.1 t0.rest_fits b_letters.1 in
     let t2 = number_takes w16 (2 ^ 16) wide16 b_letters.0.1 b_slot.0.0 b_slot.0.1 t1.0.rest_fits b_slot.1 in
-    let op-ok = lawful_ok p (op_of code) b_op.0 b_op.1 in
+    let op-ok = (op_in_is version code b_op.0 (lawful_ok p (op_in version code) b_op.0 b_op.1)).0 in
     let m-ok = lawful_ok p (letters_of b_op.0 b_letters.0.0) b_m.0 b_m.1 in
     let operand-ok = lawful_ok p (word_operand ds marks constants b_op.0 b_m.0 b_slot.0.0) b_operand.0 b_operand.1 in
     let line : Instr = record { label = label_there marks n; op = b_op.0; modifier = b_m.0; operand = b_operand.0; arguments = [] } in
@@ -468,25 +501,25 @@ argument_takes p ds marks constants n code side bytes r0 x t0 side-ok e =
     let w : Word = record { content = contents.Argument side b_field.0 b_operand.0; code = b_slot.0.0 } in
     subst (Reads ds marks constants n bytes) (ok_is (w, b_slot.0.1) x b_operand.2) (whole, record { number_read = field-is.1; operand_read = operand-ok; operand_small = t2.1 })
 
-word_takes_by : (p : ℕ) (ds : Declarations) (marks : List Mark) (constants : List Value) (n code : ℕ) (o : Option Side) (bytes r0 : List ℕ) (x : Word × List ℕ) → side_of code ≡ o → Takes bytes (to_be_bytes w8 code) r0 → code < 2 ^ 8
-    → word_by p ds marks constants n code o r0 ≡ Ok x → Reads ds marks constants n bytes x
-word_takes_by p ds marks constants n code None bytes r0 x is t0 lt e = instruction_takes p ds marks constants n code bytes r0 x t0 lt e
-word_takes_by p ds marks constants n code (Some side) bytes r0 x is t0 lt e = argument_takes p ds marks constants n code side bytes r0 x t0 is e
+word_takes_by : (version : Version) (p : ℕ) (ds : Declarations) (marks : List Mark) (constants : List Value) (n code : ℕ) (o : Option Side) (bytes r0 : List ℕ) (x : Word × List ℕ) → side_of code ≡ o → Takes bytes (to_be_bytes w8 code) r0 → code < 2 ^ 8
+    → word_by version p ds marks constants n code o r0 ≡ Ok x → Reads ds marks constants n bytes x
+word_takes_by version p ds marks constants n code None bytes r0 x is t0 lt e = instruction_takes version p ds marks constants n code bytes r0 x t0 lt e
+word_takes_by version p ds marks constants n code (Some side) bytes r0 x is t0 lt e = argument_takes p ds marks constants n code side bytes r0 x t0 is e
 
-pub word_takes : (p : ℕ) (ds : Declarations) (marks : List Mark) (constants : List Value) (n : ℕ) (bytes : List ℕ) (x : Word × List ℕ) → IsBytes bytes → word_at p ds marks constants n bytes ≡ Ok x
+pub word_takes : (version : Version) (p : ℕ) (ds : Declarations) (marks : List Mark) (constants : List Value) (n : ℕ) (bytes : List ℕ) (x : Word × List ℕ) → IsBytes bytes → word_at version p ds marks constants n bytes ≡ Ok x
     → Takes bytes (read_word_bytes x.0) x.1 × IsRead ds marks constants n x.0.code x.0.content
 unfolding word_at
-word_takes p ds marks constants n bytes x fits e =
-    let b_code = bind_ok (number_at w8 bytes) (λ code. word_by p ds marks constants n code.0 (side_of code.0) code.1) x e in
+word_takes version p ds marks constants n bytes x fits e =
+    let b_code = bind_ok (number_at w8 bytes) (λ code. word_by version p ds marks constants n code.0 (side_of code.0) code.1) x e in
     let t0 = number_takes w8 (2 ^ 8) wide8 bytes b_code.0.0 b_code.0.1 fits b_code.1 in
-    word_takes_by p ds marks constants n b_code.0.0 (side_of b_code.0.0) bytes b_code.0.1 x refl t0.0 t0.1 b_code.2
+    word_takes_by version p ds marks constants n b_code.0.0 (side_of b_code.0.0) bytes b_code.0.1 x refl t0.0 t0.1 b_code.2
 
-instruction_again : (p : ℕ) (ds : Declarations) (marks : List Mark) (constants : List Value) (n code : ℕ) (line : Instr) (rest : List ℕ) → IsInstructionRead ds marks constants n code line
-    → instruction_at p ds marks constants n (op_code line.op) (to_be_bytes w8 (modifier_code line.modifier) ++ (to_be_bytes w16 code ++ rest)) ≡ Ok (record { content = contents.Instruction line; code = code }, rest)
+instruction_again : (version : Version) (p : ℕ) (ds : Declarations) (marks : List Mark) (constants : List Value) (n code : ℕ) (line : Instr) (rest : List ℕ) → IsInstructionRead ds marks constants n code line → may_have version (is_long_line line) ≡ true
+    → instruction_at version p ds marks constants n (op_code line.op) (to_be_bytes w8 (modifier_code line.modifier) ++ (to_be_bytes w16 code ++ rest)) ≡ Ok (record { content = contents.Instruction line; code = code }, rest)
 unfolding instruction_at
-instruction_again p ds marks constants n code line rest is =
+instruction_again version p ds marks constants n code line rest is may =
     let k = is.coded in
-    rw (k.op_read, number_again w8 (2 ^ 8) wide8 (modifier_code line.modifier) (to_be_bytes w16 code ++ rest) k.letters_small, k.letters, number_again w16 (2 ^ 16) wide16 code rest k.operand_small, k.operand_read, ← is.label, ← is.bare) refl
+    rw (op_in_again version line.op may, number_again w8 (2 ^ 8) wide8 (modifier_code line.modifier) (to_be_bytes w16 code ++ rest) k.letters_small, k.letters, number_again w16 (2 ^ 16) wide16 code rest k.operand_small, k.operand_read, ← is.label, ← is.bare) refl
 
 argument_again : (p : ℕ) (ds : Declarations) (constants : List Value) (code : ℕ) (side : Side) (number : ℕ) (operand : Operand) (rest : List ℕ) → IsArgumentRead ds constants number operand code
     → argument_at p ds constants side (to_be_bytes w8 number ++ (to_be_bytes w16 code ++ rest)) ≡ Ok (record { content = contents.Argument side number operand; code = code }, rest)
@@ -496,20 +529,20 @@ argument_again p ds constants code side number operand rest is =
     let below : ltb number 8 ≡ true = lt-ltb number 8 lt in
     rw (number_again w8 (2 ^ 8) wide8 number (to_be_bytes w16 code ++ rest) (omega arith), below, number_again w16 (2 ^ 16) wide16 code rest is.operand_small, is.operand_read) refl
 
-content_again : (p : ℕ) (ds : Declarations) (marks : List Mark) (constants : List Value) (n code : ℕ) (content : Content) (rest : List ℕ) → IsRead ds marks constants n code content
-    → word_at p ds marks constants n (content_bytes code content ++ rest) ≡ Ok (record { content = content; code = code }, rest)
+content_again : (version : Version) (p : ℕ) (ds : Declarations) (marks : List Mark) (constants : List Value) (n code : ℕ) (content : Content) (rest : List ℕ) → IsRead ds marks constants n code content → may_have version (is_long_content content) ≡ true
+    → word_at version p ds marks constants n (content_bytes code content ++ rest) ≡ Ok (record { content = content; code = code }, rest)
 unfolding word_at
-content_again p ds marks constants n code (contents.Instruction line) rest is =
+content_again version p ds marks constants n code (contents.Instruction line) rest is may =
     let b1 = to_be_bytes w8 (modifier_code line.modifier) in
     let b2 = to_be_bytes w16 code in
-    ap (word_at p ds marks constants n) (regrouped_3 (to_be_bytes w8 (op_code line.op)) b1 b2 rest) ∙ rw (number_again w8 (2 ^ 8) wide8 (op_code line.op) (b1 ++ (b2 ++ rest)) is.coded.op_small, no_side line.op) (instruction_again p ds marks constants n code line rest is)
-content_again p ds marks constants n code (contents.Argument side number operand) rest is =
+    ap (word_at version p ds marks constants n) (regrouped_3 (to_be_bytes w8 (op_code line.op)) b1 b2 rest) ∙ rw (number_again w8 (2 ^ 8) wide8 (op_code line.op) (b1 ++ (b2 ++ rest)) is.coded.op_small, no_side line.op) (instruction_again version p ds marks constants n code line rest is may)
+content_again version p ds marks constants n code (contents.Argument side number operand) rest is may =
     let b1 = to_be_bytes w8 number in
     let b2 = to_be_bytes w16 code in
-    ap (word_at p ds marks constants n) (regrouped_3 (to_be_bytes w8 (side_code side)) b1 b2 rest) ∙ rw (number_again w8 (2 ^ 8) wide8 (side_code side) (b1 ++ (b2 ++ rest)) (side_small side), side_again side) (argument_again p ds constants code side number operand rest is)
+    ap (word_at version p ds marks constants n) (regrouped_3 (to_be_bytes w8 (side_code side)) b1 b2 rest) ∙ rw (number_again w8 (2 ^ 8) wide8 (side_code side) (b1 ++ (b2 ++ rest)) (side_small side), side_again side) (argument_again p ds constants code side number operand rest is)
 
-pub word_again : (p : ℕ) (ds : Declarations) (marks : List Mark) (constants : List Value) (n : ℕ) (w : Word) (rest : List ℕ) → IsRead ds marks constants n w.code w.content → word_at p ds marks constants n (read_word_bytes w ++ rest) ≡ Ok (w, rest)
-word_again p ds marks constants n w rest is = content_again p ds marks constants n w.code w.content rest is
+pub word_again : (version : Version) (p : ℕ) (ds : Declarations) (marks : List Mark) (constants : List Value) (n : ℕ) (w : Word) (rest : List ℕ) → IsRead ds marks constants n w.code w.content → may_have version (is_long_word w) ≡ true → word_at version p ds marks constants n (read_word_bytes w ++ rest) ≡ Ok (w, rest)
+word_again version p ds marks constants n w rest is may = content_again version p ds marks constants n w.code w.content rest is may
 
 -- ---- tables of records
 

@@ -1,6 +1,7 @@
 -- The first fault of tables that were read.
 use Rattle.std.specs.Prelude.{ℕ, ◌+◌, ◌-◌, ◌*◌, suc, Bool, true, false, not, ◌&&◌, slice_get, List, [], ◌∷◌, length, Option, Some, None, Result, Ok, Err, nat_lt, nat_le, nat_eq, if◌then◌else◌}
 use Rattle.std.specs.List.{position}
+use Rattle.std.specs.Int.{byte_len}
 use Rattle.std.specs.Option.{option_map}
 use Rattle.il_model.specs.declared.program.Operand.{Operand}
 use Rattle.il_model.specs.declared.program.Operand.TheVariants as operands
@@ -8,7 +9,9 @@ use Rattle.il_model.specs.declared.coded_operand.CodedOperand.{CodedOperand}
 use Rattle.il_model.specs.declared.coded_operand.CodedOperand.TheVariants as coded
 use Rattle.il_model.specs.declared.typing.TypeFault.{TypeFault}
 use Rattle.il_model.specs.declared.typing.TypeFault.TheVariants.{UnknownLabel}
+use Rattle.il_model.specs.declared.codes.Version.{Version}
 use Rattle.il_model.specs.Text.{Text}
+use Rattle.il_model.specs.Image.{version_number, number_width, version_with}
 use Rattle.il_model.specs.Limits.{program_of}
 use Rattle.il_model.specs.Typing.{judgement_of}
 use Rattle.il_model.specs.Marks.{Mark, address_of}
@@ -20,7 +23,7 @@ use Rattle.loader.specs.declared.word.Word.{Word}
 use Rattle.loader.specs.declared.word.Content.{Content}
 use Rattle.loader.specs.declared.word.Content.TheVariants as contents
 use Rattle.loader.specs.declared.fault.LoadFault.{LoadFault}
-use Rattle.loader.specs.declared.fault.LoadFault.TheVariants.{BadCount, BadWord, BadType, BadTarget}
+use Rattle.loader.specs.declared.fault.LoadFault.TheVariants.{BadVersion, BadCount, BadWord, BadType, BadTarget}
 use Rattle.loader.specs.Tables.{Tables, operand_in, is_argument, lines_of}
 use Rattle.loader.specs.Reading.{◌>>=◌, agrees, tables_at}
 
@@ -29,8 +32,12 @@ use Rattle.loader.specs.Reading.{◌>>=◌, agrees, tables_at}
 abbrev pub word_place : ℕ → ℕ → ℕ → ℕ
 word_place total count n = total - 4 * (count - n)
 
-abbrev pub constant_place : ℕ → ℕ → ℕ → ℕ → ℕ
-constant_place total words count k = total - 4 * words - 5 * (count - k)
+-- a constant's type and number
+abbrev pub constant_length : Version → ℕ
+constant_length version = 1 + byte_len (number_width version)
+
+abbrev pub constant_place : Version → ℕ → ℕ → ℕ → ℕ → ℕ
+constant_place version total words count k = total - 4 * words - constant_length version * (count - k)
 
 -- where the first of these labels begins, if the last ends there
 abbrev pub label_place : ℕ → List Mark → ℕ
@@ -116,21 +123,26 @@ words_fine total count (Some n) (Err f) = if nat_le n f.1 then Err (BadWord (wor
 -- ---- the whole
 
 -- all of the constants are used
-abbrev pub all_used : ℕ → ℕ → ℕ → Result ℕ ℕ → Result (Unit {0}) LoadFault
-all_used total words count (Ok used) = agrees (BadWord (constant_place total words count used)) (nat_eq used count)
-all_used total words count (Err n) = Ok tt
+abbrev pub all_used : Version → ℕ → ℕ → ℕ → Result ℕ ℕ → Result (Unit {0}) LoadFault
+all_used version total words count (Ok used) = agrees (BadWord (constant_place version total words count used)) (nat_eq used count)
+all_used version total words count (Err n) = Ok tt
+
+-- the version that stands in the header, and the one that the program has
+abbrev pub is_same : Version → Version → Bool
+is_same version own = nat_eq (version_number version) (version_number own)
 
 abbrev pub small : Option Text → Result Text LoadFault
 small None = Err BadCount
 small (Some Q) = Ok Q
 
--- the program of the tables, where its labels rise, its words are spelled and typed, and its constants are used
+-- the program of the tables, where its labels rise, its words are spelled and typed, its constants are used, and the version is its own
 unfoldable pub judged_tables : ℕ → Tables → Result Text LoadFault
 judged_tables total t = do
   Q ← small (program_of t.variables t.instances (lines_of t.instances t.words))
-  rising ← risen (constant_place total (length t.words) (length t.constants) 0) 0 t.words t.labels
+  rising ← risen (constant_place t.version total (length t.words) (length t.constants) 0) 0 t.words t.labels
   fine ← words_fine total (length t.words) (misspelled t.words (used_from 0 0 t.words)) (at_word Q (judgement_of Q))
-  used ← all_used total (length t.words) (length t.constants) (used_from 0 0 t.words)
+  used ← all_used t.version total (length t.words) (length t.constants) (used_from 0 0 t.words)
+  own ← agrees BadVersion (is_same t.version (version_with t.variables t.constants Q.code))
   Ok Q
 
 unfoldable pub image_of : List ℕ → Result Text LoadFault

@@ -1,16 +1,19 @@
 -- Reading an image from left to right, with the first fault that is met.
-use Rattle.std.specs.Prelude.{◌≡◌, ℕ, ◌-◌, zero, suc, Bool, true, false, List, [], ◌∷◌, ◌++◌, length, take, drop, Option, Some, None, Result, Ok, Err, nat_lt, nat_le, nat_eq, if◌then◌else◌}
-use Rattle.std.specs.Int.{Width, w8, w16, w32, byte_len, from_be_bytes}
+use Rattle.std.specs.Prelude.{◌≡◌, ℕ, ℤ, ◌-◌, zero, suc, Bool, true, false, List, [], ◌∷◌, ◌++◌, length, take, drop, Option, Some, None, Result, Ok, Err, nat_lt, nat_le, nat_eq, if◌then◌else◌}
+use Rattle.std.specs.Int.{Width, w8, w16, w32, byte_len, from_be_bytes, cast_signed}
+use Rattle.il_model.specs.declared.value.Ty.{Ty}
+use Rattle.il_model.specs.declared.program.Loc.{Loc}
 use Rattle.il_model.specs.declared.program.Variable.{Variable}
 use Rattle.il_model.specs.declared.program.Instance.{Instance}
 use Rattle.il_model.specs.declared.program.Side.{Side}
 use Rattle.il_model.specs.Text.{Declarations}
-use Rattle.il_model.specs.Image.{magic}
+use Rattle.il_model.specs.Image.{magic, number_width}
+use Rattle.il_model.specs.declared.codes.Version.{Version}
 use Rattle.il_model.specs.Kinds.{kind_of_code}
 use Rattle.loader.specs.declared.word.Content.TheVariants as contents
 use Rattle.il_model.specs.declared.value.Value.{Value}
 use Rattle.il_model.specs.Marks.{Mark}
-use Rattle.il_model.specs.Codes.{is_new_name, is_new_instance, is_new_label, length_of, type_of, coded_location, initial_of, constant_of, op_of, letters_of, label_there, word_operand, side_of, argument_number, argument_operand}
+use Rattle.il_model.specs.Codes.{is_new_name, is_new_instance, is_new_label, length_of, type_in, version_numbered, coded_location, initial_of, constant_of, op_in, letters_of, label_there, word_operand, side_of, argument_number, argument_operand}
 use Rattle.loader.specs.declared.counts.Counts.{Counts}
 use Rattle.loader.specs.declared.word.Word.{Word}
 use Rattle.loader.specs.Tables.{Tables}
@@ -35,6 +38,10 @@ Gives view (Err e) read = Fails e read
 
 abbrev pub number_at : Width → List ℕ → Result (ℕ × List ℕ) LoadFault
 number_at w bytes = if nat_lt (length bytes) (byte_len w) then Err Truncated else Ok (from_be_bytes w (take (byte_len w) bytes), drop (byte_len w) bytes)
+
+-- a number as an image of this version has it
+abbrev pub signed_at : Version → List ℕ → Result (ℤ × List ℕ) LoadFault
+signed_at version bytes = number_at (number_width version) bytes >>= λ n. Ok (cast_signed (number_width version) n.0, n.1)
 
 -- what stands in a record that begins where pos says is lawful, or the fault is the record's
 abbrev pub lawful : {A : Type 0} → ℕ → Option A → Result A LoadFault
@@ -65,13 +72,18 @@ counts_at bytes = do
   words ← count_at 36864 constants.1
   Ok (record { variables = variables.0; instances = instances.0; labels = labels.0; constants = constants.0; words = words.0 }, words.1)
 
-unfoldable pub header_at : List ℕ → Result (Counts × List ℕ) LoadFault
+abbrev pub lawful_version : Option Version → Result Version LoadFault
+lawful_version None = Err BadVersion
+lawful_version (Some version) = Ok version
+
+unfoldable pub header_at : List ℕ → Result (Version × Counts × List ℕ) LoadFault
 header_at bytes = do
   word ← number_at w32 bytes
   is ← agrees BadMagic (nat_eq word.0 (from_be_bytes w32 magic))
-  version ← number_at w16 word.1
-  one ← agrees BadVersion (nat_eq version.0 1)
-  counts_at version.1
+  number ← number_at w16 word.1
+  version ← lawful_version (version_numbered number.0)
+  counts ← counts_at number.1
+  Ok (version, counts.0, counts.1)
 
 -- ---- names
 
@@ -90,16 +102,22 @@ name_at pos is_new bytes = do
 
 -- ---- records; a fault in one stands where it begins
 
-unfoldable pub variable_at : ℕ → List Variable → List ℕ → Result (Variable × List ℕ) LoadFault
-variable_at total seen bytes = do
+-- the first value of a variable with this type and location
+unfoldable pub first_value_at : Version → ℕ → Ty → Option Loc → List ℕ → Result (Value × List ℕ) LoadFault
+first_value_at version pos type loc bytes = do
+  number ← signed_at version bytes
+  value ← lawful pos (initial_of type loc number.0)
+  Ok (value, number.1)
+
+unfoldable pub variable_at : Version → ℕ → List Variable → List ℕ → Result (Variable × List ℕ) LoadFault
+variable_at version total seen bytes = do
   name ← name_at (total - length bytes) (is_new_name seen) bytes
   code ← number_at w8 name.1
-  type ← lawful (total - length bytes) (type_of code.0)
+  type ← lawful (total - length bytes) (type_in version code.0)
   place ← number_at w16 code.1
   loc ← lawful (total - length bytes) (coded_location seen type place.0)
-  first ← number_at w32 place.1
-  value ← lawful (total - length bytes) (initial_of type loc first.0)
-  Ok (record { name = name.0; ty = type; location = loc; initial = value }, first.1)
+  first ← first_value_at version (total - length bytes) type loc place.1
+  Ok (record { name = name.0; ty = type; location = loc; initial = first.0 }, first.1)
 
 unfoldable pub instance_at : ℕ → List Variable → List Instance → List ℕ → Result (Instance × List ℕ) LoadFault
 instance_at total vs seen bytes = do
@@ -115,18 +133,18 @@ mark_at total seen bytes = do
   address ← number_at w16 name.1
   Ok (record { name = name.0; at = address.0 }, address.1)
 
-unfoldable pub constant_at : ℕ → List Value → List ℕ → Result (Value × List ℕ) LoadFault
-constant_at total seen bytes = do
+unfoldable pub constant_at : Version → ℕ → List Value → List ℕ → Result (Value × List ℕ) LoadFault
+constant_at version total seen bytes = do
   code ← number_at w8 bytes
-  type ← lawful (total - length bytes) (type_of code.0)
-  bits ← number_at w32 code.1
-  value ← lawful (total - length bytes) (constant_of seen type bits.0)
-  Ok (value, bits.1)
+  type ← lawful (total - length bytes) (type_in version code.0)
+  number ← signed_at version code.1
+  value ← lawful (total - length bytes) (constant_of seen type number.0)
+  Ok (value, number.1)
 
 -- behind its code, the n-th word where it is an instruction
-unfoldable pub instruction_at : ℕ → Declarations → List Mark → List Value → ℕ → ℕ → List ℕ → Result (Word × List ℕ) LoadFault
-instruction_at pos ds marks constants n code bytes = do
-  op ← lawful pos (op_of code)
+unfoldable pub instruction_at : Version → ℕ → Declarations → List Mark → List Value → ℕ → ℕ → List ℕ → Result (Word × List ℕ) LoadFault
+instruction_at version pos ds marks constants n code bytes = do
+  op ← lawful pos (op_in version code)
   letters ← number_at w8 bytes
   m ← lawful pos (letters_of op letters.0)
   slot ← number_at w16 letters.1
@@ -142,18 +160,18 @@ argument_at pos ds constants side bytes = do
   operand ← lawful pos (argument_operand ds constants slot.0)
   Ok (record { content = contents.Argument side field operand; code = slot.0 }, slot.1)
 
-abbrev pub word_by : ℕ → Declarations → List Mark → List Value → ℕ → ℕ → Option Side → List ℕ → Result (Word × List ℕ) LoadFault
-word_by pos ds marks constants n code None bytes = instruction_at pos ds marks constants n code bytes
-word_by pos ds marks constants n code (Some side) bytes = argument_at pos ds constants side bytes
+abbrev pub word_by : Version → ℕ → Declarations → List Mark → List Value → ℕ → ℕ → Option Side → List ℕ → Result (Word × List ℕ) LoadFault
+word_by version pos ds marks constants n code None bytes = instruction_at version pos ds marks constants n code bytes
+word_by version pos ds marks constants n code (Some side) bytes = argument_at pos ds constants side bytes
 
 -- the n-th word, behind the tables that its number may point to
-unfoldable pub word_at : ℕ → Declarations → List Mark → List Value → ℕ → List ℕ → Result (Word × List ℕ) LoadFault
-word_at pos ds marks constants n bytes = do
+unfoldable pub word_at : Version → ℕ → Declarations → List Mark → List Value → ℕ → List ℕ → Result (Word × List ℕ) LoadFault
+word_at version pos ds marks constants n bytes = do
   code ← number_at w8 bytes
-  word_by pos ds marks constants n code.0 (side_of code.0) code.1
+  word_by version pos ds marks constants n code.0 (side_of code.0) code.1
 
-abbrev pub next_word : ℕ → Declarations → List Mark → List Value → List Word → List ℕ → Result (Word × List ℕ) LoadFault
-next_word total ds marks constants seen bytes = word_at (total - length bytes) ds marks constants (length seen) bytes
+abbrev pub next_word : Version → ℕ → Declarations → List Mark → List Value → List Word → List ℕ → Result (Word × List ℕ) LoadFault
+next_word version total ds marks constants seen bytes = word_at version (total - length bytes) ds marks constants (length seen) bytes
 
 -- ---- the whole
 
@@ -161,16 +179,16 @@ abbrev pub ended : Tables × List ℕ → Result Tables LoadFault
 ended x = agrees Trailing (nat_eq (length x.1) 0) >>= λ _. Ok x.0
 
 -- the tables behind the header
-unfoldable pub bodies_at : ℕ → Counts → List ℕ → Result Tables LoadFault
-bodies_at total counts bytes = do
-  variables ← items_from (variable_at total) counts.variables [] bytes
+unfoldable pub bodies_at : Version → ℕ → Counts → List ℕ → Result Tables LoadFault
+bodies_at version total counts bytes = do
+  variables ← items_from (variable_at version total) counts.variables [] bytes
   instances ← items_from (instance_at total variables.0) counts.instances [] variables.1
   labels ← items_from (mark_at total) counts.labels [] instances.1
-  constants ← items_from (constant_at total) counts.constants [] labels.1
-  words ← items_from (next_word total (record { variables = variables.0; instances = instances.0 }) labels.0 constants.0) counts.words [] constants.1
-  ended (record { variables = variables.0; instances = instances.0; labels = labels.0; constants = constants.0; words = words.0 }, words.1)
+  constants ← items_from (constant_at version total) counts.constants [] labels.1
+  words ← items_from (next_word version total (record { variables = variables.0; instances = instances.0 }) labels.0 constants.0) counts.words [] constants.1
+  ended (record { version = version; variables = variables.0; instances = instances.0; labels = labels.0; constants = constants.0; words = words.0 }, words.1)
 
 unfoldable pub tables_at : List ℕ → Result Tables LoadFault
 tables_at bytes = do
   head ← header_at bytes
-  bodies_at (length bytes) head.0 head.1
+  bodies_at head.0 (length bytes) head.1 head.2

@@ -1,5 +1,6 @@
 -- The tables of an image, as they are read.
 use Rattle.std.specs.Prelude.{Bool, true, false, List, [], ◌∷◌, Option}
+use Rattle.il_model.specs.declared.codes.Version.{Version}
 use Rattle.il_model.specs.declared.value.Value.{Value}
 use Rattle.il_model.specs.declared.kind.BlockKind.{BlockKind}
 use Rattle.il_model.specs.declared.program.Variable.{Variable}
@@ -16,6 +17,7 @@ use Rattle.loader.specs.declared.word.Content.{Content}
 use Rattle.loader.specs.declared.word.Content.TheVariants as contents
 
 pub record Tables : Type 0 where
+  pub version : Version
   pub variables : List Variable
   pub instances : List Instance
   pub labels : List Mark

@@ -15,6 +15,7 @@ pub enum LoadFault {
     Truncated,
     #[error("bad magic")]
     BadMagic,
+    /// The version is neither 1 nor 2, or not the one that the program has; the latter is found last.
     #[error("bad version")]
     BadVersion,
     /// There are more records than a program may have.

@@ -4,14 +4,15 @@ ghost use Rattle.std.specs.Prelude.{◌≡◌, ◌+◌, ◌<◌, ◌^◌, false,
 ghost use Rattle.std.specs.List.{position};
 ghost use Rattle.il_model.specs.Constants.{step_used};
 ghost use Rattle.loader.specs.Tables.{operand_in, is_argument};
-ghost use Rattle.loader.specs.Reading.{Gives};
-ghost use Rattle.loader.specs.Judging.{word_place, constant_place, label_place, is_start, risen, constant_in, used_from, sooner, says_nothing, takes_argument, stray_from, misspelled, type_fault, words_fine, all_used};
+ghost use Rattle.loader.specs.declared.fault.LoadFault.TheVariants.{BadVersion};
+ghost use Rattle.loader.specs.Reading.{Gives, agrees};
+ghost use Rattle.loader.specs.Judging.{word_place, constant_length, constant_place, label_place, is_start, risen, constant_in, used_from, sooner, says_nothing, takes_argument, stray_from, misspelled, type_fault, words_fine, all_used, is_same};
 
 use crate::fault::{LoadError, LoadFault};
 use crate::label::Label;
 use crate::reading::agrees;
 use crate::word::{Content, Word};
-use il_model::codes::is_pointless;
+use il_model::codes::{Version, is_pointless};
 use il_model::{CodedOperand, Op, Operand, TypeFault};
 
 fn word_place(total: usize, count: usize, n: usize) -> usize
@@ -20,12 +21,26 @@ fn word_place(total: usize, count: usize, n: usize) -> usize
     total.saturating_sub(count.saturating_sub(n).saturating_mul(4))
 }
 
+/// How many bytes a constant has.
+fn constant_length(version: Version) -> usize
+    ensures { result ≡ constant_length version }
+{
+    match version {
+        Version::One => 5,
+        Version::Two => 9,
+    }
+}
+
 /// Where the constant of a number stands.
-pub fn constant_place(total: usize, words: usize, count: usize, k: usize) -> usize
-    ensures { result ≡ constant_place total words count k }
+pub fn constant_place(version: Version, total: usize, words: usize, count: usize, k: usize) -> usize
+    ensures { result ≡ constant_place version total words count k }
 {
     let behind = total.saturating_sub(words.saturating_mul(4));
-    behind.saturating_sub(count.saturating_sub(k).saturating_mul(5))
+    behind.saturating_sub(
+        count
+            .saturating_sub(k)
+            .saturating_mul(constant_length(version)),
+    )
 }
 
 /// Where the first of these labels stands, if the last ends there.
@@ -224,18 +239,26 @@ pub fn check_words(
 
 /// Whether all of the constants are used.
 pub fn check_used(
+    version: Version,
     total: usize,
     words: usize,
     count: usize,
     used: Result<usize, usize>,
 ) -> Result<(), LoadError>
-    ensures { Gives (λ x. x) result (all_used total words count used) }
+    ensures { Gives (λ x. x) result (all_used version total words count used) }
 {
     match used {
         Ok(k) => {
-            let position = constant_place(total, words, count, k);
+            let position = constant_place(version, total, words, count, k);
             agrees(LoadFault::BadWord { position }, k == count)
         }
         Err(_) => Ok(()),
     }
+}
+
+/// Whether the version is the one that the program has.
+pub fn check_version(version: Version, own: Version) -> Result<(), LoadError>
+    ensures { Gives (λ x. x) result (agrees BadVersion (is_same version own)) }
+{
+    agrees(LoadFault::BadVersion, version == own)
 }

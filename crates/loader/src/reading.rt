@@ -1,9 +1,9 @@
 //! Reading the tables of an image.
 
 ghost use Rattle.std.specs.Prelude.{◌≡◌, [], IfOk};
-ghost use Rattle.std.specs.Int.{w8, w16, w32};
-ghost use Rattle.il_model.specs.Codes.{is_new_name, is_new_instance, is_new_label, argument_number, constant_of, is_free, coded_location};
-ghost use Rattle.loader.specs.Reading.{Gives, number_at, lawful, agrees, items_from, count_at, counts_at, header_at, spelled_name_at, name_at, variable_at, instance_at, mark_at, constant_at, instruction_at, argument_at, word_at, next_word};
+ghost use Rattle.std.specs.Int.{w8, w16, w32, w64};
+ghost use Rattle.il_model.specs.Codes.{is_new_name, is_new_instance, is_new_label, argument_number, constant_of, is_free, coded_location, version_numbered};
+ghost use Rattle.loader.specs.Reading.{Gives, number_at, signed_at, lawful, agrees, items_from, count_at, counts_at, lawful_version, header_at, spelled_name_at, name_at, first_value_at, variable_at, instance_at, mark_at, constant_at, instruction_at, argument_at, word_at, next_word};
 
 use crate::counts::Counts;
 use crate::declared::Declared;
@@ -13,7 +13,9 @@ use crate::label::{Label, Labels};
 use crate::operands::{argument_operand, label_there, word_operand};
 use crate::variable::Variables;
 use crate::word::{Content, Word};
-use il_model::codes::{MAGIC, initial_of, is_type, length_of, letters_of, op_of, side_of, type_of};
+use il_model::codes::{
+    MAGIC, Version, initial_of, is_type, length_of, letters_of, op_in, side_of, type_in,
+};
 use il_model::constant_table::Constants;
 use il_model::resolve::loc_type;
 use il_model::value::make;
@@ -53,6 +55,35 @@ fn u32_at(bytes: &[u8]) -> Result<(u32, &[u8]), LoadError>
         u32::from_be_bytes([front[0], front[1], front[2], front[3]]),
         rest,
     ))
+}
+
+fn u64_at(bytes: &[u8]) -> Result<(u64, &[u8]), LoadError>
+    ensures { Gives (λ x. (x.0, x.1.now)) result (number_at w64 bytes.now) }
+{
+    if bytes.len() < 8 {
+        return Err(LoadError::Fault(LoadFault::Truncated));
+    }
+    let (b, rest) = bytes.split_at(8);
+    Ok((
+        u64::from_be_bytes([b[0], b[1], b[2], b[3], b[4], b[5], b[6], b[7]]),
+        rest,
+    ))
+}
+
+/// A number as an image of this version has it.
+fn signed_at(version: Version, bytes: &[u8]) -> Result<(i64, &[u8]), LoadError>
+    ensures { Gives (λ x. (x.0, x.1.now)) result (signed_at version bytes.now) }
+{
+    match version {
+        Version::One => {
+            let (bits, rest) = u32_at(bytes)?;
+            Ok((i64::from(bits.cast_signed()), rest))
+        }
+        Version::Two => {
+            let (bits, rest) = u64_at(bytes)?;
+            Ok((bits.cast_signed(), rest))
+        }
+    }
 }
 
 /// A value that is there, or the record's fault.
@@ -105,15 +136,26 @@ fn counts_at(bytes: &[u8]) -> Result<(Counts, &[u8]), LoadError>
     ))
 }
 
+/// The version that a number stands for.
+fn lawful_version(number: u16) -> Result<Version, LoadError>
+    ensures { Gives (λ x. x) result (lawful_version (version_numbered number)) }
+{
+    match Version::of_number(number) {
+        Some(version) => Ok(version),
+        None => Err(LoadError::Fault(LoadFault::BadVersion)),
+    }
+}
+
 #[tactic(auto, unfolding(crate::specs::Reading::header_at))]
-pub fn header_at(bytes: &[u8]) -> Result<(Counts, &[u8]), LoadError>
-    ensures { Gives (λ x. (x.0, x.1.now)) result (header_at bytes.now) }
+pub fn header_at(bytes: &[u8]) -> Result<(Version, Counts, &[u8]), LoadError>
+    ensures { Gives (λ x. (x.0, x.1, x.2.now)) result (header_at bytes.now) }
 {
     let (magic, rest) = u32_at(bytes)?;
     agrees(LoadFault::BadMagic, magic == u32::from_be_bytes(MAGIC))?;
-    let (version, rest) = u16_at(rest)?;
-    agrees(LoadFault::BadVersion, version == 1)?;
-    counts_at(rest)
+    let (number, rest) = u16_at(rest)?;
+    let version = lawful_version(number)?;
+    let (counts, rest) = counts_at(rest)?;
+    Ok((version, counts, rest))
 }
 
 #[tactic(auto, unfolding(crate::specs::Reading::spelled_name_at))]
@@ -203,25 +245,41 @@ fn location_of(seen: &Variables, ty: Ty, n: u16) -> Option<Option<Loc>>
     }
 }
 
+/// The first value of a variable with this type and location, whose record begins at the position.
+#[tactic(auto, unfolding(crate::specs::Reading::first_value_at))]
+fn first_value_at(
+    version: Version,
+    position: usize,
+    ty: Ty,
+    location: Option<Loc>,
+    bytes: &[u8],
+) -> Result<(Value, &[u8]), LoadError>
+    ensures { Gives (λ x. (x.0, x.1.now)) result (first_value_at version position ty location bytes.now) }
+{
+    let (number, rest) = signed_at(version, bytes)?;
+    let value = lawful(position, initial_of(ty, location, number))?;
+    Ok((value, rest))
+}
+
 /// A variable, and the bytes of its name.
 #[tactic(auto, unfolding(crate::specs::Reading::variable_at))]
 fn variable_at<'a>(
     alloc: Global,
+    version: Version,
     total: usize,
     seen: &Variables,
     bytes: &'a [u8],
 ) -> Result<(Variable, &'a [u8], &'a [u8]), LoadError>
-    ensures found { Gives (λ x. (x.0, x.2.now)) result (variable_at total seen.now bytes.entry.now) }
+    ensures found { Gives (λ x. (x.0, x.2.now)) result (variable_at version total seen.now bytes.entry.now) }
     ensures name { IfOk result (λ x. x.1.now ≡ x.0.name) }
 {
     let position = total.saturating_sub(bytes.len());
     let (name, rest) = variable_name_at(position, seen, bytes)?;
     let (code, rest) = u8_at(rest)?;
-    let ty = lawful(position, type_of(code))?;
+    let ty = lawful(position, type_in(version, code))?;
     let (place, rest) = u16_at(rest)?;
     let location = lawful(position, location_of(seen, ty, place))?;
-    let (first, rest) = u32_at(rest)?;
-    let initial = lawful(position, initial_of(ty, location, first))?;
+    let (initial, rest) = first_value_at(version, position, ty, location, rest)?;
     let found = Variable {
         name: Name::of(Vec::from_slice(alloc, name)?),
         ty,
@@ -269,11 +327,11 @@ fn mark_at<'a>(
     Ok((Label { name, at }, rest))
 }
 
-/// The constant that bits stand for, if none of these is the same.
-fn constant_of(seen: &Constants, ty: Ty, bits: u32) -> Option<Value>
-    ensures { result ≡ constant_of seen.now ty bits }
+/// The constant that a number stands for, if none of these is the same.
+fn constant_of(seen: &Constants, ty: Ty, number: i64) -> Option<Value>
+    ensures { result ≡ constant_of seen.now ty number }
 {
-    let v = make(ty, i64::from(bits.cast_signed()))?;
+    let v = make(ty, number)?;
     if seen.place(v).is_some() {
         None
     } else {
@@ -284,17 +342,18 @@ fn constant_of(seen: &Constants, ty: Ty, bits: u32) -> Option<Value>
 /// A constant.
 #[tactic(auto, unfolding(crate::specs::Reading::constant_at))]
 fn constant_at<'a>(
+    version: Version,
     total: usize,
     seen: &Constants,
     bytes: &'a [u8],
 ) -> Result<(Value, &'a [u8]), LoadError>
-    ensures { Gives (λ x. (x.0, x.1.now)) result (constant_at total seen.now bytes.entry.now) }
+    ensures { Gives (λ x. (x.0, x.1.now)) result (constant_at version total seen.now bytes.entry.now) }
 {
     let position = total.saturating_sub(bytes.len());
     let (code, rest) = u8_at(bytes)?;
-    let ty = lawful(position, type_of(code))?;
-    let (bits, rest) = u32_at(rest)?;
-    let value = lawful(position, constant_of(seen, ty, bits))?;
+    let ty = lawful(position, type_in(version, code))?;
+    let (number, rest) = signed_at(version, rest)?;
+    let value = lawful(position, constant_of(seen, ty, number))?;
     Ok((value, rest))
 }
 
@@ -309,6 +368,7 @@ fn argument_number(n: u8) -> Option<u8>
 #[tactic(auto, unfolding(crate::specs::Reading::instruction_at))]
 fn instruction_at<'a>(
     alloc: Global,
+    version: Version,
     position: usize,
     ds: &Declared,
     labels: &Labels,
@@ -317,9 +377,9 @@ fn instruction_at<'a>(
     code: u8,
     bytes: &'a [u8],
 ) -> Result<(Word, &'a [u8]), LoadError>
-    ensures { Gives (λ x. (x.0, x.1.now)) result (instruction_at position ds.now labels.now constants.now n code bytes.entry.now) }
+    ensures { Gives (λ x. (x.0, x.1.now)) result (instruction_at version position ds.now labels.now constants.now n code bytes.entry.now) }
 {
-    let op = lawful(position, op_of(code))?;
+    let op = lawful(position, op_in(version, code))?;
     let (letters, rest) = u8_at(bytes)?;
     let modifier = lawful(position, letters_of(op, letters))?;
     let (code, rest) = u16_at(rest)?;
@@ -361,6 +421,7 @@ fn argument_at<'a>(
 #[tactic(auto, unfolding(crate::specs::Reading::word_at))]
 fn word_at<'a>(
     alloc: Global,
+    version: Version,
     position: usize,
     ds: &Declared,
     labels: &Labels,
@@ -368,27 +429,30 @@ fn word_at<'a>(
     n: usize,
     bytes: &'a [u8],
 ) -> Result<(Word, &'a [u8]), LoadError>
-    ensures { Gives (λ x. (x.0, x.1.now)) result (word_at position ds.now labels.now constants.now n bytes.entry.now) }
+    ensures { Gives (λ x. (x.0, x.1.now)) result (word_at version position ds.now labels.now constants.now n bytes.entry.now) }
 {
     let (code, rest) = u8_at(bytes)?;
     match side_of(code) {
         Some(side) => argument_at(alloc, position, ds, constants, side, rest),
-        None => instruction_at(alloc, position, ds, labels, constants, n, code, rest),
+        None => instruction_at(
+            alloc, version, position, ds, labels, constants, n, code, rest,
+        ),
     }
 }
 
 pub fn variables_of<'a>(
     alloc: Global,
+    version: Version,
     total: usize,
     count: u16,
     bytes: &'a [u8],
 ) -> Result<(Variables<'a>, &'a [u8]), LoadError>
-    ensures { Gives (λ x. (x.0, x.1.now)) result (items_from (variable_at total) count [] bytes.entry.now) }
+    ensures { Gives (λ x. (x.0, x.1.now)) result (items_from (variable_at version total) count [] bytes.entry.now) }
 {
     let mut seen = Variables::new(alloc);
     let mut rest = bytes;
     for _ in 0..count {
-        let (one, name, after) = variable_at(alloc, total, &seen, rest)?;
+        let (one, name, after) = variable_at(alloc, version, total, &seen, rest)?;
         seen = seen.with(one, name)?;
         rest = after;
     }
@@ -434,16 +498,17 @@ pub fn labels_of<'a>(
 
 pub fn constants_of(
     alloc: Global,
+    version: Version,
     total: usize,
     count: u16,
     bytes: &[u8],
 ) -> Result<(Constants, &[u8]), LoadError>
-    ensures { Gives (λ x. (x.0, x.1.now)) result (items_from (constant_at total) count [] bytes.now) }
+    ensures { Gives (λ x. (x.0, x.1.now)) result (items_from (constant_at version total) count [] bytes.now) }
 {
     let mut seen = Constants::new(alloc);
     let mut rest = bytes;
     for _ in 0..count {
-        let (one, after) = constant_at(total, &seen, rest)?;
+        let (one, after) = constant_at(version, total, &seen, rest)?;
         seen = seen.with(one)?;
         rest = after;
     }
@@ -453,6 +518,7 @@ pub fn constants_of(
 /// The word behind these.
 fn next_word<'a>(
     alloc: Global,
+    version: Version,
     total: usize,
     ds: &Declared,
     labels: &Labels,
@@ -460,14 +526,24 @@ fn next_word<'a>(
     seen: &[Word],
     bytes: &'a [u8],
 ) -> Result<(Word, &'a [u8]), LoadError>
-    ensures { Gives (λ x. (x.0, x.1.now)) result (next_word total ds.now labels.now constants.now seen.now bytes.entry.now) }
+    ensures { Gives (λ x. (x.0, x.1.now)) result (next_word version total ds.now labels.now constants.now seen.now bytes.entry.now) }
 {
     let position = total.saturating_sub(bytes.len());
-    word_at(alloc, position, ds, labels, constants, seen.len(), bytes)
+    word_at(
+        alloc,
+        version,
+        position,
+        ds,
+        labels,
+        constants,
+        seen.len(),
+        bytes,
+    )
 }
 
 pub fn words_of<'a>(
     alloc: Global,
+    version: Version,
     total: usize,
     ds: &Declared,
     labels: &Labels,
@@ -475,12 +551,21 @@ pub fn words_of<'a>(
     count: u16,
     bytes: &'a [u8],
 ) -> Result<(Vec<Word>, &'a [u8]), LoadError>
-    ensures { Gives (λ x. (x.0.items, x.1.now)) result (items_from (next_word total ds.now labels.now constants.now) count [] bytes.entry.now) }
+    ensures { Gives (λ x. (x.0.items, x.1.now)) result (items_from (next_word version total ds.now labels.now constants.now) count [] bytes.entry.now) }
 {
     let mut found = Vec::new(alloc);
     let mut rest = bytes;
     for _ in 0..count {
-        let (one, after) = next_word(alloc, total, ds, labels, constants, found.as_slice(), rest)?;
+        let (one, after) = next_word(
+            alloc,
+            version,
+            total,
+            ds,
+            labels,
+            constants,
+            found.as_slice(),
+            rest,
+        )?;
         found.push(one)?;
         rest = after;
     }

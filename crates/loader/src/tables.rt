@@ -13,6 +13,7 @@ use crate::reading::{
 };
 use crate::variable::Variables;
 use crate::word::Word;
+use il_model::codes::Version;
 use il_model::constant_table::Constants;
 use std::alloc::Global;
 use std::marker::Model;
@@ -20,6 +21,7 @@ use std::marker::Model;
 /// The tables of an image, as they were read.
 #[derive(Drop)]
 pub struct ReadTables<'a> {
+    pub version: Version,
     pub variables: Variables<'a>,
     pub instances: Instances<'a>,
     pub labels: Labels<'a>,
@@ -32,24 +34,26 @@ impl<'a> Model for ReadTables<'a> {
 
     ghost Value = { Tables };
 
-    ghost view = { λ t. record { variables = t.variables; instances = t.instances; labels = t.labels; constants = t.constants; words = t.words.items } };
+    ghost view = { λ t. record { version = t.version; variables = t.variables; instances = t.instances; labels = t.labels; constants = t.constants; words = t.words.items } };
 }
 
 #[tactic(auto, unfolding(crate::specs::Reading::bodies_at))]
 fn bodies_at<'a>(
     alloc: Global,
+    version: Version,
     total: usize,
     counts: Counts,
     bytes: &'a [u8],
 ) -> Result<ReadTables<'a>, LoadError>
-    ensures { Gives (λ t. t) result (bodies_at total counts bytes.entry.now) }
+    ensures { Gives (λ t. t) result (bodies_at version total counts bytes.entry.now) }
 {
-    let (variables, rest) = variables_of(alloc, total, counts.variables, bytes)?;
+    let (variables, rest) = variables_of(alloc, version, total, counts.variables, bytes)?;
     let (instances, rest) = instances_of(alloc, total, &variables, counts.instances, rest)?;
     let (labels, rest) = labels_of(alloc, total, counts.labels, rest)?;
-    let (constants, rest) = constants_of(alloc, total, counts.constants, rest)?;
+    let (constants, rest) = constants_of(alloc, version, total, counts.constants, rest)?;
     let (words, rest) = words_of(
         alloc,
+        version,
         total,
         &Declared::of(&variables, &instances),
         &labels,
@@ -59,6 +63,7 @@ fn bodies_at<'a>(
     )?;
     agrees(LoadFault::Trailing, rest.len() == 0)?;
     Ok(ReadTables {
+        version,
         variables,
         instances,
         labels,
@@ -71,6 +76,6 @@ fn bodies_at<'a>(
 pub fn tables_at<'a>(alloc: Global, bytes: &'a [u8]) -> Result<ReadTables<'a>, LoadError>
     ensures { Gives (λ t. t) result (tables_at bytes.entry.now) }
 {
-    let (counts, rest) = header_at(bytes)?;
-    bodies_at(alloc, bytes.len(), counts, rest)
+    let (version, counts, rest) = header_at(bytes)?;
+    bodies_at(alloc, version, bytes.len(), counts, rest)
 }

@@ -36,6 +36,7 @@ value_text (values.Bool true) = codes "value TRUE"
 value_text (values.Bool false) = codes "value FALSE"
 value_text (values.Int z) = codes "value INT#" ++ signed_decimal z
 value_text (values.Dint z) = codes "value DINT#" ++ signed_decimal z
+value_text (values.Lint z) = codes "value LINT#" ++ signed_decimal z
 value_text (values.Time z) = codes "value T#" ++ (signed_decimal z ++ codes "ms")
 
 -- an answer, without the end of its line

@@ -103,7 +103,7 @@ Answers:
                              as QWk=v
   held P                     the scan is held before instruction P
   stopped WHY P              the scan stopped at instruction P: overflow, zerodivisor or budget
-  value V                    a value, as TRUE, INT#5, DINT#5 or T#5ms
+  value V                    a value, as TRUE, INT#5, DINT#5, LINT#5 or T#5ms
   done
   refused N                  1 no scan is held, 2 no such instruction, 3 no such name or it can't be
                              forced, 4 a value of another type, 5 there is no current result

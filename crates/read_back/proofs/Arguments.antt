@@ -34,12 +34,14 @@ literal_constant (values.Bool false) rest = refl
 literal_constant (values.Int z) rest = refl
 literal_constant (values.Dint z) rest = refl
 literal_constant (values.Time z) rest = refl
+literal_constant (values.Lint z) rest = refl
 
 pub literal_solid : (v : Value) (rest : List ℕ) → is_sign signs.Break (literal_at v rest) ≡ false
 literal_solid (values.Bool b) rest = refl
 literal_solid (values.Int z) rest = refl
 literal_solid (values.Dint z) rest = refl
 literal_solid (values.Time z) rest = refl
+literal_solid (values.Lint z) rest = refl
 
 true_reserved : is_reserved (codes "TRUE") ≡ true
 unfolding mnemonic_of look spells
@@ -87,6 +89,7 @@ value_spelled ds (operands.Literal v) rest is ends =
     literal_no_colon (values.Int z) = refl
     literal_no_colon (values.Dint z) = refl
     literal_no_colon (values.Time z) = refl
+    literal_no_colon (values.Lint z) = refl
 value_spelled ds (operands.Direct loc) rest is ends =
     let t = token_at signs.Address (location_text loc) rest in
     let e = location_token loc rest ends in

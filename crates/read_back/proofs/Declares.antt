@@ -2,7 +2,6 @@
 use Rattle.std.proofs.Common.{◌≡◌, ℕ, ◌+◌, ◌<◌, ◌≤◌, Bool, true, false, cond, ltb, List, [], ◌∷◌, ◌++◌, length, Option, Some, None, Result, Ok, Err, refl, sym, ap, ◌∙◌, subst, arith, ◌||◌, not, append_assoc}
 use Rattle.std.specs.Prelude.{is_some, ℤ, pos, negsuc}
 use Rattle.std.specs.List.{AllByRecursion, flat_map}
-use Rattle.std.specs.Int.{w32, cast_signed, cast_unsigned}
 use Rattle.std.proofs.lemmas.List.{length-append, append-nil}
 use Rattle.std.proofs.lemmas.Bool.{lt-leb, ltb-false}
 use Rattle.il_model.specs.declared.value.Ty.{Ty}
@@ -64,6 +63,7 @@ zero_value (values.Bool false) e = refl
 zero_value (values.Int z) e = ap values.Int (sym (zero_number z e))
 zero_value (values.Dint z) e = ap values.Dint (sym (zero_number z e))
 zero_value (values.Time z) e = ap values.Time (sym (zero_number z e))
+zero_value (values.Lint z) e = ap values.Lint (sym (zero_number z e))
 
 zero_of_type : (type : Ty) (v : Value) → IsOfType type v → is_zero (number_of v) ≡ true → zero_of type ≡ v
 zero_of_type type v of e = ap zero_of (sym of.is) ∙ zero_value v e
@@ -73,17 +73,17 @@ record IsFirst (type : Ty) (loc : Option Loc) (v : Value) : Type 0 where
   of : IsOfType type v
   may : may_start_with loc v ≡ true
 
-first_is : (type : Ty) (loc : Option Loc) (v : Value) → codes_of.initial_of type loc (cast_unsigned w32 (number_of v)) ≡ Some v → IsFirst type loc v
+first_is : (type : Ty) (loc : Option Loc) (v : Value) → codes_of.initial_of type loc (number_of v) ≡ Some v → IsFirst type loc v
 first_is type loc v e =
-    let z = cast_signed w32 (cast_unsigned w32 (number_of v)) in
-    let t = tested_is (may_start_with loc) (typed_value type z) v e in
-    record { of = of_type type z v t.0; may = t.1 }
+    let t = tested_is (may_start_with loc) (typed_value type (number_of v)) v e in
+    record { of = of_type type (number_of v) v t.0; may = t.1 }
 
 same_self : (type : Ty) → same_type type type ≡ true
 same_self types.Bool = refl
 same_self types.Int = refl
 same_self types.Dint = refl
 same_self types.Time = refl
+same_self types.Lint = refl
 
 no_input : (loc : Option Loc) (v : Value) → may_start_with loc v ≡ true → is_zero (number_of v) ≡ false → is_input loc ≡ false
 no_input None v may some = refl
@@ -128,6 +128,7 @@ type_back types.Bool = refl
 type_back types.Int = refl
 type_back types.Dint = refl
 type_back types.Time = refl
+type_back types.Lint = refl
 
 kind_back : (kind : BlockKind) → declared_type (kind_name kind) ≡ Some (Block kind)
 unfolding spells

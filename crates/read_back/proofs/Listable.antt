@@ -3,7 +3,6 @@ use Rattle.std.proofs.Common.{◌≡◌, ℕ, zero, suc, ◌+◌, Bool, true, fa
 use Rattle.std.specs.Prelude.{is_some, slice_get, nat_eq, ◌^◌, ℤ, pos, negsuc}
 use Rattle.std.specs.List.{AllByRecursion, position}
 use Rattle.std.specs.Option.{option_map, option_and_then}
-use Rattle.std.specs.Int.{w32, cast_signed, cast_unsigned}
 use Rattle.std.proofs.lemmas.Slice.Eq.{bytes_eq-Decides}
 use Rattle.il_model.specs.declared.value.Ty.{Ty}
 use Rattle.il_model.specs.declared.value.Ty.TheVariants as types
@@ -367,11 +366,14 @@ of_type types.Dint z v e =
 of_type types.Time z v e =
     let m = if_some (is_within (2 ^ 31) z) (values.Time z) v e in
     subst (IsOfType types.Time) m.1 (record { is = refl; made_again = rw m.0 refl })
+of_type types.Lint z v e =
+    let m = if_some (is_within (2 ^ 63) z) (values.Lint z) v e in
+    subst (IsOfType types.Lint) m.1 (record { is = refl; made_again = rw m.0 refl })
 
 constant_value : (seen : List Value) (v : Value) → IsConstant seen v → IsValue v
 constant_value seen v is =
-    let t = tested_is (λ w. not (is_known seen w)) (typed_value (ty_of v) (cast_signed w32 (cast_unsigned w32 (number_of v)))) v is.value in
-    (of_type (ty_of v) (cast_signed w32 (cast_unsigned w32 (number_of v))) v t.0).made_again
+    let t = tested_is (λ w. not (is_known seen w)) (typed_value (ty_of v) (number_of v)) v is.value in
+    (of_type (ty_of v) (number_of v) v t.0).made_again
 
 -- ---- the whole
 

@@ -100,6 +100,10 @@ behind_dint : (t : List ℕ) → literal_of (codes "DINT#" ++ t) ≡ typed_liter
 unfolding literal_of spells
 behind_dint t = let e : ltb 4 (length (codes "DINT#" ++ t)) ≡ true = lt-ltb 4 (length (codes "DINT#" ++ t)) (omega arith) in rw e refl
 
+behind_lint : (t : List ℕ) → literal_of (codes "LINT#" ++ t) ≡ typed_literal types.Lint (whole_by integer_of t)
+unfolding literal_of spells
+behind_lint t = let e : ltb 4 (length (codes "LINT#" ++ t)) ≡ true = lt-ltb 4 (length (codes "LINT#" ++ t)) (omega arith) in rw e refl
+
 behind_time : (t : List ℕ) → literal_of (codes "T#" ++ t) ≡ typed_literal types.Time (time_by integer_of t)
 unfolding literal_of spells
 behind_time t = let e : ltb 1 (length (codes "T#" ++ t)) ≡ true = lt-ltb 1 (length (codes "T#" ++ t)) (omega arith) in rw e refl
@@ -110,4 +114,5 @@ literal_again (values.Bool true) is = refl
 literal_again (values.Bool false) is = refl
 literal_again (values.Int z) is = behind_int (number_text z) ∙ ap (typed_literal types.Int) (whole_number z) ∙ ap (option_map Typed) is
 literal_again (values.Dint z) is = behind_dint (number_text z) ∙ ap (typed_literal types.Dint) (whole_number z) ∙ ap (option_map Typed) is
+literal_again (values.Lint z) is = behind_lint (number_text z) ∙ ap (typed_literal types.Lint) (whole_number z) ∙ ap (option_map Typed) is
 literal_again (values.Time z) is = behind_time (number_text z ++ ms) ∙ ap (typed_literal types.Time) (time_number z) ∙ ap (option_map Typed) is

@@ -130,6 +130,8 @@ takes ops.Ret m o args rest a f = nothing_takes m.opens o args rest (c_closed m 
 takes ops.Close m o args rest a f = nothing_takes m.opens o args rest (none_closed m a) f
 takes ops.IntToDint m o args rest a f = nothing_takes m.opens o args rest (none_closed m a) f
 takes ops.DintToInt m o args rest a f = nothing_takes m.opens o args rest (none_closed m a) f
+takes ops.DintToLint m o args rest a f = nothing_takes m.opens o args rest (none_closed m a) f
+takes ops.LintToDint m o args rest a f = nothing_takes m.opens o args rest (none_closed m a) f
 
 -- ---- behind an operator, before a line end
 

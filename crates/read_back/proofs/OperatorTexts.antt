@@ -69,6 +69,8 @@ by_letters ops.Ret false true o w e = record { name = name_by _ refl; means = re
 by_letters ops.Ret true true o w e = record { name = name_by _ refl; means = refl }
 by_letters ops.IntToDint false false o w e = record { name = name_by _ refl; means = refl }
 by_letters ops.DintToInt false false o w e = record { name = name_by _ refl; means = refl }
+by_letters ops.DintToLint false false o w e = record { name = name_by _ refl; means = refl }
+by_letters ops.LintToDint false false o w e = record { name = name_by _ refl; means = refl }
 by_letters op n c o w e = absurd cc
 
 pub operator_again : (op : Op) (m : Modifier) → is_word_op op ≡ true → allowed_by (usage_of op) m ≡ true → IsOperatorWord op m

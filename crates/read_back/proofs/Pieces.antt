@@ -125,6 +125,13 @@ dint_piece t rest all ends =
     let more : 1 + (1 + (1 + (1 + (1 + length t)))) ≡ suc (suc (suc (suc (suc (length t))))) = omega arith in
     rw (front, more, take-append_seam t rest) refl
 
+lint_piece : (t rest : List ℕ) → list_all is_literal_byte t ≡ true → begins is_literal_byte rest ≡ false → piece_of (codes "LINT#" ++ (t ++ rest)) ≡ literal_piece (codes "LINT#" ++ t)
+unfolding piece_of solid_piece word_piece
+lint_piece t rest all ends =
+    let front = prefix_whole is_literal_byte t rest all ends in
+    let more : 1 + (1 + (1 + (1 + (1 + length t)))) ≡ suc (suc (suc (suc (suc (length t))))) = omega arith in
+    rw (front, more, take-append_seam t rest) refl
+
 time_piece : (t rest : List ℕ) → list_all is_literal_byte t ≡ true → begins is_literal_byte rest ≡ false → piece_of (codes "T#" ++ (t ++ rest)) ≡ literal_piece (codes "T#" ++ t)
 unfolding piece_of solid_piece word_piece
 time_piece t rest all ends =
@@ -151,6 +158,7 @@ literal_token (values.Bool true) rest is ends = name_token (codes "TRUE") rest t
 literal_token (values.Bool false) rest is ends = name_token (codes "FALSE") rest false_is ends.word
 literal_token (values.Int z) rest is ends = solid_token signs.Literal (literal_text (values.Int z)) rest (omega arith) (int_piece (number_text z) rest (number_bytes z) ends.literal ∙ literal_is (values.Int z) is)
 literal_token (values.Dint z) rest is ends = solid_token signs.Literal (literal_text (values.Dint z)) rest (omega arith) (dint_piece (number_text z) rest (number_bytes z) ends.literal ∙ literal_is (values.Dint z) is)
+literal_token (values.Lint z) rest is ends = solid_token signs.Literal (literal_text (values.Lint z)) rest (omega arith) (lint_piece (number_text z) rest (number_bytes z) ends.literal ∙ literal_is (values.Lint z) is)
 literal_token (values.Time z) rest is ends =
     let t = number_text z ++ codes "ms" in
     solid_token signs.Literal (literal_text (values.Time z)) rest (omega arith) (time_piece t rest (all_both is_literal_byte (number_text z) (codes "ms") (number_bytes z) refl) ends.literal ∙ literal_is (values.Time z) is)

@@ -62,6 +62,16 @@ number_most (negsuc n) e =
     let d = decimal_length 10 (suc n) (omega arith) (omega (arith, lt)) in
     record { le = omega (arith, d) }
 
+long_most : (z : ℤ) → is_within (2 ^ 63) z ≡ true → AtMost 20 (number_text z)
+long_most (pos n) e =
+    let lt = ltb-true n (2 ^ 63) e in
+    let d = decimal_length 19 n (omega arith) (omega (arith, lt)) in
+    record { le = omega (arith, d) }
+long_most (negsuc n) e =
+    let lt = ltb-true n (2 ^ 63) e in
+    let d = decimal_length 19 (suc n) (omega arith) (omega (arith, lt)) in
+    record { le = omega (arith, d) }
+
 within_more : (z : ℤ) → is_within (2 ^ 15) z ≡ true → AtMost 11 (number_text z)
 within_more (pos n) e =
     let lt = ltb-true n (2 ^ 15) e in
@@ -75,7 +85,7 @@ within_more (negsuc n) e =
 word_most : (n : ℕ) (xs : List ℕ) → length xs ≤ n → AtMost n xs
 word_most n xs le = record { le = le }
 
-literal_most : (v : Value) → IsValue v → AtMost 16 (literal_text v)
+literal_most : (v : Value) → IsValue v → AtMost 25 (literal_text v)
 literal_most (values.Bool true) is = record { le = omega arith }
 literal_most (values.Bool false) is = record { le = omega arith }
 literal_most (values.Int z) is =
@@ -84,6 +94,10 @@ literal_most (values.Int z) is =
     record { le = omega (arith, p) }
 literal_most (values.Dint z) is =
     let m = number_most z (if_some (is_within (2 ^ 31) z) (values.Dint z) (values.Dint z) is).0 in
+    let p = m.le in
+    record { le = omega (arith, p) }
+literal_most (values.Lint z) is =
+    let m = long_most z (if_some (is_within (2 ^ 63) z) (values.Lint z) (values.Lint z) is).0 in
     let p = m.le in
     record { le = omega (arith, p) }
 literal_most (values.Time z) is =
@@ -118,6 +132,7 @@ type_most types.Bool = record { le = omega arith }
 type_most types.Int = record { le = omega arith }
 type_most types.Dint = record { le = omega arith }
 type_most types.Time = record { le = omega arith }
+type_most types.Lint = record { le = omega arith }
 
 kind_most : (kind : BlockKind) → AtMost 6 (kind_name kind)
 kind_most kinds.Sr = record { le = omega arith }
@@ -138,14 +153,14 @@ at_most : (o : Option Loc) → ((loc : Loc) → o ≡ Some loc → IsCell loc) �
 at_most None place = record { le = omega arith }
 at_most (Some loc) place = join (fixed (codes " AT ")) (location_most loc (place loc refl))
 
-initial_if : (b : Bool) (v : Value) → IsValue v → AtMost 20 (cond b [] (codes " := " ++ literal_text v))
+initial_if : (b : Bool) (v : Value) → IsValue v → AtMost 29 (cond b [] (codes " := " ++ literal_text v))
 initial_if true v is = record { le = omega arith }
 initial_if false v is = join (fixed (codes " := ")) (literal_most v is)
 
-initial_most : (v : Value) → IsValue v → AtMost 20 (initial_text v)
+initial_most : (v : Value) → IsValue v → AtMost 29 (initial_text v)
 initial_most v is = initial_if (is_zero (number_of v)) v is
 
-variable_most : (v : Variable) → IsListedVariable v → AtMost 72 (variable_text v)
+variable_most : (v : Variable) → IsListedVariable v → AtMost 81 (variable_text v)
 variable_most v is = join (name_most v.name is.name) (join (at_most v.location is.place) (join (fixed (codes " : ")) (join (type_most v.ty) (join (initial_most v.initial is.value) (fixed (codes ";\n"))))))
 
 instance_most : (x : Instance) → IsFreeName x.name → AtMost 43 (instance_text x)
@@ -162,7 +177,7 @@ all_most F text n each (x ∷ xs) all =
 
 value_most : (ds : Declarations) (o : Operand) → IsValueOperand ds o → AtMost 36 (operand_text o)
 value_most ds operands.Absent is = absurd is
-value_most ds (operands.Literal v) is = wider 16 36 (literal_text v) (literal_most v is) (omega arith)
+value_most ds (operands.Literal v) is = wider 25 36 (literal_text v) (literal_most v is) (omega arith)
 value_most ds (operands.Bare z) is = absurd is
 value_most ds (operands.Variable w) is = wider 32 36 w (name_most w is.0) (omega arith)
 value_most ds (operands.Direct loc) is = wider 7 36 (location_text loc) (location_most loc is) (omega arith)
@@ -198,16 +213,18 @@ arguments_most ds (a ∷ more) all =
 
 -- ---- lines
 
-op_most : (op : Op) → AtMost 11 (op_name op)
+op_most : (op : Op) → AtMost 12 (op_name op)
 op_most ops.IntToDint = record { le = omega arith }
 op_most ops.DintToInt = record { le = omega arith }
+op_most ops.DintToLint = record { le = omega arith }
+op_most ops.LintToDint = record { le = omega arith }
 op_most op = record { le = omega arith }
 
 letter_most : (b : Bool) (n : ℕ) (xs : List ℕ) → AtMost n xs → AtMost n (letter b xs)
 letter_most true n xs is = is
 letter_most false n xs is = record { le = omega arith }
 
-operator_most : (op : Op) (m : Modifier) → AtMost 14 (operator_text op m)
+operator_most : (op : Op) (m : Modifier) → AtMost 15 (operator_text op m)
 operator_most op m = join (op_most op) (join (letter_most m.conditional 1 (codes "C") (fixed (codes "C"))) (join (letter_most m.negated 1 (codes "N") (fixed (codes "N"))) (letter_most m.opens 1 (codes "(") (fixed (codes "(")))))
 
 colon_most : (b : Bool) → AtMost 2 (cond b (codes ":") (codes ": "))
@@ -218,12 +235,12 @@ label_most : (op : Op) (o : Option (List ℕ)) → IsListedLabel o → AtMost 34
 label_most op None is = record { le = omega arith }
 label_most op (Some w) is = join (name_most w is) (colon_most (is_empty op))
 
-line_most : (ds : Declarations) (line : Instr) → IsListedLine ds line → AtMost (45 * word_count line + 43) (line_text line)
+line_most : (ds : Declarations) (line : Instr) → IsListedLine ds line → AtMost (45 * word_count line + 44) (line_text line)
 line_most ds line is =
     let h = (join (label_most line.op line.label is.label) (join (join (operator_most line.op line.modifier) (join (behind_most ds line.operand is.operand) (arguments_most ds line.arguments is.arguments))) (fixed (codes "\n")))).le in
     record { le = omega (arith, h) }
 
-lines_most : (ds : Declarations) (code : List Instr) → AllByRecursion (IsListedLine ds) code → AtMost (45 * words_in code + 43 * length code) (flat_map line_text code)
+lines_most : (ds : Declarations) (code : List Instr) → AllByRecursion (IsListedLine ds) code → AtMost (45 * words_in code + 44 * length code) (flat_map line_text code)
 lines_most ds [] all = record { le = omega arith }
 lines_most ds (line ∷ code) all =
     let h = (join (line_most ds line all.0) (lines_most ds code all.1)).le in
@@ -234,7 +251,7 @@ lines_most ds (line ∷ code) all =
 pub listing_short : (Q : Text) → IsImage Q → length (listing Q) ≤ 2097152
 listing_short Q is =
     let all = listable Q is in
-    let vs = all_most IsListedVariable variable_text 72 variable_most Q.variables (variables_listed Q is) in
+    let vs = all_most IsListedVariable variable_text 81 variable_most Q.variables (variables_listed Q is) in
     let xs = all_most (λ (x : Instance). IsFreeName x.name) instance_text 43 instance_most Q.instances all.names.instances in
     let code = lines_most (declared_by Q) Q.code all.lines in
     let h = (join (fixed (codes "VAR\n")) (join vs (join xs (join (fixed (codes "END_VAR\n")) code)))).le in

@@ -16,9 +16,9 @@ use Rattle.il_model.specs.declared.snapshot.SavedPhase.{SavedPhase}
 use Rattle.il_model.specs.declared.snapshot.SavedPhase.TheVariants as phases
 use Rattle.il_model.specs.Snapshots.{SavedBlock, SavedController}
 use Rattle.il_model.specs.Kinds.{block_kinds, kind_code, kind_of_code, input_count}
-use Rattle.il_model.specs.Image.{constant_bytes, op_code}
+use Rattle.il_model.specs.Image.{op_code}
 use Rattle.il_model.specs.Codes.{op_list, op_of}
-use Rattle.vr_wire.specs.Fields.{bit_number, listed, FitsValue}
+use Rattle.vr_wire.specs.Fields.{bit_number, listed, value_bytes, FitsValue}
 use Rattle.vr_wire.specs.Reading.{number_at, fields_4, lawful, passed, read_by, stop_of, listed_at, value_at}
 use Rattle.vr_wire.specs.Snapshots.{phase_code, phase_stop, phase_performed, phase_bytes, result_bytes, deferred_bytes, scan_bytes, areas_bytes, block_bytes, force_bytes, tables_bytes, snapshot_bytes, rises_from, FitsPhase, FitsResult, may_open, IsOpening, FitsDeferred, IsAtRest, IsScan, FitsScan, FitsAreas, IsBlock, FitsBlock, FitsForce, IsTables, FitsTables, IsSnapshot, FitsSnapshot}
 use Rattle.vr_wire.specs.SnapshotReading.{phase_of, Placed, PhaseNumbers, numbers_at, placed_of, placed_at, result_readers, result_at, opening, truth_of, there, deferred_at, is_depth, deferred_list_at, OpenScan, is_at_rest, is_scan, any_scan_at, scan_at, Areas, areas_at, parts_of_at, block_at, force_at, breaks_at, slots_rise, forces_at, Tables, tables_at, snapshot_of, snapshot_at}
@@ -100,12 +100,12 @@ result_take zero bytes x rest fits e =
     ([], ap result_bytes t.0, t.1, subst FitsResult (sym t.0) tt)
 result_take (suc zero) bytes x rest fits e =
     let t = took_1 (λ v. Some v) value_inverse bytes x rest fits e in
-    (constant_bytes t.one, ap result_bytes t.is, t.took, subst FitsResult (sym t.is) t.fits_one)
+    (value_bytes t.one, ap result_bytes t.is, t.took, subst FitsResult (sym t.is) t.fits_one)
 result_take (suc (suc tag)) bytes x rest fits e = absurd cc
 
 result_again : (x : Option Value) (rest : List ℕ) → FitsResult x → result_at (result_bytes x ++ rest) ≡ Some (x, rest)
 result_again None rest fits = tagged_again result_readers 0 [] rest None (lit< tt) refl
-result_again (Some v) rest fits = tagged_again result_readers 1 (constant_bytes v) rest (Some v) (lit< tt) (again_1 (λ v. Some v) value_inverse v rest fits)
+result_again (Some v) rest fits = tagged_again result_readers 1 (value_bytes v) rest (Some v) (lit< tt) (again_1 (λ v. Some v) value_inverse v rest fits)
 
 result_inverse : IsInverse result_bytes FitsResult result_at
 result_inverse = record {
@@ -137,8 +137,13 @@ coded_at k (suc n) (x ∷ list) op coded e = coded_at (suc k) n list op coded.1 
 ops_coded : AreCoded 0 op_list
 ops_coded = (refl, (refl, (refl, (refl, (refl, (refl, (refl, (refl, (refl, (refl, (refl, (refl, (refl, (refl, (refl, (refl, (refl, (refl, (refl, (refl, (refl, (refl, (refl, (refl, (refl, (refl, tt))))))))))))))))))))))))))
 
+op_by : (a b : Bool) (n : ℕ) (op : Op) → nat_eq n 28 ≡ a → nat_eq n 29 ≡ b → cond a (Some ops.DintToLint) (cond b (Some ops.LintToDint) (slice_get op_list n)) ≡ Some op → op_code op ≡ n
+op_by true b n op e f h = let is : ops.DintToLint ≡ op = cc in sym (ap op_code is) ∙ sym (eqb-true n 28 e)
+op_by false true n op e f h = let is : ops.LintToDint ≡ op = cc in sym (ap op_code is) ∙ sym (eqb-true n 29 f)
+op_by false false n op e f h = coded_at 0 n op_list op ops_coded h ∙ omega arith
+
 op_is : (n : ℕ) (op : Op) → op_of n ≡ Some op → op_code op ≡ n
-op_is n op e = coded_at 0 n op_list op ops_coded e ∙ omega arith
+op_is n op e = op_by (nat_eq n 28) (nat_eq n 29) n op refl refl e
 
 op_again : (op : Op) → (op_code op < 2 ^ 8) × (op_of (op_code op) ≡ Some op)
 op_again ops.Empty = (lit< tt, refl)
@@ -167,6 +172,8 @@ op_again ops.Ret = (lit< tt, refl)
 op_again ops.Close = (lit< tt, refl)
 op_again ops.IntToDint = (lit< tt, refl)
 op_again ops.DintToInt = (lit< tt, refl)
+op_again ops.DintToLint = (lit< tt, refl)
+op_again ops.LintToDint = (lit< tt, refl)
 
 opening_sound : (n : ℕ) (op : Op) → n < 2 ^ 8 → opening n ≡ Some op → (op_code op ≡ n) × (may_open op ≡ true)
 opening_sound n op lt e =
@@ -318,11 +325,11 @@ block_take bytes b rest fits e =
     let s = bind_some (lawful kind_of_code (number_at w8) bytes) (λ (kind : BlockKind × List ℕ). parts_of_at kind.0 kind.1) (b, rest) e in
     let k = kind_inverse.takes bytes s.0.0 s.0.1 fits s.1 in
     let t = took_2 (λ inputs words. record { kind = s.0.0; inputs = inputs; words = words }) (counted_inverse (input_count s.0.0) value_inverse) (counted_inverse 4 number64) s.0.1 b rest k.0.rest_fits s.2 in
-    subst (λ (y : SavedBlock). Takes bytes (block_bytes y) rest × (IsBlock y × FitsBlock y)) (sym t.is) (Takes-then bytes (to_be_bytes w8 (kind_code s.0.0)) s.0.1 (flat_map constant_bytes t.one ++ flat_map (to_be_bytes w64) t.two) rest k.0 t.took, (t.fits_one.0, record { inputs = t.fits_one.1; four = t.fits_two.0; words = t.fits_two.1 }))
+    subst (λ (y : SavedBlock). Takes bytes (block_bytes y) rest × (IsBlock y × FitsBlock y)) (sym t.is) (Takes-then bytes (to_be_bytes w8 (kind_code s.0.0)) s.0.1 (flat_map value_bytes t.one ++ flat_map (to_be_bytes w64) t.two) rest k.0 t.took, (t.fits_one.0, record { inputs = t.fits_one.1; four = t.fits_two.0; words = t.fits_two.1 }))
 
 block_again : (b : SavedBlock) (rest : List ℕ) → IsBlock b × FitsBlock b → block_at (block_bytes b ++ rest) ≡ Some (b, rest)
 block_again b rest fits =
-    let parts = flat_map constant_bytes b.inputs ++ flat_map (to_be_bytes w64) b.words in
+    let parts = flat_map value_bytes b.inputs ++ flat_map (to_be_bytes w64) b.words in
     let first : lawful kind_of_code (number_at w8) (block_bytes b ++ rest) ≡ Some (b.kind, parts ++ rest) = ap (lawful kind_of_code (number_at w8)) (append_assoc (to_be_bytes w8 (kind_code b.kind)) parts rest) ∙ kind_inverse.again b.kind (parts ++ rest) tt in
     rw first (again_2 (λ inputs words. record { kind = b.kind; inputs = inputs; words = words }) (counted_inverse (input_count b.kind) value_inverse) (counted_inverse 4 number64) b.inputs b.words rest (fits.0, fits.1.inputs) (fits.1.four, fits.1.words))
 
@@ -339,7 +346,7 @@ force_inverse = record {
   again = λ f rest fits. again_2 (λ slot value. record { slot = slot; value = value }) slot_inverse value_inverse f.slot f.value rest fits.slot fits.value;
 }
 
-variables_inverse : IsInverse (listed w16 constant_bytes) (λ xs. (length xs < 2 ^ 16) × AllByRecursion FitsValue xs) (listed_at (number_at w16) value_at)
+variables_inverse : IsInverse (listed w16 value_bytes) (λ xs. (length xs < 2 ^ 16) × AllByRecursion FitsValue xs) (listed_at (number_at w16) value_at)
 variables_inverse = listed_inverse w16 number16 value_inverse
 
 instances_inverse : IsInverse (listed w16 block_bytes) (λ xs. (length xs < 2 ^ 16) × AllByRecursion (λ b. IsBlock b × FitsBlock b) xs) (listed_at (number_at w16) block_at)

@@ -1,7 +1,9 @@
--- The fields of messages: the one spelling of cells, commands and answers. All numbers are big-endian.
+-- The fields of messages: the one spelling of values, cells, commands and answers. All numbers are big-endian.
 use Rattle.std.specs.Prelude.{FitsSigned, ◌≡◌, ℕ, zero, suc, ◌+◌, ◌*◌, ◌^◌, ◌<◌, Bool, true, false, ℤ, List, [], ◌∷◌, ◌++◌, length, take, drop, Some}
 use Rattle.std.specs.List.{flat_map, AllByRecursion}
-use Rattle.std.specs.Int.{Width, w8, w16, w64, to_be_bytes, cast_unsigned}
+use Rattle.std.specs.Int.{Width, w8, w16, w32, w64, to_be_bytes, cast_unsigned}
+use Rattle.il_model.specs.declared.value.Ty.{Ty}
+use Rattle.il_model.specs.declared.value.Ty.TheVariants as types
 use Rattle.il_model.specs.declared.value.Value.{Value}
 use Rattle.il_model.specs.declared.cells.Cells.{Cells}
 use Rattle.il_model.specs.declared.command.Command.{Command}
@@ -9,13 +11,27 @@ use Rattle.il_model.specs.declared.command.Command.TheVariants as commands
 use Rattle.il_model.specs.declared.command.Answer.{Answer}
 use Rattle.il_model.specs.declared.command.Answer.TheVariants as answers
 use Rattle.il_model.specs.Values.{typed_value, ty_of, number_of}
-use Rattle.il_model.specs.Image.{constant_bytes}
+use Rattle.il_model.specs.Image.{type_code}
 use Rattle.il_model.specs.Numbers.{stop_number, refusal_number}
 use Rattle.il_model.specs.Cells.{safe_image}
 
 -- how many there are, in a number of that width, and each
 abbrev pub listed : {X : Type 0} → Width → (X → List ℕ) → List X → List ℕ
 listed w text xs = to_be_bytes w (length xs) ++ flat_map text xs
+
+-- ---- values
+
+-- the number of a LINT has 64 bits, that of any other type 32
+abbrev pub type_width : Ty → Width
+type_width types.Lint = w64
+type_width _ = w32
+
+abbrev pub number_bytes : Ty → ℤ → List ℕ
+number_bytes type z = to_be_bytes (type_width type) (cast_unsigned (type_width type) z)
+
+-- the code of its type, then its number
+abbrev pub value_bytes : Value → List ℕ
+value_bytes v = to_be_bytes w8 (type_code (ty_of v)) ++ number_bytes (ty_of v) (number_of v)
 
 -- ---- cells
 
@@ -60,7 +76,7 @@ command_fields (commands.SetBreak position) = to_be_bytes w16 position
 command_fields (commands.ClearBreak position) = to_be_bytes w16 position
 command_fields commands.Step = []
 command_fields commands.Continue = []
-command_fields (commands.Force slot value) = to_be_bytes w16 slot.0 ++ constant_bytes value
+command_fields (commands.Force slot value) = to_be_bytes w16 slot.0 ++ value_bytes value
 command_fields (commands.Unforce slot) = to_be_bytes w16 slot.0
 command_fields (commands.ReadVar slot) = to_be_bytes w16 slot.0
 command_fields commands.ReadCr = []
@@ -82,7 +98,7 @@ abbrev pub answer_fields : Answer → List ℕ
 answer_fields (answers.Outputs count image) = to_be_bytes w64 count ++ cells_bytes image.cells
 answer_fields (answers.Held position) = to_be_bytes w16 position
 answer_fields (answers.Stopped stop position image) = to_be_bytes w8 (stop_number stop) ++ to_be_bytes w16 position
-answer_fields (answers.Value value) = constant_bytes value
+answer_fields (answers.Value value) = value_bytes value
 answer_fields answers.Done = []
 answer_fields (answers.Refused refusal) = to_be_bytes w8 (refusal_number refusal)
 

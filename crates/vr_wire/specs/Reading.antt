@@ -1,7 +1,8 @@
 -- Reading fields from left to right: the inverse of their spelling.
 use Rattle.std.specs.Prelude.{◌≡◌, ℕ, zero, suc, ◌/◌, ◌%◌, ◌==◌, Bool, ℤ, List, [], ◌∷◌, length, take, drop, slice_get, Option, Some, None, Result, Ok, Err, nat_lt, if◌then◌else◌}
 use Rattle.std.specs.List.{flat_map}
-use Rattle.std.specs.Int.{Width, w8, w16, w32, w64, byte_len, from_be_bytes, cast_signed}
+use Rattle.std.specs.Int.{Width, w8, w16, w64, byte_len, from_be_bytes, cast_signed}
+use Rattle.il_model.specs.declared.value.Ty.{Ty}
 use Rattle.il_model.specs.declared.value.Value.{Value}
 use Rattle.il_model.specs.declared.value.Stop.{Stop}
 use Rattle.il_model.specs.declared.value.Stop.TheVariants as stops
@@ -16,6 +17,7 @@ use Rattle.il_model.specs.declared.command.Refusal.TheVariants as refusals
 use Rattle.il_model.specs.Values.{typed_value}
 use Rattle.il_model.specs.Codes.{type_of}
 use Rattle.il_model.specs.Cells.{safe_image}
+use Rattle.vr_wire.specs.Fields.{type_width}
 use Rattle.vr_wire.specs.declared.fault.ReadError.{ReadError}
 use Rattle.vr_wire.specs.declared.fault.ReadError.TheVariants as errors
 
@@ -108,8 +110,16 @@ word_at bytes = fields_1 (cast_signed w16) (number_at w16) bytes
 abbrev pub cells_at : Reader Cells
 cells_at bytes = fields_2 (λ bits words. record { bits = bits; words = words }) bits_at (items_at word_at 64) bytes
 
+-- the number of a value of that type
+abbrev pub number_of_at : Ty → Reader ℤ
+number_of_at type bytes = fields_1 (cast_signed (type_width type)) (number_at (type_width type)) bytes
+
+abbrev pub value_of_at : Ty → Reader Value
+value_of_at type bytes = lawful (typed_value type) (number_of_at type) bytes
+
+-- the code of its type, then its number
 abbrev pub value_at : Reader Value
-value_at bytes = lawful type_of (number_at w8) bytes >>= λ t. lawful (λ n. typed_value t.0 (cast_signed w32 n)) (number_at w32) t.1
+value_at bytes = lawful type_of (number_at w8) bytes >>= λ type. value_of_at type.0 type.1
 
 abbrev pub slot_at : Reader Slot
 slot_at bytes = fields_1 (λ n. record { 0 = n }) (number_at w16) bytes

@@ -11,10 +11,10 @@ use Rattle.il_model.specs.declared.snapshot.SavedPhase.{SavedPhase}
 use Rattle.il_model.specs.declared.snapshot.SavedPhase.TheVariants as phases
 use Rattle.il_model.specs.Snapshots.{SavedBlock, SavedController}
 use Rattle.il_model.specs.Kinds.{kind_code, input_count}
-use Rattle.il_model.specs.Image.{constant_bytes, op_code}
+use Rattle.il_model.specs.Image.{op_code}
 use Rattle.il_model.specs.Codes.{letters_of}
 use Rattle.il_model.specs.Numbers.{stop_number}
-use Rattle.vr_wire.specs.Fields.{listed, bit_number, cells_bytes, FitsValue, FitsCells}
+use Rattle.vr_wire.specs.Fields.{listed, value_bytes, bit_number, cells_bytes, FitsValue, FitsCells}
 
 -- ---- the open scan: its phase, why it stopped, where it is, how many instructions it has performed
 
@@ -39,7 +39,7 @@ phase_bytes phase position = to_be_bytes w8 (phase_code phase) ++ (to_be_bytes w
 -- none, or a value
 abbrev pub result_bytes : Option Value → List ℕ
 result_bytes None = to_be_bytes w8 0
-result_bytes (Some v) = to_be_bytes w8 1 ++ constant_bytes v
+result_bytes (Some v) = to_be_bytes w8 1 ++ value_bytes v
 
 abbrev pub deferred_bytes : Deferred → List ℕ
 deferred_bytes d = to_be_bytes w8 (op_code d.op) ++ (to_be_bytes w8 (bit_number d.negated) ++ result_bytes (Some d.cr))
@@ -54,13 +54,13 @@ areas_bytes input output memory = cells_bytes input ++ (cells_bytes output ++ ce
 
 -- how many inputs it has is known by its kind
 abbrev pub block_bytes : SavedBlock → List ℕ
-block_bytes b = to_be_bytes w8 (kind_code b.kind) ++ (flat_map constant_bytes b.inputs ++ flat_map (to_be_bytes w64) b.words)
+block_bytes b = to_be_bytes w8 (kind_code b.kind) ++ (flat_map value_bytes b.inputs ++ flat_map (to_be_bytes w64) b.words)
 
 abbrev pub force_bytes : ForcedSlot → List ℕ
-force_bytes f = to_be_bytes w16 f.slot.0 ++ constant_bytes f.value
+force_bytes f = to_be_bytes w16 f.slot.0 ++ value_bytes f.value
 
 abbrev pub tables_bytes : List Value → List SavedBlock → List ℕ → List ForcedSlot → List ℕ
-tables_bytes variables instances breaks forces = listed w16 constant_bytes variables ++ (listed w16 block_bytes instances ++ (listed w16 (to_be_bytes w16) breaks ++ listed w16 force_bytes forces))
+tables_bytes variables instances breaks forces = listed w16 value_bytes variables ++ (listed w16 block_bytes instances ++ (listed w16 (to_be_bytes w16) breaks ++ listed w16 force_bytes forces))
 
 abbrev pub snapshot_bytes : SavedController → List ℕ
 snapshot_bytes s =

@@ -3,8 +3,7 @@
 ghost use Rattle.std.specs.Prelude.{◌≡◌, ◌<◌, ◌^◌, ◌↔◌, ◌++◌, IsTrue, OnOk, length};
 ghost use Rattle.std.specs.Int.{w16, w64, to_be_bytes};
 ghost use Rattle.std.specs.List.{flat_map, AllByRecursion};
-ghost use Rattle.il_model.specs.Image.{constant_bytes};
-ghost use Rattle.vr_wire.specs.Fields.{listed, FitsValue};
+ghost use Rattle.vr_wire.specs.Fields.{listed, value_bytes, FitsValue};
 ghost use Rattle.vr_wire.specs.Reading.{Gives, number_at, items_at, listed_at, value_at};
 
 use crate::fault::ReadError;
@@ -83,7 +82,7 @@ impl Field for u64 {
 }
 
 impl Field for Value {
-    ghost text = { constant_bytes };
+    ghost text = { value_bytes };
 
     ghost IsLawful = { λ _. Unit {0} };
 

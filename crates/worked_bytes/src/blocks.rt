@@ -138,6 +138,7 @@ fn type_name(ty: Ty) -> &'static str {
         Ty::Int => "INT",
         Ty::Dint => "DINT",
         Ty::Time => "TIME",
+        Ty::Lint => "LINT",
     }
 }
 

@@ -84,7 +84,7 @@ fn a_stop_releases_the_safe_image(rt: HostRuntime) -> Result<(), Fail> {
 #[test]
 fn slots_that_can_be_forced(rt: HostRuntime) -> Result<(), Fail> {
     let (bad_slot, bad_type) = (refused(Refusal::BadSlot), refused(Refusal::BadType));
-    let rows: [Row; 15] = [
+    let rows: [Row; 16] = [
         (
             Command::Force(Slot(0x01FF), Value::Bool(false)),
             Answer::Done,
@@ -96,6 +96,7 @@ fn slots_that_can_be_forced(rt: HostRuntime) -> Result<(), Fail> {
         (Command::Force(Slot(0x0400), Value::Bool(true)), bad_type),
         (Command::Force(Slot(0x0400), Value::Dint(1)), bad_type),
         (Command::Force(Slot(0x0400), Value::Time(1)), bad_type),
+        (Command::Force(Slot(0x0003), Value::Lint(1)), bad_type),
         // %M, variables, fields and constants
         (Command::Force(Slot(0x2000), Value::Dint(1)), bad_slot),
         (Command::Force(Slot(0x4000), Value::Int(1)), bad_slot),

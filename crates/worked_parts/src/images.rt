@@ -35,6 +35,14 @@ pub const TIMING: &[u8] =
 pub const PARENTHESES: &[u8] =
     b"ILPC\0\x01\0\0\0\0\0\0\0\0\0\x05\x01\0\0\0\x06\x04\0\x01\x05\0\0\x02\x17\0\xff\xff\x02\0\x10\0";
 
+/// `VAR A : LINT := LINT#4294967296; END_VAR`, `LD A`, `ADD A`, `ST A`.
+pub const DOUBLED: &[u8] =
+    b"ILPC\0\x02\0\x01\0\0\0\0\0\0\0\x03\x01A\x04\xff\xff\0\0\0\x01\0\0\0\0\x01\0\x40\0\x09\0\x40\0\x02\0\x40\0";
+
+/// The same of a DINT that is 0 at first.
+pub const DOUBLED_DINT: &[u8] =
+    b"ILPC\0\x01\0\x01\0\0\0\0\0\0\0\x03\x01A\x02\xff\xff\0\0\0\0\x01\0\x40\0\x09\0\x40\0\x02\0\x40\0";
+
 /// The image of these bytes.
 pub fn image(alloc: Global, bytes: &[u8]) -> Result<Image, Fail> {
     match load(alloc, bytes) {

@@ -1,8 +1,9 @@
 //! Controllers that are saved after some commands, and what they answer to others once they are restored.
 
 use crate::saved::{
-    NOT_HELD, Row, Saved, answers, counted, counting, divided, held, idle, one_divided, outputs,
-    parentheses, restored, restored_answers, run_before, scan, snapshot, stopped, timing,
+    NOT_HELD, Row, Saved, answers, counted, counting, divided, doubled, doubling, held, idle,
+    one_divided, outputs, parentheses, restored, restored_answers, run_before, scan, snapshot,
+    stopped, timing,
 };
 use il_model::{Answer, Command, Slot, Snapshot, Stop, Value};
 use std::alloc::Global;
@@ -63,7 +64,15 @@ fn a_held_scan_is_restored(rt: HostRuntime) -> Result<(), Fail> {
         (Command::ClearBreak(2), Answer::Done),
         (scan(false, 0), outputs(3, false, true, 0)),
     ];
-    comes_back(&rt, rt.alloc(), parentheses(&held()), &rows)
+    comes_back(&rt, rt.alloc(), parentheses(&held()), &rows)?;
+    let (once, twice) = (Value::Lint(4294967296), Value::Lint(8589934592));
+    let rows: [Row; 4] = [
+        (Command::ReadVar(Slot(0x4000)), Answer::Value(once)),
+        (Command::ReadCr, Answer::Value(twice)),
+        (Command::Continue, outputs(1, false, false, 0)),
+        (Command::ReadVar(Slot(0x4000)), Answer::Value(twice)),
+    ];
+    comes_back(&rt, rt.alloc(), doubling(&doubled()), &rows)
 }
 
 #[test]

@@ -1,6 +1,6 @@
 //! Controllers that ran for some commands, to be saved.
 
-use crate::images::{COUNTING, ONE_DIVIDED, PARENTHESES, TIMING, image};
+use crate::images::{COUNTING, DOUBLED, ONE_DIVIDED, PARENTHESES, TIMING, image};
 use debugger::{Controller, SnapError};
 use il_model::{Answer, Budget, Command, InImage, OutImage, Refusal, Slot, Snapshot, Stop, Value};
 use std::alloc::Global;
@@ -151,6 +151,23 @@ pub fn divided() -> [Row; 4] {
 /// COUNTING after a count of 1.
 pub fn counted() -> [Row; 1] {
     [(scan(true, 0), outputs(1, false, false, 1))]
+}
+
+/// DOUBLED held before its last instruction.
+pub fn doubled() -> [Row; 2] {
+    [
+        (Command::SetBreak(2), Answer::Done),
+        (scan(false, 0), Answer::Held(2)),
+    ]
+}
+
+/// DOUBLED with a budget of 10 after these commands.
+pub fn doubling(before: &[Row]) -> Saved<'_> {
+    Saved {
+        bytes: DOUBLED,
+        instructions: 10,
+        before,
+    }
 }
 
 /// TIMING with a budget of 10 after these commands.

@@ -1,8 +1,8 @@
 //! Snapshots that are changed before they are restored, and which of them are refused.
 
-use crate::images::{NAMES, THREE_STORES, WIRE, WIRE_AND_FIVE};
+use crate::images::{DOUBLED_DINT, NAMES, THREE_STORES, WIRE, WIRE_AND_FIVE};
 use crate::saved::{
-    NOT_HELD, Saved, counted, counting, divided, held, one_divided, parentheses, refused,
+    NOT_HELD, Saved, counted, counting, divided, doubling, held, one_divided, parentheses, refused,
     restored_answers, snapshot, stopped,
 };
 use debugger::SnapError;
@@ -101,6 +101,13 @@ fn refuses(rt: &impl Abort, alloc: Global, given: Saved, rows: &[Row]) -> Result
     Ok(())
 }
 
+/// Wants the snapshot of a LINT refused by the program in which it's a DINT.
+fn refused_as_dint(rt: &impl Abort, alloc: Global) -> Result<(), Fail> {
+    let snapshot = snapshot(rt, alloc, doubling(&[]))?;
+    assert_eq!(rt; refused(alloc, DOUBLED_DINT, 10, &snapshot)?, BAD_SHAPE);
+    Ok(())
+}
+
 #[test]
 fn a_snapshot_of_another_program_is_refused(rt: HostRuntime) -> Result<(), Fail> {
     let snapshot = snapshot(&rt, rt.alloc(), counting(&counted()))?;
@@ -108,7 +115,7 @@ fn a_snapshot_of_another_program_is_refused(rt: HostRuntime) -> Result<(), Fail>
         let refused = refused(rt.alloc(), bytes, 10, &snapshot)?;
         assert_eq!(rt; refused, BAD_SHAPE);
     }
-    Ok(())
+    refused_as_dint(&rt, rt.alloc())
 }
 
 /// An image with a budget of 10 that never ran.

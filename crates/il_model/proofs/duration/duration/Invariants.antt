@@ -6,6 +6,6 @@ use Rattle.il_model.proofs.duration.duration.Given as goal
 
 abbrev pub invariant-loop : goal.invariant-loop
 invariant-loop l = record {
-  small : l.total ≤ l.counter * 400000000000000000;
+  small : l.total ≤ l.counter * 2475880078570760549798248448;
   same : option_map (λ n. l.total + n) (parts_by held_integer (5 - l.counter) l.limit l.rest) ≡ parts_by held_integer 5 5 l.bytes;
 }

@@ -1,4 +1,4 @@
-use Rattle.std.proofs.Common.{◌∙◌, ap, rules, SFits, w32}
+use Rattle.std.proofs.Common.{◌∙◌, ap, rules, SFits, w64}
 use Rattle.std.proofs.lemmas.Int.{to_z-of_z}
 use Rattle.std.specs.Fmt.{signed_decimal}
 use Rattle.lister.proofs.Numbers.{number-is}
@@ -7,5 +7,5 @@ use Rattle.lister.proofs.writing.write_number.Goals as goal
 
 pub returns : goal.returns
 returns g c =
-    let fits : SFits w32 c.args.number = search rules in
-    equally (c.as_bytes.ensures.value ∙ c.format.ensures.text ∙ ap signed_decimal (to_z-of_z w32 c.args.number fits) ∙ number-is c.args.number fits) c.write_text.ensures
+    let fits : SFits w64 c.args.number = search rules in
+    equally (c.as_bytes.ensures.value ∙ c.format.ensures.text ∙ ap signed_decimal (to_z-of_z w64 c.args.number fits) ∙ number-is c.args.number fits) c.write_text.ensures

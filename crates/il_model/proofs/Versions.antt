@@ -1,0 +1,175 @@
+-- Numbers, types and operators of an image of a version read back.
+use Rattle.std.proofs.Common.{◌≡◌, ℕ, ◌<◌, ◌≤◌, ◌^◌, Bool, true, false, cond, ltb, List, [], ◌∷◌, ◌++◌, Option, Some, None, refl, sym, ap, subst, arith}
+use Rattle.std.specs.Prelude.{ℤ, pos, negsuc, not, ◌||◌, nat_eq, zero, suc}
+use Rattle.std.specs.List.{list_any, AllByRecursion}
+use Rattle.std.specs.Option.{option_and_then}
+use Rattle.std.specs.Int.{w32, w64, cast_signed, cast_unsigned}
+use Rattle.std.proofs.lemmas.Bool.{ltb-true, lt-ltb}
+use Rattle.std.proofs.lemmas.Int.{ints, to_z-of_z}
+use Rattle.il_model.specs.declared.value.Ty.{Ty}
+use Rattle.il_model.specs.declared.value.Ty.TheVariants as types
+use Rattle.il_model.specs.declared.value.Value.{Value}
+use Rattle.il_model.specs.declared.value.Value.TheVariants as values
+use Rattle.il_model.specs.declared.op.Op.{Op}
+use Rattle.il_model.specs.declared.codes.Version.{Version}
+use Rattle.il_model.specs.declared.codes.Version.TheVariants as versions
+use Rattle.il_model.specs.declared.program.Loc.{Loc}
+use Rattle.il_model.specs.declared.program.Variable.{Variable}
+use Rattle.il_model.specs.declared.program.Instr.{Instr}
+use Rattle.il_model.specs.Values.{ty_of, number_of, is_within, truth_made, typed_value}
+use Rattle.il_model.specs.Image.{type_code, op_code, version_number, number_width, is_long_type, is_long_variable, is_long_value, is_long_line, converts_long, version_with}
+use Rattle.il_model.specs.Codes.{if_passes, may_have, may_start_with, type_of, type_in, op_of, op_in, version_numbered, initial_of, is_known}
+use Rattle.il_model.specs.Fits.{IsVariable, IsConstant, AreItems}
+use Rattle.il_model.proofs.LiteralLaws.{IsValue}
+use Rattle.il_model.proofs.Lawful.{listed, type_again}
+use Rattle.il_model.proofs.Settling.{made_number}
+
+-- ---- numbers
+
+abbrev pub number_limit : Version → ℕ
+number_limit versions.One = 2 ^ 32
+number_limit versions.Two = 2 ^ 64
+
+-- a number that an image of this version keeps
+pub record IsKept (version : Version) (z : ℤ) : Type 0 where
+  pub back : cast_signed (number_width version) (cast_unsigned (number_width version) z) ≡ z
+  pub small : cast_unsigned (number_width version) z < number_limit version
+
+short_number : (z : ℤ) → is_within (2 ^ 31) z ≡ true → IsKept versions.One z
+short_number (pos n) e = let lt = ltb-true n (2 ^ 31) e in record { back = to_z-of_z w32 (pos n) (search (arith, ints)); small = omega (arith, ints) }
+short_number (negsuc n) e = let lt = ltb-true n (2 ^ 31) e in record { back = to_z-of_z w32 (negsuc n) (search (arith, ints)); small = omega (arith, ints) }
+
+long_number : (z : ℤ) → is_within (2 ^ 63) z ≡ true → IsKept versions.Two z
+long_number (pos n) e = let lt = ltb-true n (2 ^ 63) e in record { back = to_z-of_z w64 (pos n) (search (arith, ints)); small = omega (arith, ints) }
+long_number (negsuc n) e = let lt = ltb-true n (2 ^ 63) e in record { back = to_z-of_z w64 (negsuc n) (search (arith, ints)); small = omega (arith, ints) }
+
+wider : (a b : ℕ) (z : ℤ) → a ≤ b → is_within a z ≡ true → is_within b z ≡ true
+wider a b (pos n) le e = let lt = ltb-true n a e in lt-ltb n b (omega (arith, lt, le))
+wider a b (negsuc n) le e = let lt = ltb-true n a e in lt-ltb n b (omega (arith, lt, le))
+
+within_by : (b : Bool) (x v : Value) → cond b (Some x) None ≡ Some v → b ≡ true
+within_by true x v e = refl
+within_by false x v e = absurd cc
+
+long_kept : (v : Value) → IsValue v → IsKept versions.Two (number_of v)
+long_kept (values.Bool true) is = long_number (pos 1) refl
+long_kept (values.Bool false) is = long_number (pos 0) refl
+long_kept (values.Int z) is = long_number z (wider (2 ^ 15) (2 ^ 63) z (omega arith) (within_by (is_within (2 ^ 15) z) (values.Int z) (values.Int z) is))
+long_kept (values.Dint z) is = long_number z (wider (2 ^ 31) (2 ^ 63) z (omega arith) (within_by (is_within (2 ^ 31) z) (values.Dint z) (values.Dint z) is))
+long_kept (values.Time z) is = long_number z (wider (2 ^ 31) (2 ^ 63) z (omega arith) (within_by (is_within (2 ^ 31) z) (values.Time z) (values.Time z) is))
+long_kept (values.Lint z) is = long_number z (within_by (is_within (2 ^ 63) z) (values.Lint z) (values.Lint z) is)
+
+short_kept : (v : Value) → IsValue v → not (is_long_value v) ≡ true → IsKept versions.One (number_of v)
+short_kept (values.Bool true) is e = short_number (pos 1) refl
+short_kept (values.Bool false) is e = short_number (pos 0) refl
+short_kept (values.Int z) is e = short_number z (wider (2 ^ 15) (2 ^ 31) z (omega arith) (within_by (is_within (2 ^ 15) z) (values.Int z) (values.Int z) is))
+short_kept (values.Dint z) is e = short_number z (within_by (is_within (2 ^ 31) z) (values.Dint z) (values.Dint z) is)
+short_kept (values.Time z) is e = short_number z (within_by (is_within (2 ^ 31) z) (values.Time z) (values.Time z) is)
+short_kept (values.Lint z) is e = absurd cc
+
+-- a value that this version may have
+pub number_back : (version : Version) (v : Value) → IsValue v → may_have version (is_long_value v) ≡ true → IsKept version (number_of v)
+number_back versions.One v is may = short_kept v is may
+number_back versions.Two v is may = long_kept v is
+
+-- ---- values that were made of a type and a number
+
+made_by : (b : Bool) (x v : Value) → cond b (Some x) None ≡ Some v → x ≡ v
+made_by true x v e = cc
+made_by false x v e = absurd cc
+
+truth_by : (a b : Bool) (v : Value) → cond a (Some (values.Bool false)) (cond b (Some (values.Bool true)) None) ≡ Some v → ty_of v ≡ types.Bool
+truth_by true b v e = let is : values.Bool false ≡ v = cc in sym (ap ty_of is)
+truth_by false true v e = let is : values.Bool true ≡ v = cc in sym (ap ty_of is)
+truth_by false false v e = absurd cc
+
+truth_type : (z : ℤ) (v : Value) → truth_made z ≡ Some v → ty_of v ≡ types.Bool
+truth_type (pos n) v e = truth_by (ltb n 1) (ltb n 2) v e
+truth_type (negsuc n) v e = absurd cc
+
+pub made_type : (t : Ty) (z : ℤ) (v : Value) → typed_value t z ≡ Some v → ty_of v ≡ t
+made_type types.Bool z v e = truth_type z v e
+made_type types.Int z v e = sym (ap ty_of (made_by (is_within (2 ^ 15) z) (values.Int z) v e))
+made_type types.Dint z v e = sym (ap ty_of (made_by (is_within (2 ^ 31) z) (values.Dint z) v e))
+made_type types.Time z v e = sym (ap ty_of (made_by (is_within (2 ^ 31) z) (values.Time z) v e))
+made_type types.Lint z v e = sym (ap ty_of (made_by (is_within (2 ^ 63) z) (values.Lint z) v e))
+
+pub made_value : (t : Ty) (z : ℤ) (v : Value) → typed_value t z ≡ Some v → IsValue v
+made_value t z v e = rw (made_type t z v e, made_number t z v e) e
+
+passed_by : {A : Type 0} (test : A → Bool) (b : Bool) (x v : A) → test x ≡ b → (let o : Option A = cond b (Some x) None in o ≡ Some v) → (let o : Option A = Some x in o ≡ Some v) × (test v ≡ true)
+passed_by test true x v h e = let is : x ≡ v = cc in (ap (λ y. Some y) is, subst (λ y. test y ≡ true) is h)
+passed_by test false x v h e = absurd cc
+
+pub passed : {A : Type 0} (test : A → Bool) (o : Option A) (v : A) → option_and_then (if_passes test) o ≡ Some v → (o ≡ Some v) × (test v ≡ true)
+passed test None v e = absurd cc
+passed test (Some x) v e = passed_by test (test x) x v refl e
+
+pub initial_made : (t : Ty) (loc : Option Loc) (z : ℤ) (v : Value) → initial_of t loc z ≡ Some v → typed_value t z ≡ Some v
+initial_made t loc z v e = (passed (may_start_with loc) (typed_value t z) v e).0
+
+-- ---- what a version may have
+
+pub or_may : (version : Version) (a b : Bool) → may_have version (a || b) ≡ true → (may_have version a ≡ true) × (may_have version b ≡ true)
+or_may versions.One true b e = absurd cc
+or_may versions.One false b e = (refl, e)
+or_may versions.Two a b e = (refl, refl)
+
+three_may : (a b c : Bool) → let version : Version = cond (a || (b || c)) versions.Two versions.One in (may_have version a ≡ true) × (may_have version b ≡ true) × (may_have version c ≡ true)
+three_may true b c = (refl, refl, refl)
+three_may false true c = (refl, refl, refl)
+three_may false false true = (refl, refl, refl)
+three_may false false false = (refl, refl, refl)
+
+-- the version of a program may have what the program has
+pub version_may : (variables : List Variable) (constants : List Value) (code : List Instr)
+    → let version = version_with variables constants code in (may_have version (list_any is_long_variable variables) ≡ true) × (may_have version (list_any is_long_value constants) ≡ true) × (may_have version (list_any is_long_line code) ≡ true)
+version_may variables constants code = three_may (list_any is_long_variable variables) (list_any is_long_value constants) (list_any is_long_line code)
+
+pub any_may : {A : Type 0} (version : Version) (long : A → Bool) (xs : List A) → may_have version (list_any long xs) ≡ true → AllByRecursion (λ x. may_have version (long x) ≡ true) xs
+any_may version long [] e = tt
+any_may version long (x ∷ xs) e = let m = or_may version (long x) (list_any long xs) e in (m.0, any_may version long xs m.1)
+
+pub items_may : {A : Type 0} (IsItem : List A → A → Type 0) (version : Version) (long : A → Bool) (seen xs : List A) → AreItems IsItem seen xs → may_have version (list_any long xs) ≡ true → AreItems (λ s x. IsItem s x × (may_have version (long x) ≡ true)) seen xs
+items_may IsItem version long seen [] are e = tt
+items_may IsItem version long seen (x ∷ xs) are e = let m = or_may version (long x) (list_any long xs) e in ((are.0, m.0), items_may IsItem version long (seen ++ x ∷ []) xs are.1 m.1)
+
+pub variable_kept : (version : Version) (seen : List Variable) (v : Variable) → IsVariable seen v → may_have version (is_long_variable v) ≡ true → IsKept version (number_of v.initial)
+variable_kept version seen v is may =
+    let made = initial_made v.ty v.location (number_of v.initial) v.initial is.initial in
+    number_back version v.initial (made_value v.ty (number_of v.initial) v.initial made) (or_may version (is_long_type v.ty) (is_long_value v.initial) may).1
+
+pub constant_kept : (version : Version) (seen : List Value) (v : Value) → IsConstant seen v → may_have version (is_long_value v) ≡ true → IsKept version (number_of v)
+constant_kept version seen v is may = number_back version v (passed (λ x. not (is_known seen x)) (typed_value (ty_of v) (number_of v)) v is.value).0 may
+
+-- ---- codes
+
+pub version_again : (version : Version) → version_numbered (version_number version) ≡ Some version
+version_again versions.One = refl
+version_again versions.Two = refl
+
+pub version_is : (n : ℕ) (version : Version) → version_numbered n ≡ Some version → version_number version ≡ n
+version_is zero version e = absurd cc
+version_is (suc zero) versions.One e = refl
+version_is (suc zero) versions.Two e = absurd cc
+version_is (suc (suc zero)) versions.One e = absurd cc
+version_is (suc (suc zero)) versions.Two e = refl
+version_is (suc (suc (suc n))) version e = absurd cc
+
+pub same_version : (a b : Version) → nat_eq (version_number a) (version_number b) ≡ true → a ≡ b
+same_version versions.One versions.One e = refl
+same_version versions.Two versions.Two e = refl
+same_version versions.One versions.Two e = absurd cc
+same_version versions.Two versions.One e = absurd cc
+
+pub type_in_again : (version : Version) (t : Ty) → may_have version (is_long_type t) ≡ true → type_in version (type_code t) ≡ Some t
+type_in_again version t e = rw (type_again t, e) refl
+
+pub type_in_is : (version : Version) (n : ℕ) (t : Ty) → type_in version n ≡ Some t → (type_of n ≡ Some t) × (may_have version (is_long_type t) ≡ true)
+type_in_is version n t e = passed (λ t. may_have version (is_long_type t)) (type_of n) t e
+
+pub op_in_again : (version : Version) (op : Op) → may_have version (converts_long op) ≡ true → op_in version (op_code op) ≡ Some op
+op_in_again version op e = rw (listed op, e) refl
+
+pub op_in_is : (version : Version) (n : ℕ) (op : Op) → op_in version n ≡ Some op → (op_of n ≡ Some op) × (may_have version (converts_long op) ≡ true)
+op_in_is version n op e = passed (λ op. may_have version (converts_long op)) (op_of n) op e
