@@ -1,12 +1,13 @@
 //! One event of a replica.
 
-ghost use Rattle.std.specs.Prelude.{◌≡◌, ◌≤◌, ◌↔◌, true, false};
+ghost use Rattle.std.specs.Prelude.{◌≡◌, ◌≤◌, ◌↔◌, Err, true, false};
 ghost use Rattle.std.specs.Result.{IsErrOf};
 ghost use Rattle.il_model.specs.declared.command.Command.{Command};
 ghost use Rattle.il_model.specs.Counted.{Failed};
 ghost use Rattle.vr_model.specs.Membership.{Membership};
 ghost use Rattle.vr_model.specs.Replicas as model;
 ghost use Rattle.vr_core.specs.StandsFor.{IsSavedAs};
+ghost use Rattle.vr_core.specs.Down.{Crashes};
 ghost use Rattle.replica.specs.declared.fault.StepFault.TheVariants as fault;
 ghost use Rattle.replica.specs.Standing.{StandsFor, IsDown, IsDeafTo};
 ghost use Rattle.replica.specs.Stepped.{Stepped, Restarted};
@@ -65,11 +66,18 @@ impl Replica {
         }
         match store.save(self.core.stored_view) {
             Ok(()) => Ok(sends),
-            Err(_) => {
-                self.core.crash(alloc);
-                Err(StepFault::Store)
-            }
+            Err(_) => self.go_down(alloc, sends),
         }
+    }
+
+    /// Its save failed: it is down until a restart, and the rule's sends are let go.
+    fn go_down(&mut self, alloc: Global, sends: Sends) -> Result<Sends, StepFault>
+        ensures answer { result ≡ Err fault.Store }
+        ensures down { Crashes self.old.core self.new.core }
+    {
+        let _ = sends;
+        self.core.crash(alloc);
+        Err(StepFault::Store)
     }
 
     /// While it is down only a restart is heard.

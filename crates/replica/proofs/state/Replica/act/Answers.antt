@@ -25,5 +25,4 @@ returns-in-Ok-clause-row g c = λ m r st up.
 pub returns-in-Err-clause-row : goal.returns-in-Err-clause-row
 returns-in-Err-clause-row g c = λ m r st up.
     let mid : Replica = record { core = c.by_rule.new.core } in
-    let new : Replica = record { core = c.crash.new.self } in
-    save_failed g.S.ViewStore.load_gives g.S.ViewStore.save_gives c.args.self.now.core m r c.args.store.now c.save.new.self (st.up up) up mid new c.in_ok-sends.sends c.args.event (Err fault.Store) refl c.in_ok-sends.ensures c.if-self-stored_view.false c.in-Err.ensures.gives c.crash.ensures
+    save_failed g.S.ViewStore.load_gives g.S.ViewStore.save_gives c.args.self.now.core m r c.args.store.now c.save.new.self (st.up up) up mid c.go_down.new.self c.in_ok-sends.sends c.args.event c.go_down.result c.go_down.ensures.answer c.in_ok-sends.ensures c.if-self-stored_view.false c.in-Err.ensures.gives c.go_down.ensures.down
