@@ -1,6 +1,8 @@
 //! The program `plc`: the words of its call, the files that they name, and the status it ends with.
 #![tactic(auto)]
 
+ghost use Rattle.plc.specs.Asked.{ServesAsAsked};
+
 use il_model::{Budget, Counted, CountedWrite};
 use plc_serve::{ReportFile, Service, Settings};
 use plc_tool::{Fault, NewFile};
@@ -101,7 +103,9 @@ fn perform<W: Write, E: CountedWrite>(
     words: Words,
     out: &mut W,
     err: &mut E,
-) -> Outcome {
+) -> Outcome
+    ensures { ServesAsAsked words.entry result }
+{
     Outcome::Done(match words {
         Words::Asm { source, image } => asm(rt, source, image, out, err),
         Words::List { image } => list(rt, image, out, err),

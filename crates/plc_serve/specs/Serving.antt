@@ -4,9 +4,12 @@ use Rattle.std.specs.Fmt.{decimal}
 use Rattle.std.specs.Io.KnownBytes.{Appends}
 use Rattle.il_model.specs.declared.counted.CountedWrite.{Ghosts as CountedWriter}
 use Rattle.plc_tool.specs.declared.fault.Fault.{Fault}
+use Rattle.plc_tool.specs.declared.fault.Fault.TheVariants as faults
 use Rattle.plc_tool.specs.declared.fault.Fault.TheVariants.{Store}
 use Rattle.plc_tool.specs.Meaning.{IsTextFault}
 use Rattle.plc_tool.specs.Telling.{IsTold, WentOut}
+use Rattle.replicas.specs.declared.cluster.ClusterError.{ClusterError}
+use Rattle.replicas.specs.declared.cluster.ClusterError.TheVariants as starts
 use Rattle.plc_serve.specs.Watching.{AreNoticesTold}
 
 -- the line that tells how many scans there were
@@ -53,3 +56,9 @@ pub record IsToldAtLast {W : Type 0} (w : CountedWriter W) (status : ℕ) (old n
   pub before : W
   pub at_most : IsAtMostServingTold w old before
   pub told : IsTold w (λ fault. ⊥) status before new
+
+-- why a replica doesn't run, as it is told: a thread or connections that aren't to be had are a device's fault
+abbrev pub start_fault : ClusterError → Fault
+start_fault starts.Memory = faults.Memory
+start_fault starts.Thread = faults.Device
+start_fault starts.Link = faults.Device

@@ -3,6 +3,7 @@
 ghost use Rattle.std.specs.Prelude.{◌≡◌, IfErr, IfOk, vec_len};
 ghost use Rattle.vr_model.specs.Groups.{group_size};
 ghost use Rattle.plc_tool.specs.Status.{status_of};
+ghost use Rattle.plc_serve.specs.Serving.{start_fault};
 ghost use Rattle.plc_serve.specs.Watching.{AreNoticesTold};
 
 use crate::health::{Health, HealthGate, HealthStore};
@@ -137,7 +138,8 @@ pub(crate) fn seats<R: Clock + Copy + Drop, L: Drop, S: Drop>(
 
 /// Why no replica runs, as it is told.
 pub(crate) fn fault_of(error: ClusterError) -> Fault
-    ensures { status_of result ≡ 2 }
+    ensures told { result ≡ start_fault error }
+    ensures status { status_of result ≡ 2 }
 {
     match error {
         ClusterError::Memory => Fault::Memory,
