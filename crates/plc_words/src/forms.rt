@@ -130,7 +130,7 @@ A fault is one line on standard error; POS is a byte of the image, counted from 
   plc: device                a file or a stream failed
   plc: memory                memory ran out";
 
-const SCHEDULE: &str =
+const SCHEDULE: &str = with_source_faults!(
     "SCHEDULE is a JSON array of events. Replicas are numbered 0 to 2f, replica 0 is the first primary; clients are
 0 to 15; messages are numbered from 0 as they are sent:
   {\"submit\":[0,COMMAND]}  client 0 sends its next request, one of the commands of 'plc run', to the
@@ -152,11 +152,13 @@ The report is one line of JSON:
   releases                the answers that reached their clients, as [event, client, number, answer]
   sent                    how many messages were sent
 
-A fault is one line on standard error: 'plc: schedule' where the text is no schedule or a name in it
-is unknown, 'plc: schedule I R' where event I, counted from 0, can't take place: 1 its client or
-replica is out of range, 2 the message is not yet sent, 3 the replica had the nonce before, 4 the
-client submits while it waits, or retries while it doesn't, 5 the replica is up, 6 the client's
-numbers are used up.";
+Where SCHEDULE is no such array, or a name in it is none of the program's, 'plc: schedule' is told, and
+nothing has run. Where event I, counted from 0, can't take place, 'plc: schedule I R' is: 1 its client or
+replica is out of range, 2 the message is not yet sent, 3 the replica had the nonce before, 4 the client
+submits while it waits, or retries while it doesn't, 5 the replica is up, 6 the client's numbers are used
+up.
+"
+);
 
 const SERVING: &str = with_source_faults!(
     "Takes connections of Modbus TCP on 127.0.0.1, and says so by the line 'serving on 127.0.0.1:P' on
@@ -251,6 +253,7 @@ pub fn read_words<'a, S: AsStr>(alloc: Global, given: &'a [S]) -> Result<Words<'
 
 fn program<'a>(alloc: Global) -> Result<Command<'a>, AllocError> {
     Command::new(alloc, "plc")
+        .bin_name("plc")?
         .version(VERSION)
         .about("A programmable controller for Instruction List (IEC 61131-3)")
         .after_help(STATUSES)

@@ -177,8 +177,8 @@ fn are_bad<'a>(
 
 #[test]
 fn help_and_version_are_shown(rt: HostRuntime) -> Result<(), Fail> {
-    let rows: [Row; 6] = [
-        (&["plc", "--help"], "Usage: plc <COMMAND>\n"),
+    let rows: [Row; 7] = [
+        (&["./plc.bin", "--help"], "Usage: plc <COMMAND>\n"),
         (&["plc", "help"], "Usage: plc <COMMAND>\n"),
         (
             &["plc", "run", "-h"],
@@ -189,6 +189,7 @@ fn help_and_version_are_shown(rt: HostRuntime) -> Result<(), Fail> {
             "Usage: plc asm <SOURCE> <IMAGE>\n",
         ),
         (&["plc", "list", "-h"], "Usage: plc list <IMAGE>\n"),
+        (&["plc", "sim", "-h"], "\n  plc: read N at L:C "),
         (&["plc", "--version"], "plc 0.1.0\n"),
     ];
     are_shown(&rt, rt.alloc(), &rows)
