@@ -13,7 +13,7 @@ use crate::crashes::Crashes;
 use crate::directory::Directory;
 use crate::door::Door;
 use crate::driving::Drive;
-use crate::group::{Running, fault_of, seats};
+use crate::group::{GroupSeat, Running, fault_of, seats};
 use crate::links::{links_over_channels, links_over_tcp};
 use crate::pace::Pace;
 use crate::places::Places;
@@ -23,7 +23,7 @@ use crate::watch::Watch;
 use il_model::{Budget, CountedWrite};
 use loader::Image;
 use plc_tool::{Fault, ended, image};
-use process_image::{Naming, NewList, Pen, ScanDriver, released};
+use process_image::{Naming, NewList, Pen, ReleasedWriter, ScanDriver, SharedPen, released};
 use replicas::{Cluster, Relink, Starts};
 use std::alloc::Global;
 use std::io::Write;
@@ -229,38 +229,21 @@ where
     let Some(link) = links.pop() else {
         return Err(Fault::Device);
     };
-    let Settings {
-        config,
-        budget,
-        crash,
-        lost_after,
-        ..
-    } = settings;
+    let config = settings.config;
+    let lost_after = Duration::from_secs(u64::from(settings.lost_after));
     let pace = Pace::new(Instant::now(&rt)?, settings.period);
-    let door = Door::open(&rt, settings.port)?;
-    let Ok((writer, readers)) = released::<J, R>(list, alloc, rt, SESSIONS) else {
-        return Err(Fault::Memory);
-    };
-    let idle = Duration::from_secs(u64::from(settings.idle));
-    let server = Server::new(alloc, door, Places::new(alloc, readers)?, idle);
-    let mut watch = Watch::new(alloc, config, Duration::from_secs(u64::from(lost_after)));
+    let (writer, server) = server::<J, R>(rt, alloc, list, settings)?;
+    let mut watch = Watch::new(alloc, config, lost_after);
     let seats = seats(rt, alloc, links, &mut watch, stores)?;
     let mut drive = Drive {
         driver: ScanDriver::new(&config, 0),
         link,
         writer,
         watch,
-        crashes: Crashes::new(config, crash),
+        crashes: Crashes::new(config, settings.crash),
         is_stopped: false,
     };
-    let cluster = match Cluster::start(&rt, alloc, config, image, budget, u64::MAX, seats) {
-        Ok(cluster) => cluster,
-        Err(error) => {
-            directory.clear(rt, alloc);
-            return Err(fault_of(error));
-        }
-    };
-    let mut group = Running { rt, cluster };
+    let mut group = begun(rt, alloc, image, directory, settings, seats)?;
     let opened = opened(rt, alloc, directory, server, err);
     let was_opened = opened.is_ok();
     let scans = settings.scans;
@@ -270,6 +253,53 @@ where
         directory.clear(rt, alloc);
     }
     done
+}
+
+/// Listens at the port, with a place for each session: what the driver writes to, and the server, which lets no client in yet.
+fn server<J: Naming, R>(
+    rt: R,
+    alloc: Global,
+    list: NewList,
+    settings: Settings,
+) -> Result<(ReleasedWriter<J, SharedPen<J, R>>, Server<J>), Fault>
+where
+    R: Wait + Net<Listener = TcpListener, Stream = TcpStream> + Copy + Drop,
+    requires list { list ≡ J.book }
+    ensures err { IfErr result (λ e. status_of e ≡ 2) }
+{
+    let door = Door::open(&rt, settings.port)?;
+    let Ok((writer, readers)) = released::<J, R>(list, alloc, rt, SESSIONS) else {
+        return Err(Fault::Memory);
+    };
+    let idle = Duration::from_secs(u64::from(settings.idle));
+    let server = Server::new(alloc, door, Places::new(alloc, readers)?, idle);
+    Ok((writer, server))
+}
+
+/// Begins the replicas at these seats. Where that fails no thread goes on, and no file is left.
+fn begun<R, L, S>(
+    rt: R,
+    alloc: Global,
+    image: &Image,
+    directory: Directory<'_>,
+    settings: Settings,
+    seats: Vec<GroupSeat<R, L, S>>,
+) -> Result<Running<R, L, S>, Fault>
+where
+    R: Threads + Wait + Clock + Files + Copy + Send + Drop + 'static,
+    L: Relink + Send + Drop + 'static,
+    S: Starts + Send + Drop + 'static,
+    requires seats { vec_len seats ≡ group_size settings.config.f }
+    ensures err { IfErr result (λ e. status_of e ≡ 2) }
+{
+    let Settings { config, budget, .. } = settings;
+    match Cluster::start(&rt, alloc, config, image, budget, u64::MAX, seats) {
+        Ok(cluster) => Ok(Running { rt, cluster }),
+        Err(error) => {
+            directory.clear(rt, alloc);
+            Err(fault_of(error))
+        }
+    }
 }
 
 /// Takes connections, if each replica has its file: one whose file could not be made is down.
