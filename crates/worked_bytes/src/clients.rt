@@ -6,8 +6,8 @@ use process_image::{Naming, Pen, Release, ReleasedWriter};
 use std::io;
 use std::io::{Read, Write};
 
-/// A client's stream. It comes in pieces, the first of its own size; after so many reads the reader fails, and after
-/// so many writes the writer.
+/// A client's stream. It comes in pieces, the first of its own size; behind so many reads one fails, and behind so
+/// many writes one.
 #[derive(Clone, Copy)]
 pub struct Client<'a> {
     pub requests: &'a [u8],
@@ -28,10 +28,11 @@ pub fn cut_at<'a>(requests: &'a [u8], place: usize) -> Client<'a> {
     }
 }
 
-/// What a client's stream has left.
+/// What a client's stream has left, and how often it was read.
 #[derive(Drop)]
 pub struct Pieces<'a> {
-    bytes: &'a [u8],
+    pub bytes: &'a [u8],
+    pub calls: usize,
     next: usize,
     others: usize,
     good: usize,
@@ -41,6 +42,7 @@ impl<'a> Pieces<'a> {
     pub fn new(client: Client<'a>) -> Pieces<'a> {
         Pieces {
             bytes: client.requests,
+            calls: 0,
             next: client.first,
             others: client.others,
             good: client.reads,
@@ -50,10 +52,11 @@ impl<'a> Pieces<'a> {
 
 impl<'a> Read for Pieces<'a> {
     fn read(&mut self, buf: &mut [u8]) -> io::Result<usize> {
-        if self.good == 0 {
+        let call = self.calls;
+        self.calls = call.saturating_add(1);
+        if call == self.good {
             return Err(io::Error::from(io::ErrorKind::BrokenPipe));
         }
-        self.good -= 1;
         let count = self.next.min(self.bytes.len()).min(buf.len());
         let (piece, rest) = self.bytes.split_at(count);
         buf[..count].copy_from_slice(piece);
@@ -63,19 +66,21 @@ impl<'a> Read for Pieces<'a> {
     }
 }
 
-/// What a client got so far.
+/// What a client got so far, and by how many writes.
 #[derive(Drop)]
 pub struct Writes {
     pub good: usize,
+    pub calls: usize,
     pub taken: Vec<u8>,
 }
 
 impl Write for Writes {
     fn write(&mut self, bytes: &[u8]) -> io::Result<usize> {
-        if self.good == 0 {
+        let call = self.calls;
+        self.calls = call.saturating_add(1);
+        if call == self.good {
             return Err(io::Error::from(io::ErrorKind::BrokenPipe));
         }
-        self.good -= 1;
         self.taken.write(bytes)
     }
 

@@ -6,7 +6,7 @@ use crate::notation::{behind, bytes_of, cells_of, otherwise, unreadable};
 use il_model::{Counted, OutImage};
 use modbus_gateway::{HeaderFault, Session, SessionEnd, SessionFault, serve_session};
 use process_image::{
-    Naming, NewList, Release, ReleasedReader, Stage, StageBook, Staging, released,
+    Naming, NewList, Release, ReleasedReader, Sample, Stage, StageBook, Staging, released,
 };
 use std::alloc::{AllocError, Global};
 use std::io;
@@ -15,6 +15,18 @@ use std::sync::Wait;
 
 /// What a session wrote, and how it ended.
 type Written = (Vec<u8>, SessionEnd);
+
+/// A session that has ended: what it wrote, how it ended, how many reads and writes it made, how many bytes it left
+/// unread, and the sample behind it.
+#[derive(Drop)]
+struct Talked {
+    written: Vec<u8>,
+    end: SessionEnd,
+    reads: usize,
+    writes: usize,
+    left: usize,
+    sample: Sample,
+}
 
 /// What is released before a session, its requests, and their replies.
 #[derive(Drop)]
@@ -47,17 +59,26 @@ fn talk<R: Wait, S: Staging, J: Naming>(
     staging: &mut S,
     reader: &mut ReleasedReader<J>,
     client: Client<'_>,
-) -> Written {
-    let mut pieces = Counted::new(Pieces::new(client));
+) -> Talked {
+    let mut pieces = Pieces::new(client);
     let mut writes = Writes {
         good: client.writes,
+        calls: 0,
         taken: Vec::new(alloc),
     };
     let end = {
+        let mut reads = Counted::new(&mut pieces);
         let mut counted = Counted::new(&mut writes);
-        serve_session(rt, alloc, &mut pieces, &mut counted, staging, reader)
+        serve_session(rt, alloc, &mut reads, &mut counted, staging, reader)
     };
-    (writes.taken, end)
+    Talked {
+        written: writes.taken,
+        end,
+        reads: pieces.calls,
+        writes: writes.calls,
+        left: pieces.bytes.len(),
+        sample: staging.sample(),
+    }
 }
 
 /// A session over nothing staged and this release, over a book or over one behind a lock.
@@ -68,7 +89,7 @@ fn session<R: Wait, J: Naming>(
     release: Option<Release>,
     client: Client<'_>,
     is_locked: bool,
-) -> io::Result<Written>
+) -> io::Result<Talked>
     requires { list ≡ J.book }
 {
     let made = released::<J, &R>(list, alloc, rt, 1);
@@ -92,7 +113,7 @@ fn served<R: Wait>(
     release: Option<Release>,
     client: Client<'_>,
     is_locked: bool,
-) -> io::Result<Written> {
+) -> io::Result<Talked> {
     session::<R, Brand>(rt, alloc, NewList::new(), release, client, is_locked)
 }
 
@@ -154,17 +175,32 @@ impl Exchange {
         put_times(&mut self.requests, request.as_slice(), count)?;
         put_times(&mut self.replies, reply.as_slice(), count.saturating_sub(1))?;
         let whole = cut_at(self.requests.as_slice(), usize::MAX);
-        let (written, end) = served(rt, alloc, self.released, whole, false)?;
-        if end != SessionEnd::Closed {
+        let talked = served(rt, alloc, self.released, whole, false)?;
+        if talked.end != SessionEnd::Closed {
             return Err(otherwise());
         }
-        let came = written.as_slice().get(self.replies.len()..).unwrap_or(&[]);
+        let came = talked
+            .written
+            .as_slice()
+            .get(self.replies.len()..)
+            .unwrap_or(&[]);
         let came = hex::encode(alloc, came)?;
         self.replies.extend_from_slice(reply.as_slice())?;
         Ok(came)
     }
 
-    /// How a session with a client ends; its replies are all of these, or a beginning of them where the device fails.
+    /// Whether all that a session staged stands in the sample behind it: it is the sample behind one that reads just as
+    /// much, in one piece, and closes.
+    fn has_staged<R: Wait>(&self, rt: &R, alloc: Global, talked: &Talked) -> io::Result<bool> {
+        let requests = self.requests.as_slice();
+        let count = requests.len().saturating_sub(talked.left);
+        let read = requests.get(..count).unwrap_or(&[]);
+        let closed = served(rt, alloc, self.released, cut_at(read, usize::MAX), false)?;
+        Ok(closed.end == SessionEnd::Closed && closed.sample == talked.sample)
+    }
+
+    /// How a session with a client ends; its replies are all of these. Where the device fails they are a beginning of
+    /// them, and what was staged is in the next sample.
     fn end<R: Wait>(
         &self,
         rt: &R,
@@ -172,17 +208,46 @@ impl Exchange {
         client: Client<'_>,
         is_locked: bool,
     ) -> io::Result<&'static str> {
-        let (written, end) = served(rt, alloc, self.released, client, is_locked)?;
-        let (written, replies) = (written.as_slice(), self.replies.as_slice());
-        let is_as_said = match end {
+        let talked = served(rt, alloc, self.released, client, is_locked)?;
+        let (written, replies) = (talked.written.as_slice(), self.replies.as_slice());
+        let is_as_said = match talked.end {
             SessionEnd::Device => replies.starts_with(written),
             _ => replies == written,
         };
-        if is_as_said {
-            Ok(end_name(end))
-        } else {
-            Ok("other replies")
+        if !is_as_said {
+            return Ok("other replies");
         }
+        if talked.end == SessionEnd::Device && !self.has_staged(rt, alloc, &talked)? {
+            return Ok("another sample");
+        }
+        Ok(end_name(talked.end))
+    }
+
+    /// How the session ends with a client of whose reads and writes one fails, each in turn.
+    fn end_at_each_failure<R: Wait>(
+        &self,
+        rt: &R,
+        alloc: Global,
+        client: Client<'_>,
+        is_locked: bool,
+    ) -> io::Result<&'static str> {
+        let whole = served(rt, alloc, self.released, client, is_locked)?;
+        for call in 0..whole.reads.saturating_add(whole.writes) {
+            let (reads, writes) = match call.checked_sub(whole.reads) {
+                None => (call, usize::MAX),
+                Some(write) => (usize::MAX, write),
+            };
+            let failing = Client {
+                reads,
+                writes,
+                ..client
+            };
+            let end = self.end(rt, alloc, failing, is_locked)?;
+            if end != end_name(SessionEnd::Device) {
+                return Ok(end);
+            }
+        }
+        Ok(end_name(SessionEnd::Device))
     }
 
     /// How the session ends wherever its requests are cut in two.
@@ -197,8 +262,8 @@ impl Exchange {
         Ok(first)
     }
 
-    /// How the session ends with a client: `cut at each place`, or the sizes of its pieces, `over a lock`, and how many
-    /// reads or writes are good.
+    /// How the session ends with a client: `cut at each place`, or the sizes of its pieces, behind how many reads or
+    /// writes one fails or that each of them fails in turn, and `over a lock`.
     pub fn with_client<R: Wait>(
         &self,
         rt: &R,
@@ -215,7 +280,11 @@ impl Exchange {
             reads: size_of(text, "reads="),
             writes: size_of(text, "writes="),
         };
-        self.end(rt, alloc, client, text.ends_with("over a lock"))
+        let is_locked = text.ends_with("over a lock");
+        if text.contains("each read and write fails") {
+            return self.end_at_each_failure(rt, alloc, client, is_locked);
+        }
+        self.end(rt, alloc, client, is_locked)
     }
 }
 
