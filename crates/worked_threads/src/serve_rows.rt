@@ -83,6 +83,8 @@ struct Row {
     port: Port,
     /// So many of the first replicas fall silent once their files are made.
     falls: usize,
+    /// In seconds: it ends after so long without a majority.
+    lost_after: u32,
     visit: Visit,
     /// How much of the visit went as it should; none where no port was told.
     seen: Option<u8>,
@@ -186,6 +188,7 @@ const REFUSED: Row = Row {
     words: FIRST,
     port: Port::Free,
     falls: 0,
+    lost_after: 60,
     visit: Visit::Nothing,
     seen: None,
     least: 0,
@@ -245,6 +248,7 @@ const ROWS: &[Row] = &[
     Row {
         words: ALONE,
         falls: 2,
+        lost_after: 0,
         seen: Some(0),
         err: &["replica 0 store", "replica 1 store", "plc: device"],
         has_file: true,
@@ -319,7 +323,7 @@ fn prepared<R: Files + Alloc<A = Global> + Copy + Drop>(
         Port::InUse => in_use,
         Port::Free => 0,
     };
-    asked(rt, row.words, port)
+    asked(rt, row, port)
 }
 
 /// What takes the lines on standard error of a controller, and passes on the port.
@@ -361,10 +365,11 @@ impl Write for Operator<'_> {
     }
 }
 
-/// What the words of a call ask to serve, but at another port: the words can't name any that is free.
+/// What the words of a row ask to serve, but at another port, since the words can't name any that is free, and with
+/// the row's patience.
 fn asked<R: Files + Alloc<A = Global> + Copy + Drop>(
     rt: R,
-    words: &[&str],
+    row: &Row,
     port: u16,
 ) -> Result<Service<R>, Fail> {
     let Ok(
@@ -381,7 +386,7 @@ fn asked<R: Files + Alloc<A = Global> + Copy + Drop>(
             crash,
             report,
         },
-    ) = read_words(rt.alloc(), words)
+    ) = read_words(rt.alloc(), row.words)
     else {
         return Err("other words")?;
     };
@@ -394,7 +399,7 @@ fn asked<R: Files + Alloc<A = Global> + Copy + Drop>(
         idle,
         over_tcp,
         crash,
-        lost_after: 0,
+        lost_after: row.lost_after,
     };
     match Service::new(rt, source, store, report, settings) {
         Ok(service) => Ok(service),
