@@ -6,7 +6,7 @@ use Rattle.plc_serve.specs.declared.serving.Settings.{Settings}
 use Rattle.plc.specs.declared.Outcome.{Outcome}
 use Rattle.plc.specs.declared.Outcome.TheVariants as outcomes
 
--- a controller is to be served only where the words ask for one, and with just the values that they name
+-- a controller is to be served only where the words ask for one, and with just the settings that they name
 abbrev pub ServesAsAsked : Words → Outcome → Type 0
 ServesAsAsked asked (outcomes.Done status) = Unit {0}
 ServesAsAsked (words.Serve source store scans config port period budget idle over_tcp crash report) (outcomes.Serve service) =
