@@ -11,6 +11,7 @@ pub mod Passing
 pub mod WordsRead
 pub mod WordsOf
 pub mod Images
+pub mod Beginnings
 pub mod Link
 pub mod Straight
 pub mod LabelTables

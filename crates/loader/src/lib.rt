@@ -9,12 +9,12 @@
 //! Proved: `load` answers Ok exactly on the spelling of a typed program, and gives that program; else the first fault
 //! in the order of reading, with its position (`exact`). `bytes` is that spelling, `copy` an equal image. Each
 //! instruction's `Action` is the one that performs it, and of the instructions that `straight` gives none but the first
-//! has a label.
+//! has a label, and they reach as far as the next label.
 //!
-//! Only tested: nothing; `images.rows` of `worked_rows` has images cut short, spoilt and too long. In no clause: that
-//! the instructions of `straight` reach as far as the next label; were they fewer, a run would only be slower.
+//! Only tested: nothing; `images.rows` of `worked_rows` has images cut short, spoilt and too long.
 #![tactic(auto)]
 
+mod action;
 mod counts;
 mod declared;
 mod fault;
@@ -33,7 +33,8 @@ mod typing;
 mod variable;
 mod word;
 
+pub use action::Action;
 pub use fault::{LoadError, LoadFault};
 pub use image::Image;
-pub use line::{Action, Line};
+pub use line::Line;
 pub use loading::load;

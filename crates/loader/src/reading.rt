@@ -2,8 +2,8 @@
 
 ghost use Rattle.std.specs.Prelude.{◌≡◌, [], IfOk};
 ghost use Rattle.std.specs.Int.{w8, w16, w32, w64};
-ghost use Rattle.il_model.specs.Codes.{is_new_name, is_new_instance, is_new_label, argument_number, constant_of, is_free, coded_location, version_numbered};
-ghost use Rattle.loader.specs.Reading.{Gives, number_at, signed_at, lawful, agrees, items_from, count_at, counts_at, lawful_version, header_at, spelled_name_at, name_at, first_value_at, variable_at, instance_at, mark_at, constant_at, instruction_at, argument_at, word_at, next_word};
+ghost use Rattle.il_model.specs.Codes.{is_new_instance, argument_number, constant_of, is_free, coded_location, version_numbered};
+ghost use Rattle.loader.specs.Reading.{Gives, number_at, signed_at, lawful, agrees, items_from, count_at, counts_at, lawful_version, header_at, spelled_name_at, first_value_at, variable_at, instance_at, mark_at, constant_at, instruction_at, argument_at, word_at, next_word};
 
 use crate::counts::Counts;
 use crate::declared::Declared;
@@ -170,57 +170,11 @@ fn spelled_name_at(position: usize, bytes: &[u8]) -> Result<(&[u8], &[u8]), Load
     Ok(rest.split_at(n))
 }
 
-/// The name of a variable that none of these has.
-#[tactic(auto, unfolding(crate::specs::Reading::name_at))]
-fn variable_name_at<'a>(
-    position: usize,
-    seen: &Variables,
-    bytes: &'a [u8],
-) -> Result<(&'a [u8], &'a [u8]), LoadError>
-    ensures { Gives (λ x. (x.0.now, x.1.now)) result (name_at position (is_new_name seen.now) bytes.entry.now) }
-{
-    let (name, rest) = spelled_name_at(position, bytes)?;
-    agrees(LoadFault::BadWord { position }, seen.is_new(name))?;
-    Ok((name, rest))
-}
-
 /// Whether a name is lawful and neither a variable nor an instance has it.
 fn is_new_instance(variables: &Variables, seen: &Instances, name: &[u8]) -> bool
     ensures { result ≡ is_new_instance variables.now seen.now name.now }
 {
     variables.is_new(name) && !seen.number_of(name).is_some()
-}
-
-/// The name of an instance that no variable and none of these has.
-#[tactic(auto, unfolding(crate::specs::Reading::name_at))]
-fn instance_name_at<'a>(
-    position: usize,
-    variables: &Variables,
-    seen: &Instances,
-    bytes: &'a [u8],
-) -> Result<(&'a [u8], &'a [u8]), LoadError>
-    ensures { Gives (λ x. (x.0.now, x.1.now)) result (name_at position (is_new_instance variables.now seen.now) bytes.entry.now) }
-{
-    let (name, rest) = spelled_name_at(position, bytes)?;
-    agrees(
-        LoadFault::BadWord { position },
-        is_new_instance(variables, seen, name),
-    )?;
-    Ok((name, rest))
-}
-
-/// The name of a label that none of these has.
-#[tactic(auto, unfolding(crate::specs::Reading::name_at))]
-fn label_name_at<'a>(
-    position: usize,
-    seen: &Labels,
-    bytes: &'a [u8],
-) -> Result<(&'a [u8], &'a [u8]), LoadError>
-    ensures { Gives (λ x. (x.0.now, x.1.now)) result (name_at position (is_new_label seen.now) bytes.entry.now) }
-{
-    let (name, rest) = spelled_name_at(position, bytes)?;
-    agrees(LoadFault::BadWord { position }, seen.is_new(name))?;
-    Ok((name, rest))
 }
 
 /// Whether a location is of the type and no other variable has it.
@@ -262,7 +216,7 @@ fn first_value_at(
 }
 
 /// A variable, and the bytes of its name.
-#[tactic(auto, unfolding(crate::specs::Reading::variable_at))]
+#[tactic(auto, unfolding(crate::specs::Reading::variable_at, crate::specs::Reading::name_at))]
 fn variable_at<'a>(
     alloc: Global,
     version: Version,
@@ -274,7 +228,8 @@ fn variable_at<'a>(
     ensures name { IfOk result (λ x. x.1.now ≡ x.0.name) }
 {
     let position = total.saturating_sub(bytes.len());
-    let (name, rest) = variable_name_at(position, seen, bytes)?;
+    let (name, rest) = spelled_name_at(position, bytes)?;
+    agrees(LoadFault::BadWord { position }, seen.is_new(name))?;
     let (code, rest) = u8_at(rest)?;
     let ty = lawful(position, type_in(version, code))?;
     let (place, rest) = u16_at(rest)?;
@@ -290,7 +245,7 @@ fn variable_at<'a>(
 }
 
 /// An instance, and the bytes of its name.
-#[tactic(auto, unfolding(crate::specs::Reading::instance_at))]
+#[tactic(auto, unfolding(crate::specs::Reading::instance_at, crate::specs::Reading::name_at))]
 fn instance_at<'a>(
     alloc: Global,
     total: usize,
@@ -302,7 +257,11 @@ fn instance_at<'a>(
     ensures name { IfOk result (λ x. x.1.now ≡ x.0.name) }
 {
     let position = total.saturating_sub(bytes.len());
-    let (name, rest) = instance_name_at(position, variables, seen, bytes)?;
+    let (name, rest) = spelled_name_at(position, bytes)?;
+    agrees(
+        LoadFault::BadWord { position },
+        is_new_instance(variables, seen, name),
+    )?;
     let (code, rest) = u8_at(rest)?;
     let kind = lawful(position, BlockKind::of_code(code))?;
     let found = Instance {
@@ -313,7 +272,7 @@ fn instance_at<'a>(
 }
 
 /// A label.
-#[tactic(auto, unfolding(crate::specs::Reading::mark_at))]
+#[tactic(auto, unfolding(crate::specs::Reading::mark_at, crate::specs::Reading::name_at))]
 fn mark_at<'a>(
     total: usize,
     seen: &Labels,
@@ -322,7 +281,8 @@ fn mark_at<'a>(
     ensures { Gives (λ x. (x.0, x.1.now)) result (mark_at total seen.now bytes.entry.now) }
 {
     let position = total.saturating_sub(bytes.len());
-    let (name, rest) = label_name_at(position, seen, bytes)?;
+    let (name, rest) = spelled_name_at(position, bytes)?;
+    agrees(LoadFault::BadWord { position }, seen.is_new(name))?;
     let (at, rest) = u16_at(rest)?;
     Ok((Label { name, at }, rest))
 }
