@@ -9,6 +9,7 @@ pub mod ColdSuits
 pub mod Turns
 pub mod Agrees
 pub mod SameEnd
+pub mod OneEnd
 pub mod WorkedRows
 pub mod Fitting
 pub mod ForcedSlots

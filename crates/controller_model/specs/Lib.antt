@@ -6,5 +6,6 @@ pub mod Slots
 pub mod Forces
 pub mod Scan
 pub mod Commands
+pub mod Runs
 pub mod Carried
 pub mod Snapshots

@@ -1,8 +1,8 @@
 //! What a program does: the state of a run, one instruction, one scan, one command of a controller after another, and
-//! what slots and names of slots stand for. Definitions with the plain types that they speak of, and three laws: a
-//! typed program is never stuck, breakpoints change nothing but where a scan is held, and a snapshot tells its
-//! instances. It uses il_model, where programs and their types are defined, and function_blocks, where the blocks'
-//! equations are.
+//! what slots and names of slots stand for. Definitions with the plain types that they speak of, and five laws: a
+//! typed program is never stuck, a run comes to exactly one end, by which each command that runs a scan is answered,
+//! breakpoints change nothing but where a scan is held, and a snapshot tells its instances. It uses il_model, where
+//! programs and their types are defined, and function_blocks, where the blocks' equations are.
 //!
 //! There is no code to call. A law is used by naming it in a function whose clause rests on it:
 //!
@@ -10,19 +10,22 @@
 //! controller_model::ends_the_same();
 //! ```
 //!
-//! Proved: the three laws, for every program, state, budget and list of commands. Worked sessions of the debugger are
+//! Proved: the five laws, for every program, state, budget and list of commands. Worked sessions of the debugger are
 //! computed from the table of commands as proofs (`proofs/WorkedRows`), so that the definitions themselves were seen to
 //! give what was wanted.
 //!
 //! Only tested: nothing.
 #![tactic(auto)]
 
-ghost use Rattle.std.specs.Prelude.{ℕ, List};
+ghost use Rattle.std.specs.Prelude.{ℕ, Bool, List};
 ghost use Rattle.il_model.specs.declared.cells.InImage.{InImage};
+ghost use Rattle.il_model.specs.declared.command.Command.{Command};
 ghost use Rattle.il_model.specs.Text.{Text};
 ghost use Rattle.il_model.specs.Typing.{IsTyped};
-ghost use Rattle.controller_model.specs.Commands.{Control};
+ghost use Rattle.controller_model.specs.Commands.{Control, command_outcome};
 ghost use Rattle.controller_model.specs.Carried.{Onward, EndsTheSame};
+ghost use Rattle.controller_model.specs.Runs.{Runs, RunsOver, IsOnlyEnd, AnswersRun, HasWholeInputs};
+ghost use Rattle.controller_model.specs.Scan.{run_from, run_from_break};
 ghost use Rattle.controller_model.specs.State.{State, BlockInstance};
 ghost use Rattle.controller_model.specs.Step.{step};
 ghost use Rattle.controller_model.specs.Suits.{Suits, IsSafe};
@@ -40,6 +43,21 @@ pub use phase::{Phase, ScanOut};
 /// instance and the fields that it needs, and leaves a state that suits it.
 pub fn a_typed_program_is_never_stuck()
     ensures { (Q : Text) (now : ℕ) (s : State) → IsTyped Q → Suits Q s → IsSafe Q (step Q now s) }
+{}
+
+/// A run of a typed program comes to exactly one end (`Runs`): that which is found by counting its budget down. The same
+/// over the instruction that a scan is held at.
+pub fn a_run_has_one_end()
+    ensures runs { (Q : Text) (now : ℕ) (breaks : List Bool) (budget performed : ℕ) (s : State) → IsTyped Q → Suits Q s
+        → IsOnlyEnd (Runs Q now breaks budget performed s) (run_from Q now breaks budget performed s) }
+    ensures over { (Q : Text) (now : ℕ) (breaks : List Bool) (budget performed : ℕ) (s : State) → IsTyped Q → Suits Q s
+        → IsOnlyEnd (RunsOver Q now breaks budget performed s) (run_from_break Q now breaks budget performed s) }
+{}
+
+/// A command that runs a scan on is answered, in the table of commands, by the one end of that run.
+pub fn commands_answer_their_runs()
+    ensures { (Q : Text) (budget : ℕ) (s : Control) (c : Command) → IsTyped Q → Suits Q s.cycle.state → HasWholeInputs c
+        → AnswersRun Q budget s c (command_outcome Q budget s c) }
 {}
 
 /// Breakpoints change nothing but where a scan is held: one with any breakpoints, carried on by Step and Continue alone until it

@@ -7,18 +7,16 @@
 //!
 //! let mut machine = Machine::new(alloc, &image).ok()?;
 //! machine.start(&InImage::clear());
-//! if image.len() > 0 {
-//!     let _ = machine.run_straight(&image, 0, image.straight(machine.pos())); // up to the next label or jump
-//! }
+//! let out = machine.step(&image, 0); // Next, End or Stopped
 //! ```
 //!
-//! Proved: each instruction that `run_straight` performs is the step of the definition at its position, behind the one
-//! before, and it tells how many it performed, or that the last one ended the run or stopped it (`HasRun`); it has no
-//! answer for a program that went wrong, since there is none. `reset` and `new` give the cold state; a snapshot's parts
-//! come back as the same machine.
+//! Proved: `step` is the step of the definition, state and answer; it has no answer for a program that went wrong,
+//! since there is none. So is each instruction that `run_straight` performs, at its position, behind the one before,
+//! and it tells how many it performed, or that the last one ended the run or stopped it (`HasRun`). `reset` and `new`
+//! give the cold state; a snapshot's parts come back as the same machine.
 //!
-//! Only tested: nothing; `machine_rows` of `worked_parts` runs three stores. In no clause: that it doesn't stop early
-//! for nothing; the figures in `bench/README.md` would show it.
+//! Only tested: nothing; `machine_rows` of `worked_parts` runs three stores. In no clause: that `run_straight`
+//! doesn't stop early for nothing; the figures in `bench/README.md` would show it.
 #![tactic(auto)]
 
 mod arrival;
@@ -32,5 +30,5 @@ mod state;
 
 pub use arrival::has_type;
 pub use machine::Machine;
-pub use out::RunOut;
+pub use out::{RunOut, StepOut};
 pub use shape::{fits_run, fits_values, have_states};

@@ -5,6 +5,7 @@ ghost use Rattle.il_model.specs.Text.{Text};
 ghost use Rattle.controller_model.specs.Forces.{with_forces};
 ghost use Rattle.controller_model.specs.Slots.{slot_value};
 ghost use Rattle.controller_model.specs.Scan.{scan_start, scan_run, scan_run_over, scan_step, scan_result, with_force, without_force, cold_again};
+ghost use Rattle.controller_model.specs.Runs.{ScanRuns, ScanRunsOver};
 ghost use Rattle.controller_model.specs.Snapshots.{fit_forces};
 ghost use Rattle.machine.specs.Parts.{FitsMachine, AreLawful};
 ghost use Rattle.scan_cycle.specs.Kept.{cold_kept, IsCycleOf};
@@ -137,10 +138,12 @@ impl ScanCycle {
     pub fn run_to(&mut self, image: &Image, breaks: &Breakpoints, budget: Budget) -> ScanOut
         requires kept { IsCycleOf image.now self.old }
         requires breaks { length image.now.code ≤ length breaks.now }
+        ensures runs { ScanRuns image.now breaks.now budget.instructions self.old.cycle (result, self.new.cycle) }
         ensures run { (result, self.new.cycle) ≡ scan_run image.now breaks.now budget.instructions self.old.cycle }
         ensures kept { IsCycleOf image.now self.new }
         ensures performed { self.new.cycle.performed < budget.instructions }
     {
+        image.lawful();
         let came = run(
             &mut self.machine,
             image,
@@ -157,10 +160,12 @@ impl ScanCycle {
         requires kept { IsCycleOf image.now self.old }
         requires breaks { length image.now.code ≤ length breaks.now }
         requires left { self.old.cycle.performed < budget.instructions }
+        ensures runs { ScanRunsOver image.now breaks.now budget.instructions self.old.cycle (result, self.new.cycle) }
         ensures run { (result, self.new.cycle) ≡ scan_run_over image.now breaks.now budget.instructions self.old.cycle }
         ensures kept { IsCycleOf image.now self.new }
         ensures performed { self.new.cycle.performed < budget.instructions }
     {
+        image.lawful();
         let came = run_over(
             &mut self.machine,
             image,
