@@ -4,3 +4,4 @@ pub mod Literals
 pub mod Gathered
 pub mod Addresses
 pub mod Labels
+pub mod FirstFault

@@ -37,7 +37,8 @@ fn with_line(
     Ok(found)
 }
 
-/// The constants of a program, in the order of their first use; the literals are those of the instructions' own operands.
+/// The constants of a program, in the order of their first use; the literals are those of the instructions' own
+/// operands.
 pub fn constants_of(
     alloc: Global,
     code: &[Instr],

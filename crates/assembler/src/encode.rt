@@ -224,7 +224,8 @@ fn put_arguments(
     arguments: &[Argument],
 ) -> Result<(), AllocError>
     requires { addresses.now ≡ addresses_from 0 program.now.code }
-    ensures { OnOk result (out.new.items ≡ out.old.items ++ flat_map (settled_passing_word program.now constants.now kind) arguments.now) }
+    ensures { OnOk result (out.new.items
+        ≡ out.old.items ++ flat_map (settled_passing_word program.now constants.now kind) arguments.now) }
 {
     for a in arguments {
         let code = settled_code(
@@ -248,7 +249,8 @@ fn put_instruction(
     literal: Option<Value>,
 ) -> Result<(), AllocError>
     requires { addresses.now ≡ addresses_from 0 program.now.code }
-    ensures { OnOk result (out.new.items ≡ out.old.items ++ settled_instruction program.now constants.now line.now literal) }
+    ensures { OnOk result (out.new.items
+        ≡ out.old.items ++ settled_instruction program.now constants.now line.now literal) }
 {
     let code = settled_code(program, addresses, constants, &line.operand, literal);
     put_word(out, op_code(line.op), modifier_code(line.modifier), code)?;
@@ -376,7 +378,8 @@ fn put_words(
 ) -> Result<(), AllocError>
     requires addresses { addresses.now ≡ addresses_from 0 program.now.code }
     requires literals { length literals.now ≡ length code.now }
-    ensures { OnOk result (out.new.items ≡ out.old.items ++ settled_words program.now constants.now code.now literals.now) }
+    ensures { OnOk result (out.new.items
+        ≡ out.old.items ++ settled_words program.now constants.now code.now literals.now) }
 {
     for n in 0..code.len() {
         put_instruction(out, program, addresses, constants, &code[n], literals[n])?;
@@ -392,7 +395,8 @@ pub fn encode(
 ) -> Result<Vec<u8>, AllocError>
     requires literals { length literals.now ≡ length program.now.code }
     requires few { AllByRecursion HasFewArguments program.now.code }
-    ensures { IfOk result (λ v. v.items ≡ settled_bytes program.now (constants_in [] (all_literals program.now.code literals.now)) literals.now) }
+    ensures { IfOk result (λ v. v.items
+        ≡ settled_bytes program.now (constants_in [] (all_literals program.now.code literals.now)) literals.now) }
 {
     let declared = program.program();
     let variables = declared.variables.as_slice();

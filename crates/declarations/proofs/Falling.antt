@@ -7,7 +7,7 @@ use Rattle.il_reader.specs.declared.lexeme.Class.{Class}
 use Rattle.il_reader.specs.declared.lexeme.Class.TheVariants as classes
 use Rattle.il_reader.specs.declared.lexeme.Sign.TheVariants as signs
 use Rattle.il_reader.specs.Tokens.{Token, piece_of, after, put, tokens_behind, tokens_of}
-use Rattle.il_reader.specs.Reading.{is_sign, skip_breaks}
+use Rattle.il_reader.specs.Front.{is_sign, skip_breaks}
 use Rattle.il_reader.specs.Grammar.{BehindText, form_of, closing, operator_of, operator_from}
 use Rattle.il_reader.specs.Spelling.{Part, breaks, one, this, operator, ahead, Spell, accepts, accepting, operator_before}
 

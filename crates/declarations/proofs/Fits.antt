@@ -50,7 +50,7 @@ use Rattle.il_reader.specs.declared.operations.Form.{Form}
 use Rattle.il_reader.specs.declared.operations.Form.TheVariants as forms
 use Rattle.il_reader.specs.declared.lexeme.Sign.TheVariants as signs
 use Rattle.il_reader.specs.Tokens.{Token}
-use Rattle.il_reader.specs.Reading.{is_sign}
+use Rattle.il_reader.specs.Front.{is_sign}
 use Rattle.il_reader.specs.Grammar.{OperandText, Constant, Direct, Named, Field, ArgumentText, arguments_of, BehindText, Nothing, Given, Target, Opened, Called, OperationText, LineText, Labelled, Plain, NamesText, Located, More, DeclarationText, ProgramText, form_of, closing, operator_of, operator_from}
 use Rattle.il_reader.specs.Spelling.{accepts, accepting, operator_before}
 use Rattle.il_reader.specs.Words.{IsWordText, IsWordName, AreWordNames, IsWordDeclaration, IsOperation, IsOptionalOperation, IsOperator, AreWords}

@@ -4,7 +4,8 @@ use Rattle.std.specs.List.{AllByRecursion}
 use Rattle.il_reader.specs.declared.fault.Refusal.{Refusal}
 use Rattle.il_reader.specs.declared.lexeme.Sign.TheVariants as signs
 use Rattle.il_reader.specs.Tokens.{Token, goes_on, tokens_of}
-use Rattle.il_reader.specs.Reading.{◌>>=◌, is_sign, first, fault_at, skip_breaks, many_within, many, no_token, Reading, both, pair, led, closed, mapped, mark, choice, stand}
+use Rattle.il_reader.specs.Front.{is_sign, first, fault_at, skip_breaks, no_token}
+use Rattle.il_reader.specs.Reading.{◌>>=◌, many_within, many, Reading, both, pair, led, closed, mapped, mark, choice, stand}
 use Rattle.il_reader.proofs.Laws.{taken}
 use Rattle.il_reader.proofs.Written.{written, sign_goes, Written}
 

@@ -14,9 +14,11 @@ use Rattle.il_reader.specs.declared.contents.Operator.{Operator}
 use Rattle.il_reader.specs.declared.operations.Form.{Form}
 use Rattle.il_reader.specs.declared.operations.Form.TheVariants as forms
 use Rattle.il_reader.specs.Tokens.{Token, goes_on, tokens_of}
-use Rattle.il_reader.specs.Reading.{◌>>=◌, Reading, is_sign, is_end, is_word_token, first, others, fault_at, skip_breaks, expect, keyword, pair, led, closed, choice, mapped, past, mark, stand, many, meant}
-use Rattle.il_reader.specs.Grammar.{is_variable, is_constant, variable_at, constant_at, named, field_at, inner_field_at, lone_at, operand_at, inner_operand_at, before_dot, Direct, Constant, OperandText, ArgumentText, side_at, an_output, an_input, an_argument, argument_at, ends_arguments, next_argument_at, before_close, together, inside_at, arguments_at, a_call, call_at, BehindText, Given, Target, Opened, Called, OperationText, form_of, operator_of, operator_at, optional_operand_at, nested_at, either_at, behind_at, operation_at, optional_operation_at, is_line_stop, operator_from, LineText, Plain, is_label, labelled, labelled_at, plain_at, either_line_at, line_at, Located, More, DeclarationText, ends_names, name_at, names_at, initial_at, declared, declaration_at, ends_block, ends_blocks, block_at, ProgramText, ends_lines, ends_named, end_at, finish_at, named_program, bare_program, named_at, bare_at, begins_program, program_at}
-use Rattle.il_reader.specs.FirstFault.{StandsAt, IsFirstFault}
+use Rattle.il_reader.specs.Front.{is_sign, is_end, is_word_token, first, others, fault_at, skip_breaks}
+use Rattle.il_reader.specs.Reading.{◌>>=◌, Reading, expect, keyword, pair, led, closed, choice, mapped, past, mark, stand, many, meant}
+use Rattle.il_reader.specs.Grammar.{is_variable, is_constant, before_dot, Direct, Constant, OperandText, ArgumentText, ends_arguments, before_close, BehindText, Given, Target, Opened, Called, OperationText, form_of, operator_of, is_line_stop, operator_from, LineText, Plain, is_label, Located, More, DeclarationText, ends_names, ends_block, ends_blocks, ProgramText, ends_lines, ends_named, begins_program}
+use Rattle.il_reader.specs.Walk.{variable_at, constant_at, named, field_at, inner_field_at, lone_at, operand_at, inner_operand_at, side_at, an_output, an_input, an_argument, argument_at, next_argument_at, together, inside_at, arguments_at, a_call, call_at, operator_at, optional_operand_at, nested_at, either_at, behind_at, operation_at, optional_operation_at, labelled, labelled_at, plain_at, either_line_at, line_at, name_at, names_at, initial_at, declared, declaration_at, block_at, end_at, finish_at, named_program, bare_program, named_at, bare_at, program_at}
+use Rattle.il_reader.specs.FirstFault.{StandsAt}
 use Rattle.il_reader.proofs.Programs.{next_shrinks, line_shrinks, name_shrinks, declaration_shrinks, block_shrinks, program_law}
 use Rattle.il_reader.proofs.Written.{sign_goes, Written, token_of, a_dot, dot_makes, dot_written, comma_written, a_close, close_makes, close_written, an_open, open_makes, open_written, a_colon, colon_makes, colon_written, semicolon_written, an_assign, assign_makes, assign_written, arrow_written, an_address, address_makes, address_written, a_break, break_makes, a_name, name_makes, name_written, variable_written, a_truth, truth_makes, truth_written, an_at, at_makes, at_written, an_end_var, end_var_makes, end_var_written, var_written, program_written, an_end_program, end_program_makes, end_program_written, end_makes}
 use Rattle.il_reader.proofs.Checks.{GoesOn, Check, good, bad, leaving, followed, FirstAt, Below, ReadsSome, Exact, here, farther, same_first, same_below, same_exact, fewer_below, fewer, taken_exact, chosen_by, choice_below, behind_breaks, skips_once, past_exact, past_taken_exact, tail, mapped_same, mapped_exact, mark_exact, mark_same, pair_exact, pair_same, led_exact, closed_exact, closed_same, choice_same, option_same, stop_same, stand_same, next, either_exact, option_exact, stop_exact, stand_exact, Blind, Listed, list_blind, Stopped, list_some, list_exact}
@@ -782,6 +784,3 @@ pub place_of : (tokens : List Token) (f : Refusal) → program_at tokens ≡ Err
 place_of tokens f h =
     let at : FirstAt (followed program_at final) tokens f = (program_exact (suc (length tokens))).placed tokens f (omega arith) (rw h refl) in
     record { before = at.before; rest = at.rest; parts = at.parts; inner = at.inner; stands = by_grammar tokens f at }
-
-pub stands_first : (tokens : List Token) (f : Refusal) → program_at tokens ≡ Err f → IsFirstFault tokens f
-stands_first tokens f h = let p = place_of tokens f h in record { before = p.before; rest = p.rest; parts = p.parts; stands = p.stands }

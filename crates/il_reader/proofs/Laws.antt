@@ -5,7 +5,8 @@ use Rattle.std.proofs.lemmas.List.Concat.{flat_map-cons}
 use Rattle.il_reader.specs.declared.fault.Refusal.{Refusal}
 use Rattle.il_reader.specs.Tokens.{Token}
 use Rattle.il_reader.specs.declared.contents.Operator.{Operator}
-use Rattle.il_reader.specs.Reading.{◌>>=◌, is_sign, first, others, fault_at, skip_breaks, many_within, many, no_token, Reading, both, pair, led, closed, mapped, choice, past, mark, stand, meant, meaning}
+use Rattle.il_reader.specs.Front.{is_sign, first, others, fault_at, skip_breaks, no_token}
+use Rattle.il_reader.specs.Reading.{◌>>=◌, many_within, many, Reading, both, pair, led, closed, mapped, choice, past, mark, stand, meant, meaning}
 use Rattle.il_reader.specs.declared.lexeme.Sign.TheVariants as signs
 use Rattle.il_reader.specs.Spelling.{Part, breaks, one, this, operator, ahead, Spell, going}
 

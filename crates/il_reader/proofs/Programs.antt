@@ -12,8 +12,10 @@ use Rattle.il_model.specs.declared.program.Side.TheVariants as sides
 use Rattle.il_reader.specs.declared.operations.Form.{Form}
 use Rattle.il_reader.specs.declared.operations.Form.TheVariants as forms
 use Rattle.il_reader.specs.Tokens.{Token}
-use Rattle.il_reader.specs.Reading.{◌>>=◌, Reading, same_sign, is_class_of, is_sign, is_end_class, first, skip_breaks, expect, both, pair, choice, mapped, mark, stand, many, closed, next_is, at_end, is_word_token, next_is_word, keyword}
-use Rattle.il_reader.specs.Grammar.{OperandText, Constant, Direct, Named, Field, ArgumentText, CallText, BehindText, Nothing, Given, Target, Opened, Called, no_dot, field_at, before_dot, before_no_dot, inner_field_at, named_by, named, next_is_variable, lone_at, inner_operand_at, an_output, an_input, side_at, an_argument, argument_at, ends_arguments, next_argument_at, before_close, together, inside_at, no_open, arguments_at, a_call, call_at, OperationText, LineText, Labelled, Plain, NamesText, Located, More, DeclarationText, ProgramText, is_truth, is_variable, is_constant, form_of, operator_of, operator_at, variable_at, constant_at, operand_at, is_line_stop, optional_operand_at, nested_at, either_at, behind_at, operation_at, optional_operation_at, is_label, is_no_label, labelled, labelled_at, plain_at, either_line_at, line_at, ends_lines, ends_named, ends_names, name_at, names_at, no_value, initial_at, declared, declaration_at, ends_block, ends_blocks, block_at, named_program, bare_program, end_at, finish_at, named_at, bare_at, begins_program, program_at}
+use Rattle.il_reader.specs.Front.{same_sign, is_class_of, is_sign, is_end_class, first, skip_breaks, next_is, at_end, is_word_token, next_is_word}
+use Rattle.il_reader.specs.Reading.{◌>>=◌, Reading, expect, both, pair, choice, mapped, mark, stand, many, closed, keyword}
+use Rattle.il_reader.specs.Grammar.{OperandText, Constant, Direct, Named, Field, ArgumentText, CallText, BehindText, Nothing, Given, Target, Opened, Called, no_dot, before_dot, before_no_dot, ends_arguments, before_close, no_open, OperationText, LineText, Labelled, Plain, NamesText, Located, More, DeclarationText, ProgramText, is_truth, is_variable, is_constant, form_of, operator_of, is_line_stop, is_label, is_no_label, ends_lines, ends_named, ends_names, no_value, ends_block, ends_blocks, begins_program}
+use Rattle.il_reader.specs.Walk.{field_at, inner_field_at, named_by, named, next_is_variable, lone_at, inner_operand_at, an_output, an_input, side_at, an_argument, argument_at, next_argument_at, together, inside_at, arguments_at, a_call, call_at, operator_at, variable_at, constant_at, operand_at, optional_operand_at, nested_at, either_at, behind_at, operation_at, optional_operation_at, labelled, labelled_at, plain_at, either_line_at, line_at, name_at, names_at, initial_at, declared, declaration_at, block_at, named_program, bare_program, end_at, finish_at, named_at, bare_at, program_at}
 use Rattle.il_reader.specs.Spelling.{Part, breaks, one, this, operator, ahead, Spell, name, sign, word, spelled_operand, spelled_inner_operand, spelled_side, spelled_argument, spelled_next, spelled_inside, spelled_arguments, spelled_call, spelled_optional, accepts, accepting, spelled_behind, spelled_operation, spelled_optional_operation, spelled_content, spelled_line, spelled_name, is_not_at, spelled_names, spelled_initial, spelled_declaration, spelled_block, is_bare, spelled_bare, spelled_by, spelled_program, listed}
 use Rattle.il_reader.proofs.Laws.{Law, Any, ok_is, bind_ok, count, law_shrinks, led_law, closed_law, many_law, until_law, pair_law, mapped_law, choice_law, told_law, past_law, else_law, no_front, stand_law, token_law, one_law, mark_law, meaning_law}
 

@@ -2,7 +2,8 @@
 use Rattle.std.proofs.Common.{◌≡◌, ℕ, List, Result, Ok, Err, sym, ap, subst, ◌∙◌}
 use Rattle.il_reader.specs.declared.fault.Refusal.{Refusal}
 use Rattle.il_reader.specs.declared.fault.Fault.{Fault}
-use Rattle.il_reader.specs.Grammar.{ProgramText, text_of}
+use Rattle.il_reader.specs.Grammar.{ProgramText}
+use Rattle.il_reader.specs.Walk.{text_of}
 use Rattle.il_reader.specs.Spelling.{Says}
 use Rattle.il_reader.specs.Texts.{SourceText, Reads}
 

@@ -1,21 +1,27 @@
 -- Where the fault of a text stands, and that it stands nowhere else.
-use Rattle.std.proofs.Common.{◌≡◌, ℕ, zero, suc, ◌-◌, ◌≤◌, length, true, false, List, [], ◌∷◌, ◌++◌, Option, Some, None, Result, Ok, Err, refl, sym, ap, subst, ◌∙◌, append_assoc, ◌⊎◌, inl, inr}
+use Rattle.std.proofs.Common.{◌≡◌, ℕ, zero, suc, ◌-◌, length, Bool, true, false, List, [], ◌∷◌, ◌++◌, Option, Some, None, Result, Ok, Err, refl, sym, ap, subst, ◌∙◌, append_assoc, ◌⊎◌, inl, inr}
 use Rattle.std.specs.Prelude.{◌↔◌, nat_lt}
 use Rattle.std.specs.List.{AllByRecursion}
 use Rattle.std.proofs.lemmas.List.{append-nil}
-use Rattle.std.proofs.lemmas.Bool.{le-ltb}
+use Rattle.std.proofs.lemmas.Bool.{le-ltb, lt-ltb, ltb-true, ltb-false}
 use Rattle.il_reader.specs.declared.fault.Refusal.{Refusal}
+use Rattle.il_reader.specs.declared.source.TheConstants.{TEXT_LIMIT}
 use Rattle.il_reader.specs.declared.fault.Fault.{Fault}
+use Rattle.il_reader.specs.declared.fault.ReadError.{ReadError}
+use Rattle.il_reader.specs.declared.fault.ReadError.TheVariants as errors
 use Rattle.il_reader.specs.declared.lexeme.Class.{Class}
 use Rattle.il_reader.specs.declared.lexeme.Class.TheVariants as classes
 use Rattle.il_reader.specs.Tokens.{Token, put, piece_of, tokens_behind, tokens_of}
-use Rattle.il_reader.specs.Reading.{◌>>=◌, first, others, fault_at}
-use Rattle.il_reader.specs.Grammar.{ProgramText, text_of, program_at}
+use Rattle.il_reader.specs.Front.{first, others, fault_at}
+use Rattle.il_reader.specs.Reading.{◌>>=◌}
+use Rattle.il_reader.specs.Grammar.{ProgramText}
+use Rattle.il_reader.specs.Walk.{text_of, program_at, told, source_of}
 use Rattle.il_reader.specs.Spelling.{Spell, spelled_program}
-use Rattle.il_reader.specs.Texts.{SourceText, placed, told, source_of}
-use Rattle.il_reader.specs.FirstFault.{Begins, IsCompleted, StandsAt, IsTextFault, IsSourceFault}
+use Rattle.il_reader.specs.Texts.{SourceText, IsSource, Reads, placed, too_long, Answers}
+use Rattle.il_reader.specs.FirstFault.{Begins, IsCompleted, StandsAt, IsTextFault, IsSourceFault, IsFaultOf, TellsFirst}
 use Rattle.il_reader.proofs.Laws.{bind_ok}
 use Rattle.il_reader.proofs.Programs.{program_law}
+use Rattle.il_reader.proofs.Complete.{said, is_read}
 use Rattle.il_reader.proofs.Checks.{GoesOn}
 use Rattle.il_reader.proofs.FirstFaults.{Placed, place_of}
 
@@ -105,18 +111,90 @@ refuses bytes f a = by_result (text_of bytes) refl
 pub text_fault : (bytes : List ℕ) (f : Refusal) → (text_of bytes ≡ Err f) ↔ IsTextFault bytes f
 text_fault bytes f = (stands bytes f, refuses bytes f)
 
+-- ---- with its line and column
+
+abbrev as_refused : Fault → Result SourceText Fault
+as_refused g = Err g
+
+same_fault : (f g : Fault) → as_refused f ≡ as_refused g → f ≡ g
+same_fault f g e = cc
+
 told_fault : (bytes : List ℕ) (r : Result ProgramText Refusal) (g : Fault) → told bytes r ≡ Err g → (f : Refusal) × (g ≡ placed bytes f) × (r ≡ Err f)
 told_fault bytes (Ok p) g e = absurd cc
-told_fault bytes (Err f) g e = (f, sym (fault_is (placed bytes f) g e), refl)
+told_fault bytes (Err f) g e = (f, sym (same_fault (placed bytes f) g e), refl)
+
+source_fault : (bytes : List ℕ) (g : Fault) → nat_lt TEXT_LIMIT (length bytes) ≡ false → source_of bytes ≡ Err g → IsSourceFault bytes g
+source_fault bytes g fits e = let t = told_fault bytes (text_of bytes) g (rw fits at e) in (t.0, t.1, stands bytes t.0 t.2)
+
+-- ---- the fault of a text, be it too long or not
+
+pub is_fault : (bytes : List ℕ) (g : Fault) → source_of bytes ≡ Err g → IsFaultOf bytes g
+is_fault bytes g e = by_length (nat_lt TEXT_LIMIT (length bytes)) refl
   where
-    source_refused : Fault → Result SourceText Fault
-    source_refused h = Err h
+    by_length : (b : Bool) → nat_lt TEXT_LIMIT (length bytes) ≡ b → IsFaultOf bytes g
+    by_length true over = inl (ltb-true TEXT_LIMIT (length bytes) over, sym (same_fault too_long g (rw over at e)))
+    by_length false fits = inr (ltb-false TEXT_LIMIT (length bytes) fits, source_fault bytes g fits e)
 
-    fault_is : (a b : Fault) → source_refused a ≡ source_refused b → a ≡ b
-    fault_is a b e = cc
+pub fault_told : (bytes : List ℕ) (g : Fault) → IsFaultOf bytes g → source_of bytes ≡ Err g
+fault_told bytes g (inl h) = rw (lt-ltb TEXT_LIMIT (length bytes) h.0) (ap as_refused (sym h.1))
+fault_told bytes g (inr h) = rw (le-ltb TEXT_LIMIT (length bytes) h.0) (rw (refuses bytes h.1.0 h.1.2) (ap as_refused (sym h.1.1)))
 
-pub source_fault : (bytes : List ℕ) (g : Fault) → length bytes ≤ 2097152 → source_of bytes ≡ Err g → IsSourceFault bytes g
-source_fault bytes g short e =
-    let fits : nat_lt 2097152 (length bytes) ≡ false = le-ltb 2097152 (length bytes) short in
-    let t = told_fault bytes (text_of bytes) g (rw fits at e) in
-    (t.0, t.1, stands bytes t.0 t.2)
+-- what is answered so is told by the fault of the text alone
+pub tells_first : (bytes : List ℕ) (r : Result SourceText ReadError) → Answers {X = SourceText} (λ s. s) r (source_of bytes) → TellsFirst bytes r
+tells_first bytes (Ok s) e = tt
+tells_first bytes (Err errors.Memory) e = tt
+tells_first bytes (Err (errors.Fault g)) e = is_fault bytes g e
+
+-- ---- a text is read, or it has a fault
+
+abbrev as_read : SourceText → Result SourceText Fault
+as_read s = Ok s
+
+same_read : (s r : SourceText) → as_read s ≡ as_read r → s ≡ r
+same_read s r e = cc
+
+differs : (s : SourceText) (g : Fault) → as_read s ≡ as_refused g → ⊥
+differs s g e = cc
+
+source_read : (s : SourceText) → IsSource s → source_of s.text ≡ Ok s
+source_read s is = rw (le-ltb TEXT_LIMIT (length s.text) is.short) (rw (is_read s.text s.says is.said) refl)
+
+-- what the text says is what the walk gives
+read_is : (bytes : List ℕ) (s : SourceText) → Reads bytes s → source_of bytes ≡ Ok s
+read_is bytes s h = subst (λ (text : List ℕ). source_of text ≡ Ok s) h.0 (source_read s h.1)
+
+abbrev made : List ℕ → ProgramText → SourceText
+made bytes p = record { text = bytes; says = p }
+
+told_read : (bytes : List ℕ) (r : Result ProgramText Refusal) (s : SourceText) → told bytes r ≡ Ok s → (p : ProgramText) × (made bytes p ≡ s) × (r ≡ Ok p)
+told_read bytes (Ok p) s e = (p, same_read (made bytes p) s e, refl)
+told_read bytes (Err f) s e = absurd (differs s (placed bytes f) (sym e))
+
+reads_here : (bytes : List ℕ) (s : SourceText) (p : ProgramText) → nat_lt TEXT_LIMIT (length bytes) ≡ false → made bytes p ≡ s → text_of bytes ≡ Ok p → Reads bytes s
+reads_here bytes s p fits is read =
+    let here : Reads bytes (made bytes p) = (refl, record { short = ltb-false TEXT_LIMIT (length bytes) fits; said = said bytes p read }) in
+    subst (λ (r : SourceText). Reads bytes r) is here
+
+-- what the walk gives is what the text says
+is_source : (bytes : List ℕ) (s : SourceText) → source_of bytes ≡ Ok s → Reads bytes s
+is_source bytes s e = by_length (nat_lt TEXT_LIMIT (length bytes)) refl
+  where
+    by_length : (b : Bool) → nat_lt TEXT_LIMIT (length bytes) ≡ b → Reads bytes s
+    by_length true over = absurd (differs s too_long (sym (rw over at e)))
+    by_length false fits = let t = told_read bytes (text_of bytes) s (rw fits at e) in reads_here bytes s t.0 fits t.1 t.2
+
+pub one_source : (bytes : List ℕ) (s r : SourceText) → Reads bytes s → Reads bytes r → s ≡ r
+one_source bytes s r a b = same_read s r (sym (read_is bytes s a) ∙ read_is bytes r b)
+
+pub one_fault : (bytes : List ℕ) (f g : Fault) → IsFaultOf bytes f → IsFaultOf bytes g → f ≡ g
+one_fault bytes f g a b = same_fault f g (sym (fault_told bytes f a) ∙ fault_told bytes g b)
+
+pub never_both : (bytes : List ℕ) (s : SourceText) (g : Fault) → Reads bytes s → IsFaultOf bytes g → ⊥
+never_both bytes s g a b = differs s g (sym (read_is bytes s a) ∙ fault_told bytes g b)
+
+pub one_of_both : (bytes : List ℕ) → ((s : SourceText) × Reads bytes s) ⊎ ((g : Fault) × IsFaultOf bytes g)
+one_of_both bytes = by_result (source_of bytes) refl
+  where
+    by_result : (r : Result SourceText Fault) → source_of bytes ≡ r → ((s : SourceText) × Reads bytes s) ⊎ ((g : Fault) × IsFaultOf bytes g)
+    by_result (Ok s) e = inl (s, is_source bytes s e)
+    by_result (Err g) e = inr (g, is_fault bytes g e)

@@ -13,7 +13,7 @@ use Rattle.il_reader.specs.declared.lexeme.Class.{Class}
 use Rattle.il_reader.specs.declared.lexeme.Class.TheVariants as classes
 use Rattle.il_reader.specs.declared.fault.FaultKind.TheVariants.{BadToken, TooLong}
 use Rattle.il_reader.specs.Tokens.{Token, is_letter_byte, is_word_byte, is_number_start, is_blank_byte, is_within, is_n, begins_with, sign, broken, name_of, literal_piece, word_piece, sign_of, solid_piece, comment_piece, comment_len, piece_of, put, tokens_behind, tokens_of}
-use Rattle.il_reader.specs.Reading.{is_class_of, is_sign, skip_breaks}
+use Rattle.il_reader.specs.Front.{is_class_of, is_sign, skip_breaks}
 use Rattle.il_reader.specs.Grammar.{LineText, Labelled, Plain, OperationText, is_line_stop, NamesText, Located, More, DeclarationText, ProgramText, ends_names, ends_block, ends_blocks, ends_lines, ends_named}
 use Rattle.il_reader.specs.Words.{begins_letter, IsWordText, IsWordName, AreWordNames, IsWordDeclaration, IsOptionalOperation, IsOperator, AreWords}
 use Rattle.il_reader.specs.Spelling.{Part, breaks, one, this, operator, ahead, Spell, Says, spelled_name, spelled_names, spelled_declaration, spelled_block, spelled_line, spelled_program, spelled_by, going, listed, spelled_optional_operation}

@@ -4,8 +4,10 @@ use Rattle.il_model.specs.Words.{spells, look, mnemonic_of}
 use Rattle.il_model.specs.Names.{is_well_spelled}
 use Rattle.il_reader.specs.declared.fault.Refusal.{Refusal}
 use Rattle.il_reader.specs.Tokens.{name_of, word_piece, solid_piece, piece_of, sign_of, tokens_behind}
-use Rattle.il_reader.specs.Reading.{skip_breaks, expect, many_within, many, keyword}
-use Rattle.il_reader.specs.Grammar.{ProgramText, operator_of, is_constant, operator_at, variable_at, constant_at, field_at, lone_at, operand_at, behind_at, operation_at, optional_operation_at, is_label, labelled_at, plain_at, either_line_at, line_at, ends_lines, ends_blocks, bare_at, begins_program, program_at, text_of}
+use Rattle.il_reader.specs.Front.{skip_breaks}
+use Rattle.il_reader.specs.Reading.{expect, many_within, many, keyword}
+use Rattle.il_reader.specs.Grammar.{ProgramText, operator_of, is_constant, is_label, ends_lines, ends_blocks, begins_program}
+use Rattle.il_reader.specs.Walk.{operator_at, variable_at, constant_at, field_at, lone_at, operand_at, behind_at, operation_at, optional_operation_at, labelled_at, plain_at, either_line_at, line_at, bare_at, program_at, text_of}
 use Rattle.il_reader.specs.FirstFault.{IsTextFault, misplaced, bad_token, WorkedFaults}
 use Rattle.il_reader.proofs.TextFaults.{text_fault}
 

@@ -7,7 +7,7 @@ use Rattle.il_reader.specs.declared.lexeme.Sign.TheVariants as signs
 use Rattle.il_reader.specs.declared.lexeme.Class.{Class}
 use Rattle.il_reader.specs.declared.lexeme.Class.TheVariants as classes
 use Rattle.il_reader.specs.Tokens.{Token, goes_on, tokens_of, tokens_behind, piece_of, solid_piece, sign_of, word_piece, name_of}
-use Rattle.il_reader.specs.Reading.{is_class_of, is_sign, is_word_token, no_token}
+use Rattle.il_reader.specs.Front.{is_class_of, is_sign, is_word_token, no_token}
 use Rattle.il_reader.specs.Grammar.{is_truth, is_variable, is_constant}
 
 -- these bytes with a blank behind them, before a text

@@ -1,13 +1,16 @@
--- Where the fault of a text stands, by the grammar alone.
-use Rattle.std.specs.Prelude.{◌≡◌, ℕ, List, [], ◌∷◌, ◌++◌, codes}
+-- The first fault of a text, by the grammar alone.
+use Rattle.std.specs.Prelude.{◌≡◌, ◌<◌, ◌≤◌, ◌⊎◌, ℕ, List, [], ◌∷◌, ◌++◌, length, Result, Ok, Err, codes}
+use Rattle.il_reader.specs.declared.source.TheConstants.{TEXT_LIMIT}
 use Rattle.il_reader.specs.declared.fault.FaultKind.TheVariants as kinds
 use Rattle.il_reader.specs.declared.fault.Refusal.{Refusal}
 use Rattle.il_reader.specs.declared.fault.Fault.{Fault}
+use Rattle.il_reader.specs.declared.fault.ReadError.{ReadError}
+use Rattle.il_reader.specs.declared.fault.ReadError.TheVariants as errors
 use Rattle.il_reader.specs.Tokens.{Token, tokens_of}
-use Rattle.il_reader.specs.Reading.{first, fault_at}
+use Rattle.il_reader.specs.Front.{fault_at}
 use Rattle.il_reader.specs.Grammar.{ProgramText}
 use Rattle.il_reader.specs.Spelling.{SaysTokens}
-use Rattle.il_reader.specs.Texts.{placed}
+use Rattle.il_reader.specs.Texts.{SourceText, placed, too_long, Reads, Answers}
 
 -- some list of tokens that the grammar has begins with these
 abbrev pub Begins : List Token → Type 0
@@ -17,18 +20,12 @@ Begins before = (behind : List Token) × (s : ProgramText) × SaysTokens (before
 abbrev pub IsCompleted : List Token → Type 0
 IsCompleted before = (text : List ℕ) × (s : ProgramText) × SaysTokens (before ++ tokens_of text) s
 
--- The fault is that of this token: nothing of the grammar begins with it behind these, while something begins with these alone.
+-- The fault is that of this token: nothing of the grammar begins with it behind these, while something begins with
+-- these alone.
 pub record StandsAt (before : List Token) (at : Token) (f : Refusal) : Type 0 where
   pub fault : f ≡ fault_at at
   pub begun : IsCompleted before
   pub not_begun : Begins (before ++ at ∷ []) → ⊥
-
--- The fault of a list of tokens, behind whose last one stands the end.
-pub record IsFirstFault (tokens : List Token) (f : Refusal) : Type 0 where
-  pub before : List Token
-  pub rest : List Token
-  pub parts : before ++ rest ≡ tokens
-  pub stands : StandsAt before (first rest) f
 
 -- the fault of a text, at one of its tokens
 pub record IsTextFault (bytes : List ℕ) (f : Refusal) : Type 0 where
@@ -42,7 +39,27 @@ pub record IsTextFault (bytes : List ℕ) (f : Refusal) : Type 0 where
 abbrev pub IsSourceFault : List ℕ → Fault → Type 0
 IsSourceFault bytes g = (f : Refusal) × (g ≡ placed bytes f) × IsTextFault bytes f
 
--- worked texts
+-- the first fault of a text: over the limit it's too long, else it stands at the first token with which no text begins
+abbrev pub IsFaultOf : List ℕ → Fault → Type 0
+IsFaultOf bytes g =
+    ((TEXT_LIMIT < length bytes) × (g ≡ too_long)) ⊎ ((length bytes ≤ TEXT_LIMIT) × IsSourceFault bytes g)
+
+-- ---- what a call answers
+
+-- what the text says is read, unless memory runs out
+abbrev pub IsGiven : List ℕ → Result SourceText ReadError → Type 0
+IsGiven bytes r = (s : SourceText) → Reads bytes s → Answers (λ s. s) r (Ok s)
+
+-- a fault that is told is the first of the text
+abbrev pub TellsFirst : List ℕ → Result SourceText ReadError → Type 0
+TellsFirst bytes (Err (errors.Fault g)) = IsFaultOf bytes g
+TellsFirst bytes r = Unit {0}
+
+-- the first fault of the text is told, unless memory runs out
+abbrev pub IsTold : List ℕ → Result SourceText ReadError → Type 0
+IsTold bytes r = (first : Fault) → IsFaultOf bytes first → Answers (λ s. s) r (Err first)
+
+-- ---- worked texts
 
 abbrev pub misplaced : ℕ → Refusal
 misplaced left = record { kind = kinds.Misplaced; left = left }
@@ -50,8 +67,8 @@ misplaced left = record { kind = kinds.Misplaced; left = left }
 abbrev pub bad_token : ℕ → Refusal
 bad_token left = record { kind = kinds.BadToken; left = left }
 
--- An operand is missing, at a token and at the end; a word is no operator and stands before no colon; a broken token stands where an
--- operand may, and behind a token that is misplaced. Where one fault is, no other is.
+-- An operand is missing, at a token and at the end; a word is no operator and stands before no colon; a broken token
+-- stands where an operand may, and behind a token that is misplaced. Where one fault is, no other is.
 pub record WorkedFaults : Type 0 where
   pub operand : IsTextFault (codes "LD ;") (misplaced 1)
   pub field : IsTextFault (codes "LD T1.") (misplaced 0)

@@ -1,9 +1,11 @@
 pub mod Tokens
 pub mod Place
 pub mod Faults
+pub mod Front
 pub mod Reading
 pub mod Grammar
 pub mod Spelling
 pub mod Words
 pub mod FirstFault
 pub mod Texts
+pub mod Walk

@@ -1,4 +1,5 @@
--- What the tokens of a text are, by what it says.
+-- What the tokens of a text are, by what it says: the productions of IEC 61131-3:2003, Annex B, each named beside its
+-- parts.
 use Rattle.std.specs.Prelude.{◌≡◌, List, [], ◌∷◌, ◌++◌, not, Bool, true, false, Option, Some, None, ℕ, codes, if◌then◌else◌}
 use Rattle.std.specs.List.{flat_map}
 use Rattle.il_reader.specs.declared.contents.Operator.{Operator}
@@ -9,11 +10,11 @@ use Rattle.il_reader.specs.declared.operations.Form.TheVariants as forms
 use Rattle.il_reader.specs.declared.lexeme.Sign.{Sign}
 use Rattle.il_reader.specs.declared.lexeme.Sign.TheVariants as signs
 use Rattle.il_reader.specs.Tokens.{Token, tokens_of}
-use Rattle.il_reader.specs.Reading.{skip_breaks, is_sign, is_word_token, next_is_word, at_end}
+use Rattle.il_reader.specs.Front.{skip_breaks, is_sign, is_word_token, next_is_word, at_end}
 use Rattle.il_reader.specs.Grammar.{OperandText, Constant, Direct, Named, Field, ArgumentText, CallText, no_dot, before_no_dot, before_close, ends_arguments, no_open, BehindText, Nothing, Given, Target, Opened, Called, OperationText, LineText, Labelled, Plain, NamesText, Located, More, DeclarationText, ProgramText, is_constant, is_variable, form_of, operator_of, is_line_stop, is_no_label, no_value, ends_names, ends_block, ends_blocks, ends_lines, ends_named, begins_program}
 
--- what stands next: any number of line ends, a token of this sort, this token, a token that is this operator, or nothing
--- where this comes next
+-- what stands next: any number of line ends, a token of this sort, this token, a token that is this operator, or
+-- nothing where this comes next
 pub data Part : Type 0 where
   breaks : Part
   one : (Token → Bool) → Part
@@ -47,6 +48,7 @@ word w = one (is_word_token w)
 
 -- ---- instructions
 
+-- constant (B.1.2), direct_variable (B.1.4.1), or a variable with a field or without (B.1.4.2): an il_operand (B.2.1)
 abbrev pub spelled_operand : OperandText → List Part
 spelled_operand (Constant t) = this is_constant t ∷ []
 spelled_operand (Direct t) = address t ∷ []
@@ -61,19 +63,22 @@ spelled_inner_operand (Named t) = this is_variable t ∷ ahead before_no_dot ∷
 spelled_inner_operand (Field t f) =
     this is_variable t ∷ breaks ∷ sign signs.Dot ∷ breaks ∷ name f ∷ []
 
+-- the sign of an il_assign_operator or of an il_assign_out_operator (B.2.2)
 abbrev pub spelled_side : Side → List Part
 spelled_side sides.Input = sign signs.Assign ∷ []
 spelled_side sides.Output = sign signs.Arrow ∷ []
 
+-- il_param_assignment and il_param_out_assignment (B.2.1), of an operand alone
 abbrev pub spelled_argument : ArgumentText → List Part
 spelled_argument a =
     breaks ∷ name a.field
     ∷ breaks ∷ (spelled_side a.side ++ breaks ∷ spelled_inner_operand a.operand)
 
--- another argument of the same call
+-- the next of an il_param_list (B.2.1)
 abbrev pub spelled_next : ArgumentText → List Part
 spelled_next a = breaks ∷ sign signs.Comma ∷ spelled_argument a
 
+-- il_param_list (B.2.1), or nothing
 abbrev pub spelled_inside : List ArgumentText → List Part
 spelled_inside [] = ahead before_close ∷ []
 spelled_inside (a ∷ more) = spelled_argument a ++ (flat_map spelled_next more ++ ahead ends_arguments ∷ [])
@@ -82,6 +87,7 @@ abbrev pub spelled_arguments : Option (List ArgumentText) → List Part
 spelled_arguments None = ahead no_open ∷ []
 spelled_arguments (Some xs) = sign signs.Open ∷ (spelled_inside xs ++ breaks ∷ sign signs.Close ∷ [])
 
+-- fb_name and what follows it in an il_fb_call (B.2.1)
 abbrev pub spelled_call : CallText → List Part
 spelled_call c = name c.instance ∷ spelled_arguments c.written
 
@@ -107,6 +113,8 @@ accepting b (Some o) = if accepts (form_of o.mnemonic.op) b then Some o else Non
 abbrev pub operator_before : BehindText → Token → Option Operator
 operator_before b t = accepting b (operator_of t)
 
+-- what stands behind an il_simple_operator, an il_return_operator, an il_jump_operator, an il_expr_operator and
+-- an il_call_operator (B.2.2)
 abbrev pub spelled_behind : BehindText → List Part
 spelled_behind Nothing = []
 spelled_behind (Given x) = spelled_operand x
@@ -114,6 +122,7 @@ spelled_behind (Target t) = name t ∷ []
 spelled_behind (Opened o) = sign signs.Open ∷ spelled_optional o
 spelled_behind (Called c) = spelled_call c
 
+-- il_simple_operation, il_expression, il_jump_operation, il_fb_call or il_return_operator (B.2.1)
 abbrev pub spelled_operation : OperationText → List Part
 spelled_operation o = operator (operator_before o.behind) o.operator ∷ spelled_behind o.behind
 
@@ -121,30 +130,35 @@ abbrev pub spelled_optional_operation : Option OperationText → List Part
 spelled_optional_operation None = ahead is_line_stop ∷ []
 spelled_optional_operation (Some o) = spelled_operation o
 
+-- label ':' and what may follow it, or an operation (B.2.1)
 abbrev pub spelled_content : LineText → List Part
 spelled_content (Labelled t o) = name t ∷ sign signs.Colon ∷ spelled_optional_operation o
 spelled_content (Plain o) = ahead is_no_label ∷ spelled_operation o
 
+-- il_instruction (B.2.1)
 abbrev pub spelled_line : LineText → List Part
 spelled_line l = breaks ∷ (spelled_content l ++ ahead is_line_stop ∷ [])
 
 -- ---- declarations
 
--- another name of the same declaration
+-- the next variable_name of a var1_list (B.1.4.3)
 abbrev pub spelled_name : Token → List Part
 spelled_name t = breaks ∷ sign signs.Comma ∷ breaks ∷ name t ∷ []
 
 abbrev pub is_not_at : List Token → Bool
 is_not_at ts = not (next_is_word (codes "AT") ts)
 
+-- location of a located_var_decl, or what follows the first name of a var1_list (B.1.4.3)
 abbrev pub spelled_names : NamesText → List Part
 spelled_names (Located t) = word (codes "AT") ∷ breaks ∷ address t ∷ []
 spelled_names (More ts) = ahead is_not_at ∷ (flat_map spelled_name ts ++ ahead ends_names ∷ [])
 
+-- ':=' constant of a simple_spec_init (B.1.3.3), where it stands
 abbrev pub spelled_initial : Option Token → List Part
 spelled_initial None = ahead no_value ∷ []
 spelled_initial (Some t) = sign signs.Assign ∷ breaks ∷ this is_constant t ∷ []
 
+-- var1_init_decl, fb_name_decl or located_var_decl, and the semicolon behind it (B.1.4.3)
 abbrev pub spelled_declaration : DeclarationText → List Part
 spelled_declaration d =
     breaks ∷ name d.name
@@ -161,6 +175,7 @@ going stops s x = ahead (λ us. not (stops us)) ∷ s x
 abbrev pub listed : {X : Type 0} → (List Token → Bool) → (X → List Part) → List X → List Part
 listed stops s xs = flat_map (going stops s) xs ++ ahead stops ∷ []
 
+-- var_declarations and located_var_declarations, which may stand in one block (B.1.4.3)
 abbrev pub spelled_block : List DeclarationText → List Part
 spelled_block ds =
     breaks ∷ word (codes "VAR")
@@ -171,6 +186,7 @@ spelled_block ds =
 abbrev pub is_bare : List Token → Bool
 is_bare ts = not (begins_program ts)
 
+-- program_declaration (B.1.5.3)
 abbrev pub spelled_named : Token → ProgramText → List Part
 spelled_named t s =
     breaks ∷ word (codes "PROGRAM") ∷ name t
@@ -178,6 +194,7 @@ spelled_named t s =
     ++ (listed ends_named spelled_line s.lines
     ++ breaks ∷ word (codes "END_PROGRAM") ∷ breaks ∷ ahead at_end ∷ []))
 
+-- the same without the words around it: declarations and an instruction_list (B.2.1)
 abbrev pub spelled_bare : ProgramText → List Part
 spelled_bare s =
     listed ends_blocks spelled_block s.blocks

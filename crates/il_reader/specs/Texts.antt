@@ -1,5 +1,6 @@
--- A text as a whole: what it says, or its first fault with its line and column.
-use Rattle.std.specs.Prelude.{◌≡◌, ℕ, ◌≤◌, List, length, Result, Ok, Err, nat_lt, if◌then◌else◌}
+-- A text as a whole: what it says, and where its bytes stand.
+use Rattle.std.specs.Prelude.{◌≡◌, ℕ, ◌≤◌, List, length, Result, Ok, Err}
+use Rattle.il_reader.specs.declared.source.TheConstants.{TEXT_LIMIT}
 use Rattle.il_reader.specs.declared.fault.FaultKind.TheVariants as kinds
 use Rattle.il_reader.specs.declared.fault.Refusal.{Refusal}
 use Rattle.il_reader.specs.declared.fault.Fault.{Fault}
@@ -7,7 +8,7 @@ use Rattle.il_reader.specs.declared.fault.ReadError.{ReadError}
 use Rattle.il_reader.specs.declared.fault.ReadError.TheVariants as errors
 use Rattle.il_reader.specs.declared.contents.Contents.{Contents}
 use Rattle.il_reader.specs.Place.{place_at}
-use Rattle.il_reader.specs.Grammar.{ProgramText, program_text, text_of}
+use Rattle.il_reader.specs.Grammar.{ProgramText, program_text}
 use Rattle.il_reader.specs.Spelling.{Says}
 
 -- a text and what it says
@@ -20,7 +21,7 @@ source_text text contents = record { text = text; says = program_text contents }
 
 -- a text is short enough, and it says this
 pub record IsSource (s : SourceText) : Type 0 where
-  pub short : length s.text ≤ 2097152
+  pub short : length s.text ≤ TEXT_LIMIT
   pub said : Says s.text s.says
 
 abbrev pub Reads : List ℕ → SourceText → Type 0
@@ -30,15 +31,9 @@ Reads bytes s = (s.text ≡ bytes) × IsSource s
 abbrev pub placed : List ℕ → Refusal → Fault
 placed bytes f = record { kind = f.kind; place = place_at bytes f.left }
 
-abbrev pub told : List ℕ → Result ProgramText Refusal → Result SourceText Fault
-told bytes (Ok p) = Ok (record { text = bytes; says = p })
-told bytes (Err f) = Err (placed bytes f)
-
--- a text over the limit is too long at its first byte, whatever it says
-abbrev pub source_of : List ℕ → Result SourceText Fault
-source_of bytes =
-    if nat_lt 2097152 (length bytes) then Err (record { kind = kinds.TooLong; place = record { line = 1; column = 1 } })
-    else told bytes (text_of bytes)
+-- what is told of a text over the limit, whatever it says
+abbrev pub too_long : Fault
+too_long = record { kind = kinds.TooLong; place = record { line = 1; column = 1 } }
 
 -- What a call answered is this, unless memory ran out.
 abbrev pub Refuses : ReadError → Result SourceText Fault → Type 0

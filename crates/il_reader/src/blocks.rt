@@ -3,7 +3,8 @@
 ghost use Rattle.std.specs.Prelude.{◌≡◌, List, option_map};
 ghost use Rattle.il_reader.specs.Tokens.{Token, tokens_of, token};
 ghost use Rattle.il_reader.specs.Reading.{Takes};
-ghost use Rattle.il_reader.specs.Grammar.{DeclarationText, names_of, declaration, declarations, ends_names, name_at, names_at, initial_at, declaration_at, ends_block, ends_blocks, block_at};
+ghost use Rattle.il_reader.specs.Grammar.{DeclarationText, names_of, declaration, declarations, ends_names, ends_block, ends_blocks};
+ghost use Rattle.il_reader.specs.Walk.{name_at, names_at, initial_at, declaration_at, block_at};
 
 use crate::contents::{Declaration, Names};
 use crate::fault::Failure;
@@ -13,7 +14,7 @@ use crate::operands::constant_read;
 use crate::reading::{expected, is, is_word, past_breaks, past_keyword};
 use std::alloc::Global;
 
-#[tactic(auto, unfolding(crate::specs::Grammar::name_at))]
+#[tactic(auto, unfolding(crate::specs::Walk::name_at))]
 fn name_read(bytes: &[u8]) -> Result<(Lexeme<'_>, &[u8]), Failure>
     ensures { Takes token name_at bytes.now result }
 {
@@ -47,7 +48,7 @@ impl<'a> Listed<'a> for MoreNames {
     }
 }
 
-#[tactic(auto, unfolding(crate::specs::Grammar::names_at))]
+#[tactic(auto, unfolding(crate::specs::Walk::names_at))]
 fn names(alloc: Global, bytes: &[u8]) -> Result<(Names<'_>, &[u8]), Failure>
     ensures { Takes names_of names_at bytes.now result }
 {
@@ -62,7 +63,7 @@ fn names(alloc: Global, bytes: &[u8]) -> Result<(Names<'_>, &[u8]), Failure>
     }
 }
 
-#[tactic(auto, unfolding(crate::specs::Grammar::initial_at))]
+#[tactic(auto, unfolding(crate::specs::Walk::initial_at))]
 fn initial(bytes: &[u8]) -> Result<(Option<Lexeme<'_>>, &[u8]), Failure>
     ensures { Takes (option_map token) initial_at bytes.now result }
 {
@@ -76,7 +77,7 @@ fn initial(bytes: &[u8]) -> Result<(Option<Lexeme<'_>>, &[u8]), Failure>
     }
 }
 
-#[tactic(auto, unfolding(crate::specs::Grammar::declaration_at))]
+#[tactic(auto, unfolding(crate::specs::Walk::declaration_at))]
 fn declared(alloc: Global, bytes: &[u8]) -> Result<(Declaration<'_>, &[u8]), Failure>
     ensures { Takes declaration declaration_at bytes.now result }
 {
@@ -123,7 +124,7 @@ impl<'a> Listed<'a> for Declarations {
     }
 }
 
-#[tactic(auto, unfolding(crate::specs::Grammar::block_at))]
+#[tactic(auto, unfolding(crate::specs::Walk::block_at))]
 fn block(alloc: Global, bytes: &[u8]) -> Result<(Vec<Declaration<'_>>, &[u8]), Failure>
     ensures { Takes (λ xs. declarations xs.items) block_at bytes.now result }
 {

@@ -3,7 +3,8 @@
 ghost use Rattle.std.specs.Prelude.{◌≡◌, map, option_map};
 ghost use Rattle.il_reader.specs.Tokens.{tokens_of};
 ghost use Rattle.il_reader.specs.Reading.{Takes};
-ghost use Rattle.il_reader.specs.Grammar.{ArgumentText, argument, call, side_at, argument_at, ends_arguments, next_argument_at, inside_at, arguments_at, call_at};
+ghost use Rattle.il_reader.specs.Grammar.{ArgumentText, argument, call, ends_arguments};
+ghost use Rattle.il_reader.specs.Walk.{side_at, argument_at, next_argument_at, inside_at, arguments_at, call_at};
 
 use crate::contents::{Argument, Call};
 use crate::fault::Failure;
@@ -14,7 +15,7 @@ use crate::reading::{expected, is, past_breaks};
 use il_model::Side;
 use std::alloc::Global;
 
-#[tactic(auto, unfolding(crate::specs::Grammar::side_at))]
+#[tactic(auto, unfolding(crate::specs::Walk::side_at))]
 fn side_read(bytes: &[u8]) -> Result<(Side, &[u8]), Failure>
     ensures { Takes (λ x. x) side_at bytes.now result }
 {
@@ -28,7 +29,7 @@ fn side_read(bytes: &[u8]) -> Result<(Side, &[u8]), Failure>
     }
 }
 
-#[tactic(auto, unfolding(crate::specs::Grammar::argument_at))]
+#[tactic(auto, unfolding(crate::specs::Walk::argument_at))]
 fn argument_read(bytes: &[u8]) -> Result<(Argument<'_>, &[u8]), Failure>
     ensures { Takes argument argument_at bytes.now result }
 {
@@ -45,7 +46,7 @@ fn argument_read(bytes: &[u8]) -> Result<(Argument<'_>, &[u8]), Failure>
     ))
 }
 
-#[tactic(auto, unfolding(crate::specs::Grammar::next_argument_at))]
+#[tactic(auto, unfolding(crate::specs::Walk::next_argument_at))]
 fn next_argument(bytes: &[u8]) -> Result<(Argument<'_>, &[u8]), Failure>
     ensures { Takes argument next_argument_at bytes.now result }
 {
@@ -79,7 +80,7 @@ impl<'a> Listed<'a> for MoreArguments {
     }
 }
 
-#[tactic(auto, unfolding(crate::specs::Grammar::inside_at))]
+#[tactic(auto, unfolding(crate::specs::Walk::inside_at))]
 fn inside(alloc: Global, bytes: &[u8]) -> Result<(Vec<Argument<'_>>, &[u8]), Failure>
     ensures { Takes (λ xs. map argument xs.items) inside_at bytes.now result }
 {
@@ -94,7 +95,7 @@ fn inside(alloc: Global, bytes: &[u8]) -> Result<(Vec<Argument<'_>>, &[u8]), Fai
     }
 }
 
-#[tactic(auto, unfolding(crate::specs::Grammar::arguments_at))]
+#[tactic(auto, unfolding(crate::specs::Walk::arguments_at))]
 fn arguments_read(
     alloc: Global,
     bytes: &[u8],
@@ -113,7 +114,7 @@ fn arguments_read(
 }
 
 /// An instance and what it is called with.
-#[tactic(auto, unfolding(crate::specs::Grammar::call_at))]
+#[tactic(auto, unfolding(crate::specs::Walk::call_at))]
 pub fn call_read(alloc: Global, bytes: &[u8]) -> Result<(Call<'_>, &[u8]), Failure>
     ensures { Takes call call_at bytes.now result }
 {

@@ -51,7 +51,8 @@ impl<'a> Call<'a> {
     }
 }
 
-/// What stands behind an operator: nothing, an operand, the label of a jump, a parenthesis with an operand or without, or a call.
+/// What stands behind an operator: nothing, an operand, the label of a jump, a parenthesis with an operand or without,
+/// or a call.
 #[derive(Drop)]
 pub enum Behind<'a> {
     Nothing,

@@ -7,11 +7,11 @@
 //! ```
 //!
 //! Proved: `read` answers Ok exactly where the grammar (`specs/Spelling`, `specs/Grammar`) has a source for the text,
-//! and gives that one; else it tells which fault, and where (`exact`). A law over the grammar alone says that this is
-//! the first: the token at which no text of the grammar begins so (`fault_stands_first`).
+//! and gives that one; else the first fault, and where (`specs/FirstFault`): a text over the limit of 2 MiB is too long
+//! at 1:1, any other has its fault at the first token with which no text begins. Each text has one source or one fault,
+//! and never both (`a_text_is_read_or_refused`).
 //!
-//! Only tested: nothing; `texts.rows` and `first_path.rows` of `worked_rows` have texts with their faults. A text over
-//! the limit of 2 MiB is told too long at 1:1, of which the law says nothing.
+//! Only tested: nothing; `texts.rows` and `first_path.rows` of `worked_rows` have texts with their faults.
 #![tactic(auto)]
 
 mod blocks;
@@ -33,7 +33,7 @@ pub use contents::{
     Argument, Behind, Call, Contents, Declaration, Line, Names, Operand, Operation, Operator,
 };
 pub use fault::{Fault, FaultKind, ReadError};
-pub use first_fault::{fault_stands_first, worked_faults};
+pub use first_fault::{a_text_is_read_or_refused, worked_faults};
 pub use lexeme::{Class, Lexeme, Sign};
 pub use place::{Place, place_of};
 pub use source::{Source, read};

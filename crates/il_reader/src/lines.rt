@@ -3,7 +3,8 @@
 ghost use Rattle.std.specs.Prelude.{◌≡◌};
 ghost use Rattle.il_reader.specs.Tokens.{tokens_of};
 ghost use Rattle.il_reader.specs.Reading.{Takes};
-ghost use Rattle.il_reader.specs.Grammar.{LineText, line, is_label, labelled_at, plain_at, either_line_at, line_at, ends_lines, ends_named};
+ghost use Rattle.il_reader.specs.Grammar.{LineText, line, is_label, ends_lines, ends_named};
+ghost use Rattle.il_reader.specs.Walk.{labelled_at, plain_at, either_line_at, line_at};
 
 use crate::contents::Line;
 use crate::fault::Failure;
@@ -27,7 +28,7 @@ fn at_label(bytes: &[u8]) -> bool
     }
 }
 
-#[tactic(auto, unfolding(crate::specs::Grammar::labelled_at))]
+#[tactic(auto, unfolding(crate::specs::Walk::labelled_at))]
 fn labelled(alloc: Global, bytes: &[u8]) -> Result<(Line<'_>, &[u8]), Failure>
     ensures { Takes line labelled_at bytes.now result }
 {
@@ -37,7 +38,7 @@ fn labelled(alloc: Global, bytes: &[u8]) -> Result<(Line<'_>, &[u8]), Failure>
     Ok((Line::Labelled(label, x), rest))
 }
 
-#[tactic(auto, unfolding(crate::specs::Grammar::plain_at))]
+#[tactic(auto, unfolding(crate::specs::Walk::plain_at))]
 fn plain(alloc: Global, bytes: &[u8]) -> Result<(Line<'_>, &[u8]), Failure>
     ensures { Takes line plain_at bytes.now result }
 {
@@ -45,7 +46,7 @@ fn plain(alloc: Global, bytes: &[u8]) -> Result<(Line<'_>, &[u8]), Failure>
     Ok((Line::Plain(x), rest))
 }
 
-#[tactic(auto, unfolding(crate::specs::Grammar::either_line_at))]
+#[tactic(auto, unfolding(crate::specs::Walk::either_line_at))]
 fn either_line(alloc: Global, bytes: &[u8]) -> Result<(Line<'_>, &[u8]), Failure>
     ensures { Takes line either_line_at bytes.now result }
 {
@@ -56,7 +57,7 @@ fn either_line(alloc: Global, bytes: &[u8]) -> Result<(Line<'_>, &[u8]), Failure
     }
 }
 
-#[tactic(auto, unfolding(crate::specs::Grammar::line_at))]
+#[tactic(auto, unfolding(crate::specs::Walk::line_at))]
 fn line_read(alloc: Global, bytes: &[u8]) -> Result<(Line<'_>, &[u8]), Failure>
     ensures { Takes line line_at bytes.now result }
 {

@@ -3,7 +3,8 @@
 ghost use Rattle.std.specs.Prelude.{◌≡◌, option_map};
 ghost use Rattle.il_reader.specs.Tokens.{token};
 ghost use Rattle.il_reader.specs.Reading.{Takes};
-ghost use Rattle.il_reader.specs.Grammar.{operand, is_truth, is_variable, is_constant, variable_at, constant_at, field_at, inner_field_at, named_by, lone_at, operand_at, inner_operand_at};
+ghost use Rattle.il_reader.specs.Grammar.{operand, is_truth, is_variable, is_constant};
+ghost use Rattle.il_reader.specs.Walk.{variable_at, constant_at, field_at, inner_field_at, named_by, lone_at, operand_at, inner_operand_at};
 
 use crate::contents::Operand;
 use crate::fault::Failure;
@@ -34,7 +35,7 @@ fn constant(t: Lexeme) -> bool
     }
 }
 
-#[tactic(auto, unfolding(crate::specs::Grammar::variable_at))]
+#[tactic(auto, unfolding(crate::specs::Walk::variable_at))]
 fn variable_read(bytes: &[u8]) -> Result<(Lexeme<'_>, &[u8]), Failure>
     ensures { Takes token variable_at bytes.now result }
 {
@@ -47,7 +48,7 @@ fn variable_read(bytes: &[u8]) -> Result<(Lexeme<'_>, &[u8]), Failure>
 }
 
 /// A literal, TRUE or FALSE.
-#[tactic(auto, unfolding(crate::specs::Grammar::constant_at, crate::specs::Grammar::is_constant))]
+#[tactic(auto, unfolding(crate::specs::Walk::constant_at, crate::specs::Grammar::is_constant))]
 pub fn constant_read(bytes: &[u8]) -> Result<(Lexeme<'_>, &[u8]), Failure>
     ensures { Takes token constant_at bytes.now result }
 {
@@ -59,7 +60,7 @@ pub fn constant_read(bytes: &[u8]) -> Result<(Lexeme<'_>, &[u8]), Failure>
     }
 }
 
-#[tactic(auto, unfolding(crate::specs::Grammar::field_at))]
+#[tactic(auto, unfolding(crate::specs::Walk::field_at))]
 fn field_read(bytes: &[u8]) -> Result<(Option<Lexeme<'_>>, &[u8]), Failure>
     ensures { Takes (option_map token) field_at bytes.now result }
 {
@@ -73,7 +74,7 @@ fn field_read(bytes: &[u8]) -> Result<(Option<Lexeme<'_>>, &[u8]), Failure>
     }
 }
 
-#[tactic(auto, unfolding(crate::specs::Grammar::inner_field_at))]
+#[tactic(auto, unfolding(crate::specs::Walk::inner_field_at))]
 fn inner_field_read(bytes: &[u8]) -> Result<(Option<Lexeme<'_>>, &[u8]), Failure>
     ensures { Takes (option_map token) inner_field_at bytes.now result }
 {
@@ -96,7 +97,7 @@ fn named<'a>(t: Lexeme<'a>, field: Option<Lexeme<'a>>) -> Operand<'a>
     }
 }
 
-#[tactic(auto, unfolding(crate::specs::Grammar::lone_at))]
+#[tactic(auto, unfolding(crate::specs::Walk::lone_at))]
 fn lone_read(bytes: &[u8]) -> Result<(Operand<'_>, &[u8]), Failure>
     ensures { Takes operand lone_at bytes.now result }
 {
@@ -111,7 +112,7 @@ fn lone_read(bytes: &[u8]) -> Result<(Operand<'_>, &[u8]), Failure>
 }
 
 /// An operand on a line.
-#[tactic(auto, unfolding(crate::specs::Grammar::operand_at))]
+#[tactic(auto, unfolding(crate::specs::Walk::operand_at))]
 pub fn operand_read(bytes: &[u8]) -> Result<(Operand<'_>, &[u8]), Failure>
     ensures { Takes operand operand_at bytes.now result }
 {
@@ -126,7 +127,7 @@ pub fn operand_read(bytes: &[u8]) -> Result<(Operand<'_>, &[u8]), Failure>
 }
 
 /// An operand between the parentheses of a call, where line ends are white space.
-#[tactic(auto, unfolding(crate::specs::Grammar::inner_operand_at))]
+#[tactic(auto, unfolding(crate::specs::Walk::inner_operand_at))]
 pub fn inner_operand_read(bytes: &[u8]) -> Result<(Operand<'_>, &[u8]), Failure>
     ensures { Takes operand inner_operand_at bytes.now result }
 {

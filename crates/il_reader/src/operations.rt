@@ -3,7 +3,8 @@
 ghost use Rattle.std.specs.Prelude.{◌≡◌, option_map};
 ghost use Rattle.il_reader.specs.Tokens.{tokens_of, token};
 ghost use Rattle.il_reader.specs.Reading.{Takes};
-ghost use Rattle.il_reader.specs.Grammar.{operand, behind, operation, form_of, operator_from, operator_of, operator_at, is_line_stop, optional_operand_at, nested_at, either_at, behind_at, operation_at, optional_operation_at};
+ghost use Rattle.il_reader.specs.Grammar.{operand, behind, operation, form_of, operator_from, operator_of, is_line_stop};
+ghost use Rattle.il_reader.specs.Walk.{operator_at, optional_operand_at, nested_at, either_at, behind_at, operation_at, optional_operation_at};
 
 use crate::calls::call_read;
 use crate::contents::{Behind, Operand, Operation, Operator};
@@ -15,7 +16,8 @@ use il_model::op::{Modifier, Op};
 use il_model::words::{Mnemonic, mnemonic_from};
 use std::alloc::Global;
 
-/// What may stand behind an operator: an operand, nothing, a label, an instance that is called, or an operand or a parenthesis.
+/// What may stand behind an operator: an operand, nothing, a label, an instance that is called, or an operand or a
+/// parenthesis.
 #[derive(Clone, Copy, PartialEq, Eq)]
 pub enum Form {
     Operand,
@@ -72,7 +74,7 @@ fn operator(t: Lexeme) -> Option<Operator>
     }
 }
 
-#[tactic(auto, unfolding(crate::specs::Grammar::operator_at, crate::specs::Grammar::operator_of))]
+#[tactic(auto, unfolding(crate::specs::Walk::operator_at, crate::specs::Grammar::operator_of))]
 fn operator_read(bytes: &[u8]) -> Result<(Operator, &[u8]), Failure>
     ensures { Takes (λ x. x) operator_at bytes.now result }
 {
@@ -91,7 +93,7 @@ pub fn at_line_stop(bytes: &[u8]) -> bool
     is(Sign::Break, t) || is_end(t)
 }
 
-#[tactic(auto, unfolding(crate::specs::Grammar::optional_operand_at))]
+#[tactic(auto, unfolding(crate::specs::Walk::optional_operand_at))]
 fn optional_operand(bytes: &[u8]) -> Result<(Option<Operand<'_>>, &[u8]), Failure>
     ensures { Takes (option_map operand) optional_operand_at bytes.now result }
 {
@@ -103,7 +105,7 @@ fn optional_operand(bytes: &[u8]) -> Result<(Option<Operand<'_>>, &[u8]), Failur
     }
 }
 
-#[tactic(auto, unfolding(crate::specs::Grammar::nested_at))]
+#[tactic(auto, unfolding(crate::specs::Walk::nested_at))]
 fn nested(bytes: &[u8]) -> Result<(Option<Operand<'_>>, &[u8]), Failure>
     ensures { Takes (option_map operand) nested_at bytes.now result }
 {
@@ -111,7 +113,7 @@ fn nested(bytes: &[u8]) -> Result<(Option<Operand<'_>>, &[u8]), Failure>
     optional_operand(rest)
 }
 
-#[tactic(auto, unfolding(crate::specs::Grammar::either_at))]
+#[tactic(auto, unfolding(crate::specs::Walk::either_at))]
 fn either(bytes: &[u8]) -> Result<(Behind<'_>, &[u8]), Failure>
     ensures { Takes behind either_at bytes.now result }
 {
@@ -125,7 +127,7 @@ fn either(bytes: &[u8]) -> Result<(Behind<'_>, &[u8]), Failure>
     }
 }
 
-#[tactic(auto, unfolding(crate::specs::Grammar::behind_at))]
+#[tactic(auto, unfolding(crate::specs::Walk::behind_at))]
 fn behind_read(alloc: Global, form: Form, bytes: &[u8]) -> Result<(Behind<'_>, &[u8]), Failure>
     ensures { Takes behind (behind_at form) bytes.now result }
 {
@@ -148,7 +150,7 @@ fn behind_read(alloc: Global, form: Form, bytes: &[u8]) -> Result<(Behind<'_>, &
 }
 
 /// An operator with what stands behind it.
-#[tactic(auto, unfolding(crate::specs::Grammar::operation_at))]
+#[tactic(auto, unfolding(crate::specs::Walk::operation_at))]
 pub fn operation_read(alloc: Global, bytes: &[u8]) -> Result<(Operation<'_>, &[u8]), Failure>
     ensures { Takes operation operation_at bytes.now result }
 {
@@ -158,7 +160,7 @@ pub fn operation_read(alloc: Global, bytes: &[u8]) -> Result<(Operation<'_>, &[u
 }
 
 /// An operation, where the line doesn't end.
-#[tactic(auto, unfolding(crate::specs::Grammar::optional_operation_at))]
+#[tactic(auto, unfolding(crate::specs::Walk::optional_operation_at))]
 pub fn optional_operation(
     alloc: Global,
     bytes: &[u8],

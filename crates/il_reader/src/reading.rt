@@ -2,7 +2,8 @@
 
 ghost use Rattle.std.specs.Prelude.{◌≡◌};
 ghost use Rattle.il_reader.specs.Tokens.{tokens_of, token};
-ghost use Rattle.il_reader.specs.Reading.{Takes, Passes, fault_at, is_sign, is_end, is_word_token, skip_breaks, expect, keyword};
+ghost use Rattle.il_reader.specs.Front.{fault_at, is_sign, is_end, is_word_token, skip_breaks};
+ghost use Rattle.il_reader.specs.Reading.{Takes, Passes, expect, keyword};
 
 use crate::fault::{Failure, FaultKind, Refusal};
 use crate::lexeme::{Class, Lexeme, Sign, next};
@@ -47,7 +48,7 @@ pub fn expected(sign: Sign, bytes: &[u8]) -> Result<(Lexeme<'_>, &[u8]), Failure
 }
 
 /// What stands after the line ends at the front.
-#[tactic(auto, unfolding(crate::specs::Reading::skip_breaks))]
+#[tactic(auto, unfolding(crate::specs::Front::skip_breaks))]
 pub fn past_breaks(bytes: &[u8]) -> &[u8]
     ensures { tokens_of result.now ≡ skip_breaks (tokens_of bytes.now) }
 {

@@ -1,7 +1,9 @@
 //! A text that was read.
 
-ghost use Rattle.std.specs.Prelude.{◌≡◌, Ok, IfOk};
-ghost use Rattle.il_reader.specs.Texts.{SourceText, Reads, Answers, source_of};
+ghost use Rattle.std.specs.Prelude.{◌≡◌, IfOk};
+ghost use Rattle.il_reader.specs.Texts.{Reads, Answers};
+ghost use Rattle.il_reader.specs.FirstFault.{IsGiven, TellsFirst, IsTold};
+ghost use Rattle.il_reader.specs.Walk.{source_of};
 
 use crate::contents::{Contents, Declaration, Line};
 use crate::fault::{Failure, Fault, FaultKind, ReadError};
@@ -37,8 +39,8 @@ impl<'a> Source<'a> {
     ghost use Rattle.il_reader.specs.Texts.{IsSource};
     ghost use Rattle.il_reader.specs.Words.{AreWords};
 
-    /// What is known of every source: its text is short enough, and it says this; and its names are names, and its operators
-    /// take what stands behind them.
+    /// What is known of every source: its text is short enough, and it says this; and its names are names, and its
+    /// operators take what stands behind them.
     pub fn is_read(&self)
         ensures source { IsSource self.now }
         ensures words { AreWords self.now.says }
@@ -68,16 +70,11 @@ impl<'a> Source<'a> {
     }
 }
 
-/// Reads a text of at most 2,097,152 bytes (IEC 61131-3:2003, 3.2 and Annex B: declarations with locations and initial values, labels,
-/// all operators, fields of instances, calls with lists of inputs and outputs). A longer text is too long at 1:1, before all else. Answers the first
-/// fault in the text, or that memory ran out.
-pub fn read(alloc: Global, bytes: &[u8]) -> Result<Source<'_>, ReadError>
-    // What is read is what the text says.
+/// What a text says, or the fault at which the walk over it ends.
+fn walked(alloc: Global, bytes: &[u8]) -> Result<Source<'_>, ReadError>
     ensures found { IfOk result (λ s. Reads bytes.now s) }
-    // What the text says is read, unless memory runs out.
-    ensures only { (s : SourceText) → Reads bytes.now s → Answers (λ r. r) result (Ok s) }
-    // Which fault it is.
-    ensures exact { Answers (λ r. r) result (source_of bytes.now) }
+    ensures only { IsGiven bytes.now result }
+    ensures exact { Answers (λ s. s) result (source_of bytes.now) }
 {
     if bytes.len() > TEXT_LIMIT {
         return Err(ReadError::Fault(Fault {
@@ -96,4 +93,20 @@ pub fn read(alloc: Global, bytes: &[u8]) -> Result<Source<'_>, ReadError>
         })),
         Err(Failure::Memory) => Err(ReadError::Memory),
     }
+}
+
+/// Reads a text of at most 2,097,152 bytes (IEC 61131-3:2003, 3.2 and Annex B: declarations with locations and initial
+/// values, labels, all operators, fields of instances, calls with lists of inputs and outputs). A longer text is too
+/// long at 1:1, before all else. Answers the first fault in the text, or that memory ran out.
+pub fn read(alloc: Global, bytes: &[u8]) -> Result<Source<'_>, ReadError>
+    // What is read is what the text says.
+    ensures found { IfOk result (λ s. Reads bytes.now s) }
+    // What the text says is read, unless memory runs out.
+    ensures only { IsGiven bytes.now result }
+    // A fault that is told is the first of the text: it stands at the first token with which no text begins.
+    ensures refused { TellsFirst bytes.now result }
+    // The first fault of the text is told, unless memory runs out.
+    ensures told { IsTold bytes.now result }
+{
+    walked(alloc, bytes)
 }

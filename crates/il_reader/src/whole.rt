@@ -4,7 +4,8 @@ ghost use Rattle.std.specs.Prelude.{◌≡◌, Ok, IfOk};
 ghost use Rattle.il_reader.specs.Tokens.{tokens_of};
 ghost use Rattle.il_reader.specs.Reading.{Gives, Takes, Passes};
 ghost use Rattle.il_reader.specs.Spelling.{Says};
-ghost use Rattle.il_reader.specs.Grammar.{program_text, end_at, finish_at, named_at, bare_at, begins_program, program_at, text_of, ProgramText};
+ghost use Rattle.il_reader.specs.Grammar.{program_text, begins_program, ProgramText};
+ghost use Rattle.il_reader.specs.Walk.{end_at, finish_at, named_at, bare_at, program_at, text_of};
 
 use crate::blocks::Blocks;
 use crate::contents::Contents;
@@ -23,7 +24,7 @@ fn at_program(bytes: &[u8]) -> bool
     is_word(b"PROGRAM", t)
 }
 
-#[tactic(auto, unfolding(crate::specs::Grammar::end_at))]
+#[tactic(auto, unfolding(crate::specs::Walk::end_at))]
 fn ended(bytes: &[u8]) -> Result<&[u8], Failure>
     ensures { Passes end_at bytes.now result }
 {
@@ -35,7 +36,7 @@ fn ended(bytes: &[u8]) -> Result<&[u8], Failure>
     }
 }
 
-#[tactic(auto, unfolding(crate::specs::Grammar::finish_at))]
+#[tactic(auto, unfolding(crate::specs::Walk::finish_at))]
 fn finished(bytes: &[u8]) -> Result<&[u8], Failure>
     ensures { Passes finish_at bytes.now result }
 {
@@ -43,7 +44,7 @@ fn finished(bytes: &[u8]) -> Result<&[u8], Failure>
     ended(past_breaks(behind))
 }
 
-#[tactic(auto, unfolding(crate::specs::Grammar::named_at))]
+#[tactic(auto, unfolding(crate::specs::Walk::named_at))]
 fn named(alloc: Global, bytes: &[u8]) -> Result<(Contents<'_>, &[u8]), Failure>
     ensures { Takes program_text named_at bytes.now result }
 {
@@ -62,7 +63,7 @@ fn named(alloc: Global, bytes: &[u8]) -> Result<(Contents<'_>, &[u8]), Failure>
     ))
 }
 
-#[tactic(auto, unfolding(crate::specs::Grammar::bare_at))]
+#[tactic(auto, unfolding(crate::specs::Walk::bare_at))]
 fn bare(alloc: Global, bytes: &[u8]) -> Result<(Contents<'_>, &[u8]), Failure>
     ensures { Takes program_text bare_at bytes.now result }
 {
@@ -79,7 +80,7 @@ fn bare(alloc: Global, bytes: &[u8]) -> Result<(Contents<'_>, &[u8]), Failure>
     ))
 }
 
-#[tactic(auto, unfolding(crate::specs::Grammar::program_at))]
+#[tactic(auto, unfolding(crate::specs::Walk::program_at))]
 fn program(alloc: Global, bytes: &[u8]) -> Result<(Contents<'_>, &[u8]), Failure>
     ensures { Takes program_text program_at bytes.now result }
 {
@@ -90,7 +91,7 @@ fn program(alloc: Global, bytes: &[u8]) -> Result<(Contents<'_>, &[u8]), Failure
     }
 }
 
-#[tactic(auto, unfolding(crate::specs::Grammar::text_of))]
+#[tactic(auto, unfolding(crate::specs::Walk::text_of))]
 fn all(alloc: Global, bytes: &[u8]) -> Result<Contents<'_>, Failure>
     ensures { Gives program_text result (text_of bytes.now) }
 {

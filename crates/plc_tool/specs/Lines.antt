@@ -18,7 +18,8 @@ bit_text (number, false) = []
 
 -- an output word with its number where it isn't 0: QW7=-5
 abbrev pub word_text : ℕ × ℤ → List ℕ
-word_text (number, word) = if is_zero word then [] else codes " QW" ++ (decimal number ++ (codes "=" ++ signed_decimal word))
+word_text (number, word) =
+    if is_zero word then [] else codes " QW" ++ (decimal number ++ (codes "=" ++ signed_decimal word))
 
 abbrev pub bits_text : List Bool → List ℕ
 bits_text bits = flat_map bit_text (enumerate_from 0 bits)
@@ -41,9 +42,11 @@ value_text (values.Time z) = codes "value T#" ++ (signed_decimal z ++ codes "ms"
 
 -- an answer, without the end of its line
 abbrev pub answer_text : Answer → List ℕ
-answer_text (answers.Outputs count image) = codes "outputs " ++ (decimal count ++ (bits_text image.cells.bits ++ words_text image.cells.words))
+answer_text (answers.Outputs count image) =
+    codes "outputs " ++ (decimal count ++ (bits_text image.cells.bits ++ words_text image.cells.words))
 answer_text (answers.Held position) = codes "held " ++ decimal position
-answer_text (answers.Stopped stop position image) = codes "stopped " ++ (stop_name stop ++ (codes " " ++ decimal position))
+answer_text (answers.Stopped stop position image) =
+    codes "stopped " ++ (stop_name stop ++ (codes " " ++ decimal position))
 answer_text (answers.Value value) = value_text value
 answer_text answers.Done = codes "done"
 answer_text (answers.Refused refusal) = codes "refused " ++ decimal (refusal_number refusal)

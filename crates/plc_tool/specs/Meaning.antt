@@ -1,25 +1,27 @@
 -- What a text means: its program, and the answers to commands.
-use Rattle.std.specs.Prelude.{◌≡◌, ◌⊎◌, ℕ, List, ◌++◌, map, take, codes, Option, Ok, Err}
+use Rattle.std.specs.Prelude.{◌≡◌, ◌⊎◌, ℕ, List, ◌++◌, map, take, codes, Option, Err}
 use Rattle.std.specs.Fmt.{decimal}
 use Rattle.std.specs.Io.KnownBytes.{Appends}
 use Rattle.il_model.specs.declared.command.Answer.{Answer}
 use Rattle.il_model.specs.Text.{Text}
 use Rattle.il_model.specs.declared.typing.TypeFault.{TypeFault}
 use Rattle.il_model.specs.Typing.{IsTyped}
-use Rattle.il_model.specs.Settled.{typed_program_of}
+use Rattle.il_model.specs.Settled.{IsTypedProgramOf}
 use Rattle.il_model.specs.Marks.{words_in}
 use Rattle.il_model.specs.Image.{spelling}
 use Rattle.il_model.specs.Fits.{IsImage}
 use Rattle.il_model.specs.Counted.{Failed}
 use Rattle.il_model.specs.declared.counted.CountedWrite.{Ghosts as CountedWriter}
 use Rattle.controller_model.specs.Commands.{answers_of}
-use Rattle.il_reader.specs.Texts.{SourceText, Reads, source_of}
+use Rattle.il_reader.specs.Texts.{SourceText, Reads}
+use Rattle.il_reader.specs.FirstFault.{IsFaultOf}
 use Rattle.il_reader.specs.declared.fault.Fault as read_faults
 use Rattle.il_reader.specs.declared.fault.ReadError.TheVariants as read_errors
 use Rattle.declarations.specs.Declaring as Declaring
 use Rattle.declarations.specs.FirstFault.{HasNoFault, IsRefused as IsRefusedSource}
 use Rattle.declarations.specs.declared.fault.Fault as declaration_faults
 use Rattle.declarations.specs.declared.fault.DeclError.TheVariants as declaration_errors
+use Rattle.assembler.specs.FirstFault.{IsFirstFault as IsFirstTypeFault}
 use Rattle.assembler.specs.declared.fault.AsmError.TheVariants as assembly_errors
 use Rattle.loader.specs.declared.fault.LoadFault.{LoadFault}
 use Rattle.loader.specs.Judging.{image_of}
@@ -42,13 +44,7 @@ pub record IsProgramOf (text : List ℕ) (program : Text) : Type 0 where
 pub record IsTypedProgramOfText (text : List ℕ) (typed : Text) : Type 0 where
   pub program : Text
   pub is : IsProgramOf text program
-  pub settled : typed_program_of program ≡ Ok typed
-
--- the bytes spell the program's typed program
-pub record IsSpelled (program : Text) (bytes : List ℕ) : Type 0 where
-  pub typed : Text
-  pub settled : typed_program_of program ≡ Ok typed
-  pub spelled : bytes ≡ spelling typed
+  pub settled : IsTypedProgramOf program typed
 
 -- the bytes are the image of the program that the text says
 pub record IsImageOfText (text bytes : List ℕ) : Type 0 where
@@ -74,8 +70,10 @@ pub record IsCutOff {W : Type 0} (w : CountedWriter W) (text : List ℕ) (old ne
   pub written : (n : ℕ) × Appends (w.held old) (w.held new) (take n text)
   pub device : Failed (w.faults old) (w.faults new)
 
--- The image of the program that the text says was cut off, and no line was written; or the whole image was written, and the line cut off.
-pub record IsAssemblyCutShort {V W : Type 0} (v : CountedWriter V) (w : CountedWriter W) (text : List ℕ) (image image_after : V) (out out_after : W) : Type 0 where
+-- The image of the program that the text says was cut off, and no line was written; or the whole image was written, and
+-- the line cut off.
+pub record IsAssemblyCutShort {V W : Type 0} (v : CountedWriter V) (w : CountedWriter W) (text : List ℕ)
+    (image image_after : V) (out out_after : W) : Type 0 where
   pub program : Text
   pub is : IsTypedProgramOfText text program
   pub written : (IsCutOff v (spelling program) image image_after × (out_after ≡ out))
@@ -111,7 +109,7 @@ pub record IsAnswered (text : List ℕ) (budget : ℕ) (commands : List NamedCom
 -- the text is no source, and this is told of it
 pub record IsReadFault (text : List ℕ) (told : Fault) : Type 0 where
   pub fault : read_faults.Fault
-  pub unread : source_of text ≡ Err fault
+  pub first : IsFaultOf text fault
   pub is : told ≡ of_read (read_errors.Fault fault)
 
 -- it is a source, and this is told of the first fault of what it declares
@@ -122,11 +120,11 @@ pub record IsDeclarationFault (text : List ℕ) (told : Fault) : Type 0 where
   pub undeclared : IsRefusedSource source fault
   pub is : told ≡ of_declaration (declaration_errors.Fault fault)
 
--- the program has no typed program, and this is told of its first fault
+-- the program has no typed program, and this is told of the first fault of the least instruction that has one
 pub record IsUntyped (program : Text) (told : Fault) : Type 0 where
   pub fault : TypeFault
   pub instruction : ℕ
-  pub untyped : typed_program_of program ≡ Err (fault, instruction)
+  pub first : IsFirstTypeFault program instruction fault
   pub is : told ≡ of_assembly (assembly_errors.Fault fault instruction)
 
 -- it says a program, and this is told of that one's first fault
@@ -163,6 +161,7 @@ pub record IsRefused (IsFault : Fault → Type 0) : Type 0 where
 abbrev pub IsGoodText : List ℕ → Type 0
 IsGoodText text = (typed : Text) × IsTypedProgramOfText text typed
 
--- the fault that is told where another file has one: that of the text, and of a good text that one; or that memory ran out
+-- the fault that is told where another file has one: that of the text, and of a good text that one; or that memory ran
+-- out
 abbrev pub IsFirstFault : List ℕ → Fault → Fault → Type 0
 IsFirstFault text fault = OrMemory (λ told. IsTextFault text told ⊎ ((told ≡ fault) × IsGoodText text))

@@ -12,8 +12,11 @@ use Rattle.plc_tool.specs.declared.fault.Fault.{Fault}
 use Rattle.plc_tool.specs.declared.fault.Fault.TheVariants as faults
 
 -- all of the text went out, or a beginning of it where the writer failed or memory ran out
-pub record Puts {W : Type 0} (w : CountedWriter W) (text : List ℕ) (old new : W) (result : Result (Unit {0}) Fault) : Type 0 where
-  pub sent : MatchResult result (λ _. Appends (w.held old) (w.held new) text) (λ _. (n : ℕ) × Appends (w.held old) (w.held new) (take n text))
+pub record Puts {W : Type 0} (w : CountedWriter W) (text : List ℕ) (old new : W)
+    (result : Result (Unit {0}) Fault) : Type 0 where
+  pub sent : MatchResult result
+      (λ _. Appends (w.held old) (w.held new) text)
+      (λ _. (n : ℕ) × Appends (w.held old) (w.held new) (take n text))
   pub why : IfErr result (λ e. ((e ≡ faults.Device) × Failed (w.faults old) (w.faults new)) ⊎ (e ≡ faults.Memory))
   pub counts : w.faults old ≤ w.faults new
 
@@ -24,7 +27,8 @@ pub record IsRun (text : List ℕ) (budget : ℕ) (commands : List NamedCommand)
   pub written : Appends old new (lines_of answers)
 
 -- a beginning of the lines of the answers was written, before the writer failed in the call or memory ran out
-pub record IsRunCutShort {W : Type 0} (w : CountedWriter W) (text : List ℕ) (budget : ℕ) (commands : List NamedCommand) (old new : W) : Type 0 where
+pub record IsRunCutShort {W : Type 0} (w : CountedWriter W) (text : List ℕ) (budget : ℕ)
+    (commands : List NamedCommand) (old new : W) : Type 0 where
   pub answers : List Answer
   pub are : IsAnswered text budget commands answers
   pub written : (n : ℕ) × Appends (w.held old) (w.held new) (take n (lines_of answers))
@@ -33,6 +37,8 @@ pub record IsRunCutShort {W : Type 0} (w : CountedWriter W) (text : List ℕ) (b
 abbrev pub IsWhyStopped : Fault → ℕ → ℕ → Type 0
 IsWhyStopped fault before after = ((fault ≡ faults.Device) × Failed before after) ⊎ (fault ≡ faults.Memory)
 
--- What is told of a run that is refused: the first fault of the text; or the text is good, and the bytes of the file are no list of commands.
+-- What is told of a run that is refused: the first fault of the text; or the text is good, and the bytes of the file
+-- are no list of commands.
 abbrev pub IsFaultOfRun : List ℕ → List ℕ → Fault → Type 0
-IsFaultOfRun text file fault = IsTextFault text fault ⊎ ((fault ≡ faults.Commands) × HasNoCommands file × IsGoodText text)
+IsFaultOfRun text file fault =
+    IsTextFault text fault ⊎ ((fault ≡ faults.Commands) × HasNoCommands file × IsGoodText text)

@@ -18,12 +18,16 @@ length_text (n, committed) = comma n ++ decimal committed
 
 -- a committed request: its client and its number
 abbrev pub entry_text : ℕ × Request → List ℕ
-entry_text (n, entry) = comma n ++ (codes "[" ++ (decimal entry.client.number ++ (codes "," ++ (decimal entry.number ++ codes "]"))))
+entry_text (n, entry) =
+    comma n ++ (codes "[" ++ (decimal entry.client.number ++ (codes "," ++ (decimal entry.number ++ codes "]"))))
 
 -- a release: its event, client and number, and the line of its answer
 abbrev pub release_text : ℕ × Release → List ℕ
 release_text (n, release) =
-    comma n ++ (codes "[" ++ (decimal release.event ++ (codes "," ++ (decimal release.client.number ++ (codes "," ++ (decimal release.number ++ (codes ",\"" ++ (answer_text release.answer ++ codes "\"]"))))))))
+    comma n ++ (codes "[" ++ (decimal release.event
+    ++ (codes "," ++ (decimal release.client.number
+    ++ (codes "," ++ (decimal release.number
+    ++ (codes ",\"" ++ (answer_text release.answer ++ codes "\"]"))))))))
 
 abbrev pub lengths_text : List ℕ → List ℕ
 lengths_text lengths = flat_map length_text (enumerate_from 0 lengths)
@@ -36,7 +40,9 @@ releases_text releases = flat_map release_text (enumerate_from 0 releases)
 
 -- the last two of its parts: the releases, and how many messages were sent
 abbrev pub released_text : Trace → List ℕ
-released_text trace = codes "],\"releases\":[" ++ (releases_text trace.releases.items ++ (codes "],\"sent\":" ++ (decimal (length trace.sent.items) ++ codes "}")))
+released_text trace =
+    codes "],\"releases\":[" ++ (releases_text trace.releases.items
+    ++ (codes "],\"sent\":" ++ (decimal (length trace.sent.items) ++ codes "}")))
 
 -- all but the first
 abbrev pub ordered_text : Trace → List ℕ

@@ -72,9 +72,10 @@ IsWhyNoReport g events told = (told ≡ faults.Memory) ⊎ IsRefusedAs g events 
 abbrev pub report_line : Trace → List ℕ
 report_line trace = report_text trace ++ codes "\n"
 
--- The report of these events was written: that of a run of them by the text's typed program, each scan within the budget, in which nothing
--- was lost.
-pub record IsSimulated (text : List ℕ) (f budget : ℕ) (named : List NamedEvent) (old new : Option (List ℕ)) : Type 0 where
+-- The report of these events was written: that of a run of them by the text's typed program, each scan within the
+-- budget, in which nothing was lost.
+pub record IsSimulated (text : List ℕ) (f budget : ℕ) (named : List NamedEvent)
+    (old new : Option (List ℕ)) : Type 0 where
   pub program : Text
   pub is : IsTypedProgramOfText text program
   pub events : List WorldEvent
@@ -85,7 +86,8 @@ pub record IsSimulated (text : List ℕ) (f budget : ℕ) (named : List NamedEve
   pub written : Appends old new (report_line trace)
 
 -- a beginning of that report was written, before the writer failed in the call or memory ran out
-pub record IsReportCutShort (text : List ℕ) (f budget : ℕ) (named : List NamedEvent) (old new : Option (List ℕ)) : Type 0 where
+pub record IsReportCutShort (text : List ℕ) (f budget : ℕ) (named : List NamedEvent)
+    (old new : Option (List ℕ)) : Type 0 where
   pub program : Text
   pub is : IsTypedProgramOfText text program
   pub events : List WorldEvent
@@ -101,7 +103,8 @@ pub record CantTakePlace (Q : Text) (f budget : ℕ) (named : List NamedEvent) (
   pub known : AreKnown Q named events
   pub refused : IsRefusedAs (member f 0 Q budget) events told
 
--- A schedule of these events is refused for the program of a text, and this is told: a name in them is unknown, or one can't take place.
+-- A schedule of these events is refused for the program of a text, and this is told: a name in them is unknown, or one
+-- can't take place.
 pub record IsScheduleRefused (text : List ℕ) (f budget : ℕ) (named : List NamedEvent) (told : Fault) : Type 0 where
   pub program : Text
   pub is : IsTypedProgramOfText text program
@@ -111,9 +114,10 @@ pub record IsScheduleRefused (text : List ℕ) (f budget : ℕ) (named : List Na
 abbrev pub IsToldOf : List ℕ → ℕ → ℕ → List NamedEvent → Fault → Type 0
 IsToldOf text f budget named told = IsTextFault text told ⊎ IsScheduleRefused text f budget named told
 
--- What is told of a schedule that is refused: the first fault of the text; or the text is good, and the bytes of the file are no schedule, or
--- they are one, and a name in it is unknown or an event can't take place.
+-- What is told of a schedule that is refused: the first fault of the text; or the text is good, and the bytes of the
+-- file are no schedule, or they are one, and a name in it is unknown or an event can't take place.
 abbrev pub IsFaultOfSchedule : List ℕ → ℕ → ℕ → List ℕ → Fault → Type 0
 IsFaultOfSchedule text f budget file fault =
     IsTextFault text fault
-    ⊎ (((fault ≡ faults.Schedule) × HasNoSchedule file × IsGoodText text) ⊎ ((named : List NamedEvent) × HasSchedule file named × IsScheduleRefused text f budget named fault))
+    ⊎ (((fault ≡ faults.Schedule) × HasNoSchedule file × IsGoodText text)
+    ⊎ ((named : List NamedEvent) × HasSchedule file named × IsScheduleRefused text f budget named fault))

@@ -22,7 +22,8 @@ pair_text text number between other = numbered text number ++ (numbered between 
 
 -- the number of a fault, and its line and column: 3 at 7:1
 abbrev pub placed_text : List ℕ → ℕ → ℕ → ℕ → List ℕ
-placed_text text number line column = numbered text number ++ (numbered (codes " at ") line ++ (numbered (codes ":") column ++ codes "\n"))
+placed_text text number line column =
+    numbered text number ++ (numbered (codes " at ") line ++ (numbered (codes ":") column ++ codes "\n"))
 
 abbrev pub fault_line : Fault → List ℕ
 fault_line (faults.Read number line column) = placed_text (codes "plc: read ") number line column
@@ -38,7 +39,8 @@ fault_line faults.Device = codes "plc: device\n"
 fault_line faults.Memory = codes "plc: memory\n"
 
 -- all of the text went out; an error is answered where the writer failed in the call
-pub record Sends {W : Type 0} (w : CountedWriter W) (text : List ℕ) (old new : W) (result : Result (Unit {0}) DeviceFault) : Type 0 where
+pub record Sends {W : Type 0} (w : CountedWriter W) (text : List ℕ) (old new : W)
+    (result : Result (Unit {0}) DeviceFault) : Type 0 where
   pub sent : OnOk result (Appends (w.held old) (w.held new) text)
   pub device : OnErr result (Failed (w.faults old) (w.faults new))
   pub counts : w.faults old ≤ w.faults new
@@ -53,7 +55,8 @@ Ends w (Ok done) status old new = (status ≡ 0) × (new ≡ old)
 Ends w (Err fault) status old new = (status ≡ status_of fault) × WentOut w (fault_line fault) old new
 
 -- a fault was told by its line, and its status answered; of input that is refused it is one of these
-pub record IsTold {W : Type 0} (w : CountedWriter W) (IsFault : Fault → Type 0) (status : ℕ) (old new : W) : Type 0 where
+pub record IsTold {W : Type 0} (w : CountedWriter W) (IsFault : Fault → Type 0) (status : ℕ) (old new : W)
+    : Type 0 where
   pub fault : Fault
   pub answered : status ≡ status_of fault
   pub is : status_of fault ≡ 1 → IsFault fault
@@ -63,13 +66,22 @@ pub record IsTold {W : Type 0} (w : CountedWriter W) (IsFault : Fault → Type 0
 abbrev pub EndsTold : {W : Type 0} → CountedWriter W → (Fault → Type 0) → ℕ → W → W → Type 0
 EndsTold w IsFault status old new = ((status ≡ 0) × (new ≡ old)) ⊎ IsTold w IsFault status old new
 
--- A call stopped short: this is how a device's failure left it, and the device is told; or that is how want of memory did, and it is told.
+-- A call stopped short: this is how a device's failure left it, and the device is told; or that is how want of memory
+-- did, and it is told.
 abbrev pub StopsShort : {W : Type 0} → CountedWriter W → Type 0 → Type 0 → W → W → Type 0
-StopsShort w IsLeftByDevice IsLeftByMemory old new = (IsLeftByDevice × WentOut w (fault_line faults.Device) old new) ⊎ (IsLeftByMemory × WentOut w (fault_line faults.Memory) old new)
+StopsShort w IsLeftByDevice IsLeftByMemory old new =
+    (IsLeftByDevice × WentOut w (fault_line faults.Device) old new)
+    ⊎ (IsLeftByMemory × WentOut w (fault_line faults.Memory) old new)
 
 -- why words ask for no work: the text of help on the output; else a line on the other stream
-abbrev pub IsToldOfWords : {W : Type 0} → CountedWriter W → WordsError → ℕ → Option (List ℕ) → Option (List ℕ) → W → W → Type 0
-IsToldOfWords w (words.Shown text) status out out_after old new = ((status ≡ 0) × Appends out out_after (string_bytes text) × (new ≡ old)) ⊎ ((status ≡ 2) × IsTold w (λ fault. ⊥) status old new)
-IsToldOfWords w (words.Bad text) status out out_after old new = (status ≡ 3) × (out_after ≡ out) × WentOut w (string_bytes text) old new
-IsToldOfWords w words.NotText status out out_after old new = (status ≡ 3) × (out_after ≡ out) × WentOut w (codes "error: a word is no text in UTF-8\n") old new
-IsToldOfWords w words.Memory status out out_after old new = (status ≡ 2) × (out_after ≡ out) × WentOut w (fault_line faults.Memory) old new
+abbrev pub IsToldOfWords : {W : Type 0}
+    → CountedWriter W → WordsError → ℕ → Option (List ℕ) → Option (List ℕ) → W → W → Type 0
+IsToldOfWords w (words.Shown text) status out out_after old new =
+    ((status ≡ 0) × Appends out out_after (string_bytes text) × (new ≡ old))
+    ⊎ ((status ≡ 2) × IsTold w (λ fault. ⊥) status old new)
+IsToldOfWords w (words.Bad text) status out out_after old new =
+    (status ≡ 3) × (out_after ≡ out) × WentOut w (string_bytes text) old new
+IsToldOfWords w words.NotText status out out_after old new =
+    (status ≡ 3) × (out_after ≡ out) × WentOut w (codes "error: a word is no text in UTF-8\n") old new
+IsToldOfWords w words.Memory status out out_after old new =
+    (status ≡ 2) × (out_after ≡ out) × WentOut w (fault_line faults.Memory) old new

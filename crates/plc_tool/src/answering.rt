@@ -1,9 +1,11 @@
-//! The image of a text and its answers to commands: reader, names, assembler, loader and controller, one after the other.
+//! The image of a text and its answers to commands: reader, names, assembler, loader and controller, one after the
+//! other.
 
-ghost use Rattle.std.specs.Prelude.{◌≡◌, Ok, IfOk, IfErr};
+ghost use Rattle.std.specs.Prelude.{◌≡◌, IfOk, IfErr};
 ghost use Rattle.il_model.specs.Declarable.{IsDeclared};
-ghost use Rattle.il_model.specs.Settled.{typed_program_of};
-ghost use Rattle.plc_tool.specs.Meaning.{IsSpelled, IsProgramOf, IsTypedProgramOfText, IsImageOfText, IsAnswered, IsProgramFault, IsUntyped, IsTextFault, OrMemory};
+ghost use Rattle.il_model.specs.Settled.{IsTypedProgramOf};
+ghost use Rattle.assembler.specs.Assembled.{IsSpelled};
+ghost use Rattle.plc_tool.specs.Meaning.{IsProgramOf, IsTypedProgramOfText, IsImageOfText, IsAnswered, IsProgramFault, IsUntyped, IsTextFault, OrMemory};
 
 use crate::fault::Fault;
 use crate::naming::answers_of;
@@ -20,7 +22,7 @@ use std::alloc::Global;
 fn loaded(alloc: Global, program: &Program, bytes: &[u8]) -> Result<Image, Fault>
     requires declared { IsDeclared program.now }
     requires spelled { IsSpelled program.now bytes.now }
-    ensures settled { IfOk result (λ i. typed_program_of program.now ≡ Ok i) }
+    ensures settled { IfOk result (λ i. IsTypedProgramOf program.now i) }
     ensures fault { IfErr result (λ e. e ≡ Fault.Memory) }
 {
     match load(alloc, bytes) {
@@ -33,7 +35,7 @@ fn loaded(alloc: Global, program: &Program, bytes: &[u8]) -> Result<Image, Fault
 /// The image of a program: that of its typed program.
 fn image_of(alloc: Global, program: &Program) -> Result<Image, Fault>
     requires { IsDeclared program.now }
-    ensures settled { IfOk result (λ i. typed_program_of program.now ≡ Ok i) }
+    ensures settled { IfOk result (λ i. IsTypedProgramOf program.now i) }
     ensures refused { IfErr result (OrMemory (IsUntyped program.now)) }
 {
     let bytes = assemble(alloc, program)?;

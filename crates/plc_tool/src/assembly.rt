@@ -22,15 +22,16 @@ fn word_count(image: &[u8]) -> u16
 /// The line that tells how many words an image has.
 fn words_line(alloc: Global, image: &[u8]) -> Result<String, AllocError>
     requires { 16 ≤ length image.now }
-    ensures { IfOk result (λ line. (Q : Text) → words_in Q.code < 2 ^ 16 → image.now ≡ spelling Q → string_bytes line ≡ words_line Q) }
+    ensures { IfOk result (λ line. (Q : Text)
+        → words_in Q.code < 2 ^ 16 → image.now ≡ spelling Q → string_bytes line ≡ words_line Q) }
 {
     let words = word_count(image);
     format!(in alloc; "words {words}\n")
 }
 
-/// Writes the image of a text, then the line that tells the count of its words. Of a text that is refused it tells the first fault,
-/// or that memory ran out, and writes nothing. It answers Device only where a writer failed in this call: that of the image behind a
-/// beginning of it, or the other behind the whole image and a beginning of the line.
+/// Writes the image of a text, then the line that tells the count of its words. Of a text that is refused it tells the
+/// first fault, or that memory ran out, and writes nothing. It answers Device only where a writer failed in this call:
+/// that of the image behind a beginning of it, or the other behind the whole image and a beginning of the line.
 pub fn put_image<I: CountedWrite, W: CountedWrite>(
     alloc: Global,
     text: &[u8],

@@ -25,10 +25,11 @@ use plc_json::{JsonFault, NamedCommand, NamedEvent};
 use std::alloc::Global;
 use vr_model::Config;
 
-/// Assembles a source and answers the status: the bytes of its image on `image_out`, and then on `out` one line that tells how
-/// many words the image has, those of arguments too; or one line on `err` for the first fault. Of a source that is refused nothing
-/// is written. It answers 2 for a device only where one of the two failed in this call: that of the image behind a beginning of it,
-/// or the other behind the whole image and a beginning of the line. Whoever owns the two flushes them.
+/// Assembles a source and answers the status: the bytes of its image on `image_out`, and then on `out` one line that
+/// tells how many words the image has, those of arguments too; or one line on `err` for the first fault. Of a source
+/// that is refused nothing is written. It answers 2 for a device only where one of the two failed in this call: that of
+/// the image behind a beginning of it, or the other behind the whole image and a beginning of the line. Whoever owns
+/// the two flushes them.
 pub fn asm<I: CountedWrite, W: CountedWrite, E: CountedWrite>(
     alloc: Global,
     source: &[u8],
@@ -39,7 +40,8 @@ pub fn asm<I: CountedWrite, W: CountedWrite, E: CountedWrite>(
     ensures status { result ≤ 2 }
     ensures assembled { result ≡ 0 → IsAssembled source.now
         (I.held image_out.old) (I.held image_out.new) (W.held out.old) (W.held out.new) }
-    ensures refused { result ≡ 1 → IsRefused (IsTextFault source.now) × (image_out.new ≡ image_out.old) × (out.new ≡ out.old) }
+    ensures refused { result ≡ 1
+        → IsRefused (IsTextFault source.now) × (image_out.new ≡ image_out.old) × (out.new ≡ out.old) }
     // A device is told only where a writer failed in this call. Where memory ran out, nothing was written.
     ensures cut { result ≡ 2 → StopsShort E.CountedWrite
         (IsAssemblyCutShort I.CountedWrite W.CountedWrite source.now image_out.old image_out.new out.old out.new)
@@ -49,8 +51,9 @@ pub fn asm<I: CountedWrite, W: CountedWrite, E: CountedWrite>(
     ended(put_image(alloc, source, image_out, out), err)
 }
 
-/// Lists an image and answers the status: its listing on `out`, or one line on `err` for the first fault. It answers 2 for a device
-/// only where `out` failed in this call; then a beginning of the listing went out. Of bytes that are no image nothing does.
+/// Lists an image and answers the status: its listing on `out`, or one line on `err` for the first fault. It answers 2
+/// for a device only where `out` failed in this call; then a beginning of the listing went out. Of bytes that are no
+/// image nothing does.
 pub fn list<W: CountedWrite, E: CountedWrite>(
     alloc: Global,
     image: &[u8],
@@ -61,15 +64,17 @@ pub fn list<W: CountedWrite, E: CountedWrite>(
     ensures listed { result ≡ 0 → IsListed image.now (W.held out.old) (W.held out.new) }
     ensures refused { result ≡ 1 → IsRefused (IsImageFault image.now) × (out.new ≡ out.old) }
     // A device is told only where `out` failed in this call. Where memory ran out, nothing was written.
-    ensures cut { result ≡ 2 → StopsShort E.CountedWrite (IsCutShort W.CountedWrite image.now out.old out.new) (out.new ≡ out.old) err.old err.new }
+    ensures cut { result ≡ 2 → StopsShort E.CountedWrite
+        (IsCutShort W.CountedWrite image.now out.old out.new)
+        (out.new ≡ out.old) err.old err.new }
     ensures told { EndsTold E.CountedWrite (IsImageFault image.now) result err.old err.new }
 {
     ended(put_listing(alloc, image, out), err)
 }
 
-/// Runs a source over the commands of a text, and answers the status: the line of each answer on `out` before the next command is
-/// applied, or one line on `err` for the first fault. The source is judged first, then the commands, and nothing runs before both
-/// are good. Of input that is refused nothing is written on `out`.
+/// Runs a source over the commands of a text, and answers the status: the line of each answer on `out` before the next
+/// command is applied, or one line on `err` for the first fault. The source is judged first, then the commands, and
+/// nothing runs before both are good. Of input that is refused nothing is written on `out`.
 pub fn run<W: CountedWrite, E: CountedWrite>(
     alloc: Global,
     source: &[u8],
@@ -86,9 +91,11 @@ pub fn run<W: CountedWrite, E: CountedWrite>(
     // A device is told only where `out` failed in this call. Where memory ran out, a beginning was written, or nothing.
     ensures cut { result ≡ 2 → StopsShort E.CountedWrite
         ((named : List NamedCommand) × HasCommands commands.now named
-        × IsRunCutShort W.CountedWrite source.now budget.instructions named out.old out.new × Failed (W.faults out.old) (W.faults out.new))
+        × IsRunCutShort W.CountedWrite source.now budget.instructions named out.old out.new
+        × Failed (W.faults out.old) (W.faults out.new))
         (((named : List NamedCommand) × HasCommands commands.now named
-        × IsRunCutShort W.CountedWrite source.now budget.instructions named out.old out.new) ⊎ (out.new ≡ out.old)) err.old err.new }
+        × IsRunCutShort W.CountedWrite source.now budget.instructions named out.old out.new) ⊎ (out.new ≡ out.old))
+        err.old err.new }
     ensures told { EndsTold E.CountedWrite (IsFaultOfRun source.now commands.now) result err.old err.new }
 {
     match plc_json::commands(alloc, commands) {
@@ -97,8 +104,9 @@ pub fn run<W: CountedWrite, E: CountedWrite>(
     }
 }
 
-/// Runs a source over commands, each scan within the budget, and answers the status: the line of each answer on `out` before the
-/// next command is applied, or one line on `err` for the first fault. Of a source that is refused nothing is written on `out`.
+/// Runs a source over commands, each scan within the budget, and answers the status: the line of each answer on `out`
+/// before the next command is applied, or one line on `err` for the first fault. Of a source that is refused nothing is
+/// written on `out`.
 pub fn run_commands<W: CountedWrite, E: CountedWrite>(
     alloc: Global,
     source: &[u8],
@@ -108,29 +116,35 @@ pub fn run_commands<W: CountedWrite, E: CountedWrite>(
     err: &mut E,
 ) -> u8
     ensures status { result ≤ 2 }
-    ensures answered { result ≡ 0 → IsRun source.now budget.instructions commands.now (W.held out.old) (W.held out.new) }
+    ensures answered { result ≡ 0
+        → IsRun source.now budget.instructions commands.now (W.held out.old) (W.held out.new) }
     ensures refused { result ≡ 1 → IsRefused (IsTextFault source.now) × (out.new ≡ out.old) }
     // A device is told only where `out` failed in this call. Where memory ran out, a beginning was written, or nothing.
     ensures cut { result ≡ 2 → StopsShort E.CountedWrite
-        (IsRunCutShort W.CountedWrite source.now budget.instructions commands.now out.old out.new × Failed (W.faults out.old) (W.faults out.new))
-        (IsRunCutShort W.CountedWrite source.now budget.instructions commands.now out.old out.new ⊎ (out.new ≡ out.old)) err.old err.new }
+        (IsRunCutShort W.CountedWrite source.now budget.instructions commands.now out.old out.new
+        × Failed (W.faults out.old) (W.faults out.new))
+        (IsRunCutShort W.CountedWrite source.now budget.instructions commands.now out.old out.new
+        ⊎ (out.new ≡ out.old)) err.old err.new }
     ensures told { EndsTold E.CountedWrite (IsTextFault source.now) result err.old err.new }
 {
     ended(put_run(alloc, source, budget, commands, out), err)
 }
 
-/// As `run` or `sim` where the other file couldn't be read, by this fault: a source that is refused is still answered before it.
+/// As `run` or `sim` where the other file couldn't be read, by this fault: a source that is refused is still answered
+/// before it.
 pub fn run_unread<E: CountedWrite>(alloc: Global, source: &[u8], fault: Fault, err: &mut E) -> u8
     ensures status { (result ≡ 1) ⊎ (result ≡ 2) }
     ensures refused { result ≡ 1 → IsRefused (IsTextFault source.now) ⊎ (status_told fault ≡ 1) }
-    ensures told { (first : told.Fault) × IsFirstFault source.now fault first × (result ≡ status_told first) × WentOut E.CountedWrite (fault_line first) err.old err.new }
+    ensures told { (first : told.Fault) × IsFirstFault source.now fault first × (result ≡ status_told first)
+        × WentOut E.CountedWrite (fault_line first) err.old err.new }
 {
     tell(first_fault(alloc, source, fault), err)
 }
 
-/// Runs a schedule over a group of replicas of a source, each scan within the budget, and answers the status: its report, one line
-/// on `out`, or one line on `err` for the first fault. The source is judged first, then the whole schedule with its names, and nothing runs before
-/// both are good. A run in which an event was lost for want of memory has no report, but ends as want of memory does.
+/// Runs a schedule over a group of replicas of a source, each scan within the budget, and answers the status: its
+/// report, one line on `out`, or one line on `err` for the first fault. The source is judged first, then the whole
+/// schedule with its names, and nothing runs before both are good. A run in which an event was lost for want of memory
+/// has no report, but ends as want of memory does.
 pub fn sim<W: CountedWrite, E: CountedWrite>(
     alloc: Global,
     source: &[u8],
@@ -143,15 +157,19 @@ pub fn sim<W: CountedWrite, E: CountedWrite>(
     ensures status { result ≤ 2 }
     ensures simulated { result ≡ 0 → (named : List NamedEvent) × HasSchedule schedule.now named
         × IsSimulated source.now config.now.f budget.instructions named (W.held out.old) (W.held out.new) }
-    ensures refused { result ≡ 1 → IsRefused (IsFaultOfSchedule source.now config.now.f budget.instructions schedule.now) }
+    ensures refused { result ≡ 1
+        → IsRefused (IsFaultOfSchedule source.now config.now.f budget.instructions schedule.now) }
     ensures unwritten { result ≡ 1 → out.new ≡ out.old }
     // A device is told only where `out` failed in this call. Where memory ran out, a beginning was written, or nothing.
     ensures cut { result ≡ 2 → StopsShort E.CountedWrite
         ((named : List NamedEvent) × HasSchedule schedule.now named
-        × IsReportCutShort source.now config.now.f budget.instructions named (W.held out.old) (W.held out.new) × Failed (W.faults out.old) (W.faults out.new))
+        × IsReportCutShort source.now config.now.f budget.instructions named (W.held out.old) (W.held out.new)
+        × Failed (W.faults out.old) (W.faults out.new))
         (((named : List NamedEvent) × HasSchedule schedule.now named
-        × IsReportCutShort source.now config.now.f budget.instructions named (W.held out.old) (W.held out.new)) ⊎ (out.new ≡ out.old)) err.old err.new }
-    ensures told { EndsTold E.CountedWrite (IsFaultOfSchedule source.now config.now.f budget.instructions schedule.now) result err.old err.new }
+        × IsReportCutShort source.now config.now.f budget.instructions named (W.held out.old) (W.held out.new))
+        ⊎ (out.new ≡ out.old)) err.old err.new }
+    ensures told { EndsTold E.CountedWrite
+        (IsFaultOfSchedule source.now config.now.f budget.instructions schedule.now) result err.old err.new }
 {
     match plc_json::schedule(alloc, schedule) {
         Ok(named) => sim_events(alloc, source, named.as_slice(), config, budget, out, err),
@@ -160,7 +178,8 @@ pub fn sim<W: CountedWrite, E: CountedWrite>(
     }
 }
 
-/// As `sim`, of events that were read: a source or a schedule that is refused is told by its first fault, and nothing is written on `out`.
+/// As `sim`, of events that were read: a source or a schedule that is refused is told by its first fault, and nothing
+/// is written on `out`.
 pub fn sim_events<W: CountedWrite, E: CountedWrite>(
     alloc: Global,
     source: &[u8],
@@ -171,13 +190,18 @@ pub fn sim_events<W: CountedWrite, E: CountedWrite>(
     err: &mut E,
 ) -> u8
     ensures status { result ≤ 2 }
-    ensures simulated { result ≡ 0 → IsSimulated source.now config.now.f budget.instructions named.now (W.held out.old) (W.held out.new) }
-    ensures refused { result ≡ 1 → IsRefused (IsToldOf source.now config.now.f budget.instructions named.now) × (out.new ≡ out.old) }
+    ensures simulated { result ≡ 0
+        → IsSimulated source.now config.now.f budget.instructions named.now (W.held out.old) (W.held out.new) }
+    ensures refused { result ≡ 1
+        → IsRefused (IsToldOf source.now config.now.f budget.instructions named.now) × (out.new ≡ out.old) }
     // A device is told only where `out` failed in this call. Where memory ran out, a beginning was written, or nothing.
     ensures cut { result ≡ 2 → StopsShort E.CountedWrite
-        (IsReportCutShort source.now config.now.f budget.instructions named.now (W.held out.old) (W.held out.new) × Failed (W.faults out.old) (W.faults out.new))
-        (IsReportCutShort source.now config.now.f budget.instructions named.now (W.held out.old) (W.held out.new) ⊎ (out.new ≡ out.old)) err.old err.new }
-    ensures told { EndsTold E.CountedWrite (IsToldOf source.now config.now.f budget.instructions named.now) result err.old err.new }
+        (IsReportCutShort source.now config.now.f budget.instructions named.now (W.held out.old) (W.held out.new)
+        × Failed (W.faults out.old) (W.faults out.new))
+        (IsReportCutShort source.now config.now.f budget.instructions named.now (W.held out.old) (W.held out.new)
+        ⊎ (out.new ≡ out.old)) err.old err.new }
+    ensures told { EndsTold E.CountedWrite
+        (IsToldOf source.now config.now.f budget.instructions named.now) result err.old err.new }
 {
     ended(put_report(alloc, source, named, config, budget, out), err)
 }

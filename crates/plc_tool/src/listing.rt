@@ -19,8 +19,9 @@ fn image_in(alloc: Global, bytes: &[u8]) -> Result<Image, Fault>
     Ok(load(alloc, bytes)?)
 }
 
-/// Writes the listing of the image that bytes are. Of bytes that are no image it tells the first fault, or that memory ran
-/// out, and writes nothing. It answers Device only where the writer failed in this call; then a beginning of the listing went out.
+/// Writes the listing of the image that bytes are. Of bytes that are no image it tells the first fault, or that memory
+/// ran out, and writes nothing. It answers Device only where the writer failed in this call; then a beginning of the
+/// listing went out.
 pub fn put_listing<W: CountedWrite>(alloc: Global, bytes: &[u8], out: &mut W) -> Result<(), Fault>
     ensures ok { OnOk result (IsListed bytes.now (W.held out.old) (W.held out.new)) }
     ensures err { IfErr result (λ e. ((e ≡ Fault.Device) × IsCutShort W.CountedWrite bytes.now out.old out.new)

@@ -9,9 +9,9 @@ use schedules::{Release, Trace};
 use std::fmt;
 use vr_model::Request;
 
-/// The report of a schedule, without its line's end: compact JSON (RFC 8259), its keys in order. It has the length of the
-/// committed list after each event, that list by clients and numbers, each release with its event, client, number and
-/// answer, and the count of messages that were sent.
+/// The report of a schedule, without its line's end: compact JSON (RFC 8259), its keys in order. It has the length of
+/// the committed list after each event, that list by clients and numbers, each release with its event, client, number
+/// and answer, and the count of messages that were sent.
 #[derive(Clone, Copy)]
 pub struct ReportLine<'a>(pub &'a Trace);
 

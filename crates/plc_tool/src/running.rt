@@ -15,8 +15,8 @@ use il_model::{Budget, CountedWrite};
 use plc_json::NamedCommand;
 use std::alloc::Global;
 
-/// Applies commands to a controller, one after another; each name is looked up at its command's turn, and the line of each answer
-/// is written before the next command.
+/// Applies commands to a controller, one after another; each name is looked up at its command's turn, and the line of
+/// each answer is written before the next command.
 fn put_answers<W: CountedWrite>(
     alloc: Global,
     controller: &mut Controller,
@@ -33,8 +33,9 @@ fn put_answers<W: CountedWrite>(
     Ok(())
 }
 
-/// Writes the answers of a text to commands, a line each, each scan within the budget. Of a text that is refused it tells the first
-/// fault and writes nothing. Where the writer fails or memory runs out, a beginning of the lines went out.
+/// Writes the answers of a text to commands, a line each, each scan within the budget. Of a text that is refused it
+/// tells the first fault and writes nothing. Where the writer fails or memory runs out, a beginning of the lines went
+/// out.
 pub fn put_run<W: CountedWrite>(
     alloc: Global,
     text: &[u8],

@@ -70,9 +70,10 @@ fn put_trace<W: CountedWrite>(alloc: Global, trace: &Trace, out: &mut W) -> Resu
     put_text(line.as_str(), out)
 }
 
-/// Writes the report of named events that replicas of a text's program run, each scan within the budget. The text is judged first,
-/// then the names of all events, and nothing runs before both are good. Of input that is refused it tells the first fault and writes nothing.
-/// Where the writer fails or memory runs out, a beginning of the report's line went out.
+/// Writes the report of named events that replicas of a text's program run, each scan within the budget. The text is
+/// judged first, then the names of all events, and nothing runs before both are good. Of input that is refused it tells
+/// the first fault and writes nothing. Where the writer fails or memory runs out, a beginning of the report's line went
+/// out.
 pub fn put_report<W: CountedWrite>(
     alloc: Global,
     text: &[u8],
@@ -81,7 +82,8 @@ pub fn put_report<W: CountedWrite>(
     budget: Budget,
     out: &mut W,
 ) -> Result<(), Fault>
-    ensures simulated { OnOk result (IsSimulated text.now config.now.f budget.instructions named.now (W.held out.old) (W.held out.new)) }
+    ensures simulated { OnOk result (
+        IsSimulated text.now config.now.f budget.instructions named.now (W.held out.old) (W.held out.new)) }
     ensures err { IfErr result (λ e. (IsWhyStopped e (W.faults out.old) (W.faults out.new)
         × IsReportCutShort text.now config.now.f budget.instructions named.now (W.held out.old) (W.held out.new))
         ⊎ (OrMemory (IsToldOf text.now config.now.f budget.instructions named.now) e × (out.new ≡ out.old))) }

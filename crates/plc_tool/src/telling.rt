@@ -109,8 +109,8 @@ pub fn tell<E: CountedWrite>(fault: Fault, err: &mut E) -> u8
     fault.status()
 }
 
-/// Tells why words ask for no work, and answers the status: 0 where help or the version was shown, 3 where the words are
-/// bad, and that of the fault where the stream failed or memory ran out.
+/// Tells why words ask for no work, and answers the status: 0 where help or the version was shown, 3 where the words
+/// are bad, and that of the fault where the stream failed or memory ran out.
 pub fn tell_words<W: Write, E: CountedWrite>(error: &WordsError, out: &mut W, err: &mut E) -> u8
     ensures { IsToldOfWords E.CountedWrite error.now result (W.contents out.old) (W.contents out.new) err.old err.new }
 {

@@ -14,7 +14,7 @@ use Rattle.il_model.specs.Names.{is_first_byte, is_reserved}
 use Rattle.il_model.specs.Words.{spells, look, mnemonic_of}
 use Rattle.il_reader.specs.declared.lexeme.Sign.TheVariants as signs
 use Rattle.il_reader.specs.Tokens.{Token, is_word_end, begins_with, tokens_behind, piece_of, solid_piece, sign_of, tokens_of}
-use Rattle.il_reader.specs.Reading.{is_sign, skip_breaks}
+use Rattle.il_reader.specs.Front.{is_sign, skip_breaks}
 use Rattle.il_reader.specs.Grammar.{is_variable, is_constant, no_dot, before_no_dot, ends_arguments, no_open}
 use Rattle.il_reader.specs.Spelling.{Part, breaks, ahead, sign, name, Spell, spelled_operand, spelled_inner_operand, spelled_side, spelled_argument, spelled_next, spelled_arguments, spelled_call}
 use Rattle.il_reader.proofs.Laws.{Spell-append}

@@ -13,7 +13,7 @@ use Rattle.il_model.specs.Names.{is_reserved, is_well_spelled}
 use Rattle.il_model.specs.Kinds.{kind_name}
 use Rattle.il_reader.specs.declared.lexeme.Sign.TheVariants as signs
 use Rattle.il_reader.specs.Tokens.{Token, is_word_end, tokens_of}
-use Rattle.il_reader.specs.Reading.{is_sign, is_word_token, next_is}
+use Rattle.il_reader.specs.Front.{is_sign, is_word_token, next_is}
 use Rattle.il_reader.specs.Grammar.{is_constant, no_value, ends_names, ends_block, DeclarationText}
 use Rattle.il_reader.specs.Spelling.{Part, breaks, ahead, this, sign, name, word, address, Spell, is_not_at, spelled_names, spelled_initial, spelled_declaration, going}
 use Rattle.il_reader.proofs.Laws.{Spell-append}

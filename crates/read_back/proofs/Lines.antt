@@ -10,7 +10,7 @@ use Rattle.il_model.specs.Names.{is_reserved}
 use Rattle.il_model.specs.Codes.{is_empty}
 use Rattle.il_reader.specs.declared.lexeme.Sign.TheVariants as signs
 use Rattle.il_reader.specs.Tokens.{Token, is_word_end, tokens_behind, piece_of, tokens_of}
-use Rattle.il_reader.specs.Reading.{is_sign, is_end, at_end, is_word_token, skip_breaks}
+use Rattle.il_reader.specs.Front.{is_sign, is_end, at_end, is_word_token, skip_breaks}
 use Rattle.il_reader.specs.Grammar.{is_line_stop, is_no_label, ends_lines, ends_blocks}
 use Rattle.il_reader.specs.Spelling.{Part, breaks, ahead, sign, Spell, spelled_operation, spelled_optional_operation, spelled_content, spelled_line, going}
 use Rattle.il_reader.proofs.Laws.{Spell-append}

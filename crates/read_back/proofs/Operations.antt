@@ -18,7 +18,7 @@ use Rattle.il_reader.specs.declared.operations.Form.TheVariants as forms
 use Rattle.il_reader.specs.declared.contents.Operator.{Operator}
 use Rattle.il_reader.specs.declared.lexeme.Sign.TheVariants as signs
 use Rattle.il_reader.specs.Tokens.{Token, is_word_end, tokens_behind, piece_of, tokens_of}
-use Rattle.il_reader.specs.Reading.{is_sign, is_end, is_word_token, next_is}
+use Rattle.il_reader.specs.Front.{is_sign, is_end, is_word_token, next_is}
 use Rattle.il_reader.specs.Grammar.{no_dot, no_open, is_line_stop, form_of, operator_of, is_label, is_no_label, BehindText}
 use Rattle.il_reader.specs.Spelling.{ahead, Spell, accepts, operator_before, spelled_operand, spelled_behind, spelled_operation}
 use Rattle.lister.specs.Listing.{letter, operand_text, behind_text, arguments_text, operation_text}

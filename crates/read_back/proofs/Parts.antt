@@ -3,7 +3,7 @@ use Rattle.std.proofs.Common.{◌≡◌, ℕ, Bool, true, false, List, [], ◌�
 use Rattle.il_reader.specs.declared.contents.Operator.{Operator}
 use Rattle.il_reader.specs.declared.lexeme.Sign.TheVariants as signs
 use Rattle.il_reader.specs.Tokens.{Token, tokens_of}
-use Rattle.il_reader.specs.Reading.{is_sign, skip_breaks}
+use Rattle.il_reader.specs.Front.{is_sign, skip_breaks}
 use Rattle.il_reader.specs.Spelling.{Part, breaks, one, this, operator, ahead, Spell}
 use Rattle.read_back.proofs.Written.{token_at}
 

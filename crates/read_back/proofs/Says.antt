@@ -8,7 +8,7 @@ use Rattle.il_model.specs.Names.{is_well_spelled}
 use Rattle.il_model.specs.Fits.{IsImage}
 use Rattle.il_reader.specs.declared.lexeme.Sign.TheVariants as signs
 use Rattle.il_reader.specs.Tokens.{Token, tokens_of}
-use Rattle.il_reader.specs.Reading.{at_end, is_word_token}
+use Rattle.il_reader.specs.Front.{at_end, is_word_token}
 use Rattle.il_reader.specs.Grammar.{ends_block, ends_blocks, ends_lines, begins_program}
 use Rattle.il_reader.specs.Spelling.{Part, breaks, ahead, word, Spell, Says, is_bare, going, listed, spelled_block, spelled_line, spelled_bare}
 use Rattle.il_reader.proofs.Laws.{Spell-append}

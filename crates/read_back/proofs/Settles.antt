@@ -3,8 +3,11 @@ use Rattle.std.proofs.Common.{◌≡◌, ℕ, Result, Ok, ap, ◌∙◌}
 use Rattle.il_model.specs.declared.typing.TypeFault.{TypeFault}
 use Rattle.il_model.specs.Text.{Text}
 use Rattle.il_model.specs.Typing.{◌>>=◌, IsTyped}
-use Rattle.il_model.specs.Settled.{typed_program_of}
-use Rattle.il_model.proofs.Settling.{typed_plain, settled_plain}
+use Rattle.il_model.specs.Settled.{typed_program_of, IsTypedProgramOf}
+use Rattle.il_model.proofs.Settling.{typed_plain, settled_plain, typed_program}
 
-pub typed_settles : (Q : Text) → IsTyped Q → typed_program_of Q ≡ Ok Q
-typed_settles Q typed = settled_plain Q (typed_plain Q typed) ∙ ap (λ (r : Result (Unit {0}) (TypeFault × ℕ)). r >>= λ _. Ok Q) typed
+settles : (Q : Text) → IsTyped Q → typed_program_of Q ≡ Ok Q
+settles Q typed = settled_plain Q (typed_plain Q typed) ∙ ap (λ (r : Result (Unit {0}) (TypeFault × ℕ)). r >>= λ _. Ok Q) typed
+
+pub typed_settles : (Q : Text) → IsTyped Q → IsTypedProgramOf Q Q
+typed_settles Q typed = typed_program Q Q (settles Q typed)

@@ -1,33 +1,17 @@
-use Rattle.std.proofs.Common.{◌∙◌, ap, sym}
-use Rattle.il_model.specs.Settled.{typed_program_of}
-use Rattle.il_model.proofs.Declaring.{declared_image}
-use Rattle.assembler.proofs.Encoding.{settled_spelling}
-use Rattle.assembler.proofs.Literals.{literals_count}
-use Rattle.assembler.proofs.SettledLines.{few_arguments}
+use Rattle.assembler.proofs.FirstFault.{found, is_given, tells_first, told, image}
 use Rattle.assembler.proofs.assembling.assemble.Goals as goal
 
-pub encode-requires-clause-literals : goal.encode-requires-clause-literals
-encode-requires-clause-literals c =
-    let is = c.in_ok-literals.ensures in
-    literals_count c.in_ok-program.program is.0 c.as_slice.result.now is.1 (c.as_slice.ensures.value ∙ is.2)
+pub returns-clause-found : goal.returns-clause-found
+returns-clause-found c = found (λ v. v.items) c.args.program.now c.walked.result c.walked.ensures
 
-pub encode-requires-clause-few : goal.encode-requires-clause-few
-encode-requires-clause-few c =
-    let is = c.in_ok-literals.ensures in
-    few_arguments c.in_ok-program.program is.0 is.1
+pub returns-clause-only : goal.returns-clause-only
+returns-clause-only c = is_given (λ v. v.items) c.args.program.now c.walked.result c.walked.ensures
 
-pub returns-clause-exact : goal.returns-clause-exact
-returns-clause-exact c =
-    let is = c.in_ok-literals.ensures in (
-      is.0,
-      ap typed_program_of (sym c.in_ok-program.ensures) ∙ is.1,
-      c.in_ok-encode.ensures ∙ settled_spelling c.in_ok-program.program is.0 c.as_slice.result.now is.1 (c.as_slice.ensures.value ∙ is.2),
-    )
+pub returns-clause-refused : goal.returns-clause-refused
+returns-clause-refused c = tells_first (λ v. v.items) c.args.program.now c.walked.result c.walked.ensures
+
+pub returns-clause-told : goal.returns-clause-told
+returns-clause-told c = told (λ v. v.items) c.args.program.now c.walked.result c.walked.ensures
 
 pub returns-clause-image : goal.returns-clause-image
-returns-clause-image c declared =
-    let is = c.in_ok-literals.ensures in (
-      is.0,
-      declared_image c.args.program.now is.0 declared (ap typed_program_of (sym c.in_ok-program.ensures) ∙ is.1),
-      c.in_ok-encode.ensures ∙ settled_spelling c.in_ok-program.program is.0 c.as_slice.result.now is.1 (c.as_slice.ensures.value ∙ is.2),
-    )
+returns-clause-image c declared = image (λ v. v.items) c.args.program.now declared c.walked.result c.walked.ensures

@@ -1,6 +1,6 @@
 use Rattle.std.proofs.Common.{◌≡◌, length}
 use Rattle.il_reader.specs.Tokens.{tokens_of}
-use Rattle.il_reader.specs.Reading.{skip_breaks}
+use Rattle.il_reader.specs.Front.{skip_breaks}
 use Rattle.il_reader.proofs.reading.past_breaks.Given as goal
 
 abbrev pub invariant-loop-after : goal.invariant-loop-after

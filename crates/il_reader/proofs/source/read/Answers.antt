@@ -1,11 +1,13 @@
-use Rattle.il_reader.specs.Grammar.{program_text, text_of}
-use Rattle.il_reader.proofs.Sources.{says_here, same_source, one_outcome}
+use Rattle.std.proofs.Common.{Result, subst}
+use Rattle.il_reader.specs.declared.fault.Fault.{Fault}
+use Rattle.il_reader.specs.Texts.{SourceText, Answers}
+use Rattle.il_reader.proofs.TextFaults.{tells_first, fault_told}
 use Rattle.il_reader.proofs.source.read.Goals as goal
 
-pub returns-in-Ok-clause-only : goal.returns-in-Ok-clause-only
-returns-in-Ok-clause-only c = λ s r. same_source c.args.bytes.now (program_text c.in-Ok.contents) s r (c.in-Ok.ensures.only s.says (says_here c.args.bytes.now s r)) c.in-Ok.ensures.exact
+pub returns-clause-refused : goal.returns-clause-refused
+returns-clause-refused c = tells_first c.args.bytes.now c.walked.result c.walked.ensures.exact
 
-pub returns-in-Err-Refused-clause-only : goal.returns-in-Err-Refused-clause-only
-returns-in-Err-Refused-clause-only c = λ s r.
-    let refused = rw c.in-Err-Refused.field-0-is at c.in-Err-Refused.ensures.exact in
-    absurd (one_outcome (text_of c.args.bytes.now) s.says c.in-Err-Refused.refusal (c.in-Err-Refused.ensures.only s.says (says_here c.args.bytes.now s r)) refused)
+pub returns-clause-told : goal.returns-clause-told
+returns-clause-told c = λ g f.
+    let P : Result SourceText Fault → Type 0 = λ r. Answers {X = SourceText} (λ s. s) c.walked.result r in
+    subst P (fault_told c.args.bytes.now g f) c.walked.ensures.exact

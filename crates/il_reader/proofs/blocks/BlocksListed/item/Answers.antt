@@ -1,5 +1,6 @@
 use Rattle.il_reader.specs.Tokens.{tokens_of}
-use Rattle.il_reader.specs.Grammar.{declarations, block_at}
+use Rattle.il_reader.specs.Grammar.{declarations}
+use Rattle.il_reader.specs.Walk.{block_at}
 use Rattle.il_reader.proofs.Loop.{moved}
 use Rattle.il_reader.proofs.Programs.{block_shrinks}
 use Rattle.il_reader.proofs.blocks.BlocksListed.item.Goals as goal

@@ -1,5 +1,6 @@
 use Rattle.il_reader.specs.Tokens.{tokens_of}
-use Rattle.il_reader.specs.Grammar.{declaration, declaration_at}
+use Rattle.il_reader.specs.Grammar.{declaration}
+use Rattle.il_reader.specs.Walk.{declaration_at}
 use Rattle.il_reader.proofs.Loop.{moved}
 use Rattle.il_reader.proofs.Programs.{declaration_shrinks}
 use Rattle.il_reader.proofs.blocks.DeclarationsListed.item.Goals as goal

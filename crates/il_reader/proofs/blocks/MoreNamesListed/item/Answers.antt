@@ -1,5 +1,5 @@
 use Rattle.il_reader.specs.Tokens.{tokens_of, token}
-use Rattle.il_reader.specs.Grammar.{name_at}
+use Rattle.il_reader.specs.Walk.{name_at}
 use Rattle.il_reader.proofs.Loop.{moved}
 use Rattle.il_reader.proofs.Programs.{name_shrinks}
 use Rattle.il_reader.proofs.blocks.MoreNamesListed.item.Goals as goal

@@ -1,5 +1,6 @@
 use Rattle.il_reader.specs.Tokens.{tokens_of}
-use Rattle.il_reader.specs.Grammar.{argument, next_argument_at}
+use Rattle.il_reader.specs.Grammar.{argument}
+use Rattle.il_reader.specs.Walk.{next_argument_at}
 use Rattle.il_reader.proofs.Loop.{moved}
 use Rattle.il_reader.proofs.Programs.{next_shrinks}
 use Rattle.il_reader.proofs.calls.MoreArgumentsListed.item.Goals as goal

@@ -1,5 +1,6 @@
 use Rattle.il_reader.specs.Tokens.{tokens_of}
-use Rattle.il_reader.specs.Grammar.{line, line_at}
+use Rattle.il_reader.specs.Grammar.{line}
+use Rattle.il_reader.specs.Walk.{line_at}
 use Rattle.il_reader.proofs.Loop.{moved}
 use Rattle.il_reader.proofs.Programs.{line_shrinks}
 use Rattle.il_reader.proofs.lines.NamedLinesListed.item.Goals as goal
