@@ -9,7 +9,7 @@ use Rattle.vr_model.specs.declared.event.Stored.{Stored}
 use Rattle.vr_model.specs.declared.message.Message as code
 use Rattle.vr_model.specs.Logs.{IsPrefix}
 use Rattle.vr_model.specs.Membership.{Membership}
-use Rattle.vr_model.specs.Replicas.{is_down, ReplicaState, Outcome}
+use Rattle.vr_model.specs.Replicas.{is_down, is_recovering, ReplicaState, Outcome}
 use Rattle.vr_model.specs.Rules.{keep}
 use Rattle.vr_model.specs.World.{down, executed}
 use Rattle.vr_model.specs.Messages.{Message}
@@ -25,7 +25,9 @@ use Rattle.replica.specs.Standing.{StandsFor, IsDown, IsDeafTo}
 use Rattle.replica.specs.Ruled.{LeavesFrom, Ruled}
 use Rattle.replica.specs.declared.fault.StepFault.TheVariants as fault
 use Rattle.replica.specs.Stepped as step
+use Rattle.replica.proofs.KeepsLog.{keeps_log}
 use Rattle.replica.proofs.NoState.{timeout_sends_none, resend_sends_none}
+use Rattle.replica.proofs.Recovering.{has_none_still}
 use Rattle.replica.proofs.Sending.{leaves_from}
 use Rattle.replica.proofs.StaysUp.{stays_up}
 
@@ -34,11 +36,12 @@ at_false true x y e = absurd cc
 at_false false x y e = refl
 
 -- a replica that is up
-pub stands_up : (replica : Replica) (m : Membership) (r : ReplicaState Command) → core.StandsFor replica.core m r → is_down r.status ≡ false → StandsFor replica m r
-stands_up replica m r st up = record {
+pub stands_up : (replica : Replica) (m : Membership) (r : ReplicaState Command) → core.StandsFor replica.core m r → is_down r.status ≡ false → (is_recovering r.status ≡ true → r.commit_number ≡ 0) → StandsFor replica m r
+stands_up replica m r st up none = record {
   member = st.member;
   status = st.status;
   commit_number = st.commit_number;
+  recovering = none;
   up = λ e. st;
   down = λ e. absurd (let d : true ≡ false = sym e ∙ up in cc);
 }
@@ -49,6 +52,7 @@ stands_down replica m r st = record {
   member = st.member;
   status = st.status ∙ sym (ap core.status_of st.core_status);
   commit_number = st.commit_number ∙ sym st.core_commit_number;
+  recovering = λ e. st.commit_number;
   up = λ e. absurd (let d : true ≡ false = sym (ap is_down st.status) ∙ e in cc);
   down = λ e. st;
 }
@@ -62,7 +66,7 @@ saved_none : (old mid : Core) (saves : Option ℕ) → AreSaved old mid saves �
 saved_none old mid None k l = refl
 saved_none old mid (Some u) k l = absurd (let e : mid.stored_view ≡ u = k.0 in let g : old.stored_view < u = k.1 in omega arith)
 
-module _ {S : Type 0} (load_gives : S → Option Stored → S → Type 0) (save_gives : S → ℕ → Bool → S → Type 0) (old : Core) (m : Membership) (r : ReplicaState Command) (s t : S) (stands : core.StandsFor old m r) (up : is_down r.status ≡ false) where
+module _ {S : Type 0} (load_gives : S → Option Stored → S → Type 0) (save_gives : S → ℕ → Bool → S → Type 0) (old : Core) (m : Membership) (r : ReplicaState Command) (s t : S) (stands : core.StandsFor old m r) (up : is_down r.status ≡ false) (none : is_recovering r.status ≡ true → r.commit_number ≡ 0) where
   by_its_rule : (input : Input Command Answer) → acts m.f m.number m.answer r input ≡ by_rule m.f m.number m.answer r input
   by_its_rule input = at_false (is_down r.status) (keep m.f m.number m.answer r) (by_rule m.f m.number m.answer r input) up
 
@@ -72,24 +76,24 @@ module _ {S : Type 0} (load_gives : S → Option Stored → S → Type 0) (save_
 
   -- what holds of an outcome that the rules leave
   pub stepped_ok : (NowStands : ReplicaState Command → Type 0) (mid : Core) (sends : Vec code.Message Global) (result : step.StepResult) (e : Event) → Ruled old e mid (Ok sends)
-      → ((o : Outcome Command Answer) → LeavesFrom old mid sends.items m o → is_down o.replica.status ≡ false → step.Acted load_gives save_gives core.IsSavedAs NowStands m r s t o result)
+      → ((o : Outcome Command Answer) → LeavesFrom old mid sends.items m o → is_down o.replica.status ≡ false → (is_recovering o.replica.status ≡ true → o.replica.commit_number ≡ 0) → step.Acted load_gives save_gives core.IsSavedAs NowStands m r s t o result)
       → step.Stepped load_gives save_gives core.IsSavedAs NowStands m r s t e result
   stepped_ok NowStands mid sends result (event.Message a) h then = λ meant is keeps fits.
       let o = by_rule m.f m.number m.answer r (Takes meant) in
       let same : acts m.f m.number m.answer r (Takes meant) ≡ o = by_its_rule (Takes meant) in
       subst (λ x. step.Acted load_gives save_gives core.IsSavedAs NowStands m r s t x result) (sym same)
       (then o
-      ((h meant (for_own a meant is)).leaves m r stands (subst (λ (x : Outcome Command Answer). IsPrefix (executed r) x.replica.log) same keeps) (subst (λ (x : Outcome Command Answer). Fits core.IsSavedAs m r x a.body) same fits))
-      (stays_up m.f m.number m.answer r (Takes meant) up))
+      ((h meant (for_own a meant is)).leaves m r stands (keeps_log m.f m.number m.answer r meant.from meant.body none (λ over. subst (λ (x : Outcome Command Answer). IsPrefix (executed r) x.replica.log) same (keeps over))) (subst (λ (x : Outcome Command Answer). Fits core.IsSavedAs m r x a.body) same fits))
+      (stays_up is_down refl refl m.f m.number m.answer r (Takes meant) up) (has_none_still m.f m.number m.answer r (Takes meant) none))
   stepped_ok NowStands mid sends result event.Timeout h then =
       subst (λ x. step.Acted load_gives save_gives core.IsSavedAs NowStands m r s t x result) (sym (by_its_rule TimesOut))
-      (then (by_rule m.f m.number m.answer r TimesOut) (leaves_from old mid sends.items m (by_rule m.f m.number m.answer r TimesOut) (h.leaves m r stands) (timeout_sends_none m.f m.number m.answer r)) (stays_up m.f m.number m.answer r TimesOut up))
+      (then (by_rule m.f m.number m.answer r TimesOut) (leaves_from old mid sends.items m (by_rule m.f m.number m.answer r TimesOut) (h.leaves m r stands) (timeout_sends_none m.f m.number m.answer r)) (stays_up is_down refl refl m.f m.number m.answer r TimesOut up) (has_none_still m.f m.number m.answer r TimesOut none))
   stepped_ok NowStands mid sends result event.Resend h then =
       subst (λ x. step.Acted load_gives save_gives core.IsSavedAs NowStands m r s t x result) (sym (by_its_rule Resends))
-      (then (by_rule m.f m.number m.answer r Resends) (leaves_from old mid sends.items m (by_rule m.f m.number m.answer r Resends) (h.leaves m r stands) (resend_sends_none m.f m.number m.answer r)) (stays_up m.f m.number m.answer r Resends up))
+      (then (by_rule m.f m.number m.answer r Resends) (leaves_from old mid sends.items m (by_rule m.f m.number m.answer r Resends) (h.leaves m r stands) (resend_sends_none m.f m.number m.answer r)) (stays_up is_down refl refl m.f m.number m.answer r Resends up) (has_none_still m.f m.number m.answer r Resends none))
   stepped_ok NowStands mid sends result (event.Restart x) h then =
       subst (λ b. step.RestartedIf load_gives save_gives core.IsSavedAs NowStands m r s t b x result) (sym up)
-      (then (keep m.f m.number m.answer r) (leaves_from old mid sends.items m (keep m.f m.number m.answer r) (h.leaves m r stands) tt) up)
+      (then (keep m.f m.number m.answer r) (leaves_from old mid sends.items m (keep m.f m.number m.answer r) (h.leaves m r stands) tt) up none)
 
   -- what holds of an outcome that is lost
   pub stepped_err : (NowStands : ReplicaState Command → Type 0) (mid : Core) (error : AllocError) (result : step.StepResult) (e : Event) → Ruled old e mid (Err error)
@@ -111,8 +115,8 @@ module _ {S : Type 0} (load_gives : S → Option Stored → S → Type 0) (save_
   -- the rule saves nothing
   pub went_on : (new : Replica) (sends : Vec code.Message Global) (e : Event) → Ruled old e new.core (Ok sends) → new.core.stored_view ≤ old.stored_view → t ≡ s
       → step.Stepped load_gives save_gives core.IsSavedAs (StandsFor new m) m r s t e (Ok sends)
-  went_on new sends e h l same = stepped_ok (StandsFor new m) new.core sends (Ok sends) e h (λ o k o_up. record {
-    replica = stands_up new m o.replica k.replica o_up;
+  went_on new sends e h l same = stepped_ok (StandsFor new m) new.core sends (Ok sends) e h (λ o k o_up o_none. record {
+    replica = stands_up new m o.replica k.replica o_up o_none;
     saved = subst (λ x. step.Saved load_gives save_gives s x t) (sym (saved_none old new.core o.saves k.saves l)) same;
     sends = k.sends;
   })
@@ -120,8 +124,8 @@ module _ {S : Type 0} (load_gives : S → Option Stored → S → Type 0) (save_
   -- what the rule saves was saved
   pub was_saved : (new : Replica) (sends : Vec code.Message Global) (e : Event) → Ruled old e new.core (Ok sends) → old.stored_view < new.core.stored_view → save_gives s new.core.stored_view true t
       → step.Stepped load_gives save_gives core.IsSavedAs (StandsFor new m) m r s t e (Ok sends)
-  was_saved new sends e h l saved = stepped_ok (StandsFor new m) new.core sends (Ok sends) e h (λ o k o_up. record {
-    replica = stands_up new m o.replica k.replica o_up;
+  was_saved new sends e h l saved = stepped_ok (StandsFor new m) new.core sends (Ok sends) e h (λ o k o_up o_none. record {
+    replica = stands_up new m o.replica k.replica o_up o_none;
     saved = subst (λ x. step.Saved load_gives save_gives s x t) (sym (saved_is old new.core o.saves k.saves l)) saved;
     sends = k.sends;
   })
@@ -131,7 +135,7 @@ module _ {S : Type 0} (load_gives : S → Option Stored → S → Type 0) (save_
       → save_gives s mid.core.stored_view false t → Crashes mid.core new.core
       → step.Stepped load_gives save_gives core.IsSavedAs (StandsFor new m) m r s t e result
   save_failed mid new sends e result is h l failed crashed = subst (λ x. step.Stepped load_gives save_gives core.IsSavedAs (StandsFor new m) m r s t e x) (sym is)
-      (stepped_ok (StandsFor new m) mid.core sends (Err fault.Store) e h (λ o k o_up. record {
+      (stepped_ok (StandsFor new m) mid.core sends (Err fault.Store) e h (λ o k o_up o_none. record {
         replica = stands_down new m (down r) (crashed.crashes m r k.replica.member);
         view = mid.core.stored_view;
         saves = saved_is old mid.core o.saves k.saves l;
@@ -143,7 +147,7 @@ module _ {S : Type 0} (load_gives : S → Option Stored → S → Type 0) (save_
       → step.Stepped load_gives save_gives core.IsSavedAs (StandsFor new m) m r s t e result
   was_lost new error e result is h same = subst (λ x. step.Stepped load_gives save_gives core.IsSavedAs (StandsFor new m) m r s t e x) (sym is)
       (stepped_err (StandsFor new m) new.core error (Err fault.Memory) e h (λ o matters k. record {
-        replica = stands_up new m r k up;
+        replica = stands_up new m r k up none;
         matters = matters;
         saved = inl same;
       }))

@@ -4,7 +4,7 @@ use Rattle.il_model.specs.declared.command.Command.{Command}
 use Rattle.vr_model.specs.declared.event.Event.{Event}
 use Rattle.vr_model.specs.declared.event.Event.TheVariants as event
 use Rattle.vr_model.specs.Membership.{Membership}
-use Rattle.vr_model.specs.Replicas.{is_down, ReplicaState}
+use Rattle.vr_model.specs.Replicas.{is_down, is_recovering, ReplicaState}
 use Rattle.vr_core.specs.declared.state.Status.TheVariants as status
 use Rattle.vr_core.specs.Down.{StandsForDown}
 use Rattle.vr_core.specs.StandsFor as core
@@ -16,6 +16,7 @@ pub record StandsFor (replica : Replica) (w : Membership) (r : ReplicaState Comm
   pub member : core.IsOf replica.core w
   pub status : r.status ≡ core.status_of replica.core.status
   pub commit_number : r.commit_number ≡ replica.core.commit_number
+  pub recovering : is_recovering r.status ≡ true → r.commit_number ≡ 0  -- who recovers has executed nothing
   pub up : is_down r.status ≡ false → core.StandsFor replica.core w r
   pub down : is_down r.status ≡ true → StandsForDown replica.core w r
 

@@ -10,7 +10,7 @@ use Rattle.vr_model.specs.declared.event.Stored.{Stored}
 use Rattle.vr_model.specs.declared.message.Message as code
 use Rattle.vr_model.specs.Logs.{IsPrefix}
 use Rattle.vr_model.specs.Membership.{Membership}
-use Rattle.vr_model.specs.Messages.{Message}
+use Rattle.vr_model.specs.Messages.{Message, Body, StartViewChange, DoViewChangeMessage, StartView, NewState}
 use Rattle.vr_model.specs.Replicas.{is_down, ReplicaState, Outcome}
 use Rattle.vr_model.specs.Rules.{keep, on_restart}
 use Rattle.vr_model.specs.World.{down, executed}
@@ -25,9 +25,19 @@ use Rattle.replica.specs.declared.fault.StepFault.TheVariants as fault
 abbrev pub StepResult : Type 0
 StepResult = Result (Vec code.Message Global) StepFault
 
--- the log that the rules make of what a member takes up begins with all that it has executed
+-- the rules of these may take over a log that is handed in, now or before
+abbrev pub takes_over : {C A : Type 0} → Body C A → Bool
+takes_over (StartViewChange u) = true
+takes_over (DoViewChangeMessage u a) = true
+takes_over (StartView u c log) = true
+takes_over (NewState u p c log) = true
+takes_over _ = false
+
+-- Then the log that the rules make begins with all that the member has executed; with any other message it does so anyhow.
 abbrev pub KeepsExecuted : Membership → ReplicaState Command → Input Command Answer → Type 0
-KeepsExecuted m r input = IsPrefix (executed r) (acts m.f m.number m.answer r input).replica.log
+KeepsExecuted m r (Takes meant) = takes_over meant.body ≡ true → IsPrefix (executed r) (acts m.f m.number m.answer r (Takes meant)).replica.log
+KeepsExecuted m r TimesOut = Unit {0}
+KeepsExecuted m r Resends = Unit {0}
 
 module _ {S : Type 0} (load_gives : S → Option Stored → S → Type 0) (save_gives : S → ℕ → Bool → S → Type 0) where
   -- what the rule saves was saved, and nothing else
@@ -97,8 +107,8 @@ module _ {S : Type 0} (load_gives : S → Option Stored → S → Type 0) (save_
     RestartedIf true x result = Restarted x result
     RestartedIf false x result = Acted (keep m.f m.number m.answer r) result
 
-    -- An event; of a message, for each with whole logs that it stands for. Of that the rules' log is to begin with what
-    -- was executed, and the checkpoint of a NEWSTATE is to be of that log, which no call tests.
+    -- An event; of a message, for each with whole logs that it stands for. Where its rules take over a log, what they make
+    -- is to begin with what was executed, and the checkpoint of a NEWSTATE is to be of that log, which no call tests.
     abbrev pub Stepped : Event → StepResult → Type 0
     Stepped (event.Message a) result =
         (meant : Message Command Answer) → Stands IsSavedAs m a meant → KeepsExecuted m r (Takes meant) → Fits IsSavedAs m r (acts m.f m.number m.answer r (Takes meant)) a.body → Acted (acts m.f m.number m.answer r (Takes meant)) result

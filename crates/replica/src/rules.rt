@@ -1,14 +1,13 @@
 //! Which rule an event has.
 
-ghost use Rattle.std.specs.Prelude.{◌≡◌, ◌<◌, ◌==◌, ◌&&◌, true, not, nat_lt, List};
+ghost use Rattle.std.specs.Prelude.{◌≡◌, List};
 ghost use Rattle.il_model.specs.declared.command.Command.{Command};
-ghost use Rattle.vr_model.specs.Groups.{group_size};
 ghost use Rattle.vr_model.specs.Logs as logs;
 ghost use Rattle.vr_model.specs.Protocols.{NormalCase, ViewChange, Recovery, protocol_of};
 ghost use Rattle.vr_model.specs.Rules as rules;
 ghost use Rattle.vr_model.specs.StandsFor.{body_with, party_of, Carries};
 ghost use Rattle.vr_core.specs.StandsFor.{IsSavedAs, own_member};
-ghost use Rattle.vr_core.specs.Follows.{Tells, DoesIfKept};
+ghost use Rattle.vr_core.specs.Follows.{DoesIfKept, receives_from};
 ghost use Rattle.replica.specs.Ruled.{DoesFrom, Ruled};
 
 use std::alloc::{AllocError, Global};
@@ -30,29 +29,14 @@ pub(crate) fn by_rule(core: &mut Core, alloc: Global, event: Event) -> Result<Se
     }
 }
 
-/// A message: it is dropped where it comes from no client and from no other replica of the group.
+/// A message.
 fn receive(core: &mut Core, alloc: Global, message: Message) -> Result<Sends, AllocError>
     ensures { (l : List (logs.Request Command)) → Carries IsSavedAs (own_member core.old) message.body l → DoesFrom core.old message.body (λ w r. rules.receives w.f w.number w.answer r (party_of message.from) (body_with l message.body)) core.new result }
 {
     match message.from {
         Party::Client(_) => from_client(core, alloc, &message.body),
-        Party::Replica(sender) => {
-            if is_other(core, sender) {
-                from_replica(core, alloc, sender, message.body)
-            } else {
-                Ok(Vec::new(alloc))
-            }
-        }
+        Party::Replica(sender) => from_replica(core, alloc, sender, message.body),
     }
-}
-
-/// Whether this is another replica of the group.
-fn is_other(core: &Core, replica: u8) -> bool
-    ensures told { Tells core.now (λ w r. nat_lt replica (group_size w.f) && not (replica == w.number)) result }
-    ensures member { result ≡ true → replica < group_size core.now.config.f }
-    ensures other { result ≡ true → replica ≡ core.now.number → ⊥ }
-{
-    replica < core.config.group_size() && replica != core.number
 }
 
 /// From a client: a request.
@@ -65,12 +49,10 @@ fn from_client(core: &mut Core, alloc: Global, body: &Body) -> Result<Sends, All
     }
 }
 
-/// From another replica of the group: all but requests and replies. It is sorted by protocol first, so that each
-/// function here is proved by the calls of one protocol.
+/// From a replica: all but requests and replies. It is sorted by protocol first, so that each function here is proved by
+/// the calls of one protocol.
 fn from_replica(core: &mut Core, alloc: Global, sender: u8, body: Body) -> Result<Sends, AllocError>
-    requires member { sender < group_size core.old.config.f }
-    requires other { sender ≡ core.old.number → ⊥ }
-    ensures { (l : List (logs.Request Command)) → Carries IsSavedAs (own_member core.old) body l → DoesFrom core.old body (λ w r. rules.from_replica w.f w.number w.answer r sender (body_with l body)) core.new result }
+    ensures { (l : List (logs.Request Command)) → Carries IsSavedAs (own_member core.old) body l → DoesFrom core.old body (receives_from sender (body_with l body)) core.new result }
 {
     match body {
         Body::Request(_)
@@ -95,10 +77,8 @@ fn in_normal_case(
     sender: u8,
     body: Body,
 ) -> Result<Sends, AllocError>
-    requires member { sender < group_size core.old.config.f }
-    requires other { sender ≡ core.old.number → ⊥ }
     requires part { protocol_of body ≡ NormalCase }
-    ensures { (l : List (logs.Request Command)) → DoesIfKept core.old (λ w r. rules.from_replica w.f w.number w.answer r sender (body_with l body)) core.new result }
+    ensures { (l : List (logs.Request Command)) → DoesIfKept core.old (receives_from sender (body_with l body)) core.new result }
 {
     match body {
         Body::Request(_) | Body::Reply { .. } => Ok(Vec::new(alloc)),
@@ -107,12 +87,12 @@ fn in_normal_case(
             request,
             op_number,
             commit_number,
-        } => on_prepare(core, alloc, view, request, op_number, commit_number),
+        } => on_prepare(core, alloc, sender, view, request, op_number, commit_number),
         Body::PrepareOk { view, op_number } => on_prepare_ok(core, alloc, sender, view, op_number),
         Body::Commit {
             view,
             commit_number,
-        } => on_commit(core, alloc, view, commit_number),
+        } => on_commit(core, alloc, sender, view, commit_number),
         _ => unreachable!(),
     }
 }
@@ -124,10 +104,8 @@ fn in_view_change(
     sender: u8,
     body: Body,
 ) -> Result<Sends, AllocError>
-    requires member { sender < group_size core.old.config.f }
-    requires other { sender ≡ core.old.number → ⊥ }
     requires part { protocol_of body ≡ ViewChange }
-    ensures { (l : List (logs.Request Command)) → Carries IsSavedAs (own_member core.old) body l → DoesIfKept core.old (λ w r. rules.from_replica w.f w.number w.answer r sender (body_with l body)) core.new result }
+    ensures { (l : List (logs.Request Command)) → Carries IsSavedAs (own_member core.old) body l → DoesIfKept core.old (receives_from sender (body_with l body)) core.new result }
 {
     match body {
         Body::StartViewChange { view } => on_start_view_change(core, alloc, sender, view),
@@ -149,17 +127,15 @@ fn in_view_change(
             view,
             commit_number,
             log,
-        } => on_start_view(core, alloc, view, commit_number, log),
+        } => on_start_view(core, alloc, sender, view, commit_number, log),
         _ => unreachable!(),
     }
 }
 
 /// A message of recovery or of state transfer.
 fn in_recovery(core: &mut Core, alloc: Global, sender: u8, body: Body) -> Result<Sends, AllocError>
-    requires member { sender < group_size core.old.config.f }
-    requires other { sender ≡ core.old.number → ⊥ }
     requires part { protocol_of body ≡ Recovery }
-    ensures { (l : List (logs.Request Command)) → Carries IsSavedAs (own_member core.old) body l → DoesFrom core.old body (λ w r. rules.from_replica w.f w.number w.answer r sender (body_with l body)) core.new result }
+    ensures { (l : List (logs.Request Command)) → Carries IsSavedAs (own_member core.old) body l → DoesFrom core.old body (receives_from sender (body_with l body)) core.new result }
 {
     match body {
         Body::Recovery { nonce, stored_view } => on_recovery(
@@ -178,7 +154,7 @@ fn in_recovery(core: &mut Core, alloc: Global, sender: u8, body: Body) -> Result
             op_number,
             commit_number,
             log,
-        } => on_new_state(core, alloc, view, op_number, commit_number, log),
+        } => on_new_state(core, alloc, sender, view, op_number, commit_number, log),
         _ => unreachable!(),
     }
 }

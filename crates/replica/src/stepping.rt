@@ -87,8 +87,9 @@ impl Replica {
         event: &Event,
         store: &mut S,
     ) -> Result<Sends, StepFault>
+        requires { IsDown self.old }
         ensures row { (m : Membership) (r : model.ReplicaState Command) → StandsFor self.old m r → model.is_down r.status ≡ true → Stepped S.load_gives S.save_gives IsSavedAs (StandsFor self.new m) m r store.old store.new event.now result }
-        ensures down { IsDown self.old → (IsErrOf result fault.Down ↔ IsDeafTo self.old event.now) }
+        ensures down { IsErrOf result fault.Down ↔ IsDeafTo self.old event.now }
         ensures device { IsErrOf result fault.Store → Failed (S.faults store.old) (S.faults store.new) }
         ensures counts { S.faults store.old ≤ S.faults store.new }
     {
@@ -105,6 +106,7 @@ impl Replica {
         nonce: u64,
         store: &mut S,
     ) -> Result<Sends, StepFault>
+        requires { IsDown self.old }
         ensures row { (m : Membership) (r : model.ReplicaState Command) → StandsFor self.old m r → Restarted S.load_gives S.save_gives IsSavedAs (StandsFor self.new m) m r store.old store.new nonce result }
         ensures up { IsErrOf result fault.Down → ⊥ }
         ensures device { IsErrOf result fault.Store → Failed (S.faults store.old) (S.faults store.new) }

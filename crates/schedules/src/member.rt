@@ -6,7 +6,7 @@ use vr_model::{Event, Request, Sends};
 
 /// A replica of a group, over a store in memory.
 pub trait Member: Drop {
-    ghost use Rattle.std.specs.Prelude.{◌≡◌, ◌<◌, ◌⊎◌, ℕ, List, [], true, false, None, Some, MatchResult, MatchOption, OnOk};
+    ghost use Rattle.std.specs.Prelude.{◌≡◌, ◌<◌, ◌⊎◌, ℕ, List, [], true, false, None, Some, MatchResult, MatchOption};
     ghost use Rattle.std.specs.List.{slice_get};
     ghost use Rattle.il_model.specs.declared.command.Command.{Command};
     ghost use Rattle.il_model.specs.Snapshots.{SavedController};
@@ -38,9 +38,9 @@ pub trait Member: Drop {
             (λ sends. Does IsSavedAs m (StandsFor self.new m) r store.old store.new (by_rules m store.old.view r t) false sends.items)
             (λ _. Does IsSavedAs m (StandsFor self.new m) r store.old store.new (by_rules m store.old.view r t) true []) };
 
-    /// It is down, and has lost all but its store. It fails only where memory runs out.
-    fn crash(&mut self, alloc: Global) -> Result<(), AllocError>
-        ensures { OnOk result ((m : Membership) (r : ReplicaState Command) → StandsFor self.old m r → StandsFor self.new m (down r)) };
+    /// It is down, and has lost all but its store.
+    fn crash(&mut self, alloc: Global)
+        ensures { (m : Membership) (r : ReplicaState Command) → StandsFor self.old m r → StandsFor self.new m (down r) };
 
     /// Whether it is down.
     fn is_down(&self) -> bool

@@ -15,18 +15,19 @@ use Rattle.vr_model.specs.declared.message.Body.TheVariants as says
 use Rattle.vr_model.specs.Groups.{primary}
 use Rattle.vr_model.specs.Logs.{Request}
 use Rattle.vr_model.specs.Membership.{Membership}
-use Rattle.vr_model.specs.Messages.{Message, NewState, RecoveryResponseMessage}
+use Rattle.vr_model.specs.Messages.{Body, Message, NewState, RecoveryResponseMessage}
 use Rattle.vr_model.specs.Replicas.{ReplicaState, Outcome, is_normal}
 use Rattle.vr_model.specs.Choices.{own_state}
-use Rattle.vr_model.specs.Rules.{keep, send, on_get_state, own_response}
+use Rattle.vr_model.specs.Rules.{keep, send, from_replica, on_get_state, own_response}
 use Rattle.vr_model.specs.Checkpoints.{SavedCheckpoint, KeptLog, base_of, entries_past, LogStands, PartStandsBy}
 use Rattle.vr_model.specs.StandsFor.{IsCarriedPart, MayBeOf, MayCarry, Stands, AllStand, AllStandFrom, state_with}
 use Rattle.vr_core.specs.declared.state.Core.{Core}
 use Rattle.vr_core.specs.StandsFor.{StandsFor, IsSavedAs}
-use Rattle.vr_core.specs.Follows.{Tells, Says, AreSent, Does, message_from}
+use Rattle.vr_core.specs.Follows.{Tells, Says, AreSent, Does, message_from, receives_from}
 use Rattle.vr_core.proofs.WholeLogs.{past_entries}
 use Rattle.vr_core.proofs.Sent.{sent_to}
 use Rattle.vr_core.proofs.Doing.{does_keep, does_send, sends_some}
+use Rattle.vr_core.proofs.Senders.{other_for, of_other, of_none}
 use Rattle.vr_recovery.specs.Answering.{kept_past, told_state, SendsOwn}
 
 -- all that is kept, after the first entries
@@ -167,3 +168,17 @@ responded core to nonce state sends is e = record {
       subst (λ (ms : List sent.Message). AreSent w ms (send w.f w.number w.answer to (RecoveryResponseMessage nonce (own_response w.f w.number w.answer r)) ∷ []))
       (sym (e ∙ ap (λ x. message_from core.number (says.RecoveryResponse core.view nonce x) to ∷ []) is)) one;
 }
+
+module _ (core : Core) (s : ℕ) (body : Body Command Answer) where
+  -- what the rule sends to another replica of the group is its own
+  pub own_of_other : (result : Result (Vec sent.Message Global) AllocError) → other_for core s true → IfOk result (λ sends. SendsOwn core (λ w r. from_replica w.f w.number w.answer r s body) sends.items) → IfOk result (λ sends. SendsOwn core (receives_from s body) sends.items)
+  own_of_other (Ok sends) told h = record { own = λ w r st. subst (λ (o : Outcome Command Answer). AllStandFrom IsSavedAs w r sends.items o.sends) (sym (of_other core s body told w r st)) (h.own w r st) }
+  own_of_other (Err e) told h = tt
+
+  -- and so is nothing
+  pub own_of_none : (sends : List sent.Message) → other_for core s false → sends ≡ [] → SendsOwn core (receives_from s body) sends
+  own_of_none sends told none = record {
+    own = λ w r st.
+        subst (λ (o : Outcome Command Answer). AllStandFrom IsSavedAs w r sends o.sends) (sym (of_none core s body told w r st))
+        (subst (λ (ms : List sent.Message). AllStandFrom IsSavedAs w r ms []) (sym none) tt);
+  }

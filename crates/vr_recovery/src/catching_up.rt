@@ -3,12 +3,13 @@
 ghost use Rattle.std.specs.Prelude.{◌≡◌, ◌≤◌, ◌<◌, ◌-◌, ◌+◌, ◌&&◌, true, is_some, nat_le, nat_lt, List, length};
 ghost use Rattle.il_model.specs.declared.command.Command.{Command};
 ghost use Rattle.vr_model.specs.Logs as logs;
+ghost use Rattle.vr_model.specs.Messages.{NewState};
 ghost use Rattle.vr_model.specs.Rules as rules;
 ghost use Rattle.vr_model.specs.declared.message.Body.TheVariants as says;
 ghost use Rattle.vr_model.specs.Checkpoints.{requests_of};
 ghost use Rattle.vr_model.specs.StandsFor.{IsCarriedPart};
 ghost use Rattle.vr_core.specs.StandsFor.{IsSavedAs, own_member};
-ghost use Rattle.vr_core.specs.Follows.{Tells, DoesIfKept, DoesIfFits, op_number_of};
+ghost use Rattle.vr_core.specs.Follows.{Tells, DoesIfKept, DoesIfFits, op_number_of, receives_from};
 
 use crate::entries::{catch_up, catch_up_as_primary, go_on};
 use crate::handed::fits;
@@ -17,10 +18,29 @@ use std::alloc::{AllocError, Global};
 use vr_core::Core;
 use vr_model::{Log, Request, Sends};
 
-/// NEWSTATE, from another replica of the group: the view's log past an op number. A backup of that view appends what lies past its own
+/// NEWSTATE: the view's log past an op number. A backup of that view appends what lies past its own
 /// log; who is behind adopts the view, if what it has executed is neither cut nor left behind. One whose checkpoint can't be taken up here
 /// is dropped.
 pub fn on_new_state(
+    core: &mut Core,
+    alloc: Global,
+    sender: u8,
+    view: u64,
+    op_number: u64,
+    commit_number: u64,
+    log: Log,
+) -> Result<Sends, AllocError>
+    ensures { (l : List (logs.Request Command)) → IsCarriedPart IsSavedAs (own_member core.old) op_number commit_number log l → DoesIfFits core.old (says.NewState view op_number commit_number log) (receives_from sender (NewState view op_number commit_number l)) core.new result }
+{
+    if core.is_other(sender) {
+        new_state_of_other(core, alloc, view, op_number, commit_number, log)
+    } else {
+        Ok(Vec::new(alloc))
+    }
+}
+
+/// That of another replica of the group.
+fn new_state_of_other(
     core: &mut Core,
     alloc: Global,
     view: u64,

@@ -8,10 +8,10 @@ ghost use Rattle.vr_model.specs.Replicas.{is_normal, is_recovering};
 ghost use Rattle.vr_core.specs.declared.state.Status.TheVariants.{Recovering};
 ghost use Rattle.vr_core.specs.declared.state.Response.{Response};
 ghost use Rattle.il_model.specs.declared.command.Command.{Command};
-ghost use Rattle.vr_model.specs.Messages.{RecoveryResponse};
+ghost use Rattle.vr_model.specs.Messages.{RecoveryResponse, RecoveryResponseMessage};
 ghost use Rattle.vr_core.specs.StandsFor.{ResponseStands, own_member};
 ghost use Rattle.vr_core.specs.Begun.{IsBegun, IsNotBegun};
-ghost use Rattle.vr_core.specs.Follows.{Tells, FollowsIfKept, DoesIfKept};
+ghost use Rattle.vr_core.specs.Follows.{Tells, FollowsIfKept, DoesIfKept, receives_from};
 ghost use Rattle.vr_recovery.specs.Responses.{HasState};
 ghost use Rattle.vr_recovery.specs.Recovering.{Recovers};
 
@@ -22,11 +22,27 @@ use std::alloc::{AllocError, Global};
 use vr_core::{Core, Response, Status};
 use vr_model::{PrimaryState, Sends};
 
-/// RECOVERYRESPONSE with a nonce, from a replica of the group. It recovers when those of more than half of the group
-/// are kept, the latest view among them is no earlier than its stored view, and the primary of that view told its
+/// RECOVERYRESPONSE with a nonce. It recovers when those of more than half of the group are kept, the latest view among them is no earlier than its stored view, and the primary of that view told its
 /// state. One whose checkpoint can't be taken up here is dropped. It fails only where it would recover and memory runs
 /// out.
 pub fn on_recovery_response(
+    core: &mut Core,
+    alloc: Global,
+    sender: u8,
+    nonce: u64,
+    response: Response,
+) -> Result<Sends, AllocError>
+    ensures { (a : RecoveryResponse Command) → ResponseStands (own_member core.old) response a → DoesIfKept core.old (receives_from sender (RecoveryResponseMessage nonce a)) core.new result }
+{
+    if core.is_other(sender) {
+        response_of_other(core, alloc, sender, nonce, response)
+    } else {
+        Ok(Vec::new(alloc))
+    }
+}
+
+/// That of another replica of the group.
+fn response_of_other(
     core: &mut Core,
     alloc: Global,
     sender: u8,
@@ -130,6 +146,7 @@ fn recover(core: &mut Core, alloc: Global, view: u64, begun: Option<Controller>)
 fn take_state(core: &mut Core, view: u64) -> Option<PrimaryState>
     ensures state { (h : HasState core.old view) → result ≡ Some h.state }
     ensures others { core.new ≡ record core.old { responses = core.new.responses } }
+    ensures gone { core.new.responses.items ≡ [] }
 {
     let from = core.config.primary(view);
     let told = put(core, from, None);

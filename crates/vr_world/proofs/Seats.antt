@@ -133,7 +133,7 @@ module _ (NowStands : ReplicaState Command → Type 0) (m : Membership) (r : Rep
   Owes (ComesUp x) result = step.RestartedIf shelf_loads shelf_saves IsSavedAs NowStands m r s t (is_down r.status) x result
 
   owes : (e : Event) (x : Taken) (result : step.StepResult) → IsTaken IsSavedAs m e x → KeepsExecuted m r x → FitsTaken IsSavedAs m r e x → step.Stepped shelf_loads shelf_saves IsSavedAs NowStands m r s t e result → Owes x result
-  owes (event.Message a) (Acts (Takes meant)) result taken keeps fits k = k meant taken keeps fits
+  owes (event.Message a) (Acts (Takes meant)) result taken keeps fits k = k meant taken (λ over. keeps) fits
   owes (event.Message a) (Acts TimesOut) result taken keeps fits k = absurd taken
   owes (event.Message a) (Acts Resends) result taken keeps fits k = absurd taken
   owes (event.Message a) (ComesUp x) result taken keeps fits k = absurd taken

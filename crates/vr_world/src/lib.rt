@@ -12,7 +12,8 @@
 //!
 //! Proved: the promise of one history, down to the answers of the table of commands for the image's program. Whatever
 //! list of events is handed in, the trace is the report of a run of it by new replicas, with no premise on members left
-//! (`IsTraced`), and the report explains the run.
+//! (`IsTraced`), and the report explains the run. Each answer that was released stands at its request's place among the
+//! answers of one controller to all commands of the trace's list (`AllStandAtTheirPlaces`).
 //!
 //! Only tested: nothing; a run of 200 scans with two view changes, a crash and a recovery stands in `worked_tool`
 //! (`world_rows`), for checkpoints never, after every command and after every 64.

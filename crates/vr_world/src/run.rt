@@ -4,6 +4,7 @@ ghost use Rattle.std.specs.Prelude.{IfOk, MatchResult};
 ghost use Rattle.vr_core.specs.StandsFor.{member, IsSavedAs};
 ghost use Rattle.replica.specs.Standing.{StandsFor};
 ghost use Rattle.schedules.specs.Traces.{AreNew, IsTraced, Fails};
+ghost use Rattle.vr_world.specs.Released.{AllStandAtTheirPlaces};
 
 use crate::seat::Seat;
 use il_model::Budget;
@@ -46,7 +47,8 @@ pub fn run_world(
     budget: Budget,
     events: &[WorldEvent],
 ) -> Result<Trace, WorldError>
-    ensures { MatchResult result (IsTraced IsSavedAs (member config.now.f 0 image.now budget.instructions) events.now) (Fails (member config.now.f 0 image.now budget.instructions) events.now) }
+    ensures traced { MatchResult result (IsTraced IsSavedAs (member config.now.f 0 image.now budget.instructions) events.now) (Fails (member config.now.f 0 image.now budget.instructions) events.now) }
+    ensures answers { IfOk result (AllStandAtTheirPlaces image.now budget.instructions) }
 {
     let seats = group(alloc, *config, image, budget)?;
     run_schedule(alloc, *config, seats, events)

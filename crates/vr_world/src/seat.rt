@@ -41,9 +41,8 @@ impl Member for Seat {
         }
     }
 
-    fn crash(&mut self, alloc: Global) -> Result<(), AllocError> {
+    fn crash(&mut self, alloc: Global) {
         self.replica.crash(alloc);
-        Ok(())
     }
 
     fn is_down(&self) -> bool {

@@ -9,20 +9,20 @@ returns-in_err-sends-clause-row g c = λ m r st up.
     let new : Replica = record { core = c.by_rule.new.core } in
     let is : c.from_residual.result ≡ Err fault.Memory = search rules in
     let s = c.args.store.now in
-    was_lost g.S.ViewStore.load_gives g.S.ViewStore.save_gives c.args.self.now.core m r s s (st.up up) up new c.in_err-sends.field-0.0 c.args.event c.from_residual.result is c.in_err-sends.ensures refl
+    was_lost g.S.ViewStore.load_gives g.S.ViewStore.save_gives c.args.self.now.core m r s s (st.up up) up st.recovering new c.in_err-sends.field-0.0 c.args.event c.from_residual.result is c.in_err-sends.ensures refl
 
 pub returns-then-self-stored_view-clause-row : goal.returns-then-self-stored_view-clause-row
 returns-then-self-stored_view-clause-row g c = λ m r st up.
     let new : Replica = record { core = c.by_rule.new.core } in
     let s = c.args.store.now in
-    went_on g.S.ViewStore.load_gives g.S.ViewStore.save_gives c.args.self.now.core m r s s (st.up up) up new c.in_ok-sends.sends c.args.event c.in_ok-sends.ensures c.if-self-stored_view.true refl
+    went_on g.S.ViewStore.load_gives g.S.ViewStore.save_gives c.args.self.now.core m r s s (st.up up) up st.recovering new c.in_ok-sends.sends c.args.event c.in_ok-sends.ensures c.if-self-stored_view.true refl
 
 pub returns-in-Ok-clause-row : goal.returns-in-Ok-clause-row
 returns-in-Ok-clause-row g c = λ m r st up.
     let new : Replica = record { core = c.by_rule.new.core } in
-    was_saved g.S.ViewStore.load_gives g.S.ViewStore.save_gives c.args.self.now.core m r c.args.store.now c.save.new.self (st.up up) up new c.in_ok-sends.sends c.args.event c.in_ok-sends.ensures c.if-self-stored_view.false c.in-Ok.ensures.gives
+    was_saved g.S.ViewStore.load_gives g.S.ViewStore.save_gives c.args.self.now.core m r c.args.store.now c.save.new.self (st.up up) up st.recovering new c.in_ok-sends.sends c.args.event c.in_ok-sends.ensures c.if-self-stored_view.false c.in-Ok.ensures.gives
 
 pub returns-in-Err-clause-row : goal.returns-in-Err-clause-row
 returns-in-Err-clause-row g c = λ m r st up.
     let mid : Replica = record { core = c.by_rule.new.core } in
-    save_failed g.S.ViewStore.load_gives g.S.ViewStore.save_gives c.args.self.now.core m r c.args.store.now c.save.new.self (st.up up) up mid c.go_down.new.self c.in_ok-sends.sends c.args.event c.go_down.result c.go_down.ensures.answer c.in_ok-sends.ensures c.if-self-stored_view.false c.in-Err.ensures.gives c.go_down.ensures.down
+    save_failed g.S.ViewStore.load_gives g.S.ViewStore.save_gives c.args.self.now.core m r c.args.store.now c.save.new.self (st.up up) up st.recovering mid c.go_down.new.self c.in_ok-sends.sends c.args.event c.go_down.result c.go_down.ensures.answer c.in_ok-sends.ensures c.if-self-stored_view.false c.in-Err.ensures.gives c.go_down.ensures.down
