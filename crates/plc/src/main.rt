@@ -3,13 +3,16 @@
 
 ghost use Rattle.plc.specs.Asked.{ServesAsAsked};
 
+use console::send_commands;
 use il_model::{Budget, Counted, CountedWrite};
+use plc_json::command_texts;
 use plc_serve::{ReportFile, Service, Settings};
 use plc_tool::{Fault, NewFile};
 use plc_words::{Words, WordsError, read_words};
 use process_image::NewList;
 use std::io::{BufWriter, Write};
 use std::marker::Brand;
+use std::net::TcpStream;
 use std::os::fd::{AsRawFd, IntoRawFd};
 use std::process::ExitCode;
 use std::{env, fs, io};
@@ -120,6 +123,7 @@ fn perform<W: Write, E: CountedWrite>(
             config,
             budget,
         } => sim(rt, source, schedule, &config, budget, out, err),
+        Words::Ask { port, commands } => ask(rt, port, commands, out, err),
         Words::Serve {
             source,
             store,
@@ -132,6 +136,7 @@ fn perform<W: Write, E: CountedWrite>(
             over_tcp,
             crash,
             report,
+            console,
         } => {
             let settings = Settings {
                 config,
@@ -143,6 +148,7 @@ fn perform<W: Write, E: CountedWrite>(
                 over_tcp,
                 crash,
                 lost_after: LOST_AFTER,
+                console,
             };
             match Service::new(*rt, source, store, report, settings) {
                 Ok(service) => return Outcome::Serve(service),
@@ -250,6 +256,33 @@ fn sim<W: Write, E: CountedWrite>(
         err,
     );
     flushed(status, out, err)
+}
+
+fn ask<W: Write, E: CountedWrite>(
+    rt: &HostRuntime,
+    port: u16,
+    commands: &str,
+    out: &mut W,
+    err: &mut E,
+) -> u8 {
+    let status = match asked(rt, port, commands, out) {
+        Ok(()) => 0,
+        Err(fault) => plc_tool::tell(fault, err),
+    };
+    flushed(status, out, err)
+}
+
+/// Sends each command of a file to the console at a port, and prints its answer.
+fn asked<W: Write>(rt: &HostRuntime, port: u16, commands: &str, out: &mut W) -> Result<(), Fault> {
+    let commands = command_texts(rt.alloc(), file(rt, commands)?.as_slice())?;
+    let stream = TcpStream::connect(rt, ("127.0.0.1", port))?;
+    stream.set_nodelay(true)?;
+    Ok(send_commands(
+        commands.as_slice(),
+        &mut Counted::new(&stream),
+        &mut Counted::new(&stream),
+        &mut Counted::new(&mut *out),
+    )?)
 }
 
 /// The status of what was written, once it is flushed.

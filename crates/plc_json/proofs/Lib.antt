@@ -2,3 +2,5 @@ mod Pairs
 mod Each
 mod Once
 mod Whole
+mod Nesting
+mod Texts

@@ -12,7 +12,7 @@ use Rattle.plc_json.specs.declared.command.JsonFault.TheVariants.{Shape}
 use Rattle.plc_json.proofs.Each.{items_again}
 
 module _ {A B : Type 0} (f : Data → Option B) (seen : A → B) (text : List ℕ) (d : Data) (vs : List Value) (is : read_text text ≡ Some d) (array : Some (items_view vs) ≡ as_array d) where
-  each_are : each_in f text ≡ all_of f (map view vs)
+  pub each_are : each_in f text ≡ all_of f (map view vs)
   each_are = ap (option_and_then (each_of f)) is ∙ ap (option_and_then (λ ds. all_of f (items_in ds))) (sym array) ∙ ap (all_of f) (items_again (map view vs))
 
   pub has_each : (r : Result (Vec A Global) JsonFault) → IsUtf8 text → IfOk r (λ v. all_of f (map view vs) ≡ Some (map seen v.items)) → IfOk r (λ v. IsUtf8 text × (each_in f text ≡ Some (map seen v.items)))

@@ -1,6 +1,6 @@
 -- What the end of a served controller tells, by what was done.
-use Rattle.std.proofs.Common.{◌≡◌, inl, inr, ℕ, List, [], Result, Ok, Err, subst, sym, ◌∙◌, arith}
-use Rattle.std.specs.Prelude.{IfErr, IfOk, IsOk, OnErr, OnOk}
+use Rattle.std.proofs.Common.{◌≡◌, inl, inr, ℕ, List, [], Result, Ok, Err, ap, subst, sym, ◌∙◌, arith}
+use Rattle.std.specs.Prelude.{IfErr, IfOk, IsErrAnd, IsOk, OnErr, OnOk}
 use Rattle.std.specs.Io.KnownBytes.{Appends}
 use Rattle.std.proofs.KnownBytes.{Appends-trans}
 use Rattle.il_model.specs.declared.counted.CountedWrite.{Ghosts as CountedWriter}
@@ -10,6 +10,11 @@ use Rattle.plc_tool.specs.Status.{status_of}
 use Rattle.plc_tool.specs.Telling.{Ends, IsTold, Sends, WentOut, fault_line}
 use Rattle.plc_serve.specs.Watching.{AreNoticesTold}
 use Rattle.plc_serve.specs.Serving.{IsAtMostServingTold, IsPortTold, IsReported, IsServingTold, IsToldAtLast, port_line, report_line}
+
+-- what `?` hands on
+pub handed : {A : Type 0} (r : Result A Fault) (e : Fault) → IsErrAnd r (λ x. x ≡ e) → status_of e ≡ 2 → IfErr r (λ x. status_of x ≡ 2)
+handed (Ok a) e wrong status = tt
+handed (Err x) e is status = ap status_of is ∙ status
 
 went_out : {W : Type 0} (w : CountedWriter W) (text : List ℕ) (old new : W) (r : Result (Unit {0}) DeviceFault) → Sends w text old new r → WentOut w text old new
 went_out w text old new (Ok done) sends = inl sends.sent

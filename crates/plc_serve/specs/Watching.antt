@@ -1,7 +1,6 @@
 -- What an operator is told while a controller is served.
 use Rattle.std.specs.Prelude.{◌≡◌, ℕ, ◌-◌, nat_le, Bool, true, false, if◌then◌else◌, List, [], ◌∷◌, ◌++◌, codes, Option, Some, None}
 use Rattle.std.specs.Fmt.{decimal}
-use Rattle.il_model.specs.declared.value.Stop.{Stop}
 use Rattle.il_model.specs.declared.counted.CountedWrite.{Ghosts as CountedWriter}
 use Rattle.plc_tool.specs.Lines.{stop_name}
 use Rattle.plc_tool.specs.Telling.{WentOut}
@@ -16,6 +15,7 @@ notice_line (notices.Down number) = replica_line number (codes " down\n")
 notice_line (notices.Normal number) = replica_line number (codes " normal\n")
 notice_line (notices.Store number) = replica_line number (codes " store\n")
 notice_line (notices.Crashed number) = replica_line number (codes " crashed\n")
+notice_line (notices.Held position) = (codes "held " ++ decimal position) ++ codes "\n"
 notice_line (notices.Stopped stop position) = (codes "stopped " ++ (stop_name stop ++ (codes " " ++ decimal position))) ++ codes "\n"
 
 -- the lines of these went out, one behind the other, and nothing else
@@ -50,8 +50,8 @@ change true (Some since) now = None
 change false None now = None
 change false (Some since) now = if nat_le patience (now - since) then Some false else None
 
--- The stop of a scan that was released, if it stopped: its line went out where the scan before it didn't stop, and else nothing did.
-abbrev pub IsStopTold : {W : Type 0} → CountedWriter W → Bool → Option (Stop × ℕ) → W → W → Type 0
-IsStopTold w false (Some (stop, position)) old new = WentOut w (notice_line (notices.Stopped stop position)) old new
-IsStopTold w true (Some (stop, position)) old new = new ≡ old
-IsStopTold w was_stopped None old new = new ≡ old
+-- What is to be told of a scan that was held or stopped, by what was of the scan before it: its line went out where that's another, and else nothing
+-- did.
+abbrev pub IsHaltTold : {W : Type 0} → CountedWriter W → Option Notice → Option Notice → W → W → Type 0
+IsHaltTold w before None old new = new ≡ old
+IsHaltTold w before (Some halt) old new = (before ≡ Some halt → new ≡ old) × ((before ≡ Some halt → ⊥) → WentOut w (notice_line halt) old new)

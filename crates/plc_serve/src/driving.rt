@@ -1,20 +1,20 @@
 //! The driver of a group: the client that has it scan once a period, and publishes what it releases.
 
-ghost use Rattle.std.specs.Prelude.{◌≡◌, ◌+◌, if◌then◌else◌, IfErr, OnOk, OnErr, IfOk, IfSome, IfNone, List, length, false, is_some};
+ghost use Rattle.std.specs.Prelude.{◌≡◌, ◌+◌, if◌then◌else◌, IfErr, OnOk, OnErr, IfOk, IfSome, IfNone, List, length, false};
 ghost use Rattle.plc_tool.specs.Status.{status_of};
 ghost use Rattle.il_model.specs.declared.command.Command.{Command as Asked};
 ghost use Rattle.vr_model.specs.Logs.{Request as Entry};
 ghost use Rattle.vr_model.specs.StandsFor.{body_with};
 ghost use Rattle.process_image.specs.Driver.{release_by};
-ghost use Rattle.plc_serve.specs.Driving.{Publishes, ReleasesWith, stop_by};
-ghost use Rattle.plc_serve.specs.Watching.{AreNoticesTold, IsStopTold};
+ghost use Rattle.plc_serve.specs.Driving.{Publishes, Scans, halt_by};
+ghost use Rattle.plc_serve.specs.Watching.{AreNoticesTold, IsHaltTold};
 
 use crate::crashes::Crashes;
 use crate::group::Running;
 use crate::notice::{Notice, tell};
 use crate::pace::Pace;
 use crate::watch::Watch;
-use il_model::{Answer, CountedWrite, Stop};
+use il_model::{Answer, CountedWrite};
 use plc_tool::Fault;
 use process_image::{Naming, Pen, ReleasedWriter, ScanDriver, Staging};
 use replicas::{Input, Link, Relink, Starts};
@@ -31,17 +31,30 @@ fn send_all<L: Link>(link: &mut L, sends: Sends) {
     }
 }
 
-/// Why and where the scan stopped whose answer the message brings, if it did.
-fn stop_in(message: &Message) -> Option<(Stop, u16)>
-    ensures { (log : List (Entry Asked)) → result ≡ stop_by (body_with log message.now.body) }
+/// By what the scan was held or stopped whose answer the message brings, if it was.
+fn halt_in(message: &Message) -> Option<Notice>
+    ensures { (log : List (Entry Asked)) → result ≡ halt_by (body_with log message.now.body) }
 {
     match message.body {
         Body::Reply {
+            answer: Answer::Held(position),
+            ..
+        } => Some(Notice::Held(position)),
+        Body::Reply {
             answer: Answer::Stopped { stop, position, .. },
             ..
-        } => Some((stop, position)),
+        } => Some(Notice::Stopped(stop, position)),
         _ => None,
     }
+}
+
+/// What came of a scan.
+#[derive(Clone, Copy)]
+pub(crate) struct Scanned {
+    /// By what it was held or stopped, if it was.
+    halt: Option<Notice>,
+    /// Whether it released outputs: one that's held doesn't.
+    is_released: bool,
 }
 
 /// The driver with its ways to the group and to the released images.
@@ -52,8 +65,8 @@ pub(crate) struct Drive<L: Drop, J: Naming, P: Pen<J> + Drop> {
     pub(crate) writer: ReleasedWriter<J, P>,
     pub(crate) watch: Watch,
     pub(crate) crashes: Crashes,
-    /// Whether the last scan that was released had stopped.
-    pub(crate) is_stopped: bool,
+    /// By what the last scan was held or stopped, if it was.
+    pub(crate) halt: Option<Notice>,
 }
 
 impl<L: Link + Drop, J: Naming, P: Pen<J> + Drop> Drive<L, J, P> {
@@ -77,13 +90,41 @@ impl<L: Link + Drop, J: Naming, P: Pen<J> + Drop> Drive<L, J, P> {
         ensures err { IfErr result (λ e. status_of e ≡ 2) }
     {
         for _ in 0..scans {
-            self.rest(rt, alloc, pace, group, err)?;
-            let moment = pace.await_scan(rt)?;
-            let stop = self.scan(rt, alloc, staging, pace, moment, group, err)?;
-            self.tell_stop(alloc, stop, err)?;
+            self.release(rt, alloc, staging, pace, group, err)?;
             self.crash_in_turn(alloc, group, err)?;
         }
         Ok(())
+    }
+
+    /// One scan a period, until one was released: a scan that's held releases nothing, and the next period has the next
+    /// one.
+    fn release<R, T, S: Staging, E: CountedWrite>(
+        &mut self,
+        rt: &R,
+        alloc: Global,
+        staging: &mut S,
+        pace: &mut Pace,
+        group: &mut Running<R, L, T>,
+        err: &mut E,
+    ) -> Result<(), Fault>
+    where
+        R: Threads + Wait + Clock + Copy + Send + Drop + 'static,
+        L: Relink + Send + 'static,
+        T: Starts + Send + Drop + 'static,
+        ensures counted { OnOk result (length self.new.writer ≡ length self.old.writer + 1) }
+        ensures told { AreNoticesTold E.CountedWrite err.old err.new }
+        ensures err { IfErr result (λ e. status_of e ≡ 2) }
+    {
+        for _ in rt.forever() {
+            self.rest(rt, alloc, pace, group, err)?;
+            let moment = pace.await_scan(rt)?;
+            let scanned = self.scan(rt, alloc, staging, pace, moment, group, err)?;
+            self.tell_halt(alloc, scanned.halt, err)?;
+            if scanned.is_released {
+                return Ok(());
+            }
+        }
+        unreachable!()
     }
 
     /// Sleeps until the next scan is nearly due, and looks at the replicas meanwhile.
@@ -112,8 +153,8 @@ impl<L: Link + Drop, J: Naming, P: Pen<J> + Drop> Drive<L, J, P> {
         unreachable!()
     }
 
-    /// Submits a scan of the staged inputs, and publishes what it releases; it asks again after each period without a reply. Gives the
-    /// stop of the scan, if it stopped.
+    /// Submits a scan of the staged inputs, and publishes what it releases; it asks again after each period without a
+    /// reply. Where the numbers of requests are used up it's a device fault.
     fn scan<R, T, S: Staging, E: CountedWrite>(
         &mut self,
         rt: &R,
@@ -123,23 +164,24 @@ impl<L: Link + Drop, J: Naming, P: Pen<J> + Drop> Drive<L, J, P> {
         moment: u64,
         group: &mut Running<R, L, T>,
         err: &mut E,
-    ) -> Result<Option<(Stop, u16)>, Fault>
+    ) -> Result<Scanned, Fault>
     where
         R: Threads + Wait + Clock + Copy + Send + Drop + 'static,
         L: Relink + Send + 'static,
         T: Starts + Send + Drop + 'static,
-        ensures released { IfOk result (λ stop. ReleasesWith stop self.old.writer self.new.writer) }
-        ensures counted { OnOk result (length self.new.writer ≡ length self.old.writer + 1) }
+        ensures scanned { IfOk result (λ scanned. Scans scanned self.old.writer self.new.writer) }
+        ensures counted { IfOk result (λ scanned. length self.new.writer ≡ length self.old.writer + (if scanned.is_released then 1 else 0)) }
         ensures told { AreNoticesTold E.CountedWrite err.old err.new }
         ensures err { IfErr result (λ e. status_of e ≡ 2) }
     {
-        if let Some(sends) = self.driver.sample_and_submit(alloc, staging, moment)? {
-            send_all(&mut self.link, sends);
-        }
+        let Some(sends) = self.driver.sample_and_submit(alloc, staging, moment)? else {
+            return Err(Fault::Device);
+        };
+        send_all(&mut self.link, sends);
         let mut asked = pace.elapsed(rt)?;
         for _ in rt.forever() {
-            if let Some(stop) = self.hear()? {
-                return Ok(stop);
+            if let Some(scanned) = self.hear()? {
+                return Ok(scanned);
             }
             asked = self.ask_again(rt, alloc, pace, asked)?;
             group.tend(alloc, pace.elapsed(rt)?, &mut self.watch, err)?;
@@ -147,20 +189,23 @@ impl<L: Link + Drop, J: Naming, P: Pen<J> + Drop> Drive<L, J, P> {
         unreachable!()
     }
 
-    /// Receives once. Where that brings the reply that is waited for, what it releases is published, and this is its stop, if it stopped.
-    fn hear(&mut self) -> Result<Option<Option<(Stop, u16)>>, Fault>
-        ensures released { IfOk result (λ heard. IfSome heard (λ stop. ReleasesWith stop self.old.writer self.new.writer)) }
-        ensures counted { IfOk result (λ heard. IfSome heard (λ _. length self.new.writer ≡ length self.old.writer + 1)) }
+    /// Receives once. Where that brings the reply that is waited for, what it releases is published, and this is what came of the scan.
+    fn hear(&mut self) -> Result<Option<Scanned>, Fault>
+        ensures scanned { IfOk result (λ heard. IfSome heard (λ scanned. Scans scanned self.old.writer self.new.writer)) }
+        ensures counted { IfOk result (λ heard. IfSome heard (λ scanned. length self.new.writer ≡ length self.old.writer + (if scanned.is_released then 1 else 0))) }
         ensures kept { IfOk result (λ heard. IfNone heard (self.new.writer ≡ self.old.writer)) }
         ensures err { IfErr result (λ e. status_of e ≡ 2) }
     {
         match self.link.recv() {
             Input::Message(message) => {
-                if self.take(&message)? {
-                    Ok(Some(stop_in(&message)))
-                } else {
-                    Ok(None)
+                let is_released = self.take(&message)?;
+                if !is_released && self.driver.is_waiting() {
+                    return Ok(None);
                 }
+                Ok(Some(Scanned {
+                    halt: halt_in(&message),
+                    is_released,
+                }))
             }
             Input::Nothing => Ok(None),
             Input::Closed => Err(Fault::Device),
@@ -189,7 +234,7 @@ impl<L: Link + Drop, J: Naming, P: Pen<J> + Drop> Drive<L, J, P> {
     /// Takes a message of the group. Whether it was the reply that is waited for: then what it releases is published.
     fn take(&mut self, message: &Message) -> Result<bool, Fault>
         ensures published { IfOk result (λ is_released. (log : List (Entry Asked))
-            → Publishes (release_by self.old.driver.client (body_with log message.now.body)) is_released self.old.writer self.new.writer) }
+            → Publishes (release_by self.old.driver.state (body_with log message.now.body)) is_released self.old.writer self.new.writer) }
         ensures counted { IfOk result (λ is_released. length self.new.writer ≡ length self.old.writer + (if is_released then 1 else 0)) }
         ensures kept { IfOk result (λ is_released. is_released ≡ false → self.new.writer ≡ self.old.writer) }
         ensures same { OnErr result (self.new.writer ≡ self.old.writer) }
@@ -205,26 +250,26 @@ impl<L: Link + Drop, J: Naming, P: Pen<J> + Drop> Drive<L, J, P> {
         }
     }
 
-    /// Tells the stop of the scan that was released, if the one before it didn't stop.
+    /// Tells by what the scan was held or stopped, unless the one before it was so.
     #[tactic(auto, using(crate::proofs::Noticed::none))]
-    fn tell_stop<E: CountedWrite>(
+    fn tell_halt<E: CountedWrite>(
         &mut self,
         alloc: Global,
-        stop: Option<(Stop, u16)>,
+        halt: Option<Notice>,
         err: &mut E,
     ) -> Result<(), AllocError>
-        ensures told { OnOk result (IsStopTold E.CountedWrite self.old.is_stopped stop err.old err.new) }
-        ensures stopped { OnOk result (self.new.is_stopped ≡ is_some stop) }
+        ensures told { OnOk result (IsHaltTold E.CountedWrite self.old.halt halt err.old err.new) }
+        ensures halt { OnOk result (self.new.halt ≡ halt) }
         ensures same { self.new.writer ≡ self.old.writer }
         ensures nothing { OnErr result (err.new ≡ err.old) }
         ensures notices { AreNoticesTold E.CountedWrite err.old err.new }
     {
-        if let Some((stop, position)) = stop {
-            if !self.is_stopped {
-                tell(alloc, Notice::Stopped(stop, position), err)?;
+        if let Some(notice) = halt {
+            if self.halt != halt {
+                tell(alloc, notice, err)?;
             }
         }
-        self.is_stopped = stop.is_some();
+        self.halt = halt;
         Ok(())
     }
 

@@ -21,6 +21,7 @@
 #![tactic(auto)]
 
 mod crashes;
+mod desk;
 mod directory;
 mod door;
 mod driving;
@@ -28,6 +29,7 @@ mod group;
 mod health;
 mod links;
 mod notice;
+mod opening;
 mod pace;
 mod places;
 mod report;

@@ -1,4 +1,4 @@
-//! The links of a group: those of its replicas by their numbers, and last that of its driver.
+//! The links of a group: those of its replicas by their numbers, then that of its driver, and of its console, if it has one.
 
 ghost use Rattle.std.specs.Prelude.{◌≡◌, IfErr};
 ghost use Rattle.plc_tool.specs.Status.{status_of};
@@ -15,11 +15,8 @@ use vr_model::{ClientNumber, Config, Party};
 /// For so many milliseconds a link waits for a message: a clock may be late by that.
 const WAIT: u64 = 50;
 
-/// The driver is this client of the group, and there is no other.
-const DRIVER: ClientNumber = ClientNumber { number: 0 };
-
-/// For so long the driver's link waits, with a scan in so many milliseconds.
-fn driver_wait(period: u32) -> Duration {
+/// For so long a client's link waits, with a scan in so many milliseconds.
+fn client_wait(period: u32) -> Duration {
     Duration::from_millis(WAIT.min(u64::from(period)))
 }
 
@@ -39,17 +36,25 @@ pub(crate) fn links_over_channels<R: Wait + Clock + Copy + Drop>(
     rt: R,
     alloc: Global,
     config: Config,
+    clients: u8,
     period: u32,
 ) -> Result<Vec<ChannelLink<R>>, AllocError> {
-    let board = Arc::new(alloc, Switchboard::new(alloc, config.group_size(), 1)?)?;
+    let board = Arc::new(
+        alloc,
+        Switchboard::new(alloc, config.group_size(), clients)?,
+    )?;
     let mut links = Vec::new(alloc);
     for number in 0..config.group_size() {
         let party = Party::Replica(number);
         let wait = Duration::from_millis(WAIT);
         links.push(channel_link(rt, alloc, &board, party, wait)?)?;
     }
-    let driver = Party::Client(DRIVER);
-    links.push(channel_link(rt, alloc, &board, driver, driver_wait(period))?)?;
+    for number in 0..clients {
+        if let Some(client) = ClientNumber::new(number) {
+            let party = Party::Client(client);
+            links.push(channel_link(rt, alloc, &board, party, client_wait(period))?)?;
+        }
+    }
     Ok(links)
 }
 
@@ -58,6 +63,7 @@ pub(crate) fn links_over_tcp<R>(
     rt: R,
     alloc: Global,
     config: Config,
+    clients: u8,
     period: u32,
 ) -> Result<Vec<TcpLink<R>>, Fault>
 where
@@ -65,9 +71,9 @@ where
     ensures { IfErr result (λ e. status_of e ≡ 2) }
 {
     let wait = Duration::from_millis(WAIT);
-    let mut links = links(rt, alloc, config.group_size(), 1, wait)?;
-    if let Some(driver) = links.last_mut() {
-        driver.wait_for(driver_wait(period));
+    let mut links = links(rt, alloc, config.group_size(), clients, wait)?;
+    for link in links.iter_mut().skip(usize::from(config.group_size())) {
+        link.wait_for(client_wait(period));
     }
     Ok(links)
 }

@@ -11,7 +11,7 @@ use plc_tool::{AnswerLine, put};
 use std::alloc::{AllocError, Global};
 
 /// What changed.
-#[derive(Clone, Copy)]
+#[derive(Clone, Copy, PartialEq, Eq)]
 pub(crate) enum Notice {
     /// The replica hasn't been normal for a while.
     Down(u8),
@@ -21,7 +21,9 @@ pub(crate) enum Notice {
     Store(u8),
     /// It crashed because that was asked for, and was restarted.
     Crashed(u8),
-    /// A scan stopped, behind one that didn't.
+    /// A scan was held, behind one that wasn't held there.
+    Held(u16),
+    /// A scan stopped, behind one that didn't stop so.
     Stopped(Stop, u16),
 }
 
@@ -34,7 +36,8 @@ fn line_of(alloc: Global, notice: Notice) -> Result<String, AllocError>
         Notice::Normal(number) => format!(in alloc; "replica {number} normal\n"),
         Notice::Store(number) => format!(in alloc; "replica {number} store\n"),
         Notice::Crashed(number) => format!(in alloc; "replica {number} crashed\n"),
-        Notice::Stopped(stop, position) => stopped_line(
+        Notice::Held(position) => answer_line(alloc, Answer::Held(position)),
+        Notice::Stopped(stop, position) => answer_line(
             alloc,
             Answer::Stopped {
                 stop,
@@ -46,7 +49,7 @@ fn line_of(alloc: Global, notice: Notice) -> Result<String, AllocError>
 }
 
 /// The line of an answer, as `plc run` prints it.
-fn stopped_line(alloc: Global, answer: Answer) -> Result<String, AllocError>
+fn answer_line(alloc: Global, answer: Answer) -> Result<String, AllocError>
     ensures { IfOk result (λ line. string_bytes line ≡ line_text answer) }
 {
     let shown = AnswerLine(&answer);

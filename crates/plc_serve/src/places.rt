@@ -1,6 +1,5 @@
 //! The places for sessions.
 
-use process_image::{Naming, ReleasedReader};
 use std::alloc::{AllocError, Global};
 use std::net::{Shutdown, TcpStream};
 use std::sync::atomic::{AtomicBool, Ordering};
@@ -8,29 +7,26 @@ use std::sync::{Mutex, Wait};
 
 /// A place for one session: free where it has no connection.
 #[derive(Drop)]
-struct Place<J: Naming> {
-    /// Its way to the outputs, which the session takes along while it is served.
-    reader: Option<ReleasedReader<J>>,
+struct Place<T: Drop> {
+    /// What the session works with, and takes along while it is served: its way to the outputs, or to the group.
+    tool: Option<T>,
     stream: Option<TcpStream>,
 }
 
-/// The places of the sessions, each with a reader of the released images.
+/// The places of the sessions, each with what a session works with.
 #[derive(Drop)]
-pub(crate) struct Places<J: Naming> {
-    places: Vec<Mutex<Place<J>>>,
+pub(crate) struct Places<T: Drop> {
+    places: Vec<Mutex<Place<T>>>,
     are_closed: AtomicBool,
 }
 
-impl<J: Naming> Places<J> {
-    /// A place for each of these readers.
-    pub(crate) fn new(
-        alloc: Global,
-        readers: Vec<ReleasedReader<J>>,
-    ) -> Result<Places<J>, AllocError> {
+impl<T: Drop> Places<T> {
+    /// A place for each of these.
+    pub(crate) fn new(alloc: Global, tools: Vec<T>) -> Result<Places<T>, AllocError> {
         let mut places = Vec::new(alloc);
-        for reader in readers {
+        for tool in tools {
             places.push(Mutex::new(Place {
-                reader: Some(reader),
+                tool: Some(tool),
                 stream: None,
             }))?;
         }
@@ -55,16 +51,16 @@ impl<J: Naming> Places<J> {
         None
     }
 
-    /// The reader of a place that was taken.
-    pub(crate) fn lend<R: Wait>(&self, rt: &R, number: usize) -> Option<ReleasedReader<J>> {
+    /// What the session of a place works with that was taken.
+    pub(crate) fn lend<R: Wait>(&self, rt: &R, number: usize) -> Option<T> {
         let place = self.places.get(number)?;
-        place.lock(rt).reader.take()
+        place.lock(rt).tool.take()
     }
 
-    /// Gives the reader back.
-    pub(crate) fn give_back<R: Wait>(&self, rt: &R, number: usize, reader: ReleasedReader<J>) {
+    /// Gives it back.
+    pub(crate) fn give_back<R: Wait>(&self, rt: &R, number: usize, tool: T) {
         if let Some(place) = self.places.get(number) {
-            place.lock(rt).reader = Some(reader);
+            place.lock(rt).tool = Some(tool);
         }
     }
 

@@ -10,15 +10,17 @@ ghost use Rattle.plc_serve.specs.Watching.{AreNoticesTold};
 ghost use Rattle.plc_serve.specs.Serving.{scans_line, IsReported, IsPortTold, IsServingTold, IsAtMostServingTold, IsWhyRefused, IsToldAtLast};
 
 use crate::crashes::Crashes;
+use crate::desk::{Desk, NewConsole};
 use crate::directory::Directory;
 use crate::door::Door;
 use crate::driving::Drive;
 use crate::group::{GroupSeat, Running, fault_of, seats};
 use crate::links::{links_over_channels, links_over_tcp};
+use crate::opening::Open;
 use crate::pace::Pace;
 use crate::places::Places;
 use crate::report::{Counts, open, put_report};
-use crate::sessions::{OpenServer, Server};
+use crate::sessions::Server;
 use crate::watch::Watch;
 use il_model::{Budget, CountedWrite};
 use loader::Image;
@@ -56,6 +58,8 @@ pub struct Settings {
     pub crash: Option<u32>,
     /// In seconds: after so long with fewer than f+1 replicas that are normal it ends.
     pub lost_after: u32,
+    /// Of 127.0.0.1: where an operator's console is served, if one is.
+    pub console: Option<u16>,
 }
 
 /// Judges the text, then the directory, and serves the controller until it has released so many scans: the status. What it serves is the
@@ -184,22 +188,26 @@ where
         config,
         period,
         over_tcp,
+        console,
         ..
     } = settings;
+    // The driver, and the console if there is one.
+    let clients = if console.is_some() { 2 } else { 1 };
     if over_tcp {
-        let links = links_over_tcp(rt, alloc, config, period)?;
+        let links = links_over_tcp(rt, alloc, config, clients, period)?;
         control_over::<J, R, _, S, E>(
             rt, alloc, list, _source, image, directory, links, stores, settings, err,
         )
     } else {
-        let links = links_over_channels(rt, alloc, config, period)?;
+        let links = links_over_channels(rt, alloc, config, clients, period)?;
         control_over::<J, R, _, S, E>(
             rt, alloc, list, _source, image, directory, links, stores, settings, err,
         )
     }
 }
 
-/// The same over these links, those of the replicas and last that of the driver; it ends each thread that it began.
+/// The same over these links, those of the replicas, then that of the driver, and last that of the console if there is one; it ends each thread
+/// that it began.
 fn control_over<J, R, L, S, E: CountedWrite>(
     rt: R,
     alloc: Global,
@@ -226,6 +234,7 @@ where
     ensures at_most { IsAtMostServingTold E.CountedWrite err.old err.new }
     ensures err { IfErr result (λ e. status_of e ≡ 2) }
 {
+    let console = console_over(rt, alloc, image, &mut links, settings)?;
     let Some(link) = links.pop() else {
         return Err(Fault::Device);
     };
@@ -241,10 +250,10 @@ where
         writer,
         watch,
         crashes: Crashes::new(config, settings.crash),
-        is_stopped: false,
+        halt: None,
     };
     let mut group = begun(rt, alloc, image, directory, settings, seats)?;
-    let opened = opened(rt, alloc, directory, server, err);
+    let opened = opened(rt, alloc, directory, server, console, err);
     let was_opened = opened.is_ok();
     let scans = settings.scans;
     let done = attend(&rt, alloc, opened, &mut drive, pace, scans, &mut group, err);
@@ -302,17 +311,46 @@ where
     }
 }
 
+/// The console that is asked for, which takes the last of these links.
+fn console_over<R, L>(
+    rt: R,
+    alloc: Global,
+    image: &Image,
+    links: &mut Vec<L>,
+    settings: Settings,
+) -> Result<Option<NewConsole<R, L>>, Fault>
+where
+    R: Threads + Wait + Net<Listener = TcpListener, Stream = TcpStream> + Clock,
+    R: Copy + Send + Sync + Drop + 'static,
+    L: Relink + Send + Drop + 'static,
+    ensures { IfErr result (λ e. status_of e ≡ 2) }
+{
+    let Some(port) = settings.console else {
+        return Ok(None);
+    };
+    let Some(link) = links.pop() else {
+        return Err(Fault::Device);
+    };
+    let period = Duration::from_millis(u64::from(settings.period));
+    let idle = Duration::from_secs(u64::from(settings.idle));
+    let door = Door::open(&rt, port)?;
+    let desk = Desk::new(rt, alloc, settings.config, link, period);
+    Ok(Some(NewConsole::new(alloc, door, desk, image, idle)?))
+}
+
 /// Takes connections, if each replica has its file: one whose file could not be made is down.
-fn opened<J, R, E: CountedWrite>(
+fn opened<J, R, L, E: CountedWrite>(
     rt: R,
     alloc: Global,
     directory: Directory<'_>,
     server: Server<J>,
+    console: Option<NewConsole<R, L>>,
     err: &mut E,
-) -> Result<OpenServer<J>, Fault>
+) -> Result<Open<J, R, L>, Fault>
 where
     J: Naming + Send + Sync + 'static,
     R: Threads + Wait + Clock + Files + Copy + Send + Sync + Drop + 'static,
+    L: Relink + Send + Drop + 'static,
     ensures told { OnOk result (IsPortTold E.CountedWrite err.old err.new) }
     ensures same { OnErr result (err.new ≡ err.old) }
     ensures err { IfErr result (λ e. status_of e ≡ 2) }
@@ -320,14 +358,14 @@ where
     if directory.file_count(rt, alloc)? != directory.config.group_size() {
         return Err(Fault::Device);
     }
-    OpenServer::new(&rt, alloc, server, err)
+    Open::new(&rt, alloc, server, console, err)
 }
 
 /// Has the group scan while connections are served, until so many scans are released, and ends the sessions.
 fn attend<J, P, L, R, S, E: CountedWrite>(
     rt: &R,
     alloc: Global,
-    opened: Result<OpenServer<J>, Fault>,
+    opened: Result<Open<J, R, L>, Fault>,
     drive: &mut Drive<L, J, P>,
     mut pace: Pace,
     scans: u32,

@@ -10,7 +10,7 @@ use crate::places::Places;
 use il_model::{Counted, CountedWrite};
 use modbus_gateway::serve_session;
 use plc_tool::{Fault, put};
-use process_image::{Naming, Stage, StageBook, Staging};
+use process_image::{Naming, ReleasedReader, Stage, StageBook, Staging};
 use std::alloc::{AllocError, Global};
 use std::net::TcpStream;
 use std::sync::atomic::{AtomicU64, Ordering};
@@ -29,7 +29,7 @@ const PAUSE: u64 = 1;
 #[derive(Drop)]
 pub(crate) struct Server<J: Naming> {
     door: Door,
-    places: Places<J>,
+    places: Places<ReleasedReader<J>>,
     stage: Stage,
     /// A session ends whose client sends nothing, or takes nothing, for so long.
     idle: Duration,
@@ -39,7 +39,12 @@ pub(crate) struct Server<J: Naming> {
 
 impl<J: Naming> Server<J> {
     /// No input is staged yet.
-    pub(crate) fn new(alloc: Global, door: Door, places: Places<J>, idle: Duration) -> Server<J> {
+    pub(crate) fn new(
+        alloc: Global,
+        door: Door,
+        places: Places<ReleasedReader<J>>,
+        idle: Duration,
+    ) -> Server<J> {
         Server {
             door,
             places,
@@ -55,7 +60,7 @@ fn attend<R: Wait, J: Naming>(
     rt: &R,
     alloc: Global,
     stage: &Stage,
-    places: &Places<J>,
+    places: &Places<ReleasedReader<J>>,
     place: usize,
     stream: &TcpStream,
 ) {
@@ -74,9 +79,9 @@ fn attend<R: Wait, J: Naming>(
 }
 
 /// A place for this connection, if one is free or soon will be.
-fn place_for<R: Wait + Clock, J: Naming>(
+fn place_for<R: Wait + Clock, T: Drop>(
     rt: &R,
-    places: &Places<J>,
+    places: &Places<T>,
     stream: &TcpStream,
 ) -> Option<usize> {
     for _ in 0..PATIENCE {
@@ -97,9 +102,9 @@ fn prepare(stream: &TcpStream, idle: Duration) -> io::Result<()> {
 }
 
 /// A place for this connection, and the time limits of its session.
-fn admit<R: Wait + Clock, J: Naming>(
+pub(crate) fn admit<R: Wait + Clock, T: Drop>(
     rt: &R,
-    places: &Places<J>,
+    places: &Places<T>,
     stream: &TcpStream,
     idle: Duration,
 ) -> Option<usize> {

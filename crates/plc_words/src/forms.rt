@@ -47,6 +47,9 @@ const CRASH: &str = "crash";
 /// The word of the option `--report`.
 const REPORT: &str = "report";
 
+/// The word of the option `--console`.
+const CONSOLE: &str = "console";
+
 const NO_FORM: &str = "error: the words name no form of call\n";
 
 const STATUSES: &str = "Exit status:
@@ -182,9 +185,14 @@ What changes is told by a line on standard error, and the status stays:
   replica I store            its file couldn't be written: it's down, and started anew after 5 s, then
                              after 10 s, up to each minute, until it's normal again
   replica I crashed          it was crashed and restarted, as --crash asks for
+  held P                     a scan is held before instruction P; outputs stay as they were released last
   stopped WHY P              the program stopped at instruction P: overflow, zerodivisor or budget; all
-                             outputs are FALSE or 0 from then on
+                             outputs are FALSE or 0 from then on, until a reset
 Where fewer than F+1 replicas have been normal for a minute it ends with 'plc: device'.
+
+With --console P an operator's console is served at port P of 127.0.0.1, to one client at a time. Each
+line is one of the commands of 'plc run' in JSON, but no scan, and is answered by its line; any other
+line by 'plc: commands'. At a breakpoint all outputs stay as they are until the scan goes on.
 
 The report is one line of JSON, written at the end before 'scans N':
   crashes                    how often a replica was crashed by --crash
@@ -193,6 +201,17 @@ The report is one line of JSON, written at the end before 'scans N':
   writes                     how many of their writes were taken
 "
 );
+
+const ASKING: &str =
+    "COMMANDS is a JSON array of the commands of 'plc run', without scans, which are the driver's. Each is
+submitted to the group of 'plc serve --console PORT' once the one before it is answered, and its
+answer is a line, as 'plc run' prints it. A scan is answered 'plc: commands'.
+
+The status is 0 where each command was answered. A fault is one line on standard error:
+  plc: commands              the file is no list of commands; nothing was sent
+  plc: device                the file can't be read, nobody serves a console at the port, or another
+                             client has it, or it ended before each command was answered
+  plc: memory                memory ran out";
 
 /// What the words ask for.
 #[derive(Clone, Copy, PartialEq, Eq)]
@@ -236,6 +255,13 @@ pub enum Words<'a> {
         crash: Option<u32>,
         /// The file of the report, if one is wanted.
         report: Option<&'a str>,
+        /// The port of an operator's console, if one is wanted.
+        console: Option<u16>,
+    },
+    /// Sends the commands of a file to the console at a port, and prints what it answers.
+    Ask {
+        port: u16,
+        commands: &'a str,
     },
 }
 
@@ -263,7 +289,8 @@ fn program<'a>(alloc: Global) -> Result<Command<'a>, AllocError> {
         .subcommand(list_command(alloc)?)?
         .subcommand(run_command(alloc)?)?
         .subcommand(sim_command(alloc)?)?
-        .subcommand(serve_command(alloc)?)
+        .subcommand(serve_command(alloc)?)?
+        .subcommand(ask_command(alloc)?)
 }
 
 fn asm_command<'a>(alloc: Global) -> Result<Command<'a>, AllocError> {
@@ -330,7 +357,21 @@ fn serve_command<'a>(alloc: Global) -> Result<Command<'a>, AllocError> {
         .arg(count(alloc, CRASH, "K").help(
             "Crashes a replica after every K scans, and restarts it",
         ))?
-        .arg(report(alloc))
+        .arg(report(alloc))?
+        .arg(console(alloc))
+}
+
+fn ask_command<'a>(alloc: Global) -> Result<Command<'a>, AllocError> {
+    Command::new(alloc, "ask")
+        .about("Sends a file of commands to the console of a served controller")
+        .after_help(ASKING)
+        .arg(
+            Arg::new(alloc, "PORT")
+                .required(true)
+                .value_parser(value_parser!(u16).range(1..=65_535))
+                .help("The port of 127.0.0.1, as --console has it"),
+        )?
+        .arg(file(alloc, "COMMANDS").help("The commands, in JSON"))
 }
 
 fn file<'a>(alloc: Global, name: &'a str) -> Arg<'a> {
@@ -375,6 +416,15 @@ fn directory<'a>(alloc: Global) -> Arg<'a> {
         .required(true)
         .value_parser(ValueParser::NonEmptyString)
         .help("The directory for the stores of the replicas")
+}
+
+/// The option is refused where it is given twice, or no number of a port.
+fn console<'a>(alloc: Global) -> Arg<'a> {
+    Arg::new(alloc, CONSOLE)
+        .long(CONSOLE)
+        .value_name("P")
+        .value_parser(value_parser!(u16).range(1..=65_535))
+        .help("The port of an operator's console, 1 to 65535")
 }
 
 /// The option is refused where it is given twice or empty.
@@ -452,6 +502,11 @@ fn form_of<'a>(matches: &ArgMatches<'a>) -> Option<Words<'a>> {
             over_tcp: inner.get_str(LINKS)? == TCP,
             crash: inner.get_one::<u32>(CRASH),
             report: inner.get_str(REPORT),
+            console: inner.get_one::<u16>(CONSOLE),
+        }),
+        "ask" => Some(Words::Ask {
+            port: inner.get_one::<u16>("PORT")?,
+            commands: inner.get_str("COMMANDS")?,
         }),
         _ => None,
     }

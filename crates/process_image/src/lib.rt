@@ -22,6 +22,7 @@
 
 pub mod book;
 pub mod calls;
+pub mod client;
 pub mod copies;
 pub mod driver;
 pub mod ends;
@@ -30,6 +31,7 @@ pub mod release;
 pub mod staging;
 
 pub use book::{Sample, StageBook, StageError, Ticket, Written};
+pub use client::{Answered, GroupClient};
 pub use copies::{Pen, SharedPen};
 pub use driver::ScanDriver;
 pub use ends::{PublishError, ReleasedReader, ReleasedWriter, Told, Unmade, released};

@@ -168,6 +168,7 @@ fn settings() -> Result<Settings, Fail> {
         over_tcp: true,
         crash: Some(5),
         lost_after: 60,
+        console: None,
     })
 }
 

@@ -385,6 +385,7 @@ fn asked<R: Files + Alloc<A = Global> + Copy + Drop>(
             over_tcp,
             crash,
             report,
+            console: None,
         },
     ) = read_words(rt.alloc(), row.words)
     else {
@@ -400,6 +401,7 @@ fn asked<R: Files + Alloc<A = Global> + Copy + Drop>(
         over_tcp,
         crash,
         lost_after: row.lost_after,
+        console: None,
     };
     match Service::new(rt, source, store, report, settings) {
         Ok(service) => Ok(service),

@@ -34,7 +34,7 @@ fn sim(failures: u8, every: u16) -> Result<Words<'static>, Fail> {
     })
 }
 
-/// So many scans of `a.il`, with stores in `d`; with crashes, a report in `r`.
+/// So many scans of `a.il`, with stores in `d`; with crashes, a report in `r` and a console at that port.
 fn serve(
     scans: u32,
     failures: u8,
@@ -59,6 +59,10 @@ fn serve(
             Some(_) => Some("r"),
             None => None,
         },
+        console: match crash {
+            Some(_) => Some(port),
+            None => None,
+        },
     })
 }
 
@@ -77,11 +81,29 @@ fn words_ask_to_serve(rt: HostRuntime) -> Result<(), Fail> {
         "--idle=4294967295",
         "--crash=4294967295",
         "--report=r",
+        "--console=65535",
         "a.il",
     ];
     let least: &[&str] = &[
-        "plc", "serve", "a.il", "--store", "d", "--scans", "9", "--port", "1", "--period", "1",
-        "--idle", "1", "--crash", "1", "--report", "r",
+        "plc",
+        "serve",
+        "a.il",
+        "--store",
+        "d",
+        "--scans",
+        "9",
+        "--port",
+        "1",
+        "--period",
+        "1",
+        "--idle",
+        "1",
+        "--crash",
+        "1",
+        "--report",
+        "r",
+        "--console",
+        "1",
     ];
     let rows: [(&[&str], Words); 3] = [
         (first, serve(1, 1, 64, 5020, 100, 300, None)?),
@@ -110,7 +132,11 @@ fn words_ask_for_a_form(rt: HostRuntime) -> Result<(), Fail> {
         image: "a.image",
     };
     let list = Words::List { image: "a.image" };
-    let rows: [(&[&str], Words); 9] = [
+    let ask = Words::Ask {
+        port: 5021,
+        commands: "b.json",
+    };
+    let rows: [(&[&str], Words); 10] = [
         (&["plc", "sim", "a.il", "b.json"], sim(1, 64)?),
         (
             &["plc", "sim", "a.il", "b.json", "--every", "0"],
@@ -129,6 +155,7 @@ fn words_ask_for_a_form(rt: HostRuntime) -> Result<(), Fail> {
         ),
         (&["plc", "asm", "a.il", "a.image"], asm),
         (&["plc", "list", "a.image"], list),
+        (&["plc", "ask", "5021", "b.json"], ask),
     ];
     ask_for(&rt, rt.alloc(), &rows);
     Ok(())

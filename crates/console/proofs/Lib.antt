@@ -1,0 +1,4 @@
+mod Waiting
+mod Kept
+mod Sessions
+mod Passing

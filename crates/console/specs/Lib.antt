@@ -1,0 +1,4 @@
+pub mod Asking
+pub mod Lines
+pub mod Sending
+pub mod Sessions

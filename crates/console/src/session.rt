@@ -1,0 +1,227 @@
+//! A session of a console: lines come in, and each is answered in order.
+
+ghost use Rattle.std.specs.Prelude.{◌≡◌, ◌≤◌, ◌++◌, ◌∷◌, [], List, ℕ, Some, MatchResult};
+ghost use Rattle.il_model.specs.Counted.{Failed};
+ghost use Rattle.plc_tool.specs.Lines.{line_text};
+ghost use Rattle.plc_tool.specs.Telling.{fault_line};
+ghost use Rattle.plc_tool.specs.declared.fault.Fault.TheVariants.{Commands};
+ghost use Rattle.console.specs.declared.session.ConsoleEnd.TheVariants as ends;
+ghost use Rattle.console.specs.Lines.{kept, line_end, HasNoEnd};
+ghost use Rattle.console.specs.Sessions.{scene, Serves, Stops, StopsAt, Takes, Talks, Writes};
+
+use crate::line::Line;
+use il_model::{Answer, Command, CountedRead, CountedWrite, write_all};
+use loader::Image;
+use plc_tool::{Fault, put_line};
+use std::alloc::Global;
+use std::sync::Wait;
+use thiserror::Error;
+
+/// So many bytes are read at once.
+const PIECE: usize = 4096;
+
+/// LF, which ends a line.
+const LINE_END: u8 = b'\n';
+
+/// No answer comes any more to a command, which may have been done or not.
+#[derive(Clone, Copy, Debug, PartialEq, Eq, Error)]
+#[error("unanswered")]
+pub struct Unanswered;
+
+/// What submits the commands of a console. It tells which commands it was given and how they were answered, or tells
+/// nothing.
+pub trait Submits {
+    ghost use Rattle.std.specs.Prelude.{◌≡◌, [], ◌∷◌, List, Option, IfOk, OnErr};
+    ghost use Rattle.il_model.specs.declared.command.Answer.{Answer};
+    ghost use Rattle.il_model.specs.declared.command.Command.{Command};
+    ghost use Rattle.replicas.specs.Serving.{Grows};
+
+    // The commands that were answered so far, each with its answer, if it tells.
+    ghost answered: { Self → Option (List (Command × Answer)) };
+
+    /// Submits a command, and waits for its answer.
+    fn submit(&mut self, command: &Command) -> Result<Answer, Unanswered>
+        ensures answered { IfOk result (λ answer. Grows (answered self.old) (answered self.new) ((command.now, answer) ∷ [])) }
+        ensures unanswered { OnErr result (answered self.new ≡ answered self.old) };
+}
+
+/// How a session ended.
+#[derive(Clone, Copy, PartialEq, Eq)]
+pub enum ConsoleEnd {
+    /// The reader came to its end.
+    Closed,
+    /// The reader or the writer failed.
+    Device,
+    Memory,
+    /// A command had no answer.
+    Unanswered,
+}
+
+/// Writes that a line is no command.
+fn refuse<W: CountedWrite>(writer: &mut W) -> Result<(), ConsoleEnd>
+    ensures wrote { Writes result (fault_line Commands) (Failed (W.faults writer.old) (W.faults writer.new)) (W.held writer.old) (W.held writer.new) }
+    ensures counts { W.faults writer.old ≤ W.faults writer.new }
+{
+    match write_all(writer, b"plc: commands\n") {
+        Ok(()) => Ok(()),
+        Err(_) => Err(ConsoleEnd::Device),
+    }
+}
+
+/// Writes the line of an answer.
+fn put_answer<W: CountedWrite>(
+    alloc: Global,
+    answer: &Answer,
+    writer: &mut W,
+) -> Result<(), ConsoleEnd>
+    ensures wrote { Writes result (line_text answer.now) (Failed (W.faults writer.old) (W.faults writer.new)) (W.held writer.old) (W.held writer.new) }
+    ensures counts { W.faults writer.old ≤ W.faults writer.new }
+{
+    match put_line(alloc, answer, writer) {
+        Ok(()) => Ok(()),
+        Err(Fault::Memory) => Err(ConsoleEnd::Memory),
+        Err(_) => Err(ConsoleEnd::Device),
+    }
+}
+
+/// Submits a command, and writes the line of its answer.
+fn submit<W: CountedWrite, D: Submits>(
+    alloc: Global,
+    command: &Command,
+    writer: &mut W,
+    desk: &mut D,
+) -> Result<(), ConsoleEnd>
+    ensures took { MatchResult result
+        (λ _. Takes (Some command.now) (scene (D.answered desk.old) (W.held writer.old)) (scene (D.answered desk.new) (W.held writer.new)))
+        (λ end. StopsAt end (Some command.now) (Failed (W.faults writer.old) (W.faults writer.new)) (scene (D.answered desk.old) (W.held writer.old)) (scene (D.answered desk.new) (W.held writer.new))) }
+    ensures counts { W.faults writer.old ≤ W.faults writer.new }
+{
+    match desk.submit(command) {
+        Ok(answer) => put_answer(alloc, &answer, writer),
+        Err(Unanswered) => Err(ConsoleEnd::Unanswered),
+    }
+}
+
+/// Gives a line its turn: its command is submitted, if it has one, and answered by its line; or it is refused.
+fn take_turn<W: CountedWrite, D: Submits>(
+    alloc: Global,
+    command: Option<Command>,
+    writer: &mut W,
+    desk: &mut D,
+) -> Result<(), ConsoleEnd>
+    ensures took { MatchResult result
+        (λ _. Takes command (scene (D.answered desk.old) (W.held writer.old)) (scene (D.answered desk.new) (W.held writer.new)))
+        (λ end. StopsAt end command (Failed (W.faults writer.old) (W.faults writer.new)) (scene (D.answered desk.old) (W.held writer.old)) (scene (D.answered desk.new) (W.held writer.new))) }
+    ensures counts { W.faults writer.old ≤ W.faults writer.new }
+{
+    match command {
+        Some(command) => submit(alloc, &command, writer, desk),
+        None => refuse(writer),
+    }
+}
+
+/// Takes one byte that doesn't end a line.
+fn extend(byte: u8, line: &mut Line) -> Result<(), ConsoleEnd>
+    ensures { MatchResult result (λ _. (rest : List ℕ) → line.old ≡ kept rest → line.new ≡ kept (rest ++ byte ∷ [])) (λ end. end ≡ ends.Memory) }
+{
+    match line.push(byte) {
+        Ok(()) => Ok(()),
+        Err(_) => Err(ConsoleEnd::Memory),
+    }
+}
+
+/// Ends a line, which has its turn.
+fn end_line<W: CountedWrite, D: Submits>(
+    alloc: Global,
+    image: &Image,
+    line: &mut Line,
+    writer: &mut W,
+    desk: &mut D,
+) -> Result<(), ConsoleEnd>
+    ensures served { (rest : List ℕ) → HasNoEnd rest → line.old ≡ kept rest → MatchResult result
+        (λ _. (line.new ≡ kept []) × Serves image.now rest (line_end ∷ []) [] (scene (D.answered desk.old) (W.held writer.old)) (scene (D.answered desk.new) (W.held writer.new)))
+        (λ end. Stops end image.now rest (line_end ∷ []) (Failed (W.faults writer.old) (W.faults writer.new)) (scene (D.answered desk.old) (W.held writer.old)) (scene (D.answered desk.new) (W.held writer.new))) }
+    ensures counts { W.faults writer.old ≤ W.faults writer.new }
+{
+    match line.command(alloc, image) {
+        Ok(command) => {
+            line.clear();
+            take_turn(alloc, command, writer, desk)
+        }
+        Err(_) => Err(ConsoleEnd::Memory),
+    }
+}
+
+/// Takes one byte: the line that it ends has its turn.
+fn take_byte<W: CountedWrite, D: Submits>(
+    alloc: Global,
+    image: &Image,
+    byte: u8,
+    line: &mut Line,
+    writer: &mut W,
+    desk: &mut D,
+) -> Result<(), ConsoleEnd>
+    ensures served { (rest : List ℕ) → HasNoEnd rest → line.old ≡ kept rest → MatchResult result
+        (λ _. (rest' : List ℕ) × (line.new ≡ kept rest') × Serves image.now rest (byte ∷ []) rest' (scene (D.answered desk.old) (W.held writer.old)) (scene (D.answered desk.new) (W.held writer.new)))
+        (λ end. Stops end image.now rest (byte ∷ []) (Failed (W.faults writer.old) (W.faults writer.new)) (scene (D.answered desk.old) (W.held writer.old)) (scene (D.answered desk.new) (W.held writer.new))) }
+    ensures counts { W.faults writer.old ≤ W.faults writer.new }
+{
+    if byte == LINE_END {
+        end_line(alloc, image, line, writer, desk)
+    } else {
+        extend(byte, line)
+    }
+}
+
+/// Gives each line its turn that is whole with this piece.
+fn serve_piece<W: CountedWrite, D: Submits>(
+    alloc: Global,
+    image: &Image,
+    piece: &[u8],
+    line: &mut Line,
+    writer: &mut W,
+    desk: &mut D,
+) -> Result<(), ConsoleEnd>
+    ensures served { (rest : List ℕ) → HasNoEnd rest → line.old ≡ kept rest → MatchResult result
+        (λ _. (rest' : List ℕ) × (line.new ≡ kept rest') × Serves image.now rest piece.now rest' (scene (D.answered desk.old) (W.held writer.old)) (scene (D.answered desk.new) (W.held writer.new)))
+        (λ end. Stops end image.now rest piece.now (Failed (W.faults writer.old) (W.faults writer.new)) (scene (D.answered desk.old) (W.held writer.old)) (scene (D.answered desk.new) (W.held writer.new))) }
+    ensures counts { W.faults writer.old ≤ W.faults writer.new }
+{
+    for byte in piece {
+        if let Err(end) = take_byte(alloc, image, *byte, line, writer, desk) {
+            return Err(end);
+        }
+    }
+    Ok(())
+}
+
+/// Serves a session to its end. Each line that is a command of those in files of commands, but for a scan, is submitted
+/// once, its names looked up in the program, and answered by the line of its answer; each other line, as one over
+/// 131072 bytes, by `plc: commands`. Lines have their turns in order, one behind the answer of the other. What the
+/// reader has behind its last whole line is no line. Where a session ends by `Device`, for want of memory or by a
+/// command without an answer, a beginning of the answers went out.
+pub fn serve_console<H: Wait, R: CountedRead, W: CountedWrite, D: Submits>(
+    rt: &H,
+    alloc: Global,
+    image: &Image,
+    reader: &mut R,
+    writer: &mut W,
+    desk: &mut D,
+) -> ConsoleEnd
+    ensures { Talks result image.now (R.left reader.old) (R.left reader.new) (R.faults reader.old) (R.faults reader.new) (W.faults writer.old) (W.faults writer.new) (scene (D.answered desk.old) (W.held writer.old)) (scene (D.answered desk.new) (W.held writer.new)) }
+{
+    let mut line = Line::new(alloc);
+    let mut piece = [0; PIECE];
+    for _ in rt.forever() {
+        let Ok(count) = reader.read(&mut piece) else {
+            return ConsoleEnd::Device;
+        };
+        if count == 0 {
+            return ConsoleEnd::Closed;
+        }
+        if let Err(end) = serve_piece(alloc, image, &piece[..count], &mut line, writer, desk) {
+            return end;
+        }
+    }
+    unreachable!()
+}

@@ -1,0 +1,39 @@
+-- A text that is one command.
+use Rattle.std.specs.Prelude.{◌≡◌, ◌≤◌, ℕ, List, Option, Some, None, option_and_then, IsUtf8, Vec}
+use Rattle.std.specs.Global.{Global}
+use Rattle.std.specs.List.{AllByRecursion}
+use Rattle.serde_json.specs.Data.{Data, depth}
+use Rattle.serde_json.specs.Read.{read as read_text, max_depth}
+use Rattle.plc_json.specs.declared.command.NamedCommand.{NamedCommand}
+use Rattle.plc_json.specs.Commands.{Named, named, command_of, all_of, commands_in}
+
+-- the command of a text; an object's last member of a key is the one that counts
+abbrev pub command_in : List ℕ → Option Named
+command_in text = option_and_then command_of (read_text text)
+
+-- the text is this command
+abbrev pub HasCommand : List ℕ → NamedCommand → Type 0
+HasCommand text c = IsUtf8 text × (command_in text ≡ Some (named c))
+
+-- the text isn't UTF-8, or it is no command
+abbrev pub HasNoCommand : List ℕ → Type 0
+HasNoCommand text = IsUtf8 text → command_in text ≡ None
+
+-- the text says this value's command
+abbrev pub SaysCommand : Data → List ℕ → Type 0
+SaysCommand d text = (c : Named) × (command_of d ≡ Some c) × (command_in text ≡ Some c)
+
+-- As commands alone, these texts say the commands of these values, in order.
+abbrev pub SayCommands : List Data → List (List ℕ) → Type 0
+SayCommands ds texts = (cs : List Named) × (all_of command_of ds ≡ Some cs) × (all_of command_in texts ≡ Some cs)
+
+-- As commands alone, these texts say the commands of the text, in order.
+abbrev pub HasTexts : List ℕ → List (List ℕ) → Type 0
+HasTexts text texts = IsUtf8 text × (cs : List Named) × (commands_in text ≡ Some cs) × (all_of command_in texts ≡ Some cs)
+
+abbrev pub bytes_of : Vec ℕ Global → List ℕ
+bytes_of v = v.items
+
+-- no value nests deeper than values of texts may
+abbrev pub NestWithin : List Data → Type 0
+NestWithin ds = AllByRecursion (λ d. depth d ≤ max_depth) ds
