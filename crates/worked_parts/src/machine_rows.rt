@@ -4,7 +4,7 @@ ghost use Rattle.machine.specs.Kept.{IsMachineOf};
 use crate::images::{THREE_STORES, image};
 use il_model::{InImage, Slot, Value};
 use loader::Image;
-use machine::{Machine, RunOut};
+use machine::{Machine, RunOut, StepOut};
 use std::process::Abort;
 use std::test::Fail;
 
@@ -16,6 +16,14 @@ fn runs(rt: &impl Abort, machine: &mut Machine, image: &Image, wanted: RunOut)
     let position = machine.pos();
     assert!(rt; (position as usize) < image.len());
     assert!(rt; machine.run_straight(image, 0, image.straight(position)) == wanted);
+}
+
+/// Wants one instruction to end so.
+fn steps(rt: &impl Abort, machine: &mut Machine, image: &Image, wanted: StepOut)
+    requires { IsMachineOf image.now machine.old }
+    ensures { IsMachineOf image.now machine.new }
+{
+    assert!(rt; machine.step(image, 0) == wanted);
 }
 
 /// Wants these values of these slots.
@@ -61,5 +69,10 @@ fn a_machine_runs_through_its_image(rt: HostRuntime) -> Result<(), Fail> {
     machine.reset(&image);
     shows(&rt, &machine, &[(0x4000, Some(Value::Bool(false)))]);
     releases(&rt, &machine, false, false);
+    steps(&rt, &mut machine, &image, StepOut::Next);
+    steps(&rt, &mut machine, &image, StepOut::Next);
+    steps(&rt, &mut machine, &image, StepOut::Next);
+    steps(&rt, &mut machine, &image, StepOut::End);
+    releases(&rt, &machine, false, true);
     Ok(())
 }

@@ -484,7 +484,7 @@ fn a_view_begins_with_no_more_than_its_log(rt: HostRuntime) -> Result<(), Fail> 
 
 #[test]
 fn a_view_of_its_own_that_another_begins(rt: HostRuntime) -> Result<(), Fail> {
-    let rows: [Row; 2] = [
+    let rows: [Row; 4] = [
         (
             Hears(0, Says::StartView(1, 1, 2)),
             Ok(&[(0, Says::Reply(1, 1)), (1, Says::PrepareOk(1, 2))]),
@@ -496,6 +496,18 @@ fn a_view_of_its_own_that_another_begins(rt: HostRuntime) -> Result<(), Fail> {
             Ok(&[(0, Says::StartViewChange(2)), (2, Says::StartViewChange(2))]),
             false,
             1,
+        ),
+        (
+            Hears(0, Says::NewState(4, 1, 2, 1)),
+            Ok(&[(0, Says::Reply(4, 2)), (1, Says::PrepareOk(4, 2))]),
+            true,
+            2,
+        ),
+        (
+            Resend,
+            Ok(&[(0, Says::Commit(4, 2)), (2, Says::Commit(4, 2))]),
+            true,
+            2,
         ),
     ];
     wants(
