@@ -7,8 +7,6 @@ mod clients;
 #[cfg(test)]
 mod cluster_rows;
 #[cfg(test)]
-mod console_rows;
-#[cfg(test)]
 mod failing_rows;
 #[cfg(test)]
 mod falling;
