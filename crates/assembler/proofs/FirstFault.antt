@@ -13,7 +13,7 @@ use Rattle.il_model.specs.InstructionFaults.{is_open}
 use Rattle.il_model.specs.Image.{spelling}
 use Rattle.il_model.specs.Declarable.{IsDeclared}
 use Rattle.il_model.proofs.FirstFaults.{tells_the_first}
-use Rattle.il_model.proofs.Settling.{goes_settled, fails_settled, stays_open, ends_settled, typed_program, typed_only}
+use Rattle.il_model.proofs.SettledPrograms.{goes_settled, fails_settled, stays_open, ends_settled, typed_program, typed_only}
 use Rattle.il_model.proofs.Declaring.{declared_image}
 use Rattle.assembler.specs.declared.fault.AsmError.{AsmError}
 use Rattle.assembler.specs.declared.fault.AsmError.TheVariants as errors

@@ -12,7 +12,7 @@ use Rattle.il_model.specs.Typing.{shape_at, typing_end}
 use Rattle.il_model.specs.Marks.{with_mark, marks_from, word_count, words_in, address_of}
 use Rattle.il_model.specs.Image.{is_long_line}
 use Rattle.il_model.specs.Settled.{settled_argument, settled_line, typed_program_of, IsTypedProgramOf}
-use Rattle.il_model.proofs.Settling.{some_is, typed_program}
+use Rattle.il_model.proofs.SettledPrograms.{some_is, typed_program}
 use Rattle.il_model.proofs.TypedLines.{bind_ok, ok_before}
 use Rattle.il_model.proofs.Calls.{IsTypedLine, typed_lines, words_few}
 use Rattle.assembler.specs.Encoded.{HasFewArguments}

@@ -14,7 +14,9 @@ use Rattle.il_model.specs.Marks.{marks_from, words_in, word_count}
 use Rattle.il_model.specs.Settled.{settled_argument}
 use Rattle.il_model.specs.Constants.{same_value, operand_literal, joined_constants}
 use Rattle.il_model.specs.CodedOperands.{code_of}
-use Rattle.il_model.specs.Image.{coded_literal, operand_code, coded_word, op_code, modifier_code, side_code, field_number_code, version_with, header_bytes, variable_bytes, instance_bytes, mark_bytes, constant_bytes}
+use Rattle.il_model.specs.Image.{coded_literal, operand_code, coded_word, op_code, modifier_code, side_code}
+use Rattle.il_model.specs.Image.{field_number_code, version_with, header_bytes, variable_bytes, instance_bytes}
+use Rattle.il_model.specs.Image.{mark_bytes, constant_bytes}
 
 -- for each instruction the literal that its operand is, if it is one
 abbrev pub literals_of : List Instr → List (Option Value)

@@ -7,9 +7,7 @@ ghost use Rattle.assembler.specs.Walk.{GivesLiterals, GivesImage};
 
 use crate::encode::encode;
 use crate::fault::AsmError;
-use il_model::check::Types;
-use il_model::indexed::IndexedProgram;
-use il_model::{Program, TypeFault, Value};
+use il_model::{IndexedProgram, Program, TypeFault, Types, Value};
 use std::alloc::Global;
 
 /// Types each instruction from left to right, with bare numbers by their places; gives for each the literal that its

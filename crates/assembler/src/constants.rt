@@ -4,9 +4,7 @@ ghost use Rattle.std.specs.Prelude.{◌≡◌, IfOk, [], length};
 ghost use Rattle.il_model.specs.Constants.{same_value, joined_constants};
 ghost use Rattle.assembler.specs.Encoded.{constants_in, literals_in, all_literals};
 
-use il_model::arguments::argument_literal;
-use il_model::constant_table::Constants;
-use il_model::{Instr, Value};
+use il_model::{Constants, Instr, Value, argument_literal};
 use std::alloc::{AllocError, Global};
 
 /// The constants with a literal behind them, where there is one and it is new.

@@ -2,7 +2,9 @@
 
 ghost use Rattle.std.specs.Prelude.{◌≡◌, ◌≤◌, ◌++◌, OnOk, IfOk, length, count_by, is_some, [], slice_get, true, false};
 ghost use Rattle.std.specs.Option.{option_and_then};
-ghost use Rattle.assembler.specs.Encoded.{constants_in, all_literals, settled_code, settled_passing_word, settled_instruction, settled_words, settled_bytes, HasFewArguments, addresses_from};
+ghost use Rattle.assembler.specs.Encoded.{constants_in, all_literals, settled_code, settled_passing_word};
+ghost use Rattle.assembler.specs.Encoded.{settled_instruction, settled_words, settled_bytes, HasFewArguments};
+ghost use Rattle.assembler.specs.Encoded.{addresses_from};
 ghost use Rattle.std.specs.Int.{w8, w16, w32, w64, to_be_bytes, cast_unsigned};
 ghost use Rattle.std.specs.List.{AllByRecursion, flat_map, list_any};
 ghost use Rattle.il_model.specs.Values.{number_of};
@@ -11,18 +13,16 @@ ghost use Rattle.il_model.specs.Kinds.{field_number};
 ghost use Rattle.il_model.specs.Marks.{with_mark, marks_from, words_in};
 ghost use Rattle.il_model.specs.declared.coded_operand.CodedOperand.TheVariants as coded;
 ghost use Rattle.il_model.specs.CodedOperands.{code_of};
-ghost use Rattle.il_model.specs.Image.{name_bytes, number_bytes, is_long_value, is_long_variable, variable_bytes, instance_bytes, mark_bytes, constant_bytes, numbered, coded_literal, coded_field, number_or_unused, field_number_code, operand_code, coded_word, counts_bytes};
+ghost use Rattle.il_model.specs.Image.{name_bytes, number_bytes, is_long_value, is_long_variable, variable_bytes};
+ghost use Rattle.il_model.specs.Image.{instance_bytes, mark_bytes, constant_bytes, numbered, coded_literal};
+ghost use Rattle.il_model.specs.Image.{coded_field, number_or_unused, field_number_code, operand_code, coded_word};
+ghost use Rattle.il_model.specs.Image.{counts_bytes};
 
 use crate::constants::constants_of;
-use il_model::arguments::argument_literal;
-use il_model::coded_operand::FIRST_CONSTANT;
-use il_model::codes::{
-    MAGIC, Version, location_code, modifier_code, op_code, side_code, type_code, version_with,
-};
-use il_model::constant_table::Constants;
-use il_model::indexed::IndexedProgram;
 use il_model::{
-    Argument, BlockKind, CodedOperand, Instance, Instr, Name, Operand, Place, Value, Variable,
+    Argument, BlockKind, CodedOperand, Constants, FIRST_CONSTANT, IndexedProgram, Instance, Instr,
+    MAGIC, MOST_INSTRUCTIONS, Name, Operand, Place, Value, Variable, Version, argument_literal,
+    location_code, modifier_code, op_code, side_code, type_code, version_with,
 };
 use std::alloc::{AllocError, Global};
 
@@ -332,7 +332,7 @@ fn put_labels(out: &mut Vec<u8>, addresses: &[usize], code: &[Instr]) -> Result<
 
 /// The addresses of the instructions, and how many words they have in all.
 fn addresses_of(alloc: Global, code: &[Instr]) -> Result<(Vec<usize>, usize), AllocError>
-    requires short { length code.now ≤ 4096 }
+    requires short { length code.now ≤ MOST_INSTRUCTIONS }
     requires few { AllByRecursion HasFewArguments code.now }
     ensures addresses { IfOk result (λ x. x.0.items ≡ addresses_from 0 code.now) }
     ensures count { IfOk result (λ x. x.1 ≡ words_in code.now) }

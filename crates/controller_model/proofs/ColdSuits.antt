@@ -50,7 +50,7 @@ first_ty : (loc : Option Loc) (t : Ty) (o : Option Value) (v : Value) → ((x : 
 first_ty loc t None v typed e = absurd cc
 first_ty loc t (Some x) v typed e = ap ty_of (sym (some_of (may_start_with loc x) x v e)) ∙ typed x refl
 
-variable_ty : (seen : List Variable) (v : Variable) → IsVariable seen v → ty_of v.initial ≡ v.ty
+pub variable_ty : (seen : List Variable) (v : Variable) → IsVariable seen v → ty_of v.initial ≡ v.ty
 variable_ty seen v is = first_ty v.location v.ty (typed_value v.ty (number_of v.initial)) v.initial (λ x e. made_ty v.ty (number_of v.initial) x e) is.initial
 
 pub firsts_typed : (seen vs : List Variable) → AreItems IsVariable seen vs → map ty_of (map (λ (v : Variable). v.initial) vs) ≡ map (λ (v : Variable). v.ty) vs
@@ -96,7 +96,7 @@ start_by : (b : Bool) (sh : Shape) (s : State) → sh.cr ≡ None → sh.kept �
 start_by true sh s a b c d = record { cr = rw c refl; kept = rw (d, b) refl }
 start_by false sh s a b c d = record { cr = rw (c, a) refl; kept = rw (d, b) refl }
 
-at_start : (Q : Text) (s : State) → HasValues Q s → s.position ≡ 0 → s.cr ≡ None → s.kept ≡ [] → Suits Q s
+pub at_start : (Q : Text) (s : State) → HasValues Q s → s.position ≡ 0 → s.cr ≡ None → s.kept ≡ [] → Suits Q s
 at_start Q s vals here no_cr none =
     let sh : Shape = record { cr = None; kept = [] } in
     record { values = vals; shape = shape_on_arrival Q 0 sh; types = ap (shape_at Q) here; has = start_by (is_labelled Q 0) sh s refl refl no_cr none }

@@ -64,7 +64,7 @@ of_types (v ∷ vs) = and_both (same_type (ty_of v) (ty_of v)) (are_types vs (ma
 
 -- ---- instances
 
-kind_same : (a b : BlockKind) → nat_eq (kind_code a) (kind_code b) ≡ true → a ≡ b
+pub kind_same : (a b : BlockKind) → nat_eq (kind_code a) (kind_code b) ≡ true → a ≡ b
 kind_same a b h =
     let e : kind_code a ≡ kind_code b = eqb-true (kind_code a) (kind_code b) h in
     let f : Some a ≡ Some b = sym (kind_of_code-kind_code a) ∙ ap kind_of_code e ∙ kind_of_code-kind_code b in

@@ -10,8 +10,9 @@ pub mod Turns
 pub mod Agrees
 pub mod SameEnd
 pub mod OneEnd
-pub mod WorkedRows
 pub mod Fitting
 pub mod ForcedSlots
 pub mod Rising
 pub mod SameBlocks
+pub mod Apart
+pub mod Carrying

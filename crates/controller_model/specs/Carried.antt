@@ -35,11 +35,13 @@ is_held a = false
 abbrev pub without_breaks : Text → Control → Control
 without_breaks Q s = record s { breaks = no_breaks Q }
 
--- a scan with any breakpoints, carried on by Step and Continue alone until it ends, has the answer, and leaves the state, that it
--- has and leaves without breakpoints, the breakpoints aside
+-- a scan with any breakpoints, carried on by Step and Continue alone until it ends, has the answer, and leaves the
+-- state, that it has and leaves without breakpoints, the breakpoints aside
 abbrev pub EndsTheSame : Text → ℕ → Control → InImage → ℕ → List Onward → Type 0
 EndsTheSame Q budget s inputs moment gs =
     s.phase ≡ phases.Idle →
     is_held (outcome_after_all Q budget (command_outcome Q budget s (commands.Scan inputs moment)) gs).0 ≡ false →
-    ((outcome_after_all Q budget (command_outcome Q budget s (commands.Scan inputs moment)) gs).0 ≡ (command_outcome Q budget (without_breaks Q s) (commands.Scan inputs moment)).0)
-    × (without_breaks Q (outcome_after_all Q budget (command_outcome Q budget s (commands.Scan inputs moment)) gs).1 ≡ (command_outcome Q budget (without_breaks Q s) (commands.Scan inputs moment)).1)
+    ((outcome_after_all Q budget (command_outcome Q budget s (commands.Scan inputs moment)) gs).0
+    ≡ (command_outcome Q budget (without_breaks Q s) (commands.Scan inputs moment)).0)
+    × (without_breaks Q (outcome_after_all Q budget (command_outcome Q budget s (commands.Scan inputs moment)) gs).1
+    ≡ (command_outcome Q budget (without_breaks Q s) (commands.Scan inputs moment)).1)

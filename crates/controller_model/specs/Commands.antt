@@ -1,5 +1,6 @@
--- The command table of a controller: for each state and each command the answer and the next state.
-use Rattle.std.specs.Prelude.{ℕ, Bool, true, false, List, [], ◌∷◌, length, replicate, slice_set, Option, Some, None, nat_lt, if◌then◌else◌}
+-- The command table of a controller of one program: for each state and each command the answer and the next state.
+use Rattle.std.specs.Prelude.{ℕ, Bool, true, false, List, length, replicate, slice_set, Option, Some, None, nat_lt}
+use Rattle.std.specs.Prelude.{if◌then◌else◌}
 use Rattle.std.specs.Option.{option_and_then}
 use Rattle.il_model.specs.declared.value.Value.{Value}
 use Rattle.il_model.specs.declared.program.Area.{Area}
@@ -21,7 +22,8 @@ use Rattle.controller_model.specs.declared.phase.Phase.TheVariants as phases
 use Rattle.controller_model.specs.declared.phase.ScanOut.{ScanOut}
 use Rattle.controller_model.specs.declared.phase.ScanOut.TheVariants as outs
 use Rattle.controller_model.specs.Slots.{places_of, slot_value}
-use Rattle.controller_model.specs.Scan.{Cycle, cold_cycle, scan_start, scan_run, scan_run_over, scan_step, with_force, without_force, cold_again}
+use Rattle.controller_model.specs.Scan.{Cycle, cold_cycle, scan_start, scan_run, scan_run_over, scan_step, with_force}
+use Rattle.controller_model.specs.Scan.{without_force, cold_again}
 
 -- what a controller keeps
 pub record Control : Type 0 where
@@ -58,7 +60,8 @@ scan_answer s x = (answer_of x.1.count x.0, record s { cycle = x.1; phase = phas
 
 -- a scan begins only where none is open; else the answer is as before, and nothing changes
 abbrev pub on_scan : Text → ℕ → Control → InImage → ℕ → Phase → Answer × Control
-on_scan Q budget s inputs moment phases.Idle = scan_answer s (scan_run Q s.breaks budget (scan_start s.cycle inputs moment))
+on_scan Q budget s inputs moment phases.Idle =
+    scan_answer s (scan_run Q s.breaks budget (scan_start s.cycle inputs moment))
 on_scan Q budget s inputs moment phases.Held = (answers.Held s.cycle.state.position, s)
 on_scan Q budget s inputs moment (phases.Stopped stop) = (answers.Stopped stop s.cycle.state.position safe_image, s)
 
@@ -70,7 +73,8 @@ if_held s x phase = refusal_answer s refusals.NotHeld
 -- ---- breakpoints and forces
 
 abbrev pub on_break : Text → Control → ℕ → Bool → Answer × Control
-on_break Q s p b = if nat_lt p (length Q.code) then (answers.Done, record s { breaks = slice_set s.breaks p b }) else refusal_answer s refusals.BadPosition
+on_break Q s p b = if nat_lt p (length Q.code) then (answers.Done, record s { breaks = slice_set s.breaks p b })
+    else refusal_answer s refusals.BadPosition
 
 -- inputs and outputs can be forced; a variable's slot is neither, wherever the variable lies
 abbrev pub is_forcible : Area → Bool
@@ -116,15 +120,10 @@ command_outcome Q budget s commands.Step = if_held s (scan_step Q budget s.cycle
 command_outcome Q budget s commands.Continue = if_held s (scan_run_over Q s.breaks budget s.cycle) s.phase
 command_outcome Q budget s (commands.Force slot v) = on_force s v (forcible_at slot.0)
 command_outcome Q budget s (commands.Unforce slot) = on_unforce s (forcible_at slot.0)
-command_outcome Q budget s (commands.ReadVar slot) = value_answer s (slot_value (places_of Q) s.cycle.state slot.0) refusals.BadSlot
+command_outcome Q budget s (commands.ReadVar slot) =
+    value_answer s (slot_value (places_of Q) s.cycle.state slot.0) refusals.BadSlot
 command_outcome Q budget s commands.ReadCr = result_read s s.phase
-command_outcome Q budget s commands.Reset = (answers.Done, record s { cycle = cold_again Q s.cycle; phase = phases.Idle })
-
--- the answers to commands, one after another
-abbrev pub answers_from : Text → ℕ → Control → List Command → List Answer
-answers_from Q budget s [] = []
-answers_from Q budget s (c ∷ more) = (command_outcome Q budget s c).0 ∷ answers_from Q budget (command_outcome Q budget s c).1 more
-
--- those of a controller that never ran
-abbrev pub answers_of : Text → ℕ → List Command → List Answer
-answers_of Q budget xs = answers_from Q budget (cold_control Q) xs
+command_outcome Q budget s commands.Reset =
+    (answers.Done, record s { cycle = cold_again Q s.cycle; phase = phases.Idle })
+-- a change is no command to a controller of one program: the table of those that change theirs is in `debugger`
+command_outcome Q budget s (commands.Change bytes) = refusal_answer s refusals.NotIdle

@@ -1,6 +1,8 @@
 -- Forces: for each cell of the inputs and of the outputs the value that stands in its place, or none.
-use Rattle.std.specs.Prelude.{ℕ, ℤ, Bool, List, [], ◌∷◌, length, replicate, slice_set, Option, Some, None, unwrap_or, nat_lt, if◌then◌else◌}
+use Rattle.std.specs.Prelude.{ℕ, ℤ, Bool, List, [], ◌∷◌, length, replicate, slice_set, Option, Some, None, unwrap_or}
+use Rattle.std.specs.Prelude.{nat_lt, if◌then◌else◌}
 use Rattle.std.specs.Option.{option_map}
+use Rattle.il_model.specs.declared.limits.TheConstants.{BITS, WORDS}
 use Rattle.il_model.specs.declared.cells.Cells.{Cells}
 use Rattle.il_model.specs.declared.value.Value.{Value}
 use Rattle.il_model.specs.declared.value.Value.TheVariants as values
@@ -23,7 +25,7 @@ abbrev pub with_forces : Mask → Cells → Cells
 with_forces m c = record { bits = overlay m.bits c.bits; words = overlay m.words c.words }
 
 abbrev pub no_mask : Mask
-no_mask = record { bits = replicate 512 None; words = replicate 64 None }
+no_mask = record { bits = replicate BITS None; words = replicate WORDS None }
 
 abbrev pub no_forces : Forces
 no_forces = record { input = no_mask; output = no_mask }

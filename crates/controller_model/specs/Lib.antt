@@ -9,3 +9,4 @@ pub mod Commands
 pub mod Runs
 pub mod Carried
 pub mod Snapshots
+pub mod Changes

@@ -1,6 +1,8 @@
 -- What a snapshot has of a controller's state, and which snapshots are of a program's shape.
-use Rattle.std.specs.Prelude.{◌≡◌, ℕ, suc, Bool, true, false, ◌&&◌, List, [], ◌∷◌, ◌++◌, length, map, filter, reverse, Option, Some, None, is_none, Result, Ok, Err, nat_lt, nat_eq, ℤ}
+use Rattle.std.specs.Prelude.{◌≡◌, ℕ, suc, Bool, true, false, ◌&&◌, List, [], ◌∷◌, ◌++◌, length, map, filter, reverse}
+use Rattle.std.specs.Prelude.{Option, Some, None, is_none, Result, Ok, Err, nat_lt, nat_eq, ℤ}
 use Rattle.std.specs.Option.{option_map}
+use Rattle.std.specs.Str.{bytes_eq}
 use Rattle.il_model.specs.declared.typing.TypeFault.{TypeFault}
 use Rattle.il_model.specs.declared.value.Ty.{Ty}
 use Rattle.il_model.specs.declared.value.Value.{Value}
@@ -21,7 +23,7 @@ use Rattle.il_model.specs.Operators.{same_truth}
 use Rattle.il_model.specs.Row.{same_type}
 use Rattle.il_model.specs.Kinds.{kind_code}
 use Rattle.il_model.specs.CodedOperands.{loc_code}
-use Rattle.il_model.specs.Image.{op_code}
+use Rattle.il_model.specs.Image.{op_code, spelling}
 use Rattle.il_model.specs.Typing.{Shape, shape_at, loc_type}
 use Rattle.il_model.specs.Text.{Text}
 use Rattle.function_blocks.specs.Blocks.{kind_of, block_words, is_block}
@@ -46,7 +48,9 @@ saved_instance x = record { kind = kind_of x.block; inputs = x.inputs; words = b
 
 -- of instances with lawful blocks, those with the same snapshot are the same
 abbrev pub AreKnown : List BlockInstance → List BlockInstance → Type 0
-AreKnown xs ys = AllByRecursion (λ (x : BlockInstance). is_block x.block ≡ true) xs → AllByRecursion (λ (x : BlockInstance). is_block x.block ≡ true) ys → map saved_instance xs ≡ map saved_instance ys → xs ≡ ys
+AreKnown xs ys = AllByRecursion (λ (x : BlockInstance). is_block x.block ≡ true) xs
+    → AllByRecursion (λ (x : BlockInstance). is_block x.block ≡ true) ys → map saved_instance xs ≡ map saved_instance ys
+    → xs ≡ ys
 
 abbrev pub forced_bits : ℕ → List (Option Bool) → List ForcedSlot
 forced_bits n [] = []
@@ -77,6 +81,7 @@ saved_phase (phases.Stopped stop) performed = saved_phases.Stopped stop
 
 abbrev pub snapshot_of : Text → Control → SavedController
 snapshot_of Q s = record {
+  image = spelling Q;
   variables = own_values Q.variables s.cycle.state.own;
   instances = map saved_instance s.cycle.state.instances;
   input = s.cycle.state.input;
@@ -91,6 +96,9 @@ snapshot_of Q s = record {
   breaks = break_positions s.breaks;
   phase = saved_phase s.phase s.cycle.performed;
 }
+
+abbrev pub with_image : SavedController → List ℕ → SavedController
+with_image s image = record s { image = image }
 
 -- ---- the shape of a program's snapshots
 
@@ -155,7 +163,8 @@ all_held xs ys = false
 -- the current result and the deferred operators are of the types on arrival
 abbrev pub fits_types : SavedController → Result Shape (TypeFault × ℕ) → Bool
 fits_types s (Err f) = false
-fits_types s (Ok sh) = same_optional (option_map ty_of s.cr) sh.cr && all_held (map held_of (reverse s.deferred)) sh.kept
+fits_types s (Ok sh) = same_optional (option_map ty_of s.cr) sh.cr
+    && all_held (map held_of (reverse s.deferred)) sh.kept
 
 -- before an instruction, with its types
 abbrev pub fits_run : Text → SavedController → Bool
@@ -172,9 +181,11 @@ fits_phase Q budget s (saved_phases.Stopped stop) = fits_run Q s
 
 -- ---- the whole
 
+-- the snapshot begins with the program's own image
 abbrev pub fits : Text → ℕ → SavedController → Bool
 fits Q budget s =
-    are_types s.variables (own_types Q.variables)
+    bytes_eq s.image (spelling Q)
+    && (are_types s.variables (own_types Q.variables)
     && (fit_instances Q.instances s.instances
     && (fit_breaks (length Q.code) s.breaks
-    && (fit_forces s.forces && fits_phase Q budget s s.phase)))
+    && (fit_forces s.forces && fits_phase Q budget s s.phase))))

@@ -1,10 +1,12 @@
 //! Forces: values that stand in the place of inputs and outputs.
 
+use il_model::{BITS, WORDS};
+
 /// For each cell of an area the value that is forced there, or none.
 #[derive(Clone, Copy, PartialEq, Eq)]
 pub struct Mask {
-    pub bits: [Option<bool>; 512],
-    pub words: [Option<i16>; 64],
+    pub bits: [Option<bool>; BITS],
+    pub words: [Option<i16>; WORDS],
 }
 
 /// The forces of `%I` and `%Q`.

@@ -1,8 +1,9 @@
-//! What a program does: the state of a run, one instruction, one scan, one command of a controller after another, and
-//! what slots and names of slots stand for. Definitions with the plain types that they speak of, and five laws: a
-//! typed program is never stuck, a run comes to exactly one end, by which each command that runs a scan is answered,
-//! breakpoints change nothing but where a scan is held, and a snapshot tells its instances. It uses il_model, where
-//! programs and their types are defined, and function_blocks, where the blocks' equations are.
+//! What a program does: the state of a run, one instruction, one scan, one command of a controller after another, what
+//! a change of the program carries over, and what slots and names of slots stand for. Definitions with the plain types
+//! that they speak of, and six laws: a typed program is never stuck, a run comes to exactly one end, by which each
+//! command that runs a scan is answered, breakpoints change nothing but where a scan is held, a change carries over by
+//! names, and a snapshot tells its instances. It uses il_model, where programs and their types are defined, and
+//! function_blocks, where the blocks' equations are.
 //!
 //! There is no code to call. A law is used by naming it in a function whose clause rests on it:
 //!
@@ -10,8 +11,8 @@
 //! controller_model::ends_the_same();
 //! ```
 //!
-//! Proved: the five laws, for every program, state, budget and list of commands. Worked sessions of the debugger are
-//! computed from the table of commands as proofs (`proofs/WorkedRows`), so that the definitions themselves were seen to
+//! Proved: the six laws, for every program, state, budget and list of commands. Worked sessions are computed from the
+//! table of commands as proofs in `debugger` (`proofs/WorkedRows`), so that the definitions themselves were seen to
 //! give what was wanted.
 //!
 //! Only tested: nothing.
@@ -28,10 +29,12 @@ ghost use Rattle.controller_model.specs.Runs.{Runs, RunsOver, IsOnlyEnd, Answers
 ghost use Rattle.controller_model.specs.Scan.{run_from, run_from_break};
 ghost use Rattle.controller_model.specs.State.{State, BlockInstance};
 ghost use Rattle.controller_model.specs.Step.{step};
-ghost use Rattle.controller_model.specs.Suits.{Suits, IsSafe};
+ghost use Rattle.il_model.specs.Fits.{IsText};
+ghost use Rattle.controller_model.specs.Suits.{HasValues, Suits, IsSafe};
+ghost use Rattle.controller_model.specs.Changes.{carried_state, CarriesOver};
 ghost use Rattle.controller_model.specs.Snapshots.{AreKnown};
 
-use function_blocks::block::words_tell_a_block;
+use function_blocks::words_tell_a_block;
 
 mod forces;
 mod phase;
@@ -39,14 +42,14 @@ mod phase;
 pub use forces::{Forces, Mask};
 pub use phase::{Phase, ScanOut};
 
-/// A typed program is never stuck: in a state that suits it each step finds the values, the current result, the deferred operator, the
-/// instance and the fields that it needs, and leaves a state that suits it.
+/// A typed program is never stuck: in a state that suits it each step finds the values, the current result, the
+/// deferred operator, the instance and the fields that it needs, and leaves a state that suits it.
 pub fn a_typed_program_is_never_stuck()
     ensures { (Q : Text) (now : ℕ) (s : State) → IsTyped Q → Suits Q s → IsSafe Q (step Q now s) }
 {}
 
-/// A run of a typed program comes to exactly one end (`Runs`): that which is found by counting its budget down. The same
-/// over the instruction that a scan is held at.
+/// A run of a typed program comes to exactly one end (`Runs`): that which is found by counting its budget down. The
+/// same over the instruction that a scan is held at.
 pub fn a_run_has_one_end()
     ensures runs { (Q : Text) (now : ℕ) (breaks : List Bool) (budget performed : ℕ) (s : State) → IsTyped Q → Suits Q s
         → IsOnlyEnd (Runs Q now breaks budget performed s) (run_from Q now breaks budget performed s) }
@@ -60,10 +63,21 @@ pub fn commands_answer_their_runs()
         → AnswersRun Q budget s c (command_outcome Q budget s c) }
 {}
 
-/// Breakpoints change nothing but where a scan is held: one with any breakpoints, carried on by Step and Continue alone until it
-/// ends, has the answer, and leaves the state, that it has and leaves without breakpoints, the breakpoints aside.
+/// Breakpoints change nothing but where a scan is held: one with any breakpoints, carried on by Step and Continue alone
+/// until it ends, has the answer, and leaves the state, that it has and leaves without breakpoints, the breakpoints
+/// aside.
 pub fn ends_the_same()
-    ensures { (Q : Text) (budget : ℕ) (s : Control) (inputs : InImage) (moment : ℕ) (gs : List Onward) → EndsTheSame Q budget s inputs moment gs }
+    ensures { (Q : Text) (budget : ℕ) (s : Control) (inputs : InImage) (moment : ℕ) (gs : List Onward)
+        → EndsTheSame Q budget s inputs moment gs }
+{}
+
+/// A change of the program carries over by names: a variable without a location before and after, of equal name and
+/// type, keeps its value; an instance of equal name and kind its inputs and its state; all others are as when cold, and
+/// the areas stay. What it leaves suits the new program.
+pub fn a_change_carries_over()
+    ensures carries { (Q : Text) (s : State) (R : Text) → IsText Q → HasValues Q s
+        → CarriesOver Q s R (carried_state Q s R) }
+    ensures suits { (Q : Text) (s : State) (R : Text) → IsText R → HasValues Q s → Suits R (carried_state Q s R) }
 {}
 
 /// Instances are known by what a snapshot has of them.

@@ -7,3 +7,8 @@ pub mod States
 pub mod ForcesAgain
 pub mod SavedAgain
 pub mod Making
+pub mod Restorable
+pub mod Readied
+pub mod Changed
+pub mod WorkedRows
+pub mod SameBytes

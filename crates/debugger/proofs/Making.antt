@@ -2,8 +2,10 @@
 use Rattle.std.proofs.Common.{◌≡◌, cond, ℕ, ◌<◌, Bool, true, false, List, [], ◌∷◌, length, map, reverse, Option, Some, None, refl, sym, ap, subst, ◌∙◌, arith}
 use Rattle.std.specs.Prelude.{◌&&◌, nat_eq, nat_lt, is_none, IfSome}
 use Rattle.std.specs.Option.{option_map}
+use Rattle.std.specs.Str.{bytes_eq}
 use Rattle.std.proofs.lemmas.Bool.{eqb-true, ltb-true}
 use Rattle.std.proofs.lemmas.List.{reverse-reverse}
+use Rattle.std.proofs.lemmas.Slice.Eq.{bytes_eq-Decides}
 use Rattle.il_model.specs.declared.value.Value.{Value}
 use Rattle.il_model.specs.declared.cells.Cells.{Cells}
 use Rattle.il_model.specs.declared.fetched.Deferred.{Deferred}
@@ -12,6 +14,7 @@ use Rattle.il_model.specs.declared.snapshot.SavedPhase.{SavedPhase}
 use Rattle.il_model.specs.declared.snapshot.SavedPhase.TheVariants as saved_phases
 use Rattle.il_model.specs.Snapshots.{SavedBlock, SavedController}
 use Rattle.il_model.specs.Text.{Text}
+use Rattle.il_model.specs.Image.{spelling}
 use Rattle.il_model.specs.Values.{ty_of}
 use Rattle.il_model.specs.Resolved.{is_labelled}
 use Rattle.il_model.specs.Typing.{Shape, shape_at, shape_on_arrival}
@@ -32,6 +35,7 @@ use Rattle.debugger.specs.Restored.{IsRestored}
 
 -- the parts of a shape that fits
 pub record AreFitting (Q : Text) (budget : ℕ) (s : SavedController) : Type 0 where
+  pub image : s.image ≡ spelling Q
   pub variables : are_types s.variables (own_types Q.variables) ≡ true
   pub instances : fit_instances Q.instances s.instances ≡ true
   pub breaks : fit_breaks (length Q.code) s.breaks ≡ true
@@ -40,11 +44,12 @@ pub record AreFitting (Q : Text) (budget : ℕ) (s : SavedController) : Type 0 w
 
 pub fitting : (Q : Text) (budget : ℕ) (s : SavedController) → fits Q budget s ≡ true → AreFitting Q budget s
 fitting Q budget s h =
-    let a = and_yes (are_types s.variables (own_types Q.variables)) _ h in
+    let i = and_yes (bytes_eq s.image (spelling Q)) _ h in
+    let a = and_yes (are_types s.variables (own_types Q.variables)) _ i.1 in
     let b = and_yes (fit_instances Q.instances s.instances) _ a.1 in
     let c = and_yes (fit_breaks (length Q.code) s.breaks) _ b.1 in
     let d = and_yes (fit_forces s.forces) (fits_phase Q budget s s.phase) c.1 in
-    record { variables = a.0; instances = b.0; breaks = c.0; forces = d.0; phase = d.1 }
+    record { image = (bytes_eq-Decides s.image (spelling Q)).0 i.0; variables = a.0; instances = b.0; breaks = c.0; forces = d.0; phase = d.1 }
 
 -- ---- at rest
 
@@ -146,21 +151,21 @@ kept_is Q budget s c flags phase some h is has n breaks p =
       scan = opens Q budget s c.cycle s.phase phase has n p f.phase;
     }
 
-saved_by : (a a2 : List Value) (b b2 : List SavedBlock) (i i2 o o2 m m2 : Cells) (cr cr2 : Option Value) (d d2 : List Deferred) (n n2 t t2 u u2 : ℕ) (f f2 : List ForcedSlot) (br br2 : List ℕ) (p p2 : SavedPhase)
-    → a ≡ a2 → b ≡ b2 → i ≡ i2 → o ≡ o2 → m ≡ m2 → cr ≡ cr2 → d ≡ d2 → n ≡ n2 → t ≡ t2 → u ≡ u2 → f ≡ f2 → br ≡ br2 → p ≡ p2
-    → (let s : SavedController = record { variables = a; instances = b; input = i; output = o; memory = m; cr = cr; deferred = d; position = n; count = t; moment = u; forces = f; breaks = br; phase = p } in s)
-    ≡ record { variables = a2; instances = b2; input = i2; output = o2; memory = m2; cr = cr2; deferred = d2; position = n2; count = t2; moment = u2; forces = f2; breaks = br2; phase = p2 }
-saved_by a a2 b b2 i i2 o o2 m m2 cr cr2 d d2 n n2 t t2 u u2 f f2 br br2 p p2 e1 e2 e3 e4 e5 e6 e7 e8 e9 e10 e11 e12 e13 = rw (e1, e2, e3, e4, e5, e6, e7, e8, e9, e10, e11, e12, e13) refl
+saved_by : (im im2 : List ℕ) (a a2 : List Value) (b b2 : List SavedBlock) (i i2 o o2 m m2 : Cells) (cr cr2 : Option Value) (d d2 : List Deferred) (n n2 t t2 u u2 : ℕ) (f f2 : List ForcedSlot) (br br2 : List ℕ) (p p2 : SavedPhase)
+    → im ≡ im2 → a ≡ a2 → b ≡ b2 → i ≡ i2 → o ≡ o2 → m ≡ m2 → cr ≡ cr2 → d ≡ d2 → n ≡ n2 → t ≡ t2 → u ≡ u2 → f ≡ f2 → br ≡ br2 → p ≡ p2
+    → (let s : SavedController = record { image = im; variables = a; instances = b; input = i; output = o; memory = m; cr = cr; deferred = d; position = n; count = t; moment = u; forces = f; breaks = br; phase = p } in s)
+    ≡ record { image = im2; variables = a2; instances = b2; input = i2; output = o2; memory = m2; cr = cr2; deferred = d2; position = n2; count = t2; moment = u2; forces = f2; breaks = br2; phase = p2 }
+saved_by im im2 a a2 b b2 i i2 o o2 m m2 cr cr2 d d2 n n2 t t2 u u2 f f2 br br2 p p2 e0 e1 e2 e3 e4 e5 e6 e7 e8 e9 e10 e11 e12 e13 = rw (e0, e1, e2, e3, e4, e5, e6, e7, e8, e9, e10, e11, e12, e13) refl
 
-pub saved_is : (Q : Text) (s : SavedController) (c : Cycle) (flags : List Bool) (phase : Phase) → HasCycle Q s c → break_positions flags ≡ s.breaks → saved_phase phase c.performed ≡ s.phase → snapshot_of Q (record { cycle = c; breaks = flags; phase = phase }) ≡ s
-saved_is Q s c flags phase has breaks p =
-    saved_by _ _ _ _ _ _ _ _ _ _ _ _ _ _ _ _ _ _ _ _ _ _ _ _ _ _ (sym has.state.variables) (sym has.state.instances) (sym has.state.input) (sym has.state.output) (sym has.state.memory) (sym has.state.cr) (sym has.state.deferred) (sym has.state.position) (sym has.count) (sym has.moment) (sym has.forces) breaks p
+pub saved_is : (Q : Text) (s : SavedController) (c : Cycle) (flags : List Bool) (phase : Phase) → s.image ≡ spelling Q → HasCycle Q s c → break_positions flags ≡ s.breaks → saved_phase phase c.performed ≡ s.phase → snapshot_of Q (record { cycle = c; breaks = flags; phase = phase }) ≡ s
+saved_is Q s c flags phase image has breaks p =
+    saved_by _ _ _ _ _ _ _ _ _ _ _ _ _ _ _ _ _ _ _ _ _ _ _ _ _ _ _ _ (sym image) (sym has.state.variables) (sym has.state.instances) (sym has.state.input) (sym has.state.output) (sym has.state.memory) (sym has.state.cr) (sym has.state.deferred) (sym has.state.position) (sym has.count) (sym has.moment) (sym has.forces) breaks p
 
 made : (Q : Text) (budget : ℕ) (s : SavedController) (c : KeptCycle) (flags : List Bool) (phase : Phase) → fits Q budget s ≡ true → HasCycle Q s c.cycle → c.cycle.performed ≡ performed_in s.phase → AreLawful c.cycle.state.instances → AreMasks c.cycle.forces → break_positions flags ≡ s.breaks → saved_phase phase (performed_in s.phase) ≡ s.phase → IsKept Q budget c flags phase → IsRestored Q budget s (record { program = Q; budget = budget; control = record { cycle = c.cycle; breaks = flags; phase = phase } })
 made Q budget s c flags phase h has n lawful masks breaks p k = record {
   program = refl;
   budget_is = refl;
-  saved = saved_is Q s c.cycle flags phase has breaks (ap (saved_phase phase) n ∙ p);
+  saved = saved_is Q s c.cycle flags phase (fitting Q budget s h).image has breaks (ap (saved_phase phase) n ∙ p);
   fits = h;
   lawful = record { suits = k.cycle.suits; blocks = lawful; forces = masks; breaks = k.breaks; performed = k.performed; scan = k.scan };
 }

@@ -3,12 +3,15 @@ use Rattle.std.proofs.Common.{◌≡◌, ℕ, ◌<◌, Bool, true, false, List, 
 use Rattle.std.specs.Prelude.{◌&&◌, nat_eq, nat_lt, is_none}
 use Rattle.std.proofs.lemmas.Bool.{lt-ltb}
 use Rattle.std.proofs.lemmas.List.{reverse-reverse}
+use Rattle.std.proofs.lemmas.Slice.Eq.{bytes_eq-Decides}
+use Rattle.std.specs.Str.{bytes_eq}
 use Rattle.il_model.specs.declared.value.Value.{Value}
 use Rattle.il_model.specs.declared.value.Stop.{Stop}
 use Rattle.il_model.specs.declared.cells.Cells.{Cells}
 use Rattle.il_model.specs.declared.fetched.Deferred.{Deferred}
 use Rattle.il_model.specs.Snapshots.{SavedController}
 use Rattle.il_model.specs.Text.{Text}
+use Rattle.il_model.specs.Image.{spelling}
 use Rattle.il_model.specs.Typing.{shape_at}
 use Rattle.controller_model.specs.declared.forces.Forces.{Forces}
 use Rattle.controller_model.specs.declared.phase.Phase.{Phase}
@@ -49,11 +52,12 @@ pub saved_fits : (o : Owned) → IsController o → fits o.program o.budget (sna
 saved_fits o is =
     let st = o.control.cycle.state in
     let own : List Value = own_values o.program.variables st.own in
-    and_both (are_types own (own_types o.program.variables)) _ (ap (are_types own) (sym (own_typed o.program.variables st.own is.suits.values.own)) ∙ of_types own)
+    and_both (bytes_eq (spelling o.program) (spelling o.program)) _ ((bytes_eq-Decides (spelling o.program) (spelling o.program)).1 refl)
+    (and_both (are_types own (own_types o.program.variables)) _ (ap (are_types own) (sym (own_typed o.program.variables st.own is.suits.values.own)) ∙ of_types own)
     (and_both (fit_instances o.program.instances (map saved_instance st.instances)) _ (instances_fit o.program.instances st.instances is.suits.values.instances)
     (and_both (fit_breaks (length o.program.code) (break_positions o.control.breaks)) _ (positions_fit o.control.breaks (length o.program.code) is.breaks)
     (and_both (fit_forces (snapshot_of o.program o.control).forces) _ (slots_fit o.control.cycle.forces is.forces)
-    (phase_fits o.program o.budget o.control o.control.phase is.suits is.scan is.performed))))
+    (phase_fits o.program o.budget o.control o.control.phase is.suits is.scan is.performed)))))
 
 -- ---- it is one's own
 

@@ -1,2 +1,5 @@
 pub mod Owned
 pub mod Restored
+pub mod Outcome
+pub mod Prepared
+pub mod Changing

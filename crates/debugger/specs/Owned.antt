@@ -26,7 +26,8 @@ cold_owned Q budget = record { program = Q; budget = budget; control = cold_cont
 abbrev pub with_control : Owned → Answer × Control → Answer × Owned
 with_control o x = (x.0, record o { control = x.1 })
 
--- while no scan is open the machine is at rest; an open one is before an instruction; only a held one counts what it performed
+-- while no scan is open the machine is at rest; an open one is before an instruction; only a held one counts what it
+-- performed
 abbrev pub IsOpen : Text → Phase → Cycle → Type 0
 IsOpen Q phases.Idle c = (c.state ≡ at_rest c.state) × (c.performed ≡ 0)
 IsOpen Q phases.Held c = c.state.position < length Q.code

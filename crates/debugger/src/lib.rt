@@ -1,45 +1,75 @@
-//! A controller of one program: it applies scans and debugger commands in any order, each with its answer; and the
-//! slots of names. It uses il_model (commands and answers), controller_model (the table that says what each does),
-//! loader (the image) and scan_cycle (one scan).
+//! A controller: it applies scans and debugger commands in any order, each with its answer, and goes on with another
+//! program between two scans; and the slots of names. It uses il_model (commands and answers), controller_model (the
+//! table that says what each does), loader (the image) and scan_cycle (one scan).
 //!
 //! ```rust
-//! use debugger::Controller;
-//! use il_model::{Budget, Command, InImage};
+//! use debugger::{Controller, prepare};
+//! use il_model::{Budget, Command, ImageBytes, InImage};
 //!
 //! let mut controller = Controller::new(alloc, image, Budget::new(10_000)?).ok()?;
 //! let inputs = InImage::clear();
 //! let answer = controller.apply(&Command::Scan { inputs, moment: 0 });
+//! let change = Command::Change(ImageBytes::new(bytes)?);
+//! let done = controller.apply_ready(prepare(alloc, &change).ok()?);
 //! ```
 //!
-//! Proved: `apply` gives, in every state and for every command, the answer and the state of the table of commands
-//! (`controller_model/specs/Commands`), always returns, and takes no memory. `slot` gives exactly the slot of a name.
-//! What `save` tells is restored, with the same image and budget, to the same controller; a snapshot is refused exactly
-//! where it doesn't fit, or where the words of a block are no state of it.
+//! Proved: `apply` gives, in every state and for every command but a change of the program, the answer and the state of
+//! the table of commands (`controller_model/specs/Commands`), always returns, and takes no memory. `prepare` takes what
+//! memory any command takes, by the command alone, and `apply_ready` then gives the answer and the state of the table
+//! with a change in it (`specs/Outcome`), and takes none. A change goes by names (`a_change_goes_by_names`). `slot`
+//! gives exactly the slot of a name. What `save` tells is restored, with the same image and budget, to the same
+//! controller; a snapshot is refused exactly where it doesn't fit, or where the words of a block are no state of it.
 //!
 //! Only tested: nothing; `debugger.rows` of `worked_rows` has sessions, `restored_rows` and `spoilt_rows` of
-//! `worked_parts` snapshots that are restored, and spoilt ones.
+//! `worked_parts` snapshots that are restored, and spoilt ones. Some sessions are computed from the tables as proofs
+//! (`proofs/WorkedRows`). By its code alone: that `save_over` moves the bytes of an image that is the same.
 #![tactic(auto)]
 
-ghost use Rattle.std.specs.Prelude.{Result};
+ghost use Rattle.std.specs.Prelude.{◌≡◌, ℕ, List, Result};
 ghost use Rattle.debugger.specs.declared.snap_error.SnapError.{SnapError};
+ghost use Rattle.il_model.specs.declared.command.Command.{Command};
+ghost use Rattle.debugger.specs.declared.ready.Kind.{Kind};
+ghost use Rattle.debugger.specs.Outcome.{outcome};
+ghost use Rattle.debugger.specs.Prepared.{prepared_as, IsWhole, IsReady, prepared_outcome};
 ghost use Rattle.debugger.specs.Owned.{Owned};
+ghost use Rattle.debugger.specs.Changing.{ChangesByNames};
 ghost use Rattle.debugger.specs.Restored.{RestoresTheSame};
 
-use controller_model::snapshots_tell_instances;
+use controller_model::{a_change_carries_over, snapshots_tell_instances};
 
 mod breaks;
 mod controller;
 mod names;
+mod ready;
 mod shape;
 mod snap_error;
 
 pub use controller::Controller;
 pub use names::slot;
+pub use ready::{Ready, prepare};
 pub use snap_error::SnapError;
 
-/// What is saved of a controller is restored, with the same image and budget, to the same controller, unless memory runs out.
+/// What is saved of a controller is restored, with the same image and budget, to the same controller, unless memory
+/// runs out.
 pub fn restores_the_same()
     ensures { (o : Owned) (r : Result Owned SnapError) → RestoresTheSame o r }
 {
     snapshots_tell_instances();
+}
+
+/// What is ready does what its command does, whatever is owned.
+pub fn what_is_ready_is_its_command()
+    ensures { (o : Owned) (c : Command) (k : Kind) → IsWhole k → IsReady c (prepared_as k)
+        → outcome o c ≡ prepared_outcome o (prepared_as k) }
+{}
+
+/// What a change of the program is answered and leaves, said by names. Between two scans the image of a program is
+/// `Done`: a variable without a location before and after, of equal name and type, keeps its value; an instance of
+/// equal name and kind its inputs and its state; all others are as when cold; the areas, forces, the count of scans,
+/// the greatest moment and the budget stay; breakpoints go. Bytes that are the image of no program are refused as
+/// `BadImage`. While a scan is held or stopped either is refused as `NotIdle`.
+pub fn a_change_goes_by_names()
+    ensures { (o : Owned) (bytes : List ℕ) → ChangesByNames o bytes }
+{
+    a_change_carries_over();
 }

@@ -6,17 +6,16 @@ ghost use Rattle.il_model.specs.CodedOperands.{loc_code};
 ghost use Rattle.il_model.specs.Kinds.{field_name};
 ghost use Rattle.il_model.specs.Locations.{location_of};
 ghost use Rattle.il_model.specs.Words.{spells};
-ghost use Rattle.controller_model.specs.Slots.{variable_slot, instance_slot, field_slot, dotted_slot, slot_number, slot_of};
+ghost use Rattle.controller_model.specs.Slots.{variable_slot, instance_slot, field_slot, dotted_slot, slot_number};
+ghost use Rattle.controller_model.specs.Slots.{slot_of};
 
-use il_model::location::{dot, location};
-use il_model::words::is_spelled;
-use il_model::{CodedOperand, Field, Instance, Slot, Variable};
+use il_model::{CodedOperand, Field, Instance, Slot, Variable, dot, is_spelled, location_from};
 use loader::Image;
 
 fn location_slot(name: &[u8]) -> Option<u16>
     ensures { result ≡ option_map loc_code (location_of name.now) }
 {
-    let found = location(name)?;
+    let found = location_from(name)?;
     Some(found.code() as u16)
 }
 
@@ -97,9 +96,9 @@ fn slot_number(image: &Image, name: &[u8]) -> Option<u16>
     }
 }
 
-/// The slot of the location (`%IX0.3`), of the instance's field (`T1.Q`) or of the variable that a name is, without regard to
-/// case (IEC 61131-3:2003, 2.4.1.1 and 2.5.2); None exactly where the name is none of these. The slot is the operand's code in
-/// the image; variables and instances are numbered from 0 as they are declared. It takes no memory.
+/// The slot of the location (`%IX0.3`), of the instance's field (`T1.Q`) or of the variable that a name is, without
+/// regard to case (IEC 61131-3:2003, 2.4.1.1 and 2.5.2); None exactly where the name is none of these. The slot is the
+/// operand's code in the image; variables and instances are numbered from 0 as they are declared. It takes no memory.
 pub fn slot(image: &Image, name: &[u8]) -> Option<Slot>
     ensures { result ≡ slot_of image.now name.now }
 {

@@ -5,8 +5,7 @@ ghost use Rattle.controller_model.specs.Commands.{forcible_at};
 ghost use Rattle.controller_model.specs.Snapshots.{fit_breaks, fits_location, fit_forces, is_at_rest, fits_phase, fits};
 
 use crate::controller::forcible_at;
-use il_model::resolve::loc_type;
-use il_model::{Budget, ForcedSlot, SavedPhase, Slot, Snapshot, Value};
+use il_model::{Budget, ForcedSlot, SavedPhase, Slot, Snapshot, Value, loc_type};
 use loader::Image;
 use scan_cycle::{fits_run, fits_values, has_type};
 
@@ -57,8 +56,8 @@ fn is_at_rest(snapshot: &Snapshot) -> bool
     snapshot.cr.is_none() && snapshot.deferred.len() == 0 && snapshot.position == 0
 }
 
-/// Whether the open scan is before an instruction, with its types, and a held one has something left of its budget; without one
-/// the machine is at rest.
+/// Whether the open scan is before an instruction, with its types, and a held one has something left of its budget;
+/// without one the machine is at rest.
 fn fits_phase(image: &Image, budget: Budget, snapshot: &Snapshot) -> bool
     ensures { result ≡ fits_phase image.now budget.instructions snapshot.now snapshot.now.phase }
 {
@@ -71,11 +70,13 @@ fn fits_phase(image: &Image, budget: Budget, snapshot: &Snapshot) -> bool
     }
 }
 
-/// Whether a snapshot is of a controller of this image with this budget, the words of its blocks aside.
+/// Whether a snapshot begins with this image and is of a controller of it with this budget, the words of its blocks
+/// aside.
 pub fn fits(image: &Image, budget: Budget, snapshot: &Snapshot) -> bool
     ensures { result ≡ fits image.now budget.instructions snapshot.now }
 {
-    fits_values(image, snapshot)
+    snapshot.image.as_slice() == image.bytes()
+        && fits_values(image, snapshot)
         && fit_breaks(snapshot.breaks.as_slice(), image.len())
         && fit_forces(snapshot.forces.as_slice())
         && fits_phase(image, budget, snapshot)

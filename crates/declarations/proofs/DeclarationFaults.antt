@@ -21,7 +21,7 @@ use Rattle.declarations.specs.declared.variables.Plan.{Plan}
 use Rattle.declarations.specs.declared.variables.DeclaredType.{DeclaredType}
 use Rattle.declarations.specs.declared.variables.DeclaredType.TheVariants.{Elementary, Block}
 use Rattle.declarations.specs.declared.fault.DeclKind.TheVariants as kinds
-use Rattle.declarations.specs.declared.fault.Refusal.{Refusal}
+use Rattle.declarations.specs.declared.fault.FaultAt.{FaultAt}
 use Rattle.declarations.specs.Resolution.{capitals, declared_type, suits, written_value}
 use Rattle.declarations.specs.Walk.{◌>>=◌, each, refused, nothing, has_name, has_instance, is_full, new_name, free_loc, free_location, found_type, known_type, fitted, elementary_value, first_value, planned_value, with_declared, plan_of, declare_name, declare_located, declare_listed, declare_by, declare, declare_block}
 use Rattle.declarations.specs.Declaring.{DeclaredName, named_in, other_names, names_in, declarations_of, type_in, location_in, start_of, variable_by, variable_of, is_occupied}
@@ -78,12 +78,12 @@ beside_names : (d : DeclarationText) (names : List DeclaredName) (before ts : Li
 unfolding beside
 beside_names d names before [] = refl
 beside_names d names before (t ∷ ts) =
-    ap (λ (fs : List Refusal). name_faults (names ++ map (named_in d) before) (named_in d t) ++ fs)
+    ap (λ (fs : List FaultAt). name_faults (names ++ map (named_in d) before) (named_in d t) ++ fs)
     (beside_names d names (before ++ t ∷ []) ts ∙ ap (λ (b : List DeclaredName). beside name_faults b (map (named_in d) ts)) (sym (map_push d names before t)))
 
 names_agree : (names : List DeclaredName) (d : DeclarationText) (ts : List Token) → location_in d.names ≡ None → Agrees (each (declare_name (plan_of d)) (made names) ts) (beside name_faults names (map (named_in d) ts))
 names_agree names d ts place =
-    subst (λ (fs : List Refusal). Agrees (each (declare_name (plan_of d)) (made names) ts) fs)
+    subst (λ (fs : List FaultAt). Agrees (each (declare_name (plan_of d)) (made names) ts) fs)
     (beside_names d names [] ts ∙ ap (λ (b : List DeclaredName). beside name_faults b (map (named_in d) ts)) (append-nil names))
     (each_agrees (Stands names d) (declare_name (plan_of d)) (λ b t. name_faults (names ++ map (named_in d) b) (named_in d t)) agree keep [] ts (made names) (ap made (sym (append-nil names))))
   where
@@ -182,7 +182,7 @@ all_start : (d : DeclarationText) → ((x : DeclaredName) → x.by ≡ d → pla
 all_start d same [] = refl
 all_start d same (t ∷ ts) = rw (same (named_in d t) refl, all_start d same ts) refl
 
-abbrev behind_names : DeclarationText → Option Loc → Declarations → Result Declarations Refusal
+abbrev behind_names : DeclarationText → Option Loc → Declarations → Result Declarations FaultAt
 behind_names d loc named = known_type d.ty >>= λ type. first_value type loc d.initial >>= λ v. Ok named
 
 behind_agrees : (d : DeclarationText) (named : Declarations) → Agrees (behind_names d None named) (when (is_none (type_in d)) kinds.UnknownType d.ty.left ++ start_faults None d.initial (type_in d))
@@ -217,7 +217,7 @@ listed_kept names d more z is e =
     }
 
 -- a name at a location
-abbrev behind_place : Declarations → DeclarationText → List ℕ → Loc → Result Declarations Refusal
+abbrev behind_place : Declarations → DeclarationText → List ℕ → Loc → Result Declarations FaultAt
 behind_place known d name loc = known_type d.ty >>= λ type. first_value type (Some loc) d.initial >>= λ v. Ok (with_declared (record { ty = Some type; initial = v }) known name (Some loc) (Some type))
 
 behind_place_agrees : (known : Declarations) (d : DeclarationText) (name : List ℕ) (loc : Loc) → Agrees (behind_place known d name loc) (when (is_none (type_in d)) kinds.UnknownType d.ty.left ++ start_faults (Some loc) d.initial (type_in d))
@@ -232,7 +232,7 @@ located_agrees names d at is =
     let P : NamesText → Type 0 = λ x. Agrees (declare_located (made names) d at) (beside name_faults names (map (named_in d) (d.name ∷ other_names x)) ++ (location_faults names (type_in d) x ++ (when (is_none (type_in d)) kinds.UnknownType d.ty.left ++ start_faults (location_in x) d.initial (type_in d)))) in
     subst P (sym is)
     (then_agrees (new_name (type_in d) (made names) d.name) (λ name. free_location (type_in d) (made names) at >>= behind_place (made names) d name) _ _
-    (subst (λ (fs : List Refusal). Agrees (new_name (type_in d) (made names) d.name) fs) (sym (append-nil (name_faults names (named_in d d.name)))) (new_agrees names d d.name))
+    (subst (λ (fs : List FaultAt). Agrees (new_name (type_in d) (made names) d.name) fs) (sym (append-nil (name_faults names (named_in d d.name)))) (new_agrees names d d.name))
     (λ name e. then_agrees (free_location (type_in d) (made names) at) (behind_place (made names) d name) _ _ (place_agrees names (type_in d) at)
     (λ loc h. subst (λ (o : Option Loc). Agrees (behind_place (made names) d name loc) (when (is_none (type_in d)) kinds.UnknownType d.ty.left ++ start_faults o d.initial (type_in d))) (sym (place_gives (type_in d) (made names) at loc h))
     (behind_place_agrees (made names) d name loc))))

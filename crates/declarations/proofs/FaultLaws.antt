@@ -18,7 +18,7 @@ use Rattle.il_reader.specs.declared.place.Place.{Place}
 use Rattle.declarations.specs.Faults.{kind_number}
 use Rattle.declarations.specs.declared.fault.DeclKind.{DeclKind}
 use Rattle.declarations.specs.declared.fault.DeclKind.TheVariants as kinds
-use Rattle.declarations.specs.declared.fault.Refusal.{Refusal}
+use Rattle.declarations.specs.declared.fault.FaultAt.{FaultAt}
 use Rattle.declarations.specs.declared.fault.Fault.{Fault}
 use Rattle.declarations.specs.declared.fault.DeclError.{DeclError}
 use Rattle.declarations.specs.declared.fault.DeclError.TheVariants as errors
@@ -94,22 +94,22 @@ one_program p P Q h k =
 -- ---- faults
 
 no_fault : (p : ProgramText) → faults_of p ≡ [] → HasNoFault p
-no_fault p none f has = subst (λ (fs : List Refusal). Among f fs) none (listed p f has)
+no_fault p none f has = subst (λ (fs : List FaultAt). Among f fs) none (listed p f has)
 
-leads : (p : ProgramText) (f : Refusal) (rest : List Refusal) → faults_of p ≡ f ∷ rest → HasFault p f
-leads p f rest e = had p f (subst (λ (fs : List Refusal). Among f fs) (sym e) (inl refl))
+leads : (p : ProgramText) (f : FaultAt) (rest : List FaultAt) → faults_of p ≡ f ∷ rest → HasFault p f
+leads p f rest e = had p f (subst (λ (fs : List FaultAt). Among f fs) (sym e) (inl refl))
 
-first_fault : (p : ProgramText) (f : Refusal) (rest : List Refusal) → InOrder (faults_of p) → faults_of p ≡ f ∷ rest → IsFirstFault p f
+first_fault : (p : ProgramText) (f : FaultAt) (rest : List FaultAt) → InOrder (faults_of p) → faults_of p ≡ f ∷ rest → IsFirstFault p f
 first_fault p f rest order e = record {
   has = leads p f rest e;
-  first = λ g has. first_told f rest (subst InOrder e order) g (subst (λ (fs : List Refusal). Among g fs) e (listed p g has));
+  first = λ g has. first_told f rest (subst InOrder e order) g (subst (λ (fs : List FaultAt). Among g fs) e (listed p g has));
 }
 
 ok_agrees : (p : ProgramText) (P : Text) → program_at p ≡ Ok P → faults_of p ≡ []
-ok_agrees p P e = subst (λ (r : Result Text Refusal). Agrees r (faults_of p)) e (program_agrees p)
+ok_agrees p P e = subst (λ (r : Result Text FaultAt). Agrees r (faults_of p)) e (program_agrees p)
 
-err_agrees : (p : ProgramText) (f : Refusal) → program_at p ≡ Err f → (rest : List Refusal) × (faults_of p ≡ f ∷ rest)
-err_agrees p f e = subst (λ (r : Result Text Refusal). Agrees r (faults_of p)) e (program_agrees p)
+err_agrees : (p : ProgramText) (f : FaultAt) → program_at p ≡ Err f → (rest : List FaultAt) × (faults_of p ≡ f ∷ rest)
+err_agrees p f e = subst (λ (r : Result Text FaultAt). Agrees r (faults_of p)) e (program_agrees p)
 
 -- ---- the walk
 
@@ -125,7 +125,7 @@ good_is P Q e = cc
 bad_is : (F G : Fault) → bad F ≡ bad G → F ≡ G
 bad_is F G e = cc
 
-was_ok : (bytes : List ℕ) (r : Result Text Refusal) (P : Text) → told bytes r ≡ Ok P → r ≡ Ok P
+was_ok : (bytes : List ℕ) (r : Result Text FaultAt) (P : Text) → told bytes r ≡ Ok P → r ≡ Ok P
 was_ok bytes (Ok Q) P e = ap (λ (x : Text). Ok x) (good_is Q P e)
 was_ok bytes (Err f) P e = absurd cc
 
@@ -137,7 +137,7 @@ found s P e =
 pub refused : (s : SourceText) (F : Fault) → IsSource s → resolution_of s ≡ Err F → IsRefused s F
 refused s F is e = by_walk (program_at s.says) refl e
   where
-    by_walk : (r : Result Text Refusal) → program_at s.says ≡ r → told s.text r ≡ Err F → IsRefused s F
+    by_walk : (r : Result Text FaultAt) → program_at s.says ≡ r → told s.text r ≡ Err F → IsRefused s F
     by_walk (Ok Q) w h = absurd cc
     by_walk (Err f) w h =
         let rest = err_agrees s.says f w in
@@ -147,7 +147,7 @@ refused s F is e = by_walk (program_at s.says) refl e
 pub only : (s : SourceText) (P : Text) → IsProgramOf s.says P → HasNoFault s.says → resolution_of s ≡ Ok P
 only s P is none = by_walk (program_at s.says) refl
   where
-    by_walk : (r : Result Text Refusal) → program_at s.says ≡ r → told s.text r ≡ Ok P
+    by_walk : (r : Result Text FaultAt) → program_at s.says ≡ r → told s.text r ≡ Ok P
     by_walk (Ok Q) w = ap good (one_program s.says Q P (program_kept s.says Q w) is)
     by_walk (Err f) w = let rest = err_agrees s.says f w in absurd (none f (leads s.says f rest.0 rest.1))
 
@@ -173,11 +173,11 @@ kind_again kinds.BadInitial = refl
 kind_again kinds.ReservedName = refl
 kind_again kinds.TooMany = refl
 
-record IsSame (f g : Refusal) : Type 0 where
+record IsSame (f g : FaultAt) : Type 0 where
   kind : f.kind ≡ g.kind
   left : f.left ≡ g.left
 
-both_told : (f g : Refusal) → IsNoLater f g → IsNoLater g f → IsSame f g
+both_told : (f g : FaultAt) → IsNoLater f g → IsNoLater g f → IsSame f g
 both_told f g (inl a) (inl b) = absurd (omega (arith, a, b))
 both_told f g (inl a) (inr b) = absurd (omega (arith, a, b.0))
 both_told f g (inr a) (inl b) = absurd (omega (arith, a.0, b))
@@ -197,7 +197,7 @@ one_refused s F G a b =
 pub told_only : (s : SourceText) (F : Fault) → IsSource s → IsRefused s F → resolution_of s ≡ Err F
 told_only s F is first = by_walk (program_at s.says) refl
   where
-    by_walk : (r : Result Text Refusal) → program_at s.says ≡ r → told s.text r ≡ Err F
+    by_walk : (r : Result Text FaultAt) → program_at s.says ≡ r → told s.text r ≡ Err F
     by_walk (Ok Q) w = absurd (no_fault s.says (ok_agrees s.says Q w) first.fault first.first.has)
     by_walk (Err f) w = ap bad (one_refused s (placed s.text f.kind f.left) F (refused s (placed s.text f.kind f.left) is (ap (told s.text) w)) first)
 

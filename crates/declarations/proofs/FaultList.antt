@@ -10,14 +10,14 @@ use Rattle.il_reader.specs.Grammar.{OperandText, Constant, Direct, Named, Field,
 use Rattle.declarations.specs.declared.variables.DeclaredType.{DeclaredType}
 use Rattle.declarations.specs.declared.fault.DeclKind.{DeclKind}
 use Rattle.declarations.specs.declared.fault.DeclKind.TheVariants as kinds
-use Rattle.declarations.specs.declared.fault.Refusal.{Refusal}
+use Rattle.declarations.specs.declared.fault.FaultAt.{FaultAt}
 use Rattle.declarations.specs.Resolution.{capitals}
 use Rattle.declarations.specs.Declaring.{DeclaredName, names_in, declarations_of, names_of, type_in, location_in, is_declared, names_variable, names_instance, arguments_behind}
 use Rattle.declarations.specs.TextFaults.{has_no_room, is_no_place, is_overlapping, is_bad_start}
 
 -- ---- the faults of declarations
 
-abbrev pub when : Bool → DeclKind → ℕ → List Refusal
+abbrev pub when : Bool → DeclKind → ℕ → List FaultAt
 when b kind left = if b then record { kind = kind; left = left } ∷ [] else []
 
 -- what each thing gives, beside those before it
@@ -25,43 +25,43 @@ unfoldable pub beside : {X Y : Type 0} → (List X → X → List Y) → List X 
 beside f before [] = []
 beside f before (x ∷ xs) = f before x ++ beside f (before ++ x ∷ []) xs
 
-abbrev pub name_faults : List DeclaredName → DeclaredName → List Refusal
+abbrev pub name_faults : List DeclaredName → DeclaredName → List FaultAt
 name_faults before x =
     when (is_declared before (capitals x.name.text)) kinds.Duplicate x.name.left
     ++ (when (is_reserved (capitals x.name.text)) kinds.ReservedName x.name.left
     ++ when (has_no_room (type_in x.by) before) kinds.TooMany x.name.left)
 
-abbrev pub place_faults : List DeclaredName → Option DeclaredType → Token → Option Loc → List Refusal
+abbrev pub place_faults : List DeclaredName → Option DeclaredType → Token → Option Loc → List FaultAt
 place_faults before type t o = when (is_no_place type o) kinds.BadLocation t.left ++ when (is_overlapping before o) kinds.Overlap t.left
 
-abbrev pub location_faults : List DeclaredName → Option DeclaredType → NamesText → List Refusal
+abbrev pub location_faults : List DeclaredName → Option DeclaredType → NamesText → List FaultAt
 location_faults before type (Located at) = place_faults before type at (location_of at.text)
 location_faults before type (More ts) = []
 
-abbrev pub start_faults : Option Loc → Option Token → Option DeclaredType → List Refusal
+abbrev pub start_faults : Option Loc → Option Token → Option DeclaredType → List FaultAt
 start_faults loc None type = []
 start_faults loc (Some t) type = when (is_bad_start loc t type) kinds.BadInitial t.left
 
 -- the faults of a declaration, with these names before it
-abbrev pub declaration_faults : List DeclaredName → DeclarationText → List Refusal
+abbrev pub declaration_faults : List DeclaredName → DeclarationText → List FaultAt
 declaration_faults before d =
     beside name_faults before (names_in d)
     ++ (location_faults before (type_in d) d.names
     ++ (when (is_none (type_in d)) kinds.UnknownType d.ty.left
     ++ start_faults (location_in d.names) d.initial (type_in d)))
 
-abbrev pub faults_of_declarations : List DeclarationText → List Refusal
+abbrev pub faults_of_declarations : List DeclarationText → List FaultAt
 faults_of_declarations ds = beside (λ before d. declaration_faults (flat_map names_in before) d) [] ds
 
 -- ---- the faults of instructions
 
-abbrev pub operand_faults : List DeclaredName → OperandText → List Refusal
+abbrev pub operand_faults : List DeclaredName → OperandText → List FaultAt
 operand_faults names (Constant t) = when (is_none (literal_of t.text)) kinds.UnknownName t.left
 operand_faults names (Direct t) = when (is_none (location_of t.text)) kinds.BadLocation t.left
 operand_faults names (Named t) = when (not (names_variable names (capitals t.text))) kinds.UnknownName t.left
 operand_faults names (Field t f) = when (not (names_instance names (capitals t.text))) kinds.UnknownName t.left
 
-abbrev pub behind_faults : List DeclaredName → BehindText → List Refusal
+abbrev pub behind_faults : List DeclaredName → BehindText → List FaultAt
 behind_faults names Nothing = []
 behind_faults names (Given x) = operand_faults names x
 behind_faults names (Target t) = []
@@ -69,18 +69,18 @@ behind_faults names (Opened None) = []
 behind_faults names (Opened (Some x)) = operand_faults names x
 behind_faults names (Called c) = when (not (names_instance names (capitals c.instance.text))) kinds.UnknownName c.instance.left
 
-abbrev pub operation_faults : List DeclaredName → Option OperationText → List Refusal
+abbrev pub operation_faults : List DeclaredName → Option OperationText → List FaultAt
 operation_faults names None = []
 operation_faults names (Some o) = behind_faults names o.behind ++ flat_map (λ a. operand_faults names a.operand) (arguments_behind o.behind)
 
-abbrev pub line_faults : List DeclaredName → List LineText → LineText → List Refusal
+abbrev pub line_faults : List DeclaredName → List LineText → LineText → List FaultAt
 line_faults names before (Labelled t o) = when (is_reserved (capitals t.text)) kinds.ReservedName t.left ++ (when (nat_le 4096 (length before)) kinds.TooMany t.left ++ operation_faults names o)
 line_faults names before (Plain o) = when (nat_le 4096 (length before)) kinds.TooMany o.operator.left ++ operation_faults names (Some o)
 
 -- ---- the whole
 
 -- all faults of a text
-abbrev pub faults_of : ProgramText → List Refusal
+abbrev pub faults_of : ProgramText → List FaultAt
 faults_of p = faults_of_declarations (declarations_of p) ++ beside (line_faults (names_of p)) [] p.lines
 
 -- one of the things of a list

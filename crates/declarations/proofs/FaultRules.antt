@@ -11,7 +11,7 @@ use Rattle.il_reader.specs.Grammar.{OperandText, Constant, Direct, Named, Field,
 use Rattle.declarations.specs.declared.variables.DeclaredType.{DeclaredType}
 use Rattle.declarations.specs.declared.fault.DeclKind.{DeclKind}
 use Rattle.declarations.specs.declared.fault.DeclKind.TheVariants as kinds
-use Rattle.declarations.specs.declared.fault.Refusal.{Refusal}
+use Rattle.declarations.specs.declared.fault.FaultAt.{FaultAt}
 use Rattle.declarations.specs.Resolution.{capitals}
 use Rattle.declarations.specs.Declaring.{DeclaredName, names_in, declarations_of, names_of, type_in, location_in, is_declared, arguments_behind}
 use Rattle.declarations.specs.TextFaults.{Somewhere, has_no_room, is_no_place, is_overlapping, is_bad_start, Asked, AsVariable, AsInstance, AsLocation, AsLiteral, asked_token, asked_kind, is_missing, asked_by, asked_behind, asked_of, asked_in, begins_at, HasFaultOf, HasFault}
@@ -70,11 +70,11 @@ flat_in f y xs s = subst (λ (ys : List _). Among y ys) (each_by_itself f [] xs)
 -- ---- one test
 
 -- a test of a list was passed
-record Passed (b : Bool) (kind : DeclKind) (left : ℕ) (f : Refusal) : Type 0 where
+record Passed (b : Bool) (kind : DeclKind) (left : ℕ) (f : FaultAt) : Type 0 where
   test : b ≡ true
   is : record { kind = kind; left = left } ≡ f
 
-was : (b : Bool) (kind : DeclKind) (left : ℕ) (f : Refusal) → Among f (when b kind left) → Passed b kind left f
+was : (b : Bool) (kind : DeclKind) (left : ℕ) (f : FaultAt) → Among f (when b kind left) → Passed b kind left f
 was true kind left f (inl e) = record { test = refl; is = e }
 was true kind left f (inr n) = absurd n
 was false kind left f n = absurd n
@@ -84,25 +84,25 @@ is_when true kind left e = inl refl
 is_when false kind left e = absurd cc
 
 -- that fault
-told : (p : ProgramText) (kind : DeclKind) (left : ℕ) (f : Refusal) → record { kind = kind; left = left } ≡ f → HasFaultOf p kind left → HasFault p f
-told p kind left f e h = subst (λ (g : Refusal). HasFaultOf p g.kind g.left) e h
+told : (p : ProgramText) (kind : DeclKind) (left : ℕ) (f : FaultAt) → record { kind = kind; left = left } ≡ f → HasFaultOf p kind left → HasFault p f
+told p kind left f e h = subst (λ (g : FaultAt). HasFaultOf p g.kind g.left) e h
 
-abbrev fault : DeclKind → ℕ → Refusal
+abbrev fault : DeclKind → ℕ → FaultAt
 fault kind left = record { kind = kind; left = left }
 
 -- ---- names
 
-abbrev names_part : List DeclarationText → DeclarationText → List Refusal
+abbrev names_part : List DeclarationText → DeclarationText → List FaultAt
 names_part before d = beside name_faults (before_of before) (names_in d)
 
 names_flat : (before ds : List DeclarationText) → beside names_part before ds ≡ beside name_faults (before_of before) (before_of ds)
 unfolding beside
 names_flat before [] = refl
 names_flat before (d ∷ ds) =
-    ap (λ (fs : List Refusal). names_part before d ++ fs) (names_flat (before ++ d ∷ []) ds ∙ ap (λ (b : List DeclaredName). beside name_faults b (before_of ds)) (before_push before d))
+    ap (λ (fs : List FaultAt). names_part before d ++ fs) (names_flat (before ++ d ∷ []) ds ∙ ap (λ (b : List DeclaredName). beside name_faults b (before_of ds)) (before_push before d))
     ∙ sym (beside_append name_faults (before_of before) (names_in d) (before_of ds))
 
-name_had : (p : ProgramText) (f : Refusal) → Somewhere (λ b x. Among f (name_faults b x)) (names_of p) → HasFault p f
+name_had : (p : ProgramText) (f : FaultAt) → Somewhere (λ b x. Among f (name_faults b x)) (names_of p) → HasFault p f
 name_had p f s = first (parted f (when doubled kinds.Duplicate left) (when reserved kinds.ReservedName left ++ when many kinds.TooMany left) s.holds)
   where
     left : ℕ
@@ -127,10 +127,10 @@ name_had p f s = first (parted f (when doubled kinds.Duplicate left) (when reser
 
 -- ---- declarations
 
-abbrev type_part : DeclarationText → List Refusal
+abbrev type_part : DeclarationText → List FaultAt
 type_part d = when (is_none (type_in d)) kinds.UnknownType d.ty.left
 
-abbrev start_part : DeclarationText → List Refusal
+abbrev start_part : DeclarationText → List FaultAt
 start_part d = start_faults (location_in d.names) d.initial (type_in d)
 
 -- what was found in a declaration
@@ -138,7 +138,7 @@ record InDeclaration (p : ProgramText) (before : List DeclarationText) (d : Decl
   behind : List DeclarationText
   is : declarations_of p ≡ before ++ d ∷ behind
 
-place_had : (p : ProgramText) (f : Refusal) (before : List DeclarationText) (d : DeclarationText) → InDeclaration p before d → Among f (location_faults (before_of before) (type_in d) d.names) → HasFault p f
+place_had : (p : ProgramText) (f : FaultAt) (before : List DeclarationText) (d : DeclarationText) → InDeclaration p before d → Among f (location_faults (before_of before) (type_in d) d.names) → HasFault p f
 place_had p f before d i a = by_names d.names refl a
   where
     by_names : (x : NamesText) → d.names ≡ x → Among f (location_faults (before_of before) (type_in d) x) → HasFault p f
@@ -153,12 +153,12 @@ place_had p f before d i a = by_names d.names refl a
             let w = was (is_overlapping (before_of before) (location_of t.text)) kinds.Overlap t.left f b in
             told p kinds.Overlap t.left f w.is (record { before = before; item = d; behind = i.behind; is = i.is; holds = (t, e, refl, w.test) })
 
-type_had : (p : ProgramText) (f : Refusal) (before : List DeclarationText) (d : DeclarationText) → InDeclaration p before d → Among f (type_part d) → HasFault p f
+type_had : (p : ProgramText) (f : FaultAt) (before : List DeclarationText) (d : DeclarationText) → InDeclaration p before d → Among f (type_part d) → HasFault p f
 type_had p f before d i a =
     let w = was (is_none (type_in d)) kinds.UnknownType d.ty.left f a in
     told p kinds.UnknownType d.ty.left f w.is (record { before = before; item = d; behind = i.behind; is = i.is; holds = (refl, w.test) })
 
-start_had : (p : ProgramText) (f : Refusal) (before : List DeclarationText) (d : DeclarationText) → InDeclaration p before d → Among f (start_part d) → HasFault p f
+start_had : (p : ProgramText) (f : FaultAt) (before : List DeclarationText) (d : DeclarationText) → InDeclaration p before d → Among f (start_part d) → HasFault p f
 start_had p f before d i a = by_initial d.initial refl a
   where
     by_initial : (o : Option Token) → d.initial ≡ o → Among f (start_faults (location_in d.names) o (type_in d)) → HasFault p f
@@ -167,10 +167,10 @@ start_had p f before d i a = by_initial d.initial refl a
         let w = was (is_bad_start (location_in d.names) t (type_in d)) kinds.BadInitial t.left f h in
         told p kinds.BadInitial t.left f w.is (record { before = before; item = d; behind = i.behind; is = i.is; holds = (t, e, refl, w.test) })
 
-abbrev of_declaration : List DeclarationText → DeclarationText → List Refusal
+abbrev of_declaration : List DeclarationText → DeclarationText → List FaultAt
 of_declaration before d = declaration_faults (before_of before) d
 
-declaration_had : (p : ProgramText) (f : Refusal) → Somewhere (λ b d. Among f (of_declaration b d)) (declarations_of p) → HasFault p f
+declaration_had : (p : ProgramText) (f : FaultAt) → Somewhere (λ b d. Among f (of_declaration b d)) (declarations_of p) → HasFault p f
 declaration_had p f s = first (parted f (names_part s.before s.item) (location_faults (before_of s.before) (type_in s.item) s.item.names ++ (type_part s.item ++ start_part s.item)) s.holds)
   where
     here : InDeclaration p s.before s.item
@@ -187,12 +187,12 @@ declaration_had p f s = first (parted f (names_part s.before s.item) (location_f
     first : Among f (names_part s.before s.item) ⊎ Among f (location_faults (before_of s.before) (type_in s.item) s.item.names ++ (type_part s.item ++ start_part s.item)) → HasFault p f
     first (inl a) =
         name_had p f (in_beside name_faults f [] (names_of p)
-        (subst (λ (fs : List Refusal). Among f fs) (names_flat [] (declarations_of p)) (beside_in names_part f (declarations_of p) (record { before = s.before; item = s.item; behind = s.behind; is = s.is; holds = a }))))
+        (subst (λ (fs : List FaultAt). Among f fs) (names_flat [] (declarations_of p)) (beside_in names_part f (declarations_of p) (record { before = s.before; item = s.item; behind = s.behind; is = s.is; holds = a }))))
     first (inr a) = second (parted f (location_faults (before_of s.before) (type_in s.item) s.item.names) (type_part s.item ++ start_part s.item) a)
 
 -- ---- lines
 
-abbrev asked_faults : List DeclaredName → Asked → List Refusal
+abbrev asked_faults : List DeclaredName → Asked → List FaultAt
 asked_faults names a = when (is_missing names a) (asked_kind a) (asked_token a).left
 
 operand_asked : (names : List DeclaredName) (x : OperandText) → operand_faults names x ≡ asked_faults names (asked_by x)
@@ -204,16 +204,16 @@ operand_asked names (Field t f) = refl
 arguments_asked : (names : List DeclaredName) (xs : List ArgumentText) → flat_map (λ a. operand_faults names a.operand) xs ≡ flat_map (asked_faults names) (map (λ a. asked_by a.operand) xs)
 arguments_asked names [] = refl
 arguments_asked names (x ∷ xs) =
-    ap (λ (fs : List Refusal). fs ++ flat_map (λ a. operand_faults names a.operand) xs) (operand_asked names x.operand)
-    ∙ ap (λ (fs : List Refusal). asked_faults names (asked_by x.operand) ++ fs) (arguments_asked names xs)
+    ap (λ (fs : List FaultAt). fs ++ flat_map (λ a. operand_faults names a.operand) xs) (operand_asked names x.operand)
+    ∙ ap (λ (fs : List FaultAt). asked_faults names (asked_by x.operand) ++ fs) (arguments_asked names xs)
 
 behind_asked : (names : List DeclaredName) (b : BehindText) → behind_faults names b ++ flat_map (λ a. operand_faults names a.operand) (arguments_behind b) ≡ flat_map (asked_faults names) (asked_behind b)
 behind_asked names Nothing = refl
-behind_asked names (Given x) = ap (λ (fs : List Refusal). fs ++ []) (operand_asked names x)
+behind_asked names (Given x) = ap (λ (fs : List FaultAt). fs ++ []) (operand_asked names x)
 behind_asked names (Target t) = refl
 behind_asked names (Opened None) = refl
-behind_asked names (Opened (Some x)) = ap (λ (fs : List Refusal). fs ++ []) (operand_asked names x)
-behind_asked names (Called c) = ap (λ (fs : List Refusal). behind_faults names (Called c) ++ fs) (arguments_asked names (arguments_of c))
+behind_asked names (Opened (Some x)) = ap (λ (fs : List FaultAt). fs ++ []) (operand_asked names x)
+behind_asked names (Called c) = ap (λ (fs : List FaultAt). behind_faults names (Called c) ++ fs) (arguments_asked names (arguments_of c))
 
 operation_asked : (names : List DeclaredName) (o : Option OperationText) → operation_faults names o ≡ flat_map (asked_faults names) (asked_of o)
 operation_asked names None = refl
@@ -227,7 +227,7 @@ record InLine (p : ProgramText) (before : List LineText) (l : LineText) : Type 0
 abbrev IsMissing : ProgramText → DeclKind → ℕ → Asked → Type 0
 IsMissing p kind left a = (asked_kind a ≡ kind) × (left ≡ (asked_token a).left) × (is_missing (names_of p) a ≡ true)
 
-missing_had : (p : ProgramText) (f : Refusal) (before : List LineText) (l : LineText) → InLine p before l → Among f (flat_map (asked_faults (names_of p)) (asked_in l)) → HasFault p f
+missing_had : (p : ProgramText) (f : FaultAt) (before : List LineText) (l : LineText) → InLine p before l → Among f (flat_map (asked_faults (names_of p)) (asked_in l)) → HasFault p f
 missing_had p f before l i a = by_asked s.item refl
   where
     s : Somewhere (λ b x. Among f (asked_faults (names_of p) x)) (asked_in l)
@@ -251,23 +251,23 @@ missing_had p f before l i a = by_asked s.item refl
     by_asked (AsLiteral t) e = unknown (ap asked_kind e)
     by_asked (AsLocation t) e = told p kinds.BadLocation (asked_token s.item).left f (as_kind kinds.BadLocation (ap asked_kind e)) (inr (there kinds.BadLocation (ap asked_kind e)))
 
-many_had : (p : ProgramText) (f : Refusal) (before : List LineText) (l : LineText) → InLine p before l → Among f (when (nat_le 4096 (length before)) kinds.TooMany (begins_at l)) → HasFault p f
+many_had : (p : ProgramText) (f : FaultAt) (before : List LineText) (l : LineText) → InLine p before l → Among f (when (nat_le 4096 (length before)) kinds.TooMany (begins_at l)) → HasFault p f
 many_had p f before l i a =
     let w = was (nat_le 4096 (length before)) kinds.TooMany (begins_at l) f a in
     told p kinds.TooMany (begins_at l) f w.is (inr (record { before = before; item = l; behind = i.behind; is = i.is; holds = (refl, w.test) }))
 
-label_had : (p : ProgramText) (f : Refusal) (before : List LineText) (t : Token) (o : Option OperationText) → InLine p before (Labelled t o) → Among f (when (is_reserved (capitals t.text)) kinds.ReservedName t.left) → HasFault p f
+label_had : (p : ProgramText) (f : FaultAt) (before : List LineText) (t : Token) (o : Option OperationText) → InLine p before (Labelled t o) → Among f (when (is_reserved (capitals t.text)) kinds.ReservedName t.left) → HasFault p f
 label_had p f before t o i a =
     let w = was (is_reserved (capitals t.text)) kinds.ReservedName t.left f a in
     told p kinds.ReservedName t.left f w.is (inr (record { before = before; item = Labelled t o; behind = i.behind; is = i.is; holds = (t, o, refl, refl, w.test) }))
 
-behind_had : (p : ProgramText) (f : Refusal) (before : List LineText) (l : LineText) (o : Option OperationText) → asked_in l ≡ asked_of o → InLine p before l
+behind_had : (p : ProgramText) (f : FaultAt) (before : List LineText) (l : LineText) (o : Option OperationText) → asked_in l ≡ asked_of o → InLine p before l
     → Among f (when (nat_le 4096 (length before)) kinds.TooMany (begins_at l)) ⊎ Among f (operation_faults (names_of p) o) → HasFault p f
 behind_had p f before l o e i (inl a) = many_had p f before l i a
 behind_had p f before l o e i (inr a) =
-    missing_had p f before l i (subst (λ (xs : List Asked). Among f (flat_map (asked_faults (names_of p)) xs)) (sym e) (subst (λ (fs : List Refusal). Among f fs) (operation_asked (names_of p) o) a))
+    missing_had p f before l i (subst (λ (xs : List Asked). Among f (flat_map (asked_faults (names_of p)) xs)) (sym e) (subst (λ (fs : List FaultAt). Among f fs) (operation_asked (names_of p) o) a))
 
-line_had : (p : ProgramText) (f : Refusal) (before : List LineText) (l : LineText) → InLine p before l → Among f (line_faults (names_of p) before l) → HasFault p f
+line_had : (p : ProgramText) (f : FaultAt) (before : List LineText) (l : LineText) → InLine p before l → Among f (line_faults (names_of p) before l) → HasFault p f
 line_had p f before (Plain o) i a = behind_had p f before (Plain o) (Some o) refl i (parted f (when (nat_le 4096 (length before)) kinds.TooMany o.operator.left) (operation_faults (names_of p) (Some o)) a)
 line_had p f before (Labelled t o) i a = chosen (parted f (when (is_reserved (capitals t.text)) kinds.ReservedName t.left) (when (nat_le 4096 (length before)) kinds.TooMany t.left ++ operation_faults (names_of p) o) a)
   where
@@ -276,7 +276,7 @@ line_had p f before (Labelled t o) i a = chosen (parted f (when (is_reserved (ca
     chosen (inr b) = behind_had p f before (Labelled t o) o refl i (parted f (when (nat_le 4096 (length before)) kinds.TooMany t.left) (operation_faults (names_of p) o) b)
 
 -- each fault of the list is one that the text has
-pub had : (p : ProgramText) (f : Refusal) → Among f (faults_of p) → HasFault p f
+pub had : (p : ProgramText) (f : FaultAt) → Among f (faults_of p) → HasFault p f
 had p f a = chosen (parted f (faults_of_declarations (declarations_of p)) (beside (line_faults (names_of p)) [] p.lines) a)
   where
     chosen : Among f (faults_of_declarations (declarations_of p)) ⊎ Among f (beside (line_faults (names_of p)) [] p.lines) → HasFault p f
@@ -287,16 +287,16 @@ had p f a = chosen (parted f (faults_of_declarations (declarations_of p)) (besid
 
 -- ---- and the other way round
 
-in_declaration : (p : ProgramText) (f : Refusal) → Somewhere (λ b d. Among f (of_declaration b d)) (declarations_of p) → Among f (faults_of p)
+in_declaration : (p : ProgramText) (f : FaultAt) → Somewhere (λ b d. Among f (of_declaration b d)) (declarations_of p) → Among f (faults_of p)
 in_declaration p f s = left_in f (faults_of_declarations (declarations_of p)) (beside (line_faults (names_of p)) [] p.lines) (beside_in of_declaration f (declarations_of p) s)
 
-in_line : (p : ProgramText) (f : Refusal) → Somewhere (λ b l. Among f (line_faults (names_of p) b l)) p.lines → Among f (faults_of p)
+in_line : (p : ProgramText) (f : FaultAt) → Somewhere (λ b l. Among f (line_faults (names_of p) b l)) p.lines → Among f (faults_of p)
 in_line p f s = right_in f (faults_of_declarations (declarations_of p)) (beside (line_faults (names_of p)) [] p.lines) (beside_in (line_faults (names_of p)) f p.lines s)
 
-in_names : (p : ProgramText) (f : Refusal) → Somewhere (λ b x. Among f (name_faults b x)) (names_of p) → Among f (faults_of p)
+in_names : (p : ProgramText) (f : FaultAt) → Somewhere (λ b x. Among f (name_faults b x)) (names_of p) → Among f (faults_of p)
 in_names p f s =
     let flat = beside_in name_faults f (names_of p) s in
-    let d = in_beside names_part f [] (declarations_of p) (subst (λ (fs : List Refusal). Among f fs) (sym (names_flat [] (declarations_of p))) flat) in
+    let d = in_beside names_part f [] (declarations_of p) (subst (λ (fs : List FaultAt). Among f fs) (sym (names_flat [] (declarations_of p))) flat) in
     in_declaration p f (record { before = d.before; item = d.item; behind = d.behind; is = d.is; holds = left_in f (names_part d.before d.item) _ d.holds })
 
 name_listed : (p : ProgramText) (kind : DeclKind) (left : ℕ) (test : List DeclaredName → DeclaredName → Bool) → ((b : List DeclaredName) (x : DeclaredName) → test b x ≡ true → Among (fault kind x.name.left) (name_faults b x))
@@ -333,11 +333,11 @@ start_listed p left s =
     let written = subst (λ (o : Option Token). Among f (start_faults (location_in d.names) o (type_in d))) (sym s.holds.1) at in
     in_declaration p f (record { before = b; item = d; behind = s.behind; is = s.is; holds = right_in f (names_part b d) _ (right_in f (location_faults (before_of b) (type_in d) d.names) _ (right_in f (type_part d) (start_part d) written)) })
 
-missing_in : (names : List DeclaredName) (f : Refusal) (before : List LineText) (l : LineText) → Among f (flat_map (asked_faults names) (asked_in l)) → Among f (line_faults names before l)
-missing_in names f before (Plain o) a = right_in f (when (nat_le 4096 (length before)) kinds.TooMany o.operator.left) (operation_faults names (Some o)) (subst (λ (fs : List Refusal). Among f fs) (sym (operation_asked names (Some o))) a)
+missing_in : (names : List DeclaredName) (f : FaultAt) (before : List LineText) (l : LineText) → Among f (flat_map (asked_faults names) (asked_in l)) → Among f (line_faults names before l)
+missing_in names f before (Plain o) a = right_in f (when (nat_le 4096 (length before)) kinds.TooMany o.operator.left) (operation_faults names (Some o)) (subst (λ (fs : List FaultAt). Among f fs) (sym (operation_asked names (Some o))) a)
 missing_in names f before (Labelled t o) a =
     right_in f (when (is_reserved (capitals t.text)) kinds.ReservedName t.left) _
-    (right_in f (when (nat_le 4096 (length before)) kinds.TooMany t.left) (operation_faults names o) (subst (λ (fs : List Refusal). Among f fs) (sym (operation_asked names o)) a))
+    (right_in f (when (nat_le 4096 (length before)) kinds.TooMany t.left) (operation_faults names o) (subst (λ (fs : List FaultAt). Among f fs) (sym (operation_asked names o)) a))
 
 missing_listed : (p : ProgramText) (kind : DeclKind) (left : ℕ) → Somewhere (λ b l. Somewhere (λ others a. IsMissing p kind left a) (asked_in l)) p.lines → Among (fault kind left) (faults_of p)
 missing_listed p kind left s =
@@ -413,5 +413,5 @@ kind_listed p kinds.TooMany left (inl h) =
 kind_listed p kinds.TooMany left (inr h) = many_listed p left h
 
 -- each fault that the text has is one of the list
-pub listed : (p : ProgramText) (f : Refusal) → HasFault p f → Among f (faults_of p)
+pub listed : (p : ProgramText) (f : FaultAt) → HasFault p f → Among f (faults_of p)
 listed p f h = kind_listed p f.kind f.left h

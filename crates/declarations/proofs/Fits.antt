@@ -55,7 +55,7 @@ use Rattle.il_reader.specs.Grammar.{OperandText, Constant, Direct, Named, Field,
 use Rattle.il_reader.specs.Spelling.{accepts, accepting, operator_before}
 use Rattle.il_reader.specs.Words.{IsWordText, IsWordName, AreWordNames, IsWordDeclaration, IsOperation, IsOptionalOperation, IsOperator, AreWords}
 use Rattle.declarations.specs.declared.fault.DeclKind.TheVariants as kinds
-use Rattle.declarations.specs.declared.fault.Refusal.{Refusal}
+use Rattle.declarations.specs.declared.fault.FaultAt.{FaultAt}
 use Rattle.declarations.specs.declared.variables.Plan.{Plan}
 use Rattle.declarations.specs.declared.variables.DeclaredType.{DeclaredType}
 use Rattle.declarations.specs.declared.variables.DeclaredType.TheVariants.{Elementary, Block}
@@ -68,19 +68,19 @@ use Rattle.declarations.proofs.Capitals.{capitals_lawful, capitals_length}
 use Rattle.il_model.proofs.CodedOperands.{loc_small, located_again}
 use Rattle.il_model.proofs.WrittenLocations.{location_cell}
 
-abbrev done : {A : Type 0} → A → Result A Refusal
+abbrev done : {A : Type 0} → A → Result A FaultAt
 done x = Ok x
 
 ok_is : {A : Type 0} (x y : A) → done x ≡ done y → x ≡ y
 ok_is x y e = cc
 
 -- the value of a step that did not fail
-bind_ok : {A B : Type 0} (r : Result A Refusal) (f : A → Result B Refusal) (y : B) → (r >>= f) ≡ Ok y → (x : A) × (r ≡ Ok x) × (f x ≡ Ok y)
+bind_ok : {A B : Type 0} (r : Result A FaultAt) (f : A → Result B FaultAt) (y : B) → (r >>= f) ≡ Ok y → (x : A) × (r ≡ Ok x) × (f x ≡ Ok y)
 bind_ok (Ok x) f y e = (x, refl, e)
 bind_ok (Err d) f y e = absurd cc
 
 -- what each step keeps, all keep
-each_keeps : {X Y : Type 0} (P : Y → Type 0) (Q : X → Type 0) (step : Y → X → Result Y Refusal) → ((y : Y) (x : X) (z : Y) → P y → Q x → step y x ≡ Ok z → P z)
+each_keeps : {X Y : Type 0} (P : Y → Type 0) (Q : X → Type 0) (step : Y → X → Result Y FaultAt) → ((y : Y) (x : X) (z : Y) → P y → Q x → step y x ≡ Ok z → P z)
     → (y : Y) (xs : List X) (z : Y) → P y → AllByRecursion Q xs → each step y xs ≡ Ok z → P z
 unfolding each
 each_keeps P Q step keeps y [] z p q e = subst P (ok_is y z e) p
@@ -681,7 +681,7 @@ code_push ds code line left u fine free is =
     let lt = has_room (leb 4096 (length code)) refl free in
     record { all = all_push (IsInstruction ds) code line fine.all is; few = omega (arith, lt, length-append code (line ∷ [])) }
   where
-    has_room : (t : Bool) → leb 4096 (length code) ≡ t → cond {A = Result (Unit {0}) Refusal} t (Err (record { kind = kinds.TooMany; left = left })) (Ok tt) ≡ Ok u → length code < 4096
+    has_room : (t : Bool) → leb 4096 (length code) ≡ t → cond {A = Result (Unit {0}) FaultAt} t (Err (record { kind = kinds.TooMany; left = left })) (Ok tt) ≡ Ok u → length code < 4096
     has_room true f h = absurd cc
     has_room false f h = leb-false 4096 (length code) f
 

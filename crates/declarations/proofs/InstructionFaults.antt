@@ -19,7 +19,7 @@ use Rattle.il_reader.specs.Tokens.{Token}
 use Rattle.il_reader.specs.Grammar.{OperandText, Constant, Direct, Named, Field, BehindText, Nothing, Given, Target, Opened, Called, ArgumentText, arguments_of, OperationText, LineText, Labelled, Plain, ProgramText}
 use Rattle.declarations.specs.declared.fault.DeclKind.{DeclKind}
 use Rattle.declarations.specs.declared.fault.DeclKind.TheVariants as kinds
-use Rattle.declarations.specs.declared.fault.Refusal.{Refusal}
+use Rattle.declarations.specs.declared.fault.FaultAt.{FaultAt}
 use Rattle.declarations.specs.Resolution.{capitals, opens, with_opening, plain}
 use Rattle.declarations.specs.Walk.{◌>>=◌, each, refused, nothing, has_name, has_instance, declare_block, direct, constant, operand_of, behind_of, argument_of, pushed_argument, behind_arguments, instruction_of, room, label_of, instruct_labelled, instruct_plain, instruct, program_at}
 use Rattle.declarations.specs.Declaring.{DeclaredName, names_of, value_operand, operand_in, operand_behind, arguments_behind, IsArgumentOf, IsBehindLabel, IsInstructionOf, IsProgramOf}
@@ -38,7 +38,7 @@ asked false kind left x = ([], refl)
 asked_agrees : {A : Type 0} (b c : Bool) → b ≡ c → (kind : DeclKind) (left : ℕ) (x : A) → Agrees (cond b (done x) (Err (record { kind = kind; left = left }))) (when (not c) kind left)
 asked_agrees b c same kind left x = subst (λ (a : Bool). Agrees (cond b (done x) (Err (record { kind = kind; left = left }))) (when (not a) kind left)) same (asked b kind left x)
 
-asked_gives : {A : Type 0} (b : Bool) (f : Refusal) (x y : A) → cond b (done x) (Err f) ≡ Ok y → x ≡ y
+asked_gives : {A : Type 0} (b : Bool) (f : FaultAt) (x y : A) → cond b (done x) (Err f) ≡ Ok y → x ≡ y
 asked_gives true f x y e = ok_is x y e
 asked_gives false f x y e = absurd cc
 
@@ -120,7 +120,7 @@ arguments_agree names (Given x) = refl
 arguments_agree names (Target t) = refl
 arguments_agree names (Opened o) = refl
 arguments_agree names (Called c) =
-    subst (λ (fs : List Refusal). Agrees (each (pushed_argument (made names)) [] (arguments_of c)) fs) (each_by_itself (λ a. operand_faults names a.operand) [] (arguments_of c))
+    subst (λ (fs : List FaultAt). Agrees (each (pushed_argument (made names)) [] (arguments_of c)) fs) (each_by_itself (λ a. operand_faults names a.operand) [] (arguments_of c))
     (each_agrees Anything (pushed_argument (made names)) (λ b a. operand_faults names a.operand) (λ b a found any. argument_agrees names a found) (λ b a found more any e. tt) [] (arguments_of c) [] tt)
 
 argument_gives : (known : Declarations) (a : ArgumentText) (x : Argument) → argument_of known a ≡ Ok x → IsArgumentOf a x

@@ -17,7 +17,7 @@ use Rattle.declarations.specs.declared.variables.DeclaredType.{DeclaredType}
 use Rattle.declarations.specs.declared.variables.DeclaredType.TheVariants.{Elementary, Block}
 use Rattle.declarations.specs.declared.fault.DeclKind.{DeclKind}
 use Rattle.declarations.specs.declared.fault.DeclKind.TheVariants as kinds
-use Rattle.declarations.specs.declared.fault.Refusal.{Refusal}
+use Rattle.declarations.specs.declared.fault.FaultAt.{FaultAt}
 use Rattle.declarations.specs.Faults.{kind_number}
 use Rattle.declarations.specs.Resolution.{capitals, suits, written_value}
 use Rattle.declarations.specs.Declaring.{DeclaredName, named_in, other_names, names_in, names_of, type_in, location_in, is_declared, is_occupied, names_variable, names_instance, arguments_behind}
@@ -28,15 +28,15 @@ use Rattle.declarations.specs.FirstFault.{IsNoLater}
 use Rattle.declarations.proofs.Falling.{Falls, split, at_most, text_falls, operator_at}
 
 -- each is told no later than all behind it
-abbrev pub InOrder : List Refusal → Type 0
+abbrev pub InOrder : List FaultAt → Type 0
 InOrder [] = Unit {0}
 InOrder (f ∷ fs) = AllByRecursion (IsNoLater f) fs × InOrder fs
 
-abbrev Between : ℕ → ℕ → Refusal → Type 0
+abbrev Between : ℕ → ℕ → FaultAt → Type 0
 Between n m f = (m ≤ f.left) × (f.left < n)
 
 -- faults that stand behind the first number and not behind the second, in order
-pub record Ordered (n : ℕ) (fs : List Refusal) (m : ℕ) : Type 0 where
+pub record Ordered (n : ℕ) (fs : List FaultAt) (m : ℕ) : Type 0 where
   pub most : m ≤ n
   pub inside : AllByRecursion (Between n m) fs
   pub order : InOrder fs
@@ -52,13 +52,13 @@ all_both P (x ∷ xs) ys a b = (a.0, all_both P xs ys a.1 b)
 pub none : (n m : ℕ) → m ≤ n → Ordered n [] m
 none n m le = record { most = le; inside = tt; order = tt }
 
-order_both : (n k m : ℕ) (fs gs : List Refusal) → AllByRecursion (Between n k) fs → InOrder fs → AllByRecursion (Between k m) gs → InOrder gs → InOrder (fs ++ gs)
+order_both : (n k m : ℕ) (fs gs : List FaultAt) → AllByRecursion (Between n k) fs → InOrder fs → AllByRecursion (Between k m) gs → InOrder gs → InOrder (fs ++ gs)
 order_both n k m [] gs a o b p = p
 order_both n k m (f ∷ fs) gs a o b p =
     let above = a.0.0 in
     (all_both (IsNoLater f) fs gs o.0 (all_map (Between k m) (IsNoLater f) (λ g h. let below = h.1 in inl (omega arith)) gs b), order_both n k m fs gs a.1 o.1 b p)
 
-pub both : (n k m : ℕ) (fs gs : List Refusal) → Ordered n fs k → Ordered k gs m → Ordered n (fs ++ gs) m
+pub both : (n k m : ℕ) (fs gs : List FaultAt) → Ordered n fs k → Ordered k gs m → Ordered n (fs ++ gs) m
 both n k m fs gs a b =
     let high = a.most in
     let low = b.most in
@@ -71,7 +71,7 @@ both n k m fs gs a b =
     }
 
 -- a narrower place fits a wider one
-wider : (n k m : ℕ) (fs : List Refusal) → Ordered n fs k → m ≤ k → Ordered n fs m
+wider : (n k m : ℕ) (fs : List FaultAt) → Ordered n fs k → m ≤ k → Ordered n fs m
 wider n k m fs a le =
     let high = a.most in
     record { most = omega arith; inside = all_map (Between n k) (Between n m) (λ f h. let l = h.0 in let u = h.1 in (omega arith, omega arith)) fs a.inside; order = a.order }
@@ -83,11 +83,11 @@ one_fault n left true kind lt = record { most = omega arith; inside = ((omega ar
 one_fault n left false kind lt = none n left (omega arith)
 
 -- more faults at the same token, of no smaller numbers
-more_faults : (n left : ℕ) (a : Bool) (kind : DeclKind) (fs : List Refusal) → left < n → Ordered n fs left → AllByRecursion (λ g. (left ≡ g.left) × (kind_number kind ≤ kind_number g.kind)) fs → Ordered n (when a kind left ++ fs) left
+more_faults : (n left : ℕ) (a : Bool) (kind : DeclKind) (fs : List FaultAt) → left < n → Ordered n fs left → AllByRecursion (λ g. (left ≡ g.left) × (kind_number kind ≤ kind_number g.kind)) fs → Ordered n (when a kind left ++ fs) left
 more_faults n left true kind fs lt o same = record { most = o.most; inside = ((omega arith, lt), o.inside); order = (all_map _ (IsNoLater (record { kind = kind; left = left })) (λ g h. inr h) fs same, o.order) }
 more_faults n left false kind fs lt o same = o
 
-here : (P : Refusal → Type 0) (a : Bool) (kind : DeclKind) (left : ℕ) → P (record { kind = kind; left = left }) → AllByRecursion P (when a kind left)
+here : (P : FaultAt → Type 0) (a : Bool) (kind : DeclKind) (left : ℕ) → P (record { kind = kind; left = left }) → AllByRecursion P (when a kind left)
 here P true kind left p = (p, tt)
 here P false kind left p = tt
 
@@ -109,7 +109,7 @@ place_ordered n before type t (Some loc) lt =
 -- ---- lists
 
 -- what each thing of a list has stands where its parts stand
-beside_ordered : {X Y : Type 0} (s : X → List Part) (g : X → Y) (fs : List Y → Y → List Refusal) → ((before : List Y) (x : X) (n m : ℕ) → Falls n (s x) m → Ordered n (fs before (g x)) m)
+beside_ordered : {X Y : Type 0} (s : X → List Part) (g : X → Y) (fs : List Y → Y → List FaultAt) → ((before : List Y) (x : X) (n m : ℕ) → Falls n (s x) m → Ordered n (fs before (g x)) m)
     → (before : List Y) (xs : List X) (n m : ℕ) → Falls n (flat_map s xs) m → Ordered n (beside fs before (map g xs)) m
 unfolding beside
 beside_ordered s g fs each before [] n m falls = none n m falls
@@ -121,7 +121,7 @@ map_same : {X : Type 0} (xs : List X) → map (λ x. x) xs ≡ xs
 map_same [] = refl
 map_same (x ∷ xs) = ap (λ (ys : List _). x ∷ ys) (map_same xs)
 
-items_ordered : {X : Type 0} (s : X → List Part) (fs : List X → X → List Refusal) → ((before : List X) (x : X) (n m : ℕ) → Falls n (s x) m → Ordered n (fs before x) m)
+items_ordered : {X : Type 0} (s : X → List Part) (fs : List X → X → List FaultAt) → ((before : List X) (x : X) (n m : ℕ) → Falls n (s x) m → Ordered n (fs before x) m)
     → (before xs : List X) (n m : ℕ) → Falls n (flat_map s xs) m → Ordered n (beside fs before xs) m
 items_ordered s fs each before xs n m falls = subst (λ (ys : List _). Ordered n (beside fs before ys) m) (map_same xs) (beside_ordered s (λ x. x) fs each before xs n m falls)
 
@@ -130,18 +130,18 @@ items_ordered s fs each before xs n m falls = subst (λ (ys : List _). Ordered n
 other_ordered : (d : DeclarationText) (before : List DeclaredName) (t : Token) (n m : ℕ) → Falls n (spelled_name t) m → Ordered n (name_faults before (named_in d t)) m
 other_ordered d before t n m falls = wider n t.left m _ (name_ordered n before (named_in d t) falls.0) falls.1
 
-abbrev names_and_place : DeclarationText → List DeclaredName → NamesText → List Refusal
+abbrev names_and_place : DeclarationText → List DeclaredName → NamesText → List FaultAt
 names_and_place d before x = beside name_faults before (map (named_in d) (d.name ∷ other_names x)) ++ location_faults before (type_in d) x
 
 names_ordered : (d : DeclarationText) (before : List DeclaredName) (x : NamesText) (n m : ℕ) → d.name.left < n → Falls d.name.left (spelled_names x) m → Ordered n (names_and_place d before x) m
 unfolding beside
 names_ordered d before (Located at) n m lt falls =
     both n d.name.left m _ _
-    (subst (λ (fs : List Refusal). Ordered n fs d.name.left) (sym (append-nil (name_faults before (named_in d d.name)))) (name_ordered n before (named_in d d.name) lt))
+    (subst (λ (fs : List FaultAt). Ordered n fs d.name.left) (sym (append-nil (name_faults before (named_in d d.name)))) (name_ordered n before (named_in d d.name) lt))
     (wider d.name.left at.left m _ (place_ordered d.name.left before (type_in d) at (location_of at.text) falls.0) falls.1)
 names_ordered d before (More ts) n m lt falls =
     let h = split d.name.left (flat_map spelled_name ts) (ahead ends_names ∷ []) m falls in
-    subst (λ (fs : List Refusal). Ordered n fs m) (sym (append-nil (beside name_faults before (map (named_in d) (d.name ∷ ts)))))
+    subst (λ (fs : List FaultAt). Ordered n fs m) (sym (append-nil (beside name_faults before (map (named_in d) (d.name ∷ ts)))))
     (wider n h.0 m _
     (both n d.name.left h.0 _ _ (name_ordered n before (named_in d d.name) lt) (beside_ordered spelled_name (named_in d) name_faults (other_ordered d) (before ++ named_in d d.name ∷ []) ts d.name.left h.0 h.1))
     h.2)
@@ -157,12 +157,12 @@ declaration_ordered before d n m falls =
     let seen = flat_map names_in before in
     let h = split d.name.left (spelled_names d.names) _ m falls.1 in
     let k = split d.ty.left (spelled_initial d.initial) _ m h.2.1 in
-    subst (λ (fs : List Refusal). Ordered n fs m) (append_assoc (beside name_faults seen (names_in d)) (location_faults seen (type_in d) d.names) _)
+    subst (λ (fs : List FaultAt). Ordered n fs m) (append_assoc (beside name_faults seen (names_in d)) (location_faults seen (type_in d) d.names) _)
     (both n h.0 m _ _ (names_ordered d seen d.names n h.0 falls.0 h.1)
     (both h.0 d.ty.left m _ _ (one_fault h.0 d.ty.left (is_none (type_in d)) kinds.UnknownType h.2.0)
     (wider d.ty.left k.0 m _ (start_ordered d.ty.left k.0 (location_in d.names) d.initial (type_in d) k.1) k.2)))
 
-abbrev of_declaration : List DeclarationText → DeclarationText → List Refusal
+abbrev of_declaration : List DeclarationText → DeclarationText → List FaultAt
 of_declaration before d = declaration_faults (flat_map names_in before) d
 
 blocks_ordered : (before : List DeclarationText) (bs : List (List DeclarationText)) (n m : ℕ) → Falls n (flat_map (going ends_blocks spelled_block) bs) m → Ordered n (beside of_declaration before (flat_map (λ ds. ds) bs)) m
@@ -195,7 +195,7 @@ inner_ordered names (Named t) n m falls = operand_ordered names (Named t) n m fa
 inner_ordered names (Field t f) n m falls = operand_ordered names (Field t f) n m falls
 
 -- what stands lower has room above
-higher : (n k m : ℕ) (fs : List Refusal) → k ≤ n → Ordered k fs m → Ordered n fs m
+higher : (n k m : ℕ) (fs : List FaultAt) → k ≤ n → Ordered k fs m → Ordered n fs m
 higher n k m fs le a =
     let low = a.most in
     record { most = omega arith; inside = all_map (Between k m) (Between n m) (λ f h. let l = h.0 in let u = h.1 in (l, omega arith)) fs a.inside; order = a.order }
@@ -207,13 +207,13 @@ argument_ordered names a n m falls = higher n a.field.left m _ (let lt = falls.0
     by_side sides.Input h = inner_ordered names a.operand a.field.left m h
     by_side sides.Output h = inner_ordered names a.operand a.field.left m h
 
-flat_ordered : {X : Type 0} (s : X → List Part) (fs : X → List Refusal) → ((x : X) (n m : ℕ) → Falls n (s x) m → Ordered n (fs x) m) → (xs : List X) (n m : ℕ) → Falls n (flat_map s xs) m → Ordered n (flat_map fs xs) m
+flat_ordered : {X : Type 0} (s : X → List Part) (fs : X → List FaultAt) → ((x : X) (n m : ℕ) → Falls n (s x) m → Ordered n (fs x) m) → (xs : List X) (n m : ℕ) → Falls n (flat_map s xs) m → Ordered n (flat_map fs xs) m
 flat_ordered s fs each [] n m falls = none n m falls
 flat_ordered s fs each (x ∷ xs) n m falls =
     let h = split n (s x) (flat_map s xs) m falls in
     both n h.0 m (fs x) (flat_map fs xs) (each x n h.0 h.1) (flat_ordered s fs each xs h.0 m h.2)
 
-abbrev of_argument : List DeclaredName → ArgumentText → List Refusal
+abbrev of_argument : List DeclaredName → ArgumentText → List FaultAt
 of_argument names a = operand_faults names a.operand
 
 inside_ordered : (names : List DeclaredName) (xs : List ArgumentText) (n m : ℕ) → Falls n (spelled_inside xs) m → Ordered n (flat_map (of_argument names) xs) m
@@ -231,10 +231,10 @@ arguments_ordered names (Some xs) n m falls =
 
 behind_ordered : (names : List DeclaredName) (b : BehindText) (n m : ℕ) → Falls n (spelled_behind b) m → Ordered n (behind_faults names b ++ flat_map (of_argument names) (arguments_behind b)) m
 behind_ordered names Nothing n m falls = none n m falls
-behind_ordered names (Given x) n m falls = subst (λ (fs : List Refusal). Ordered n fs m) (sym (append-nil (operand_faults names x))) (operand_ordered names x n m falls)
+behind_ordered names (Given x) n m falls = subst (λ (fs : List FaultAt). Ordered n fs m) (sym (append-nil (operand_faults names x))) (operand_ordered names x n m falls)
 behind_ordered names (Target t) n m falls = none n m (at_most n (spelled_behind (Target t)) m falls)
 behind_ordered names (Opened None) n m falls = none n m falls
-behind_ordered names (Opened (Some x)) n m falls = subst (λ (fs : List Refusal). Ordered n fs m) (sym (append-nil (operand_faults names x))) (operand_ordered names x n m falls)
+behind_ordered names (Opened (Some x)) n m falls = subst (λ (fs : List FaultAt). Ordered n fs m) (sym (append-nil (operand_faults names x))) (operand_ordered names x n m falls)
 behind_ordered names (Called c) n m falls =
     both n c.instance.left m _ _ (one_fault n c.instance.left (not (names_instance names (capitals c.instance.text))) kinds.UnknownName falls.0) (arguments_ordered names c.written c.instance.left m falls.1)
 
@@ -264,7 +264,7 @@ content_ordered names before (Labelled t o) n m falls =
     let many = nat_le 4096 (length before) in
     let reserved = is_reserved (capitals t.text) in
     let label = more_faults n t.left reserved kinds.ReservedName (when many kinds.TooMany t.left) falls.0 (one_fault n t.left many kinds.TooMany falls.0) (here _ many kinds.TooMany t.left (refl, omega arith)) in
-    subst (λ (fs : List Refusal). Ordered n fs m) (append_assoc (when reserved kinds.ReservedName t.left) (when many kinds.TooMany t.left) (operation_faults names o))
+    subst (λ (fs : List FaultAt). Ordered n fs m) (append_assoc (when reserved kinds.ReservedName t.left) (when many kinds.TooMany t.left) (operation_faults names o))
     (wider n h.0 m _ (both n t.left h.0 _ _ label (optional_ordered names o t.left h.0 h.1)) h.2)
 
 -- ---- the whole
@@ -295,5 +295,5 @@ among P x (y ∷ ys) (inl e) all = subst P e all.0
 among P x (y ∷ ys) (inr a) all = among P x ys a all.1
 
 -- the first of them is told no later than each
-pub first_told : (f : Refusal) (fs : List Refusal) → InOrder (f ∷ fs) → (g : Refusal) → Among g (f ∷ fs) → IsNoLater f g
+pub first_told : (f : FaultAt) (fs : List FaultAt) → InOrder (f ∷ fs) → (g : FaultAt) → Among g (f ∷ fs) → IsNoLater f g
 first_told f fs order g a = among (IsNoLater f) g (f ∷ fs) a (inr (refl, omega arith), order.0)

@@ -20,7 +20,8 @@ is_in names name = sorted.contains_by (λ k. slice_cmp nat_cmp name k.items) nam
 abbrev pub AddsName : BTreeSet (Vec ℕ Global) → BTreeSet (Vec ℕ Global) → List ℕ → Type 0
 AddsName old new name = (other : List ℕ) → is_in new other ≡ (if same_name name other then true else is_in old other)
 
-pub record AreDeclaredTables (vs : List Variable) (xs : List Instance) (variable_names instance_names : BTreeSet (Vec ℕ Global)) (placed : BTreeSet ℕ) : Type 0 where
+pub record AreDeclaredTables (vs : List Variable) (xs : List Instance)
+    (variable_names instance_names : BTreeSet (Vec ℕ Global)) (placed : BTreeSet ℕ) : Type 0 where
   pub variables : (name : List ℕ) → is_in variable_names name ≡ is_some (is_number vs name)
   pub instances : (name : List ℕ) → is_in instance_names name ≡ is_some (instance_in xs name)
   pub codes : AreCodes vs placed

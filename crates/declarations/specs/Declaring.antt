@@ -1,4 +1,5 @@
--- What a text declares: the names of its declarations in the order of the text, and the program of which they are the variables and the instances, with an instruction for each line.
+-- What a text declares: the names of its declarations in the order of the text, and the program of which they are the
+-- variables and the instances, with an instruction for each line.
 use Rattle.std.specs.Prelude.{◌≡◌, ℕ, List, [], ◌∷◌, map, Option, Some, None, Bool, true, false, not, ◌&&◌}
 use Rattle.std.specs.List.{flat_map, filter_map, list_any, AllZip}
 use Rattle.std.specs.Option.{option_map}
@@ -21,7 +22,9 @@ use Rattle.il_model.specs.Literals.{literal_of}
 use Rattle.il_model.specs.Codes.{has_code}
 use Rattle.il_model.specs.Locations.{location_of}
 use Rattle.il_reader.specs.Tokens.{Token}
-use Rattle.il_reader.specs.Grammar.{OperandText, Constant, Direct, Named, Field, BehindText, Nothing, Given, Target, Opened, Called, ArgumentText, arguments_of, OperationText, LineText, Labelled, Plain, NamesText, Located, More, DeclarationText, ProgramText}
+use Rattle.il_reader.specs.Grammar.{OperandText, Constant, Direct, Named, Field, BehindText, Nothing, Given, Target}
+use Rattle.il_reader.specs.Grammar.{Opened, Called, ArgumentText, arguments_of, OperationText, LineText, Labelled}
+use Rattle.il_reader.specs.Grammar.{Plain, NamesText, Located, More, DeclarationText, ProgramText}
 use Rattle.declarations.specs.declared.variables.DeclaredType.{DeclaredType}
 use Rattle.declarations.specs.declared.variables.DeclaredType.TheVariants as declared
 use Rattle.declarations.specs.Resolution.{capitals, declared_type, variable, written_value, opens, with_opening, plain}
@@ -53,7 +56,8 @@ names_of p = flat_map names_in (declarations_of p)
 abbrev pub type_in : DeclarationText → Option DeclaredType
 type_in d = declared_type d.ty.text
 
--- It names an instance where its type is the kind of a function block, and else a variable; that of an unknown type is a fault.
+-- It names an instance where its type is the kind of a function block, and else a variable; that of an unknown type is
+-- a fault.
 abbrev pub is_kind : Option DeclaredType → Bool
 is_kind (Some (declared.Block kind)) = true
 is_kind type = false
@@ -69,13 +73,15 @@ abbrev pub location_in : NamesText → Option Loc
 location_in (Located at) = location_of at.text
 location_in (More ts) = None
 
--- the first value of a variable: the one that is written, where it fits and the variable is no input, and else that of the type
+-- the first value of a variable: the one that is written, where it fits and the variable is no input, and else that of
+-- the type
 abbrev pub start_of : Ty → Option Loc → Option Token → Option Value
 start_of type loc None = Some (zero_of type)
 start_of type loc (Some t) = written_value type loc t
 
 abbrev pub variable_by : List ℕ → Option Loc → Option Token → Option DeclaredType → Option Variable
-variable_by name loc initial (Some (declared.Elementary type)) = option_map (variable name type loc) (start_of type loc initial)
+variable_by name loc initial (Some (declared.Elementary type)) =
+    option_map (variable name type loc) (start_of type loc initial)
 variable_by name loc initial type = None
 
 -- the variable of a name; there is one where its type and its first value are good
@@ -164,7 +170,8 @@ IsInstructionOf (Plain o) x = (x.label ≡ None) × IsOperationOf o x
 
 -- ---- the whole
 
--- the program that a text without a fault declares: the variables and the instances that its names stand for, and an instruction for each line
+-- the program that a text without a fault declares: the variables and the instances that its names stand for, and an
+-- instruction for each line
 pub record IsProgramOf (p : ProgramText) (P : Text) : Type 0 where
   pub variables : P.variables ≡ filter_map variable_of (names_of p)
   pub instances : P.instances ≡ filter_map instance_of (names_of p)

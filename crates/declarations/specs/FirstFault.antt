@@ -4,7 +4,7 @@ use Rattle.il_model.specs.Text.{Text}
 use Rattle.il_reader.specs.Grammar.{ProgramText}
 use Rattle.il_reader.specs.Place.{place_at}
 use Rattle.il_reader.specs.Texts.{SourceText}
-use Rattle.declarations.specs.declared.fault.Refusal.{Refusal}
+use Rattle.declarations.specs.declared.fault.FaultAt.{FaultAt}
 use Rattle.declarations.specs.declared.fault.Fault.{Fault}
 use Rattle.declarations.specs.declared.fault.DeclError.{DeclError}
 use Rattle.declarations.specs.declared.fault.DeclError.TheVariants as errors
@@ -14,19 +14,20 @@ use Rattle.declarations.specs.Declaring.{IsProgramOf}
 use Rattle.declarations.specs.TextFaults.{HasFault}
 
 abbrev pub HasNoFault : ProgramText → Type 0
-HasNoFault p = (f : Refusal) → HasFault p f → ⊥
+HasNoFault p = (f : FaultAt) → HasFault p f → ⊥
 
--- one fault is told no later than another: more of the text is left where it stands, or it stands there too and its number is no greater
-abbrev pub IsNoLater : Refusal → Refusal → Type 0
+-- one fault is told no later than another: more of the text is left where it stands, or it stands there too and its
+-- number is no greater
+abbrev pub IsNoLater : FaultAt → FaultAt → Type 0
 IsNoLater f g = (g.left < f.left) ⊎ ((f.left ≡ g.left) × (kind_number f.kind ≤ kind_number g.kind))
 
-pub record IsFirstFault (p : ProgramText) (f : Refusal) : Type 0 where
+pub record IsFirstFault (p : ProgramText) (f : FaultAt) : Type 0 where
   pub has : HasFault p f
-  pub first : (g : Refusal) → HasFault p g → IsNoLater f g
+  pub first : (g : FaultAt) → HasFault p g → IsNoLater f g
 
 -- the first fault of a text that was read, with its line and column
 pub record IsRefused (s : SourceText) (told : Fault) : Type 0 where
-  pub fault : Refusal
+  pub fault : FaultAt
   pub first : IsFirstFault s.says fault
   pub kind : told.kind ≡ fault.kind
   pub place : told.place ≡ place_at s.text fault.left

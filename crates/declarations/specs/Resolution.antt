@@ -1,5 +1,6 @@
 -- What the words of a declaration and of an instruction stand for, and what a call answered.
-use Rattle.std.specs.Prelude.{◌≡◌, ℕ, List, map, Option, Some, None, Result, Ok, Err, Bool, true, false, not, if◌then◌else◌, codes}
+use Rattle.std.specs.Prelude.{◌≡◌, ℕ, List, map, Option, Some, None, Result, Ok, Err, Bool, true, false, not}
+use Rattle.std.specs.Prelude.{if◌then◌else◌, codes}
 use Rattle.il_model.specs.declared.value.Ty.{Ty}
 use Rattle.il_model.specs.declared.value.Ty.TheVariants as types
 use Rattle.il_model.specs.declared.value.Value.{Value}

@@ -1,20 +1,27 @@
--- The faults that a text has, each told of one name, one declaration or one instruction line beside what stands before it.
-use Rattle.std.specs.Prelude.{◌≡◌, ◌⊎◌, ℕ, List, [], ◌∷◌, ◌++◌, length, map, Option, Some, None, is_none, Bool, true, false, not, nat_le}
+-- The faults that a text has, each told of one name, one declaration or one instruction line beside what stands before
+-- it.
+use Rattle.std.specs.Prelude.{◌≡◌, ◌⊎◌, ℕ, List, [], ◌∷◌, ◌++◌, length, map, Option, Some, None, is_none, Bool, true}
+use Rattle.std.specs.Prelude.{false, not, nat_le}
 use Rattle.std.specs.List.{flat_map, filter}
+use Rattle.il_model.specs.declared.limits.TheConstants.{MOST_VARIABLES, MOST_INSTANCES}
 use Rattle.il_model.specs.declared.program.Loc.{Loc}
 use Rattle.il_model.specs.Names.{is_reserved}
 use Rattle.il_model.specs.Literals.{literal_of}
 use Rattle.il_model.specs.CodedOperands.{loc_code}
 use Rattle.il_model.specs.Locations.{location_of}
 use Rattle.il_reader.specs.Tokens.{Token}
-use Rattle.il_reader.specs.Grammar.{OperandText, Constant, Direct, Named, Field, BehindText, Nothing, Given, Target, Opened, Called, arguments_of, OperationText, LineText, Labelled, Plain, Located, ProgramText}
+use Rattle.il_reader.specs.Grammar.{OperandText, Constant, Direct, Named, Field, BehindText, Nothing, Given, Target}
+use Rattle.il_reader.specs.Grammar.{Opened, Called, arguments_of, OperationText, LineText, Labelled, Plain, Located}
+use Rattle.il_reader.specs.Grammar.{ProgramText}
 use Rattle.declarations.specs.declared.variables.DeclaredType.{DeclaredType}
 use Rattle.declarations.specs.declared.variables.DeclaredType.TheVariants as declared
 use Rattle.declarations.specs.declared.fault.DeclKind.{DeclKind}
 use Rattle.declarations.specs.declared.fault.DeclKind.TheVariants as kinds
-use Rattle.declarations.specs.declared.fault.Refusal.{Refusal}
+use Rattle.declarations.specs.declared.fault.FaultAt.{FaultAt}
 use Rattle.declarations.specs.Resolution.{capitals, suits, written_value}
-use Rattle.declarations.specs.Declaring.{DeclaredName, names_in, declarations_of, names_of, type_in, is_instance, is_variable, location_in, is_declared, names_variable, names_instance, is_occupied}
+use Rattle.declarations.specs.Declaring.{DeclaredName, names_in, declarations_of, names_of, type_in, is_instance}
+use Rattle.declarations.specs.Declaring.{is_variable, location_in, is_declared, names_variable, names_instance}
+use Rattle.declarations.specs.Declaring.{is_occupied}
 
 -- in a list there is an item for which this holds, with those before it
 pub record Somewhere {X : Type 0} (P : List X → X → Type 0) (xs : List X) : Type 0 where
@@ -26,11 +33,12 @@ pub record Somewhere {X : Type 0} (P : List X → X → Type 0) (xs : List X) : 
 
 -- ---- declarations
 
--- There are as many instances, or variables, as a program may have. With an unknown type none is asked; before it stands the fault of that type.
+-- There are as many instances, or variables, as a program may have. With an unknown type none is asked; before it
+-- stands the fault of that type.
 abbrev pub has_no_room : Option DeclaredType → List DeclaredName → Bool
 has_no_room None before = false
-has_no_room (Some (declared.Elementary type)) before = nat_le 512 (length (filter is_variable before))
-has_no_room (Some (declared.Block kind)) before = nat_le 128 (length (filter is_instance before))
+has_no_room (Some (declared.Elementary type)) before = nat_le MOST_VARIABLES (length (filter is_variable before))
+has_no_room (Some (declared.Block kind)) before = nat_le MOST_INSTANCES (length (filter is_instance before))
 
 -- it is no location, or none of the type
 abbrev pub is_no_place : Option DeclaredType → Option Loc → Bool
@@ -110,34 +118,46 @@ SomeName p left test = Somewhere (λ before x. (left ≡ x.name.left) × (test b
 
 -- so a declaration at its location
 abbrev pub SomePlace : ProgramText → ℕ → (List DeclaredName → Option DeclaredType → Option Loc → Bool) → Type 0
-SomePlace p left test = Somewhere (λ before d. (t : Token) × (d.names ≡ Located t) × (left ≡ t.left) × (test (flat_map names_in before) (type_in d) (location_of t.text) ≡ true)) (declarations_of p)
+SomePlace p left test = Somewhere
+    (λ before d. (t : Token) × (d.names ≡ Located t) × (left ≡ t.left)
+    × (test (flat_map names_in before) (type_in d) (location_of t.text) ≡ true)) (declarations_of p)
 
 -- so one at its first value
 abbrev pub SomeStart : ProgramText → ℕ → (Option Loc → Token → Option DeclaredType → Bool) → Type 0
-SomeStart p left test = Somewhere (λ before d. (t : Token) × (d.initial ≡ Some t) × (left ≡ t.left) × (test (location_in d.names) t (type_in d) ≡ true)) (declarations_of p)
+SomeStart p left test = Somewhere
+    (λ before d. (t : Token) × (d.initial ≡ Some t) × (left ≡ t.left)
+    × (test (location_in d.names) t (type_in d) ≡ true)) (declarations_of p)
 
 -- a line asks for what there isn't, and it is called this
 abbrev pub SomeMissing : ProgramText → DeclKind → ℕ → Type 0
-SomeMissing p kind left = Somewhere (λ before l. Somewhere (λ others a. (asked_kind a ≡ kind) × (left ≡ (asked_token a).left) × (is_missing (names_of p) a ≡ true)) (asked_in l)) p.lines
+SomeMissing p kind left =
+    Somewhere (λ before l. Somewhere
+    (λ others a. (asked_kind a ≡ kind) × (left ≡ (asked_token a).left) × (is_missing (names_of p) a ≡ true))
+    (asked_in l)) p.lines
 
 abbrev pub HasFaultOf : ProgramText → DeclKind → ℕ → Type 0
 -- A name stands that one before it is too, whatever its case, be it of a variable or of an instance.
 HasFaultOf p kinds.Duplicate left = SomeName p left (λ before x. is_declared before (capitals x.name.text))
 -- A type word is neither a type nor the kind of a function block.
-HasFaultOf p kinds.UnknownType left = Somewhere (λ before d. (left ≡ d.ty.left) × (is_none (type_in d) ≡ true)) (declarations_of p)
+HasFaultOf p kinds.UnknownType left =
+    Somewhere (λ before d. (left ≡ d.ty.left) × (is_none (type_in d) ≡ true)) (declarations_of p)
 -- A line names what isn't declared.
 HasFaultOf p kinds.UnknownName left = SomeMissing p kinds.UnknownName left
 -- A declaration puts its variable where none of its type can lie, or a line names a location that there isn't.
-HasFaultOf p kinds.BadLocation left = SomePlace p left (λ before type loc. is_no_place type loc) ⊎ SomeMissing p kinds.BadLocation left
+HasFaultOf p kinds.BadLocation left = SomePlace p left (λ before type loc. is_no_place type loc)
+    ⊎ SomeMissing p kinds.BadLocation left
 -- It puts it where a variable before lies.
 HasFaultOf p kinds.Overlap left = SomePlace p left (λ before type loc. is_overlapping before loc)
 -- Its first value is none that it may have.
 HasFaultOf p kinds.BadInitial left = SomeStart p left is_bad_start
 -- A reserved word stands as a name, or as a label.
-HasFaultOf p kinds.ReservedName left = SomeName p left (λ before x. is_reserved (capitals x.name.text)) ⊎ Somewhere (λ before l. (t : Token) × (o : Option OperationText) × (l ≡ Labelled t o) × (left ≡ t.left) × (is_reserved (capitals t.text) ≡ true)) p.lines
+HasFaultOf p kinds.ReservedName left = SomeName p left (λ before x. is_reserved (capitals x.name.text))
+    ⊎ Somewhere (λ before l. (t : Token) × (o : Option OperationText) × (l ≡ Labelled t o) × (left ≡ t.left)
+    × (is_reserved (capitals t.text) ≡ true)) p.lines
 -- There are as many variables, instances or lines before it as a program may have.
-HasFaultOf p kinds.TooMany left = SomeName p left (λ before x. has_no_room (type_in x.by) before) ⊎ Somewhere (λ before l. (left ≡ begins_at l) × (nat_le 4096 (length before) ≡ true)) p.lines
+HasFaultOf p kinds.TooMany left = SomeName p left (λ before x. has_no_room (type_in x.by) before)
+    ⊎ Somewhere (λ before l. (left ≡ begins_at l) × (nat_le 4096 (length before) ≡ true)) p.lines
 
 -- a text has a fault of a kind where so many bytes are left
-abbrev pub HasFault : ProgramText → Refusal → Type 0
+abbrev pub HasFault : ProgramText → FaultAt → Type 0
 HasFault p f = HasFaultOf p f.kind f.left

@@ -3,17 +3,14 @@
 ghost use Rattle.std.specs.Prelude.{◌≡◌, OnOk};
 ghost use Rattle.declarations.specs.DeclaredTables.{AddsName};
 
-use il_model::location_table::put_code;
-use il_model::name::Name;
-use il_model::program::Loc;
-use il_model::{Instance, Variable};
+use il_model::{Instance, Loc, Name, Variable, put_code};
 use std::alloc::{AllocError, Global};
 use std::collections::BTreeSet;
 use std::marker::Model;
 use std::mem;
 
-/// The variables and the function block instances, each in the order of their declarations, with tables of their names and
-/// of the codes of locations, so that a look-up takes a time that grows as the logarithm of their number.
+/// The variables and the function block instances, each in the order of their declarations, with tables of their names
+/// and of the codes of locations, so that a look-up takes a time that grows as the logarithm of their number.
 #[derive(Drop)]
 pub struct Declared {
     variables: Vec<Variable>,
@@ -31,7 +28,8 @@ impl Model for Declared {
 
     ghost view = { λ d. record { variables = d.variables.items; instances = d.instances.items } };
 
-    ghost invariant = { λ d. AreDeclaredTables d.variables.items d.instances.items d.variable_names d.instance_names d.codes };
+    ghost invariant = { λ d.
+        AreDeclaredTables d.variables.items d.instances.items d.variable_names d.instance_names d.codes };
 }
 
 /// Puts a name to those of a table.

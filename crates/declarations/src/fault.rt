@@ -90,7 +90,7 @@ impl DeclError {
 
 /// A fault, and how many bytes the text has from its place on.
 #[derive(Clone, Copy, PartialEq, Eq)]
-pub struct Refusal {
+pub struct FaultAt {
     pub kind: DeclKind,
     pub left: usize,
 }
@@ -98,7 +98,7 @@ pub struct Refusal {
 /// Why resolving ended.
 #[derive(Clone, Copy, PartialEq, Eq)]
 pub enum Failure {
-    Refused(Refusal),
+    Refused(FaultAt),
     Memory,
 }
 

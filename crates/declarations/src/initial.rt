@@ -7,10 +7,7 @@ ghost use Rattle.declarations.specs.Walk.{Gives, elementary_value, first_value, 
 
 use crate::fault::{DeclKind, Failure};
 use crate::variables::{DeclaredType, refused};
-use il_model::literal::Literal;
-use il_model::program::{Area, Loc};
-use il_model::value::{Ty, Value, make};
-use il_model::written::literal;
+use il_model::{Area, Literal, Loc, Ty, Value, literal_from, make};
 use il_reader::Lexeme;
 
 fn fitting(ty: Ty, given: Option<Literal>) -> Option<Value>
@@ -41,7 +38,7 @@ fn written_value(ty: Ty, location: Option<Loc>, t: Lexeme) -> Option<Value>
     if is_input(location) {
         None
     } else {
-        fitting(ty, literal(t.text))
+        fitting(ty, literal_from(t.text))
     }
 }
 

@@ -4,17 +4,17 @@ ghost use Rattle.std.specs.Prelude.{◌≡◌, [], map, option_map};
 ghost use Rattle.il_reader.specs.Tokens.{token};
 ghost use Rattle.il_reader.specs.Grammar.{Named, Field, Called, operand, argument, call, behind, operation, line};
 ghost use Rattle.declarations.specs.Resolution.{opens, with_opening};
-ghost use Rattle.declarations.specs.Walk.{Gives, constant, operand_of, optional_operand_of, behind_of, argument_of, pushed_argument, behind_arguments, instruction_of, room, label_of, instruct_labelled, instruct_plain, instruct, each};
+ghost use Rattle.declarations.specs.Walk.{Gives, constant, operand_of, optional_operand_of, behind_of, argument_of};
+ghost use Rattle.declarations.specs.Walk.{pushed_argument, behind_arguments, instruction_of, room, label_of};
+ghost use Rattle.declarations.specs.Walk.{instruct_labelled, instruct_plain, instruct, each};
 
 use crate::declared::Declared;
-use crate::fault::{DeclKind, Failure, Refusal};
+use crate::fault::{DeclKind, Failure, FaultAt};
 use crate::variables::{capital_name, refused};
-use il_model::literal::Literal;
-use il_model::location::location;
-use il_model::name::{Name, is_reserved};
-use il_model::op::{Modifier, Op};
-use il_model::program::{Argument, Arguments, Instr, Operand};
-use il_model::written::literal;
+use il_model::{
+    Argument, Arguments, Instr, Literal, MOST_INSTRUCTIONS, Modifier, Name, Op, Operand,
+    is_reserved, literal_from, location_from,
+};
 use il_reader::{Behind, Call, Lexeme, Line, Operation};
 use std::alloc::Global;
 
@@ -58,8 +58,8 @@ fn given_operand(
     ensures { Gives (λ x. x) result (operand_of known.now (operand written.entry)) }
 {
     match written {
-        il_reader::Operand::Constant(t) => constant(t, literal(t.text)),
-        il_reader::Operand::Direct(t) => match location(t.text) {
+        il_reader::Operand::Constant(t) => constant(t, literal_from(t.text)),
+        il_reader::Operand::Direct(t) => match location_from(t.text) {
             Some(loc) => Ok(Operand::Direct(loc)),
             None => Err(refused(DeclKind::BadLocation, t)),
         },
@@ -201,7 +201,8 @@ fn labelled(
     label: Name,
     written: Option<&Operation>,
 ) -> Result<Instr, Failure>
-    ensures { Gives (λ x. x) result (instruction_of known.now (Some label) (option_map (λ o. operation o.now) written.entry)) }
+    ensures { Gives (λ x. x) result
+        (instruction_of known.now (Some label) (option_map (λ o. operation o.now) written.entry)) }
 {
     match written {
         Some(o) => instruction(alloc, known, Some(label), o),
@@ -222,8 +223,8 @@ fn labelled(
 fn has_room(code: &[Instr], left: usize) -> Result<(), Failure>
     ensures { Gives (λ u. u) result (room code.now left) }
 {
-    if code.len() >= 4096 {
-        Err(Failure::Refused(Refusal {
+    if code.len() >= MOST_INSTRUCTIONS {
+        Err(Failure::Refused(FaultAt {
             kind: DeclKind::TooMany,
             left,
         }))
@@ -251,7 +252,8 @@ fn push_labelled(
     t: Lexeme,
     written: Option<&Operation>,
 ) -> Result<(), Failure>
-    ensures { Gives (λ u. code.new.items) result (instruct_labelled known.now code.old.items (token t.entry) (option_map (λ o. operation o.now) written.entry)) }
+    ensures { Gives (λ u. code.new.items) result
+        (instruct_labelled known.now code.old.items (token t.entry) (option_map (λ o. operation o.now) written.entry)) }
 {
     let label = lawful_label(alloc, t)?;
     has_room(code.as_slice(), t.left)?;

@@ -12,7 +12,7 @@ use crate::declared::Declared;
 use crate::fault::{DeclError, Failure, Fault};
 use crate::instructions::instructions;
 use crate::variables::declare_each;
-use il_model::program::Program;
+use il_model::Program;
 use il_reader::{Declaration, Source};
 use std::alloc::Global;
 
@@ -56,14 +56,15 @@ fn walked(alloc: Global, source: &Source) -> Result<Program, DeclError>
     }
 }
 
-/// The program of a text that was read: its variables and its function block instances in the order of their declarations, the
-/// variables with their first values, and its instructions, one for a label alone too, all names in capital letters. Numbers
-/// without a type stay bare; labels of jumps and fields of instances are not looked up. Else the first fault in the text with
-/// its line and column; of two at one place the one with the least number. Or memory ran out.
+/// The program of a text that was read: its variables and its function block instances in the order of their
+/// declarations, the variables with their first values, and its instructions, one for a label alone too, all names in
+/// capital letters. Numbers without a type stay bare; labels of jumps and fields of instances are not looked up. Else
+/// the first fault in the text with its line and column; of two at one place the one with the least number. Or memory
+/// ran out.
 pub fn resolve(alloc: Global, source: Source<'_>) -> Result<Program, DeclError>
-    // Each part of the program has a lawful form: names are lawful and distinct, so are locations; values are in their ranges; an
-    // operator has letters and an operand that it takes; an operand, of a call's arguments too, is a variable or an instance
-    // that is declared, a location or a value.
+    // Each part of the program has a lawful form: names are lawful and distinct, so are locations; values are in their
+    // ranges; an operator has letters and an operand that it takes; an operand, of a call's arguments too, is a
+    // variable or an instance that is declared, a location or a value.
     ensures text { IfOk result (λ p. IsDeclared p) }
     // The program is what the text declares, and the text has no fault.
     ensures found { IfOk result (λ p. IsProgramOf source.entry.says p × HasNoFault source.entry.says) }

@@ -4,18 +4,16 @@ ghost use Rattle.std.specs.Prelude.{◌≡◌, IfOk, OnOk, map};
 ghost use Rattle.il_reader.specs.Tokens.{token};
 ghost use Rattle.il_reader.specs.Grammar.{declaration, declarations};
 ghost use Rattle.declarations.specs.Resolution.{capitals, type_of, declared_type, suits, variable};
-ghost use Rattle.declarations.specs.Walk.{Gives, is_full, new_name, free_location, found_type, plan_of, with_declared, declare_name, declare_located, declare_listed, declare, declare_block, each};
+ghost use Rattle.declarations.specs.Walk.{Gives, is_full, new_name, free_location, found_type, plan_of, with_declared};
+ghost use Rattle.declarations.specs.Walk.{declare_name, declare_located, declare_listed, declare, declare_block, each};
 
 use crate::declared::Declared;
-use crate::fault::{DeclKind, Failure, Refusal};
+use crate::fault::{DeclKind, Failure, FaultAt};
 use crate::initial::{first_value, planned_value};
-use il_model::kind::BlockKind;
-use il_model::location::location;
-use il_model::name::{Name, is_reserved};
-use il_model::program::{Instance, Loc, Variable};
-use il_model::resolve::loc_type;
-use il_model::value::{Ty, Value};
-use il_model::words::{capital, is_spelled};
+use il_model::{
+    BlockKind, Instance, Loc, MOST_INSTANCES, MOST_VARIABLES, Name, Ty, Value, Variable, capital,
+    is_reserved, is_spelled, loc_type, location_from,
+};
 use il_reader::{Declaration, Lexeme, Names};
 use std::alloc::{AllocError, Global};
 
@@ -37,7 +35,7 @@ pub struct Plan {
 pub fn refused(kind: DeclKind, t: Lexeme) -> Failure
     ensures { result ≡ Failure.Refused (record { kind = kind; left = t.entry.left }) }
 {
-    Failure::Refused(Refusal { kind, left: t.left })
+    Failure::Refused(FaultAt { kind, left: t.left })
 }
 
 /// A name in capital letters.
@@ -84,8 +82,8 @@ fn has_no_room(ty: Option<DeclaredType>, known: &Declared) -> bool
     ensures { result ≡ is_full ty known.now }
 {
     match ty {
-        Some(DeclaredType::Elementary(_)) => known.variable_count() >= 512,
-        Some(DeclaredType::Block(_)) => known.instance_count() >= 128,
+        Some(DeclaredType::Elementary(_)) => known.variable_count() >= MOST_VARIABLES,
+        Some(DeclaredType::Block(_)) => known.instance_count() >= MOST_INSTANCES,
         None => false,
     }
 }
@@ -125,7 +123,7 @@ fn location_suits(ty: Option<DeclaredType>, loc: Loc) -> bool
 fn unoccupied(ty: Option<DeclaredType>, known: &Declared, t: Lexeme) -> Result<Loc, Failure>
     ensures { Gives (λ loc. loc) result (free_location ty known.now (token t.entry)) }
 {
-    match location(t.text) {
+    match location_from(t.text) {
         None => Err(refused(DeclKind::BadLocation, t)),
         Some(loc) => {
             if !location_suits(ty, loc) {

@@ -1,5 +1,5 @@
-//! The controller in a program of one's own: a motor starter, scanned five times. A table stands for its field inputs, and a
-//! printed line for its contactor. It uses the crates from the reader to the debugger, and no crate uses it.
+//! The controller in a program of one's own: a motor starter, scanned five times. A table stands for its field inputs,
+//! and a printed line for its contactor. It uses the crates from the reader to the debugger, and no crate uses it.
 #![tactic(auto)]
 
 use debugger::Controller;

@@ -1,5 +1,6 @@
 -- A block of any kind: called with the list of its inputs' values, and its fields by their numbers.
-use Rattle.std.specs.Prelude.{◌≡◌, ℕ, ◌-◌, Bool, true, false, ◌&&◌, nat_lt, List, [], ◌∷◌, Option, Some, None, ℤ, pos, slice_get, if◌then◌else◌}
+use Rattle.std.specs.Prelude.{◌≡◌, ℕ, ◌-◌, Bool, true, false, ◌&&◌, nat_lt, List, [], ◌∷◌, Option, Some, None, ℤ, pos}
+use Rattle.std.specs.Prelude.{slice_get, if◌then◌else◌}
 use Rattle.il_model.specs.Kinds.{kind_fields, input_count}
 use Rattle.il_model.specs.declared.value.Value.{Value}
 use Rattle.il_model.specs.declared.value.Value.TheVariants as values
@@ -8,10 +9,14 @@ use Rattle.il_model.specs.declared.kind.BlockKind.{BlockKind}
 use Rattle.il_model.specs.declared.kind.BlockKind.TheVariants as kinds
 use Rattle.function_blocks.specs.declared.block.Block.{Block}
 use Rattle.function_blocks.specs.declared.block.Block.TheVariants as blocks
-use Rattle.function_blocks.specs.Bistables.{sr_after, rs_after, is_bistable, cold_bistable, bistable_words, bistable_outs}
+use Rattle.function_blocks.specs.Bistables.{sr_after, rs_after, is_bistable, cold_bistable, bistable_words}
+use Rattle.function_blocks.specs.Bistables.{bistable_outs}
 use Rattle.function_blocks.specs.Edges.{r_trig_after, f_trig_after, is_edge, cold_edge, edge_words, edge_outs}
-use Rattle.function_blocks.specs.Counters.{ctu_after, fits_counter, fits_ctud, ctu_holds, ctd_holds, ctud_holds, cold_counter, counter_words, counter_outs, ctd_after, ctud_after, cold_ctud, ctud_words, ctud_outs}
-use Rattle.function_blocks.specs.Timers.{tp_after, ton_after, tof_after, fits_timer, tp_holds, ton_holds, tof_holds, cold_timer, timer_words, timer_outs}
+use Rattle.function_blocks.specs.Counters.{ctu_after, fits_counter, fits_ctud, ctu_holds, ctd_holds, ctud_holds}
+use Rattle.function_blocks.specs.Counters.{cold_counter, counter_words, counter_outs, ctd_after, ctud_after, cold_ctud}
+use Rattle.function_blocks.specs.Counters.{ctud_words, ctud_outs}
+use Rattle.function_blocks.specs.Timers.{tp_after, ton_after, tof_after, fits_timer, tp_holds, ton_holds, tof_holds}
+use Rattle.function_blocks.specs.Timers.{cold_timer, timer_words, timer_outs}
 use Rattle.function_blocks.specs.declared.bistable.SrIn.{SrIn}
 use Rattle.function_blocks.specs.declared.bistable.RsIn.{RsIn}
 use Rattle.function_blocks.specs.declared.edge.EdgeIn.{EdgeIn}
@@ -55,7 +60,13 @@ abbrev pub ctd_inputs : List Value → CtdIn
 ctd_inputs vs = record { cd = bool_of (slice_get vs 0); ld = bool_of (slice_get vs 1); pv = int_of (slice_get vs 2) }
 
 abbrev pub ctud_inputs : List Value → CtudIn
-ctud_inputs vs = record { cu = bool_of (slice_get vs 0); cd = bool_of (slice_get vs 1); r = bool_of (slice_get vs 2); ld = bool_of (slice_get vs 3); pv = int_of (slice_get vs 4) }
+ctud_inputs vs = record {
+  cu = bool_of (slice_get vs 0);
+  cd = bool_of (slice_get vs 1);
+  r = bool_of (slice_get vs 2);
+  ld = bool_of (slice_get vs 3);
+  pv = int_of (slice_get vs 4);
+}
 
 abbrev pub timer_inputs : List Value → TimerIn
 timer_inputs vs = record { input = bool_of (slice_get vs 0); pt = time_of (slice_get vs 1) }
@@ -130,7 +141,8 @@ output_field kind number = if nat_lt number (input_count kind) then None else sl
 
 -- its value
 abbrev pub output_value : Block → ℕ → Option Value
-output_value b number = if nat_lt number (input_count (kind_of b)) then None else slice_get (outputs_of b) (number - input_count (kind_of b))
+output_value b number = if nat_lt number (input_count (kind_of b)) then None
+    else slice_get (outputs_of b) (number - input_count (kind_of b))
 
 abbrev pub is_block : Block → Bool
 is_block (blocks.Sr s) = is_bistable s

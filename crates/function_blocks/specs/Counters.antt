@@ -1,6 +1,7 @@
 -- The counters CTU, CTD and CTUD (IEC 61131-3:2003, 2.5.2.3.3). Numbers are whole numbers without bounds.
 -- An edge is an input that is TRUE and was FALSE at the last call; what it was is kept at each call, whatever wins.
-use Rattle.std.specs.Prelude.{ℕ, Bool, true, false, not, ◌&&◌, List, [], ◌∷◌, ℤ, pos, negsuc, ◌+ℤ◌, ◌-ℤ◌, ◌^◌, if◌then◌else◌}
+use Rattle.std.specs.Prelude.{ℕ, Bool, true, false, not, ◌&&◌, List, [], ◌∷◌, ℤ, pos, negsuc, ◌+ℤ◌, ◌-ℤ◌, ◌^◌}
+use Rattle.std.specs.Prelude.{if◌then◌else◌}
 use Rattle.std.specs.Int.Signed.{lt_z}
 use Rattle.il_model.specs.Values.{is_within}
 use Rattle.il_model.specs.Operators.{same_truth}
@@ -17,7 +18,15 @@ abbrev pub cold_counter : CounterState
 cold_counter = record { called = false; q = false; last = false; cv = pos 0; pv = pos 0 }
 
 abbrev pub cold_ctud : CtudState
-cold_ctud = record { called = false; qu = false; qd = false; last_up = false; last_down = false; cv = pos 0; pv = pos 0 }
+cold_ctud = record {
+  called = false;
+  qu = false;
+  qd = false;
+  last_up = false;
+  last_down = false;
+  cv = pos 0;
+  pv = pos 0;
+}
 
 -- one more below the greatest INT, one less above the least
 abbrev pub one_up : ℤ → ℤ
@@ -57,10 +66,19 @@ moved_count false false cv = cv
 
 -- R wins over LD, and LD over edges
 abbrev pub ctud_count : CtudState → CtudIn → ℤ
-ctud_count s i = if i.r then pos 0 else (if i.ld then i.pv else moved_count (i.cu && not s.last_up) (i.cd && not s.last_down) s.cv)
+ctud_count s i = if i.r then pos 0
+    else (if i.ld then i.pv else moved_count (i.cu && not s.last_up) (i.cd && not s.last_down) s.cv)
 
 abbrev pub ctud_after : CtudState → CtudIn → CtudState
-ctud_after s i = record { called = true; qu = is_full (ctud_count s i) i.pv; qd = is_empty (ctud_count s i); last_up = i.cu; last_down = i.cd; cv = ctud_count s i; pv = i.pv }
+ctud_after s i = record {
+  called = true;
+  qu = is_full (ctud_count s i) i.pv;
+  qd = is_empty (ctud_count s i);
+  last_up = i.cu;
+  last_down = i.cd;
+  cv = ctud_count s i;
+  pv = i.pv;
+}
 
 abbrev pub counter_outs : CounterState → CounterOut
 counter_outs s = record { q = s.q; cv = s.cv }
@@ -89,7 +107,8 @@ abbrev pub ctd_holds : CounterState → Bool
 ctd_holds s = if s.called then same_truth s.q (is_empty s.cv) else is_cold_counter s
 
 abbrev pub ctud_holds : CtudState → Bool
-ctud_holds s = if s.called then same_truth s.qu (is_full s.cv s.pv) && same_truth s.qd (is_empty s.cv) else is_cold_ctud s
+ctud_holds s = if s.called then same_truth s.qu (is_full s.cv s.pv) && same_truth s.qd (is_empty s.cv)
+    else is_cold_ctud s
 
 abbrev pub counter_words : CounterState → List ℕ
 counter_words s = saved_words (s.called ∷ s.q ∷ s.last ∷ []) s.pv s.cv 0

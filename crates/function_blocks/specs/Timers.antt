@@ -1,7 +1,8 @@
 -- The timers TP, TON and TOF (IEC 61131-3:2003, 2.5.2.3.4), at discrete moments: a timer changes when it is called,
 -- and a call knows the moment of its scan. That is this project's own. Moments and times are natural numbers of ms.
 -- An edge is IN that is TRUE and was FALSE at the last call, a fall is IN that is FALSE and was TRUE.
-use Rattle.std.specs.Prelude.{ℕ, ◌+◌, ◌-◌, ◌^◌, min, Bool, true, false, not, ◌&&◌, ◌||◌, List, [], ◌∷◌, ℤ, pos, negsuc, nat_le, nat_lt, nat_eq, if◌then◌else◌}
+use Rattle.std.specs.Prelude.{ℕ, ◌+◌, ◌-◌, ◌^◌, min, Bool, true, false, not, ◌&&◌, ◌||◌, List, [], ◌∷◌, ℤ, pos, negsuc}
+use Rattle.std.specs.Prelude.{nat_le, nat_lt, nat_eq, if◌then◌else◌}
 use Rattle.il_model.specs.Values.{is_within}
 use Rattle.il_model.specs.Operators.{same_truth}
 use Rattle.function_blocks.specs.Words.{saved_words, is_zero}
@@ -27,15 +28,34 @@ resting_timer q input pt = record { called = true; q = q; last = input; run = fa
 
 -- an on-delay that runs: Q once the time is over
 abbrev pub running_delay : ℤ → ℕ → ℕ → TimerState
-running_delay pt start now = record { called = true; q = nat_le (milliseconds pt) (elapsed_time pt start now); last = true; run = true; et = pos (elapsed_time pt start now); pt = pt; start = start }
+running_delay pt start now =
+    record {
+      called = true;
+      q = nat_le (milliseconds pt) (elapsed_time pt start now);
+      last = true;
+      run = true;
+      et = pos (elapsed_time pt start now);
+      pt = pt;
+      start = start;
+    }
 
 -- a pulse or an off-delay that runs: Q until the time is over
 abbrev pub running_pulse : Bool → ℤ → ℕ → ℕ → TimerState
-running_pulse input pt start now = record { called = true; q = nat_lt (elapsed_time pt start now) (milliseconds pt); last = input; run = true; et = pos (elapsed_time pt start now); pt = pt; start = start }
+running_pulse input pt start now =
+    record {
+      called = true;
+      q = nat_lt (elapsed_time pt start now) (milliseconds pt);
+      last = input;
+      run = true;
+      et = pos (elapsed_time pt start now);
+      pt = pt;
+      start = start;
+    }
 
 -- it runs while IN is TRUE, from the edge on
 abbrev pub ton_after : TimerState → TimerIn → ℕ → TimerState
-ton_after s i now = if i.input then running_delay i.pt (if s.last then s.start else now) now else resting_timer false false i.pt
+ton_after s i now = if i.input then running_delay i.pt (if s.last then s.start else now) now
+    else resting_timer false false i.pt
 
 -- it runs while IN is FALSE, from the fall on
 abbrev pub tof_after : TimerState → TimerIn → ℕ → TimerState
@@ -46,7 +66,8 @@ tof_after s i now =
 
 -- a pulse that runs ends once its time is over and IN is FALSE
 abbrev pub pulse_after : Bool → ℤ → ℕ → ℕ → TimerState
-pulse_after input pt start now = if nat_eq (elapsed_time pt start now) (milliseconds pt) && not input then resting_timer false false pt else running_pulse input pt start now
+pulse_after input pt start now = if nat_eq (elapsed_time pt start now) (milliseconds pt) && not input
+    then resting_timer false false pt else running_pulse input pt start now
 
 -- an edge starts it, unless it runs
 abbrev pub tp_after : TimerState → TimerIn → ℕ → TimerState
@@ -93,7 +114,8 @@ tof_holds s =
 abbrev pub tp_holds : TimerState → Bool
 tp_holds s =
     if not s.called then is_cold_timer s
-    else (if s.run then is_running s && same_truth s.q (nat_lt (milliseconds s.et) (milliseconds s.pt)) && (not (nat_eq (milliseconds s.et) (milliseconds s.pt)) || s.last)
+    else (if s.run then is_running s && same_truth s.q (nat_lt (milliseconds s.et) (milliseconds s.pt))
+    && (not (nat_eq (milliseconds s.et) (milliseconds s.pt)) || s.last)
     else is_resting s && not s.last && not s.q)
 
 abbrev pub timer_words : TimerState → List ℕ

@@ -3,12 +3,13 @@
 ghost use Rattle.std.specs.Prelude.{◌≡◌, true, ℕ, List, Bool, refl};
 ghost use Rattle.il_model.specs.Kinds.{kind_code};
 ghost use Rattle.il_model.specs.declared.kind.BlockKind.TheVariants as kinds;
-ghost use Rattle.function_blocks.specs.Bistables.{cold_bistable, sr_after, rs_after, bistable_outs, bistable_words, is_bistable};
+ghost use Rattle.function_blocks.specs.Bistables.{cold_bistable, sr_after, rs_after, bistable_outs, bistable_words};
+ghost use Rattle.function_blocks.specs.Bistables.{is_bistable};
 
 use crate::equations::{BlockState, Equations};
 use crate::standard_block::StandardBlock;
 use crate::words::{has_bit, saved_words};
-use il_model::kind::BlockKind;
+use il_model::BlockKind;
 
 /// The inputs of SR.
 #[derive(Clone, Copy, PartialEq, Eq)]

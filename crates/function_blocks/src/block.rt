@@ -4,7 +4,11 @@ ghost use Rattle.std.specs.Prelude.{◌≡◌, true, ℕ, List, Option, Some, If
 ghost use Rattle.il_model.specs.Kinds.{field_type, input_count};
 ghost use Rattle.il_model.specs.Values.{ty_of};
 ghost use Rattle.function_blocks.specs.declared.block.Block.{Block};
-ghost use Rattle.function_blocks.specs.Blocks.{bool_of, int_of, time_of, sr_inputs, rs_inputs, edge_inputs, ctu_inputs, ctd_inputs, ctud_inputs, timer_inputs, bistable_values, edge_values, counter_values, ctud_values, timer_values, kind_of, cold_block, block_after, outputs_of, output_field, output_value, is_block, block_words, IsKnown};
+ghost use Rattle.function_blocks.specs.Blocks.{bool_of, int_of, time_of, sr_inputs, rs_inputs, edge_inputs, ctu_inputs};
+ghost use Rattle.function_blocks.specs.Blocks.{ctd_inputs, ctud_inputs, timer_inputs, bistable_values, edge_values};
+ghost use Rattle.function_blocks.specs.Blocks.{counter_values, ctud_values, timer_values, kind_of, cold_block};
+ghost use Rattle.function_blocks.specs.Blocks.{block_after, outputs_of, output_field, output_value, is_block};
+ghost use Rattle.function_blocks.specs.Blocks.{block_words, IsKnown};
 
 use crate::bistable::{BistableOut, Rs, RsIn, Sr, SrIn};
 use crate::counter::{CounterOut, Ctd, CtdIn, Ctu, CtuIn, Ctud, CtudIn, CtudOut};
@@ -12,8 +16,7 @@ use crate::edge::{EdgeIn, EdgeOut, FTrig, RTrig};
 use crate::function_block::FunctionBlock;
 use crate::timer::{TimerIn, TimerOut, Tof, Ton, Tp};
 use arrayvec::ArrayVec;
-use il_model::kind::BlockKind;
-use il_model::value::Value;
+use il_model::{BlockKind, Value};
 
 /// A standard function block. Its state is always one of its kind.
 #[derive(Drop)]

@@ -3,12 +3,15 @@
 ghost use Rattle.std.specs.Prelude.{◌≡◌, true, ℕ, List, Bool, refl};
 ghost use Rattle.il_model.specs.Kinds.{kind_code};
 ghost use Rattle.il_model.specs.declared.kind.BlockKind.TheVariants as kinds;
-ghost use Rattle.function_blocks.specs.Counters.{cold_counter, cold_ctud, one_up, one_down, moved_count, ctu_count, ctd_count, ctud_count, ctu_after, ctd_after, ctud_after, counter_outs, ctud_outs, counter_words, ctud_words, fits_counter, fits_ctud, is_cold_counter, is_cold_ctud, ctu_holds, ctd_holds, ctud_holds};
+ghost use Rattle.function_blocks.specs.Counters.{cold_counter, cold_ctud, one_up, one_down, moved_count, ctu_count};
+ghost use Rattle.function_blocks.specs.Counters.{ctd_count, ctud_count, ctu_after, ctd_after, ctud_after, counter_outs};
+ghost use Rattle.function_blocks.specs.Counters.{ctud_outs, counter_words, ctud_words, fits_counter, fits_ctud};
+ghost use Rattle.function_blocks.specs.Counters.{is_cold_counter, is_cold_ctud, ctu_holds, ctd_holds, ctud_holds};
 
 use crate::equations::{BlockState, Equations};
 use crate::standard_block::StandardBlock;
 use crate::words::{has_bit, high_half, int_or_zero, low_half, saved_words};
-use il_model::kind::BlockKind;
+use il_model::BlockKind;
 
 /// The inputs of CTU.
 #[derive(Clone, Copy, PartialEq, Eq)]

@@ -8,7 +8,7 @@ ghost use Rattle.function_blocks.specs.Edges.{cold_edge, r_trig_after, f_trig_af
 use crate::equations::{BlockState, Equations};
 use crate::standard_block::StandardBlock;
 use crate::words::{has_bit, saved_words};
-use il_model::kind::BlockKind;
+use il_model::BlockKind;
 
 /// The input of R_TRIG and F_TRIG.
 #[derive(Clone, Copy, PartialEq, Eq)]

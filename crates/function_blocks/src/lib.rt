@@ -2,7 +2,7 @@
 //! whole state. It may use `il_model` alone (values, and the table of kinds and their fields), and `arrayvec`.
 //!
 //! ```rust
-//! use function_blocks::block::Block;
+//! use function_blocks::Block;
 //! use il_model::{BlockKind, Value};
 //!
 //! let mut delay = Block::cold(BlockKind::Ton);
@@ -18,12 +18,24 @@
 //! discrete moments, and the first call of F_TRIG, are this project's own reading of the standard.
 #![tactic(auto)]
 
-pub mod bistable;
-pub mod block;
-pub mod counter;
-pub mod edge;
-pub mod equations;
-pub mod function_block;
-pub mod standard_block;
-pub mod timer;
-pub mod words;
+mod bistable;
+mod block;
+mod counter;
+mod edge;
+mod equations;
+mod function_block;
+mod standard_block;
+mod timer;
+mod words;
+
+pub use bistable::{BistableOut, BistableState, ResetDominant, Rs, RsIn, SetDominant, Sr, SrIn};
+pub use block::{Block, words_tell_a_block};
+pub use counter::{
+    CounterOut, CounterState, Ctd, CtdIn, Ctu, CtuIn, Ctud, CtudIn, CtudOut, CtudState,
+    DownCounter, UpCounter, UpDownCounter,
+};
+pub use edge::{EdgeIn, EdgeOut, EdgeState, FTrig, FallingEdge, RTrig, RisingEdge};
+pub use equations::{BlockState, Equations};
+pub use function_block::{FunctionBlock, saved_again};
+pub use standard_block::StandardBlock;
+pub use timer::{OffDelay, OnDelay, Pulse, TimerIn, TimerOut, TimerState, Tof, Ton, Tp};

@@ -4,12 +4,15 @@
 ghost use Rattle.std.specs.Prelude.{◌≡◌, ◌<◌, ◌^◌, true, ℕ, List, Bool, refl};
 ghost use Rattle.il_model.specs.Kinds.{kind_code};
 ghost use Rattle.il_model.specs.declared.kind.BlockKind.TheVariants as kinds;
-ghost use Rattle.function_blocks.specs.Timers.{cold_timer, milliseconds, elapsed_time, resting_timer, running_delay, running_pulse, pulse_after, ton_after, tof_after, tp_after, timer_outs, timer_words, fits_timer, is_cold_timer, is_running, is_resting, ton_holds, tof_holds, tp_holds};
+ghost use Rattle.function_blocks.specs.Timers.{cold_timer, milliseconds, elapsed_time, resting_timer, running_delay};
+ghost use Rattle.function_blocks.specs.Timers.{running_pulse, pulse_after, ton_after, tof_after, tp_after, timer_outs};
+ghost use Rattle.function_blocks.specs.Timers.{timer_words, fits_timer, is_cold_timer, is_running, is_resting};
+ghost use Rattle.function_blocks.specs.Timers.{ton_holds, tof_holds, tp_holds};
 
 use crate::equations::{BlockState, Equations};
 use crate::standard_block::StandardBlock;
 use crate::words::{has_bit, high_half, low_half, saved_words};
-use il_model::kind::BlockKind;
+use il_model::BlockKind;
 
 /// The inputs of a timer.
 #[derive(Clone, Copy, PartialEq, Eq)]
@@ -185,7 +188,8 @@ fn is_resting(s: &TimerState) -> bool
     s.et == 0 && s.start == 0
 }
 
-/// TP: an edge of IN starts a pulse of PT, which nothing prolongs; Q is TRUE in it, and ET stays at PT until IN is FALSE.
+/// TP: an edge of IN starts a pulse of PT, which nothing prolongs; Q is TRUE in it, and ET stays at PT until IN is
+/// FALSE.
 pub type Tp = StandardBlock<Pulse>;
 
 /// The equations of TP.

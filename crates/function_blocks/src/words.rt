@@ -1,7 +1,8 @@
 //! The four words that a block's state is saved as: its truths, two numbers, a moment, and 0.
 
 ghost use Rattle.std.specs.Prelude.{◌≡◌, ◌<◌, ◌≤◌, ◌^◌, length};
-ghost use Rattle.function_blocks.specs.Words.{bit, bits_number, joined_halves, saved_words, has_bit, high_of, low_of, int_or_zero};
+ghost use Rattle.function_blocks.specs.Words.{bit, bits_number, joined_halves, saved_words, has_bit, high_of, low_of};
+ghost use Rattle.function_blocks.specs.Words.{int_or_zero};
 
 /// How many values half a word has.
 const HALF: u64 = 0x1_0000_0000;

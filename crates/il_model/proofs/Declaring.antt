@@ -33,7 +33,7 @@ use Rattle.il_model.specs.Declarable as declarable
 use Rattle.il_model.specs.Settled.{wanted_type, settled_number, settled_as, settled_operand, settled_passing, settled_argument, settled_line, typed_program_of, is_bare, has_bare, IsTypedProgramOf}
 use Rattle.il_model.proofs.TypedLines.{bind_ok, ok_before}
 use Rattle.il_model.proofs.Lawful.{lawful_image}
-use Rattle.il_model.proofs.Settling.{typed_program}
+use Rattle.il_model.proofs.SettledPrograms.{typed_program}
 
 -- ---- one operand
 

@@ -50,7 +50,7 @@ use Rattle.il_model.specs.Lawful.{IsOperand, IsLabel, IsPassed, IsLawful, AreLaw
 use Rattle.il_model.proofs.TypedLines.{bind_ok, ok_before, typed_line, IsArgumentOf, arguments_typed, no_arguments}
 use Rattle.il_model.proofs.Positions.{position_front, found_in_front, found_last, position_later, position_first}
 use Rattle.il_model.proofs.Marks.{words_in-append, address_small, table_labels, label_in}
-use Rattle.il_model.proofs.Constants.{same_self, constants_grow}
+use Rattle.il_model.proofs.ConstantLists.{same_self, constants_grow}
 use Rattle.il_model.proofs.CodedOperands.{coded_again, own_small}
 use Rattle.il_model.proofs.Declared.{StandsAt, variable_stands, map_some, instance_again, field_so, field_stands}
 use Rattle.il_model.proofs.Calls.{IsTypedLine, typed_lines, words_few, literal_count, literals_few}

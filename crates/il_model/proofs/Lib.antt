@@ -3,7 +3,7 @@ pub mod TypedLines
 pub mod Room
 pub mod Loop
 pub mod Marks
-pub mod Constants
+pub mod ConstantLists
 pub mod CodedOperands
 pub mod Declared
 pub mod Calls
@@ -15,7 +15,7 @@ pub mod LocationTables
 pub mod ArgumentFaults
 pub mod FirstFaults
 pub mod FaultyWords
-pub mod Settling
+pub mod SettledPrograms
 pub mod Indexing
 pub mod Decimals
 pub mod Declaring

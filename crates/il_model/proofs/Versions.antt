@@ -22,7 +22,7 @@ use Rattle.il_model.specs.Codes.{if_passes, may_have, may_start_with, type_of, t
 use Rattle.il_model.specs.Fits.{IsVariable, IsConstant, AreItems}
 use Rattle.il_model.proofs.LiteralLaws.{IsValue}
 use Rattle.il_model.proofs.Lawful.{listed, type_again}
-use Rattle.il_model.proofs.Settling.{made_number}
+use Rattle.il_model.proofs.SettledPrograms.{made_number}
 
 -- ---- numbers
 

@@ -1,12 +1,13 @@
 -- The cells of an area, and the images of inputs and outputs.
 use Rattle.std.specs.Prelude.{replicate, false, pos}
+use Rattle.il_model.specs.declared.limits.TheConstants.{BITS, WORDS}
 use Rattle.il_model.specs.declared.cells.Cells.{Cells}
 use Rattle.il_model.specs.declared.cells.InImage.{InImage}
 use Rattle.il_model.specs.declared.cells.OutImage.{OutImage}
 
 -- all bits FALSE and all words 0
 abbrev pub clear_cells : Cells
-clear_cells = record { bits = replicate 512 false; words = replicate 64 (pos 0) }
+clear_cells = record { bits = replicate BITS false; words = replicate WORDS (pos 0) }
 
 -- the input image with all bits FALSE and all words 0
 abbrev pub clear_inputs : InImage

@@ -1,6 +1,7 @@
 -- The one table of operand codes, which slots use, too: the code of each operand, and the operand of each code.
 use Rattle.std.specs.Prelude.{ℕ, ◌+◌, ◌-◌, ◌*◌, ◌/◌, ◌%◌, ◌<◌, Option, Some, None, nat_lt, nat_eq, if◌then◌else◌}
 use Rattle.std.specs.Option.{option_map}
+use Rattle.il_model.specs.declared.limits.TheConstants.{BITS, WORDS}
 use Rattle.il_model.specs.declared.program.Area.{Area}
 use Rattle.il_model.specs.declared.program.Area.TheVariants as areas
 use Rattle.il_model.specs.declared.program.Loc.{Loc}
@@ -24,22 +25,24 @@ abbrev pub loc_code : Loc → ℕ
 loc_code (Bit a n) = base_of a + n
 loc_code (Word a n) = base_of a + (first_word + n)
 
--- an area has 512 bits and 64 words
+-- an area has so many bits and words
 abbrev pub IsCell : Loc → Type 0
-IsCell (Bit a n) = n < 512
-IsCell (Word a n) = n < 64
+IsCell (Bit a n) = n < BITS
+IsCell (Word a n) = n < WORDS
 
 -- the bit or the word of an area that stands so far behind its beginning
 abbrev pub area_loc : Area → ℕ → Option Loc
 area_loc area n =
-    if nat_lt n 512 then Some (Bit area n)
-    else (if nat_lt n first_word then None else (if nat_lt n (first_word + 64) then Some (Word area (n - first_word)) else None))
+    if nat_lt n BITS then Some (Bit area n)
+    else (if nat_lt n first_word then None
+    else (if nat_lt n (first_word + WORDS) then Some (Word area (n - first_word)) else None))
 
 -- the location that a code stands for
 abbrev pub any_loc : ℕ → Option Loc
 any_loc n =
     if nat_lt n (base_of areas.Output) then area_loc areas.Input n
-    else (if nat_lt n (base_of areas.Memory) then area_loc areas.Output (n - base_of areas.Output) else area_loc areas.Memory (n - base_of areas.Memory))
+    else (if nat_lt n (base_of areas.Memory) then area_loc areas.Output (n - base_of areas.Output)
+    else area_loc areas.Memory (n - base_of areas.Memory))
 
 -- ---- all operands
 

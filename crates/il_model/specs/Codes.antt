@@ -1,5 +1,6 @@
 -- What the numbers in an image stand for: types, locations, operators, letters, operands.
-use Rattle.std.specs.Prelude.{ℕ, zero, suc, Bool, true, false, not, ◌&&◌, ◌||◌, List, [], ◌∷◌, slice_get, Option, Some, None, ℤ, is_some, is_none, nat_lt, nat_eq, if◌then◌else◌}
+use Rattle.std.specs.Prelude.{ℕ, zero, suc, Bool, true, false, not, ◌&&◌, ◌||◌, List, [], ◌∷◌, slice_get, Option, Some}
+use Rattle.std.specs.Prelude.{None, ℤ, is_some, is_none, nat_lt, nat_eq, if◌then◌else◌}
 use Rattle.std.specs.List.{position}
 use Rattle.std.specs.Option.{option_map, option_and_then}
 use Rattle.il_model.specs.declared.value.Ty.{Ty}
@@ -144,7 +145,8 @@ instance_named (Some x) = Some (operands.Instance x.name)
 -- the field of an instance by its number
 abbrev pub field_named : Option Instance → ℕ → Option Operand
 field_named None n = None
-field_named (Some x) n = option_map (λ (f : Field). operands.Field x.name (field_name f)) (slice_get (kind_fields x.kind) n)
+field_named (Some x) n =
+    option_map (λ (f : Field). operands.Field x.name (field_name f)) (slice_get (kind_fields x.kind) n)
 
 -- ---- the table of operators: the letters that each takes, and the form of its operand
 
@@ -215,7 +217,8 @@ op_list =
 
 -- the operator of a code
 abbrev pub op_of : ℕ → Option Op
-op_of n = if nat_eq n 28 then Some ops.DintToLint else (if nat_eq n 29 then Some ops.LintToDint else slice_get op_list n)
+op_of n = if nat_eq n 28 then Some ops.DintToLint
+    else (if nat_eq n 29 then Some ops.LintToDint else slice_get op_list n)
 
 -- the operator of a code in an image of this version
 abbrev pub op_in : Version → ℕ → Option Op
@@ -255,8 +258,8 @@ abbrev pub is_call : Op → Bool
 is_call ops.Cal = true
 is_call op = false
 
--- what a word's number stands for; any address may follow JMP, whether a label stands there is judged later; CAL has the
--- number of an instance
+-- what a word's number stands for; any address may follow JMP, whether a label stands there is judged later; CAL has
+-- the number of an instance
 abbrev pub numbered_operand : Declarations → List Mark → List Value → Op → ℕ → Option Operand
 numbered_operand ds marks constants op n =
     if is_jump op then Some (operands.Label (target_name (label_there marks n)))
@@ -265,7 +268,8 @@ numbered_operand ds marks constants op n =
 
 -- that, where the operator takes an operand of its form
 abbrev pub word_operand : Declarations → List Mark → List Value → Op → Modifier → ℕ → Option Operand
-word_operand ds marks constants op m n = option_and_then (if_passes (formed_by (usage_of op) m)) (numbered_operand ds marks constants op n)
+word_operand ds marks constants op m n =
+    option_and_then (if_passes (formed_by (usage_of op) m)) (numbered_operand ds marks constants op n)
 
 -- ---- the words of arguments
 
@@ -278,11 +282,13 @@ argument_number n = if nat_lt n 8 then Some n else None
 
 -- an argument always has a value or a place
 abbrev pub argument_operand : Declarations → List Value → ℕ → Option Operand
-argument_operand ds constants n = option_and_then (if_passes (has_form forms.Value false)) (value_operand ds constants n)
+argument_operand ds constants n =
+    option_and_then (if_passes (has_form forms.Value false)) (value_operand ds constants n)
 
 -- the name of the field with a number; a number that the kind hasn't is the empty name, which no field has
 abbrev pub argument_name : Option BlockKind → ℕ → List ℕ
-argument_name kind n = elim (option_and_then (λ k. slice_get (kind_fields k) n) kind) [ Some field ↦ field_name field | None ↦ [] ]
+argument_name kind n = elim
+    (option_and_then (λ k. slice_get (kind_fields k) n) kind) [ Some field ↦ field_name field | None ↦ [] ]
 
 -- ---- empty instructions
 

@@ -1,5 +1,6 @@
 -- The constants of a program, in the order of their first use.
-use Rattle.std.specs.Prelude.{ℕ, suc, Bool, false, List, [], ◌∷◌, ◌++◌, map, Option, Some, None, is_some, nat_lt, nat_eq, if◌then◌else◌}
+use Rattle.std.specs.Prelude.{ℕ, suc, Bool, false, List, [], ◌∷◌, ◌++◌, map, Option, Some, None, is_some, nat_lt}
+use Rattle.std.specs.Prelude.{nat_eq, if◌then◌else◌}
 use Rattle.std.specs.List.{position, flat_map}
 use Rattle.il_model.specs.declared.value.Value.{Value}
 use Rattle.il_model.specs.declared.value.Value.TheVariants as values

@@ -1,4 +1,5 @@
--- What a program is that a text declares: its parts have lawful forms. Once its bare numbers have types it has an image.
+-- What a program is that a text declares: its parts have lawful forms. Once its bare numbers have types it has an
+-- image.
 use Rattle.std.specs.Prelude.{◌≡◌, ◌≤◌, ◌^◌, true, false, [], length}
 use Rattle.std.specs.List.{AllByRecursion}
 use Rattle.il_model.specs.declared.value.Value.TheVariants as values
@@ -7,6 +8,7 @@ use Rattle.il_model.specs.declared.program.Argument.{Argument}
 use Rattle.il_model.specs.declared.program.Operand.{Operand}
 use Rattle.il_model.specs.declared.program.Operand.TheVariants as operands
 use Rattle.il_model.specs.declared.program.Instr.{Instr}
+use Rattle.il_model.specs.declared.limits.TheConstants.{MOST_VARIABLES, MOST_INSTANCES, MOST_INSTRUCTIONS}
 use Rattle.il_model.specs.Values.{is_within}
 use Rattle.il_model.specs.Text.{Text, Declarations, declared_by}
 use Rattle.il_model.specs.Codes.{usage_of, allowed_by, formed_by, has_form, is_pointless}
@@ -37,8 +39,8 @@ pub record IsInstruction (ds : Declarations) (line : Instr) : Type 0 where
 
 pub record IsDeclared (P : Text) : Type 0 where
   pub variables : AreItems IsVariable [] P.variables
-  pub variables_few : length P.variables ≤ 512
+  pub variables_few : length P.variables ≤ MOST_VARIABLES
   pub instances : AreItems (IsInstance P.variables) [] P.instances
-  pub instances_few : length P.instances ≤ 128
+  pub instances_few : length P.instances ≤ MOST_INSTANCES
   pub lines : AllByRecursion (IsInstruction (declared_by P)) P.code
-  pub lines_few : length P.code ≤ 4096
+  pub lines_few : length P.code ≤ MOST_INSTRUCTIONS

@@ -1,5 +1,6 @@
 -- Durations (IEC 61131-3:2003, B.1.2.3.1), in milliseconds: what stands behind T# and a sign.
-use Rattle.std.specs.Prelude.{ℕ, zero, suc, ◌+◌, ◌*◌, ◌/◌, ◌%◌, ◌^◌, ◌==◌, Bool, true, false, ◌&&◌, ◌||◌, List, [], ◌∷◌, length, take, drop, Option, Some, None, option_map, nat_lt, nat_le, if◌then◌else◌, codes}
+use Rattle.std.specs.Prelude.{ℕ, zero, suc, ◌+◌, ◌*◌, ◌/◌, ◌%◌, ◌^◌, ◌==◌, Bool, true, false, ◌&&◌, ◌||◌, List, [], ◌∷◌}
+use Rattle.std.specs.Prelude.{length, take, drop, Option, Some, None, option_map, nat_lt, nat_le, if◌then◌else◌, codes}
 use Rattle.std.specs.List.{prefix_len}
 use Rattle.std.specs.Option.{option_and_then}
 use Rattle.il_model.specs.declared.duration.TimeUnit.{TimeUnit}
@@ -38,7 +39,8 @@ digit_list (b ∷ bs) = if b == 95 then digit_list bs else digit_of b ∷ digit_
 
 -- the milliseconds that decimals of a unit are, where they are whole
 unfoldable pub whole_part : ℕ → List ℕ → Option ℕ
-whole_part unit ds = if decimals ds * unit % 10 ^ length ds == 0 then Some (decimals ds * unit / 10 ^ length ds) else None
+whole_part unit ds = if decimals ds * unit % 10 ^ length ds == 0 then Some (decimals ds * unit / 10 ^ length ds)
+    else None
 
 abbrev pub fraction_of : ℕ → List ℕ → Option ℕ
 fraction_of unit bytes = if are_digits 10 false bytes then whole_part unit (digit_list bytes) else None
@@ -59,7 +61,9 @@ plain_part n rest u = record { rank = u.rank; broken = false; milliseconds = n *
 
 -- a number of a unit with decimals
 abbrev pub broken_part : ℕ → List ℕ → List ℕ → TimeUnit → Option PartText
-broken_part n fraction rest u = option_map (λ f. record { rank = u.rank; broken = true; milliseconds = n * u.milliseconds + f; rest = rest }) (fraction_of u.milliseconds fraction)
+broken_part n fraction rest u =
+    option_map (λ f. record { rank = u.rank; broken = true; milliseconds = n * u.milliseconds + f; rest = rest })
+    (fraction_of u.milliseconds fraction)
 
 -- a whole number's unit
 abbrev pub at_unit : ℕ → List ℕ → Option PartText
@@ -67,7 +71,8 @@ at_unit n bytes = option_map (plain_part n (drop (unit_len bytes) bytes)) (unit_
 
 -- decimals and their unit
 abbrev pub decimals_unit : ℕ → List ℕ → List ℕ → Option PartText
-decimals_unit n fraction unit = option_and_then (broken_part n fraction (drop (unit_len unit) unit)) (unit_of (take (unit_len unit) unit))
+decimals_unit n fraction unit =
+    option_and_then (broken_part n fraction (drop (unit_len unit) unit)) (unit_of (take (unit_len unit) unit))
 
 abbrev pub at_decimals : ℕ → List ℕ → Option PartText
 at_decimals n bytes = decimals_unit n (take (digits_len bytes) bytes) (drop (digits_len bytes) bytes)
@@ -80,7 +85,8 @@ abbrev pub behind_number : List ℕ → ℕ → Option PartText
 behind_number bytes n = if begins_dot bytes then at_decimals n (drop 1 bytes) else at_unit n bytes
 
 unfoldable pub part_by : Digits → List ℕ → Option PartText
-part_by read bytes = option_and_then (behind_number (drop (digits_len bytes) bytes)) (read 10 (take (digits_len bytes) bytes))
+part_by read bytes = option_and_then (behind_number (drop (digits_len bytes) bytes))
+    (read 10 (take (digits_len bytes) bytes))
 
 -- an underscore may join two parts
 abbrev pub past_join : List ℕ → List ℕ
@@ -90,7 +96,9 @@ past_join (b ∷ bs) = if b == 95 then bs else b ∷ bs
 -- a part of a unit below a limit, with those behind it
 abbrev pub sum_of_parts : (ℕ → List ℕ → Option ℕ) → ℕ → PartText → Option ℕ
 sum_of_parts parts limit p =
-    if nat_lt p.rank limit then (if length p.rest == 0 then Some p.milliseconds else (if p.broken then None else option_map (λ n. p.milliseconds + n) (parts p.rank (past_join p.rest))))
+    if nat_lt p.rank limit then
+    (if length p.rest == 0 then Some p.milliseconds
+    else (if p.broken then None else option_map (λ n. p.milliseconds + n) (parts p.rank (past_join p.rest))))
     else None
 
 -- parts, each of a lower unit than the one before, added up; there are five units

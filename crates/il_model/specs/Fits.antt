@@ -1,5 +1,6 @@
 -- What a program is that has an image: each part reads back from its code.
-use Rattle.std.specs.Prelude.{◌≡◌, ℕ, ◌||◌, nat_eq, ◌<◌, ◌≤◌, ◌^◌, true, false, List, [], ◌∷◌, ◌++◌, length, Option, Some}
+use Rattle.std.specs.Prelude.{◌≡◌, ℕ, ◌||◌, nat_eq, ◌<◌, ◌≤◌, ◌^◌, true, false, List, [], ◌∷◌, ◌++◌, length, Option}
+use Rattle.std.specs.Prelude.{Some}
 use Rattle.std.specs.List.{AllByRecursion}
 use Rattle.std.specs.Option.{option_and_then}
 use Rattle.il_model.specs.declared.value.Value.{Value}
@@ -11,6 +12,7 @@ use Rattle.il_model.specs.declared.program.Instance.{Instance}
 use Rattle.il_model.specs.declared.program.Argument.{Argument}
 use Rattle.il_model.specs.declared.program.Operand.{Operand}
 use Rattle.il_model.specs.declared.program.Instr.{Instr}
+use Rattle.il_model.specs.declared.limits.TheConstants.{MOST_VARIABLES, MOST_INSTANCES, MOST_INSTRUCTIONS}
 use Rattle.il_model.specs.Values.{ty_of, number_of}
 use Rattle.il_model.specs.Text.{Text, Declarations, declared_by}
 use Rattle.il_model.specs.Kinds.{field_number}
@@ -19,7 +21,9 @@ use Rattle.il_model.specs.Typing.{IsTyped}
 use Rattle.il_model.specs.Marks.{Mark, marks_from, words_in}
 use Rattle.il_model.specs.Constants.{constants_of}
 use Rattle.il_model.specs.Image.{type_code, location_code, op_code, modifier_code, operand_code}
-use Rattle.il_model.specs.Codes.{length_of, is_new_name, is_new_instance, is_new_label, type_of, coded_location, initial_of, constant_of, op_of, letters_of, word_operand, argument_name, argument_operand, is_call, is_pointless}
+use Rattle.il_model.specs.Codes.{length_of, is_new_name, is_new_instance, is_new_label, type_of, coded_location}
+use Rattle.il_model.specs.Codes.{initial_of, constant_of, op_of, letters_of, word_operand, argument_name}
+use Rattle.il_model.specs.Codes.{argument_operand, is_call, is_pointless}
 
 -- a variable behind those that were declared before it
 pub record IsVariable (seen : List Variable) (v : Variable) : Type 0 where
@@ -47,7 +51,8 @@ pub record IsConstant (seen : List Value) (v : Value) : Type 0 where
   pub value : constant_of seen (ty_of v) (number_of v) ≡ Some v
 
 -- an operator with its letters and its operand, which is a number
-pub record IsCoded (ds : Declarations) (marks : List Mark) (constants : List Value) (op : Op) (m : Modifier) (operand : Operand) (code : ℕ) : Type 0 where
+pub record IsCoded (ds : Declarations) (marks : List Mark) (constants : List Value) (op : Op) (m : Modifier)
+    (operand : Operand) (code : ℕ) : Type 0 where
   pub op_read : op_of (op_code op) ≡ Some op
   pub op_small : op_code op < 2 ^ 8
   pub letters : letters_of op (modifier_code m) ≡ Some m
@@ -61,11 +66,13 @@ pub record IsPassing (Q : Text) (kind : Option BlockKind) (a : Argument) : Type 
   pub field : option_and_then (λ k. field_number k a.field) kind ≡ Some number
   pub name : argument_name kind number ≡ a.field
   pub small : number < 8
-  pub operand_read : argument_operand (declared_by Q) (constants_of Q) (operand_code Q (constants_of Q) a.operand) ≡ Some a.operand
+  pub operand_read : argument_operand (declared_by Q) (constants_of Q)
+      (operand_code Q (constants_of Q) a.operand) ≡ Some a.operand
   pub operand_small : operand_code Q (constants_of Q) a.operand < 2 ^ 16
 
 pub record IsWord (Q : Text) (line : Instr) : Type 0 where
-  pub coded : IsCoded (declared_by Q) (marks_from 0 Q.code) (constants_of Q) line.op line.modifier line.operand (operand_code Q (constants_of Q) line.operand)
+  pub coded : IsCoded (declared_by Q) (marks_from 0 Q.code) (constants_of Q) line.op line.modifier line.operand
+      (operand_code Q (constants_of Q) line.operand)
   pub labelled : is_pointless line ≡ false
   pub arguments : AllByRecursion (IsPassing Q (called_kind Q line.operand)) line.arguments
   -- only a call has arguments
@@ -78,11 +85,11 @@ AreItems IsItem seen (x ∷ xs) = IsItem seen x × AreItems IsItem (seen ++ x �
 
 pub record IsText (Q : Text) : Type 0 where
   pub variables : AreItems IsVariable [] Q.variables
-  pub variables_few : length Q.variables ≤ 512
+  pub variables_few : length Q.variables ≤ MOST_VARIABLES
   pub instances : AreItems (IsInstance Q.variables) [] Q.instances
-  pub instances_few : length Q.instances ≤ 128
+  pub instances_few : length Q.instances ≤ MOST_INSTANCES
   pub labels : AreItems IsMark [] (marks_from 0 Q.code)
-  pub labels_few : length (marks_from 0 Q.code) ≤ 4096
+  pub labels_few : length (marks_from 0 Q.code) ≤ MOST_INSTRUCTIONS
   pub constants : AreItems IsConstant [] (constants_of Q)
   pub constants_few : length (constants_of Q) ≤ 20480
   pub words : AreItems (λ seen. IsWord Q) [] Q.code
@@ -90,5 +97,5 @@ pub record IsText (Q : Text) : Type 0 where
 
 pub record IsImage (Q : Text) : Type 0 where
   pub text : IsText Q
-  pub short : length Q.code ≤ 4096
+  pub short : length Q.code ≤ MOST_INSTRUCTIONS
   pub typed : IsTyped Q

@@ -1,6 +1,7 @@
 -- The bytes of a program: one spelling for each. In this order: a header, the variables, the instances, the labels, the
 -- constants, the words. All numbers are big-endian.
-use Rattle.std.specs.Prelude.{ℕ, ℤ, ◌+◌, Bool, true, false, ◌||◌, if◌then◌else◌, List, ◌++◌, length, codes, Option, Some, None}
+use Rattle.std.specs.Prelude.{ℕ, ℤ, ◌+◌, Bool, true, false, ◌||◌, if◌then◌else◌, List, ◌++◌, length, codes, Option}
+use Rattle.std.specs.Prelude.{Some, None}
 use Rattle.std.specs.Option.{option_map, option_and_then}
 use Rattle.std.specs.List.{flat_map, list_any}
 use Rattle.std.specs.Int.{Width, w8, w16, w32, w64, to_be_bytes, cast_unsigned}
@@ -82,7 +83,8 @@ is_long_line line = converts_long line.op
 
 -- the second version exactly where a variable or a constant is LINT, or an instruction converts to it or from it
 abbrev pub version_with : List Variable → List Value → List Instr → Version
-version_with variables constants code = if list_any is_long_variable variables || (list_any is_long_value constants || list_any is_long_line code) then versions.Two else versions.One
+version_with variables constants code = if list_any is_long_variable variables
+    || (list_any is_long_value constants || list_any is_long_line code) then versions.Two else versions.One
 
 abbrev pub version_of : Text → Version
 version_of Q = version_with Q.variables (constants_of Q) Q.code
@@ -92,7 +94,9 @@ abbrev pub number_bytes : Version → ℤ → List ℕ
 number_bytes version z = to_be_bytes (number_width version) (cast_unsigned (number_width version) z)
 
 abbrev pub variable_bytes : Version → Variable → List ℕ
-variable_bytes version v = name_bytes v.name ++ (to_be_bytes w8 (type_code v.ty) ++ (to_be_bytes w16 (location_code v.location) ++ number_bytes version (number_of v.initial)))
+variable_bytes version v = name_bytes v.name
+    ++ (to_be_bytes w8 (type_code v.ty)
+    ++ (to_be_bytes w16 (location_code v.location) ++ number_bytes version (number_of v.initial)))
 
 abbrev pub op_code : Op → ℕ
 op_code ops.Empty = 0
@@ -151,11 +155,13 @@ abbrev pub coded_field : Option Place → CodedOperand
 coded_field (Some (places.Field i n)) = coded.Field i n
 coded_field place = coded.Unused
 
--- an operand by numbers: a variable has its own, located or not; labels and instances that are called aren't in the table
+-- an operand by numbers: a variable has its own, located or not; labels and instances that are called aren't in the
+-- table
 abbrev pub coded_operand : Declarations → List Value → Operand → CodedOperand
 coded_operand ds constants (operands.Literal v) = coded_literal constants v
 coded_operand ds constants (operands.Direct loc) = coded.Location loc
-coded_operand ds constants (operands.Variable name) = numbered coded.Variable (position (λ (v : Variable). same_name v.name name) ds.variables)
+coded_operand ds constants (operands.Variable name) =
+    numbered coded.Variable (position (λ (v : Variable). same_name v.name name) ds.variables)
 coded_operand ds constants (operands.Field name field) = coded_field (field_in ds.instances name field)
 coded_operand ds constants operand = coded.Unused
 
@@ -175,7 +181,8 @@ abbrev pub coded_word : ℕ → ℕ → ℕ → List ℕ
 coded_word op letters operand = to_be_bytes w8 op ++ (to_be_bytes w8 letters ++ to_be_bytes w16 operand)
 
 abbrev pub word_bytes : Text → List Value → Instr → List ℕ
-word_bytes Q constants line = coded_word (op_code line.op) (modifier_code line.modifier) (operand_code Q constants line.operand)
+word_bytes Q constants line =
+    coded_word (op_code line.op) (modifier_code line.modifier) (operand_code Q constants line.operand)
 
 abbrev pub side_code : Side → ℕ
 side_code sides.Input = 26
@@ -189,11 +196,13 @@ field_number_code (Some n) = n
 -- an argument: its field by the number in the kind of the instance that is called
 abbrev pub argument_bytes : Text → List Value → Option BlockKind → Argument → List ℕ
 argument_bytes Q constants kind a =
-    coded_word (side_code a.side) (field_number_code (option_and_then (λ k. field_number k a.field) kind)) (operand_code Q constants a.operand)
+    coded_word (side_code a.side) (field_number_code (option_and_then (λ k. field_number k a.field) kind))
+    (operand_code Q constants a.operand)
 
 -- an instruction's word and those of its arguments in the order written
 abbrev pub instruction_bytes : Text → List Value → Instr → List ℕ
-instruction_bytes Q constants line = word_bytes Q constants line ++ flat_map (argument_bytes Q constants (called_kind Q line.operand)) line.arguments
+instruction_bytes Q constants line = word_bytes Q constants line
+    ++ flat_map (argument_bytes Q constants (called_kind Q line.operand)) line.arguments
 
 abbrev pub instance_bytes : Instance → List ℕ
 instance_bytes x = name_bytes x.name ++ to_be_bytes w8 (kind_code x.kind)
@@ -201,7 +210,9 @@ instance_bytes x = name_bytes x.name ++ to_be_bytes w8 (kind_code x.kind)
 -- how many variables, instances, labels, constants and words there are
 abbrev pub counts_bytes : ℕ → ℕ → ℕ → ℕ → ℕ → List ℕ
 counts_bytes variables instances labels constants words =
-    to_be_bytes w16 variables ++ (to_be_bytes w16 instances ++ (to_be_bytes w16 labels ++ (to_be_bytes w16 constants ++ to_be_bytes w16 words)))
+    to_be_bytes w16 variables
+    ++ (to_be_bytes w16 instances
+    ++ (to_be_bytes w16 labels ++ (to_be_bytes w16 constants ++ to_be_bytes w16 words)))
 
 -- how each image begins
 abbrev pub magic : List ℕ
@@ -209,12 +220,16 @@ magic = codes "ILPC"
 
 -- that, the version, and the counts
 abbrev pub header_bytes : Version → ℕ → ℕ → ℕ → ℕ → ℕ → List ℕ
-header_bytes version variables instances labels constants words = magic ++ (to_be_bytes w16 (version_number version) ++ counts_bytes variables instances labels constants words)
+header_bytes version variables instances labels constants words = magic
+    ++ (to_be_bytes w16 (version_number version) ++ counts_bytes variables instances labels constants words)
 
 abbrev pub spelled_with : Version → Text → List Mark → List Value → List ℕ
 spelled_with version Q labels constants =
     header_bytes version (length Q.variables) (length Q.instances) (length labels) (length constants) (words_in Q.code)
-    ++ (flat_map (variable_bytes version) Q.variables ++ (flat_map instance_bytes Q.instances ++ (flat_map mark_bytes labels ++ (flat_map (constant_bytes version) constants ++ flat_map (instruction_bytes Q constants) Q.code))))
+    ++ (flat_map (variable_bytes version) Q.variables
+    ++ (flat_map instance_bytes Q.instances
+    ++ (flat_map mark_bytes labels
+    ++ (flat_map (constant_bytes version) constants ++ flat_map (instruction_bytes Q constants) Q.code))))
 
 abbrev pub spelling : Text → List ℕ
 spelling Q = spelled_with (version_of Q) Q (marks_from 0 Q.code) (constants_of Q)

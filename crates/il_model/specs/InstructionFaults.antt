@@ -1,5 +1,6 @@
 -- Which faults an instruction has, each told by itself; of those it has, the one of least rank is told.
-use Rattle.std.specs.Prelude.{◌≡◌, ℕ, ◌≤◌, Bool, true, false, not, ◌&&◌, ◌||◌, List, [], ◌∷◌, length, Option, Some, None, Result, Ok, Err, nat_lt, nat_eq, is_some, is_none, if◌then◌else◌}
+use Rattle.std.specs.Prelude.{◌≡◌, ℕ, ◌≤◌, Bool, true, false, not, ◌&&◌, ◌||◌, List, [], ◌∷◌, length, Option, Some}
+use Rattle.std.specs.Prelude.{None, Result, Ok, Err, nat_lt, nat_eq, is_some, is_none, if◌then◌else◌}
 use Rattle.std.specs.List.{list_any}
 use Rattle.std.specs.Option.{option_and_then}
 use Rattle.il_model.specs.declared.value.Ty.{Ty}
@@ -14,7 +15,9 @@ use Rattle.il_model.specs.declared.program.Instr.{Instr}
 use Rattle.il_model.specs.declared.kind.BlockKind.{BlockKind}
 use Rattle.il_model.specs.declared.kind.Field.{Field}
 use Rattle.il_model.specs.declared.typing.TypeFault.{TypeFault}
-use Rattle.il_model.specs.declared.typing.TypeFault.TheVariants.{TypeMismatch, NoCurrentResult, UnknownLabel, DuplicateLabel, Unbalanced, TooDeep, NotWritable, BadField}
+use Rattle.il_model.specs.declared.typing.TypeFault.TheVariants.{TypeMismatch, NoCurrentResult, UnknownLabel}
+use Rattle.il_model.specs.declared.typing.TypeFault.TheVariants.{DuplicateLabel, Unbalanced, TooDeep, NotWritable}
+use Rattle.il_model.specs.declared.typing.TypeFault.TheVariants.{BadField}
 use Rattle.il_model.specs.declared.typing.OperandKind.{OperandKind}
 use Rattle.il_model.specs.declared.typing.OperandKind.TheVariants as kinds
 use Rattle.il_model.specs.declared.typing.Held.{Held}
@@ -192,12 +195,15 @@ applies Q n sh line Unbalanced = if is_open sh then is_some line.label || leaves
 applies Q n sh line TooDeep = combines line.op && (line.modifier.opens && not (nat_lt (length sh.kept) 16))
 applies Q n sh line UnknownLabel = is_jump line.op && not (is_target (operand_kind Q line.operand))
 applies Q n sh line BadField =
-    (has_operand line.op && is_no_field (operand_kind Q line.operand)) || (is_call line.op && not (is_instance (operand_kind Q line.operand)))
+    (has_operand line.op && is_no_field (operand_kind Q line.operand))
+    || (is_call line.op && not (is_instance (operand_kind Q line.operand)))
     || (list_any (is_field_bad Q (called_kind Q line.operand)) line.arguments || has_twins line.arguments)
-applies Q n sh line NotWritable = (writes line.op && not (may_be_written (operand_kind Q line.operand))) || list_any (is_unwritable Q) line.arguments
+applies Q n sh line NotWritable = (writes line.op && not (may_be_written (operand_kind Q line.operand)))
+    || list_any (is_unwritable Q) line.arguments
 applies Q n sh line NoCurrentResult = needs_result line.op line.modifier.conditional && is_none sh.cr
 applies Q n sh line TypeMismatch =
-    (not (takes sh.cr (top_of sh.kept) line.op line.modifier (operand_kind Q line.operand)) || is_none (source_of Q line.operand))
+    (not (takes sh.cr (top_of sh.kept) line.op line.modifier (operand_kind Q line.operand))
+    || is_none (source_of Q line.operand))
     || list_any (is_mismatched Q (called_kind Q line.operand)) line.arguments
 
 -- of the faults that apply the one of least rank

@@ -11,7 +11,8 @@ use Rattle.il_model.specs.declared.kind.Field.TheVariants as fields
 
 -- every kind, in the order of the codes
 abbrev pub block_kinds : List BlockKind
-block_kinds = kinds.Sr ∷ kinds.Rs ∷ kinds.RTrig ∷ kinds.FTrig ∷ kinds.Ctu ∷ kinds.Ctd ∷ kinds.Ctud ∷ kinds.Tp ∷ kinds.Ton ∷ kinds.Tof ∷ []
+block_kinds = kinds.Sr ∷ kinds.Rs ∷ kinds.RTrig ∷ kinds.FTrig ∷ kinds.Ctu ∷ kinds.Ctd ∷ kinds.Ctud ∷ kinds.Tp
+    ∷ kinds.Ton ∷ kinds.Tof ∷ []
 
 abbrev pub kind_code : BlockKind → ℕ
 kind_code kinds.Sr = 1
@@ -53,7 +54,8 @@ kind_fields kinds.RTrig = fields.Clk ∷ fields.Q ∷ []
 kind_fields kinds.FTrig = fields.Clk ∷ fields.Q ∷ []
 kind_fields kinds.Ctu = fields.Cu ∷ fields.R ∷ fields.Pv ∷ fields.Q ∷ fields.Cv ∷ []
 kind_fields kinds.Ctd = fields.Cd ∷ fields.Ld ∷ fields.Pv ∷ fields.Q ∷ fields.Cv ∷ []
-kind_fields kinds.Ctud = fields.Cu ∷ fields.Cd ∷ fields.R ∷ fields.Ld ∷ fields.Pv ∷ fields.Qu ∷ fields.Qd ∷ fields.Cv ∷ []
+kind_fields kinds.Ctud = fields.Cu ∷ fields.Cd ∷ fields.R ∷ fields.Ld ∷ fields.Pv ∷ fields.Qu ∷ fields.Qd
+    ∷ fields.Cv ∷ []
 kind_fields kinds.Tp = fields.In ∷ fields.Pt ∷ fields.Q ∷ fields.Et ∷ []
 kind_fields kinds.Ton = fields.In ∷ fields.Pt ∷ fields.Q ∷ fields.Et ∷ []
 kind_fields kinds.Tof = fields.In ∷ fields.Pt ∷ fields.Q ∷ fields.Et ∷ []
@@ -61,7 +63,8 @@ kind_fields kinds.Tof = fields.In ∷ fields.Pt ∷ fields.Q ∷ fields.Et ∷ [
 -- every field
 abbrev pub all_fields : List Field
 all_fields =
-    fields.S1 ∷ fields.S ∷ fields.R1 ∷ fields.R ∷ fields.Clk ∷ fields.Cu ∷ fields.Cd ∷ fields.Ld ∷ fields.Pv ∷ fields.In ∷ fields.Pt ∷
+    fields.S1 ∷ fields.S ∷ fields.R1 ∷ fields.R ∷ fields.Clk ∷ fields.Cu ∷ fields.Cd ∷ fields.Ld ∷ fields.Pv ∷ fields.In
+    ∷ fields.Pt ∷
     fields.Q1 ∷ fields.Q ∷ fields.Qu ∷ fields.Qd ∷ fields.Cv ∷ fields.Et ∷ []
 
 abbrev pub field_name : Field → List ℕ

@@ -13,8 +13,8 @@ use Rattle.il_model.specs.Resolved.{instance_in}
 use Rattle.il_model.specs.CodedOperands.{IsCell}
 use Rattle.il_model.specs.Codes.{is_number, length_of, usage_of, allowed_by, formed_by, has_form, is_pointless}
 
--- a value that fits its type, a variable or an instance that is declared, a location that is there, and of a bare number what is
--- asked of it; labels and fields are judged with the types
+-- a value that fits its type, a variable or an instance that is declared, a location that is there, and of a bare
+-- number what is asked of it; labels and fields are judged with the types
 abbrev pub IsOperandOf : (ℤ → Type 0) → Declarations → Operand → Type 0
 IsOperandOf IsNumber ds operands.Absent = Unit {0}
 IsOperandOf IsNumber ds (operands.Literal v) = typed_value (ty_of v) (number_of v) ≡ Some v

@@ -1,5 +1,6 @@
 -- What digits stand for (IEC 61131-3:2003, B.1.2.1).
-use Rattle.std.specs.Prelude.{ℕ, ◌+◌, ◌-◌, ◌*◌, ◌^◌, min, option_map, Bool, true, false, ◌&&◌, List, [], ◌∷◌, length, Option, Some, None, nat_lt, nat_le, ◌==◌, if◌then◌else◌}
+use Rattle.std.specs.Prelude.{ℕ, ◌+◌, ◌-◌, ◌*◌, ◌^◌, min, option_map, Bool, true, false, ◌&&◌, List, [], ◌∷◌, length}
+use Rattle.std.specs.Prelude.{Option, Some, None, nat_lt, nat_le, ◌==◌, if◌then◌else◌}
 
 -- the value of a digit, 99 for any other byte
 abbrev pub digit_of : ℕ → ℕ
@@ -37,6 +38,7 @@ decimals (d ∷ ds) = d * 10 ^ length ds + decimals ds
 abbrev pub Digits : Type 0
 Digits = ℕ → List ℕ → Option ℕ
 
--- That, with all numbers from 2^64 - 1 on, which lie above every range, told as 2^64 - 1: what code of fixed width computes.
+-- That, with all numbers from 2^64 - 1 on, which lie above every range, told as 2^64 - 1: what code of fixed width
+-- computes.
 abbrev pub held_integer : Digits
 held_integer base bs = option_map (λ n. min n 18446744073709551615) (integer_of base bs)

@@ -1,5 +1,6 @@
 -- Literals (IEC 61131-3:2003, B.1.2): what a text is that begins with a digit, a sign, or a word before a #.
-use Rattle.std.specs.Prelude.{ℕ, zero, suc, ◌+◌, ◌^◌, ◌==◌, Bool, true, false, not, ◌||◌, List, [], ◌∷◌, length, take, drop, Option, Some, None, option_map, nat_lt, if◌then◌else◌, codes, ℤ, pos, negsuc}
+use Rattle.std.specs.Prelude.{ℕ, zero, suc, ◌+◌, ◌^◌, ◌==◌, Bool, true, false, not, ◌||◌, List, [], ◌∷◌, length, take}
+use Rattle.std.specs.Prelude.{drop, Option, Some, None, option_map, nat_lt, if◌then◌else◌, codes, ℤ, pos, negsuc}
 use Rattle.std.specs.List.{prefix_len}
 use Rattle.std.specs.Option.{option_and_then}
 use Rattle.il_model.specs.declared.value.Ty.{Ty}
@@ -46,13 +47,15 @@ based_by read base bytes =
 
 abbrev pub whole_by : Digits → List ℕ → Option ℤ
 whole_by read bytes =
-    if nat_lt (hash_at bytes) (length bytes) then based_by read (take (hash_at bytes) bytes) (drop (hash_at bytes + 1) bytes)
+    if nat_lt (hash_at bytes) (length bytes)
+    then based_by read (take (hash_at bytes) bytes) (drop (hash_at bytes + 1) bytes)
     else signed_by read bytes
 
 -- a duration with a minus or without
 abbrev pub time_by : Digits → List ℕ → Option ℤ
 time_by read [] = None
-time_by read (b ∷ bs) = if b == 45 then option_map minus (duration_by read bs) else option_map positive (duration_by read (b ∷ bs))
+time_by read (b ∷ bs) = if b == 45 then option_map minus (duration_by read bs)
+    else option_map positive (duration_by read (b ∷ bs))
 
 -- ---- literals
 
@@ -85,7 +88,8 @@ is_word bytes = spells (codes "TRUE") bytes || spells (codes "FALSE") bytes
 -- the literal that a text is, if it is one
 abbrev pub literal_by : Digits → List ℕ → Option Literal
 literal_by read bytes =
-    if nat_lt (hash_at bytes) (length bytes) then prefixed_literal read (take (hash_at bytes) bytes) (drop (hash_at bytes + 1) bytes)
+    if nat_lt (hash_at bytes) (length bytes)
+    then prefixed_literal read (take (hash_at bytes) bytes) (drop (hash_at bytes + 1) bytes)
     else if is_word bytes then truth_literal bytes
     else option_and_then bare_literal (signed_by read bytes)
 

@@ -1,5 +1,7 @@
--- Locations as they are written (IEC 61131-3:2003, 2.4.1.1): %IXb.n, where X may be missing, and %IWk, of inputs, outputs and memory, without regard to case.
-use Rattle.std.specs.Prelude.{ℕ, ◌+◌, ◌*◌, Bool, not, ◌&&◌, ◌==◌, List, [], ◌∷◌, take, drop, Option, Some, None, nat_lt, if◌then◌else◌}
+-- Locations as they are written (IEC 61131-3:2003, 2.4.1.1): %IXb.n, where X may be missing, and %IWk, of inputs,
+-- outputs and memory, without regard to case.
+use Rattle.std.specs.Prelude.{ℕ, ◌+◌, ◌*◌, Bool, not, ◌&&◌, ◌==◌, List, [], ◌∷◌, take, drop, Option, Some, None, nat_lt}
+use Rattle.std.specs.Prelude.{if◌then◌else◌}
 use Rattle.std.specs.List.{prefix_len}
 use Rattle.il_model.specs.declared.program.Area.{Area}
 use Rattle.il_model.specs.declared.program.Area.TheVariants as areas
@@ -26,11 +28,13 @@ word_of area (Some k) = if nat_lt k 64 then Some (Word area k) else None
 word_of area None = None
 
 abbrev pub letter_area : ℕ → Option Area
-letter_area letter = if upper letter == 73 then Some areas.Input else if upper letter == 81 then Some areas.Output else if upper letter == 77 then Some areas.Memory else None
+letter_area letter = if upper letter == 73 then Some areas.Input else if upper letter == 81 then Some areas.Output
+    else if upper letter == 77 then Some areas.Memory else None
 
 -- two integers with a dot between them
 unfoldable pub bit_at : Area → List ℕ → Option Loc
-bit_at area bytes = bit_of area (integer_of 10 (take (dot_at bytes) bytes)) (integer_of 10 (drop (dot_at bytes + 1) bytes))
+bit_at area bytes = bit_of area (integer_of 10 (take (dot_at bytes) bytes))
+    (integer_of 10 (drop (dot_at bytes + 1) bytes))
 
 -- one integer
 unfoldable pub word_at : Area → List ℕ → Option Loc
@@ -39,7 +43,8 @@ word_at area bytes = word_of area (integer_of 10 bytes)
 -- behind the letter of the area: X and a bit, W and a word, or a bit
 abbrev pub place_at : Area → List ℕ → Option Loc
 place_at area [] = None
-place_at area (b ∷ bs) = if upper b == 88 then bit_at area bs else if upper b == 87 then word_at area bs else bit_at area (b ∷ bs)
+place_at area (b ∷ bs) = if upper b == 88 then bit_at area bs else if upper b == 87 then word_at area bs
+    else bit_at area (b ∷ bs)
 
 abbrev pub place_in : Option Area → List ℕ → Option Loc
 place_in None bytes = None

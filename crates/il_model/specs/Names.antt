@@ -1,5 +1,6 @@
 -- Names: their bytes, in upper case (IEC 61131-3:2003, 2.1.2).
-use Rattle.std.specs.Prelude.{ℕ, Bool, true, false, not, ◌&&◌, ◌||◌, List, [], ◌∷◌, length, codes, is_some, nat_le, nat_lt, nat_eq, if◌then◌else◌}
+use Rattle.std.specs.Prelude.{ℕ, Bool, true, false, not, ◌&&◌, ◌||◌, List, [], ◌∷◌, length, codes, is_some, nat_le}
+use Rattle.std.specs.Prelude.{nat_lt, nat_eq, if◌then◌else◌}
 use Rattle.std.specs.List.{list_all, list_any}
 use Rattle.std.specs.Str.{bytes_eq}
 use Rattle.il_model.specs.Words.{mnemonic_of}
@@ -27,13 +28,15 @@ begins_with b (c ∷ cs) = nat_eq c b
 -- no two underscores side by side, and none at the end
 unfoldable pub is_well_spelled : List ℕ → Bool
 is_well_spelled [] = true
-is_well_spelled (b ∷ bs) = (if nat_eq b 95 then (if begins_with 95 bs then false else nat_lt 0 (length bs)) else true) && is_well_spelled bs
+is_well_spelled (b ∷ bs) = (if nat_eq b 95 then (if begins_with 95 bs then false else nat_lt 0 (length bs)) else true)
+    && is_well_spelled bs
 
 -- the words of types and keywords
 abbrev pub reserved_words : List (List ℕ)
 reserved_words =
     codes "BOOL" ∷ codes "INT" ∷ codes "DINT" ∷ codes "TIME" ∷
-    codes "PROGRAM" ∷ codes "END_PROGRAM" ∷ codes "VAR" ∷ codes "END_VAR" ∷ codes "AT" ∷ codes "TRUE" ∷ codes "FALSE" ∷ []
+    codes "PROGRAM" ∷ codes "END_PROGRAM" ∷ codes "VAR" ∷ codes "END_VAR" ∷ codes "AT" ∷ codes "TRUE"
+    ∷ codes "FALSE" ∷ []
 
 -- the conversions of LINT, which came later: programs may use the words as names
 abbrev pub unreserved_words : List (List ℕ)
@@ -42,9 +45,11 @@ unreserved_words = codes "DINT_TO_LINT" ∷ codes "LINT_TO_DINT" ∷ []
 abbrev pub is_reserved_operator : List ℕ → Bool
 is_reserved_operator name = is_some (mnemonic_of name) && not (list_any (λ word. bytes_eq word name) unreserved_words)
 
--- those, the operators with and without their letters, and the block kinds: what no variable, instance or label may be called
+-- those, the operators with and without their letters, and the block kinds: what no variable, instance or label may be
+-- called
 abbrev pub is_reserved : List ℕ → Bool
-is_reserved name = is_reserved_operator name || is_some (kind_of_name name) || list_any (λ word. bytes_eq word name) reserved_words
+is_reserved name = is_reserved_operator name || is_some (kind_of_name name)
+    || list_any (λ word. bytes_eq word name) reserved_words
 
 -- what a variable, an instance or a label may be called
 abbrev pub is_lawful_name : List ℕ → Bool

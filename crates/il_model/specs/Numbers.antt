@@ -1,5 +1,7 @@
 -- The numbers of stops and refusals, and the image that an answer releases.
-use Rattle.std.specs.Prelude.{ℕ, Option, Some, None}
+use Rattle.std.specs.Prelude.{ℕ, Bool, true, false, Option, Some, None}
+use Rattle.il_model.specs.declared.command.Command.{Command}
+use Rattle.il_model.specs.declared.command.Command.TheVariants as command
 use Rattle.il_model.specs.declared.value.Stop.{Stop}
 use Rattle.il_model.specs.declared.value.Stop.TheVariants as stop
 use Rattle.il_model.specs.declared.command.Refusal.{Refusal}
@@ -19,8 +21,15 @@ refusal_number refusal.BadPosition = 2
 refusal_number refusal.BadSlot = 3
 refusal_number refusal.BadType = 4
 refusal_number refusal.NoResult = 5
+refusal_number refusal.BadImage = 6
+refusal_number refusal.NotIdle = 7
 
 abbrev pub released_image : Answer → Option OutImage
 released_image (answer.Outputs count image) = Some image
 released_image (answer.Stopped stop position image) = Some image
 released_image _ = None
+
+-- it changes the program
+abbrev pub is_change : Command → Bool
+is_change (command.Change bytes) = true
+is_change _ = false

@@ -1,12 +1,14 @@
 -- The types that each instruction needs, and leaves; the faults in their order.
-use Rattle.std.specs.Prelude.{ℕ, ◌<◌, Bool, true, false, not, ◌&&◌, ◌||◌, Option, Some, None, Result, Ok, Err, nat_lt, is_none, if◌then◌else◌}
+use Rattle.std.specs.Prelude.{ℕ, ◌<◌, Bool, true, false, not, ◌&&◌, ◌||◌, Option, Some, None, Result, Ok, Err, nat_lt}
+use Rattle.std.specs.Prelude.{is_none, if◌then◌else◌}
 use Rattle.il_model.specs.declared.value.Ty.{Ty}
 use Rattle.il_model.specs.declared.value.Ty.TheVariants as types
 use Rattle.il_model.specs.declared.op.Op.{Op}
 use Rattle.il_model.specs.declared.op.Op.TheVariants as ops
 use Rattle.il_model.specs.declared.op.Modifier.{Modifier}
 use Rattle.il_model.specs.declared.typing.TypeFault.{TypeFault}
-use Rattle.il_model.specs.declared.typing.TypeFault.TheVariants.{TypeMismatch, NoCurrentResult, UnknownLabel, Unbalanced, TooDeep, NotWritable, BadField}
+use Rattle.il_model.specs.declared.typing.TypeFault.TheVariants.{TypeMismatch, NoCurrentResult, UnknownLabel}
+use Rattle.il_model.specs.declared.typing.TypeFault.TheVariants.{Unbalanced, TooDeep, NotWritable, BadField}
 use Rattle.il_model.specs.declared.typing.OperandKind.{OperandKind}
 use Rattle.il_model.specs.declared.typing.OperandKind.TheVariants as kinds
 use Rattle.il_model.specs.declared.typing.Held.{Held}
@@ -39,7 +41,8 @@ load_row negated kind = Err TypeMismatch
 abbrev pub store_row : Option Ty → Bool → OperandKind → Result Effect TypeFault
 store_row cr negated kinds.NoField = Err BadField
 store_row None negated (kinds.Typed t true) = Err NoCurrentResult
-store_row (Some c) negated (kinds.Typed t true) = if same_type c t && negatable negated t then Ok (Sets (Some c)) else Err TypeMismatch
+store_row (Some c) negated (kinds.Typed t true) = if same_type c t && negatable negated t then Ok (Sets (Some c))
+    else Err TypeMismatch
 store_row cr negated kind = Err NotWritable
 
 abbrev pub set_row : Option Ty → OperandKind → Result Effect TypeFault
@@ -62,7 +65,8 @@ closes_to None = Err TypeMismatch
 abbrev pub close_row : Option Ty → Option Held → Result Effect TypeFault
 close_row cr None = Err Unbalanced
 close_row None (Some held) = Err NoCurrentResult
-close_row (Some c) (Some held) = if negatable held.negated c then closes_to (joined_type held.op held.ty c) else Err TypeMismatch
+close_row (Some c) (Some held) = if negatable held.negated c then closes_to (joined_type held.op held.ty c)
+    else Err TypeMismatch
 
 abbrev pub convert_row : Option Ty → Ty → Ty → Result Effect TypeFault
 convert_row None from to = Err NoCurrentResult
@@ -77,7 +81,8 @@ opens_with held kind = Err TypeMismatch
 abbrev pub opened_row : Option Ty → Op → Bool → OperandKind → Result Effect TypeFault
 opened_row cr op negated kinds.NoField = Err BadField
 opened_row None op negated kind = Err NoCurrentResult
-opened_row (Some c) op negated kind = if is_none (joined_type op c c) then Err TypeMismatch else opens_with (record { op = op; negated = negated; ty = c }) kind
+opened_row (Some c) op negated kind = if is_none (joined_type op c c) then Err TypeMismatch
+    else opens_with (record { op = op; negated = negated; ty = c }) kind
 
 abbrev pub open_row : Option Ty → ℕ → Op → Bool → OperandKind → Result Effect TypeFault
 open_row cr depth op negated kind = if nat_lt depth 16 then opened_row cr op negated kind else Err TooDeep
@@ -89,7 +94,8 @@ sets_to None = Err TypeMismatch
 abbrev pub combine_row : Option Ty → Op → Bool → OperandKind → Result Effect TypeFault
 combine_row cr op negated kinds.NoField = Err BadField
 combine_row None op negated kind = Err NoCurrentResult
-combine_row (Some c) op negated (kinds.Typed t w) = if negatable negated t then sets_to (joined_type op c t) else Err TypeMismatch
+combine_row (Some c) op negated (kinds.Typed t w) = if negatable negated t then sets_to (joined_type op c t)
+    else Err TypeMismatch
 combine_row (Some c) op negated kind = Err TypeMismatch
 
 abbrev pub jump_row : Option Ty → Bool → OperandKind → Result Effect TypeFault

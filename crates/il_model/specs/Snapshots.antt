@@ -14,6 +14,8 @@ pub record SavedBlock : Type 0 where
   pub words : List ℕ
 
 pub record SavedController : Type 0 where
+  -- the bytes of the image of the program in force
+  pub image : List ℕ
   -- of the variables without a location, in order
   pub variables : List Value
   pub instances : List SavedBlock

@@ -1,7 +1,9 @@
 -- When a program is typed: the types on arrival at each position, from left to right.
-use Rattle.std.specs.Prelude.{◌≡◌, ℕ, zero, suc, ◌+◌, Bool, true, false, not, List, [], ◌∷◌, ◌++◌, length, drop, Option, Some, None, Result, Ok, Err, nat_lt, nat_eq, slice_get, if◌then◌else◌}
+use Rattle.std.specs.Prelude.{◌≡◌, ℕ, zero, suc, ◌+◌, Bool, true, false, not, List, [], ◌∷◌, ◌++◌, length, drop, Option}
+use Rattle.std.specs.Prelude.{Some, None, Result, Ok, Err, nat_lt, nat_eq, slice_get, if◌then◌else◌}
 use Rattle.std.specs.List.{list_any}
 use Rattle.std.specs.Option.{option_map, option_and_then}
+use Rattle.il_model.specs.declared.limits.TheConstants.{BITS, WORDS}
 use Rattle.il_model.specs.declared.value.Ty.{Ty}
 use Rattle.il_model.specs.declared.value.Ty.TheVariants as types
 use Rattle.il_model.specs.declared.program.Area.{Area}
@@ -23,7 +25,9 @@ use Rattle.il_model.specs.declared.program.Instr.{Instr}
 use Rattle.il_model.specs.declared.fetched.Source.{Source}
 use Rattle.il_model.specs.declared.fetched.Source.TheVariants as sources
 use Rattle.il_model.specs.declared.typing.TypeFault.{TypeFault}
-use Rattle.il_model.specs.declared.typing.TypeFault.TheVariants.{TypeMismatch, NoCurrentResult, UnknownLabel, DuplicateLabel, Unbalanced, TooDeep, NotWritable, BadField}
+use Rattle.il_model.specs.declared.typing.TypeFault.TheVariants.{TypeMismatch, NoCurrentResult, UnknownLabel}
+use Rattle.il_model.specs.declared.typing.TypeFault.TheVariants.{DuplicateLabel, Unbalanced, TooDeep, NotWritable}
+use Rattle.il_model.specs.declared.typing.TypeFault.TheVariants.{BadField}
 use Rattle.il_model.specs.declared.typing.OperandKind.{OperandKind}
 use Rattle.il_model.specs.declared.typing.OperandKind.TheVariants as kinds
 use Rattle.il_model.specs.declared.typing.Held.{Held}
@@ -58,8 +62,8 @@ pub record Shape : Type 0 where
   pub kept : List Held
 
 abbrev pub loc_type : Loc → Option Ty
-loc_type (Bit a n) = if nat_lt n 512 then Some types.Bool else None
-loc_type (Word a n) = if nat_lt n 64 then Some types.Int else None
+loc_type (Bit a n) = if nat_lt n BITS then Some types.Bool else None
+loc_type (Word a n) = if nat_lt n WORDS then Some types.Int else None
 
 -- the field of an instance by its number
 abbrev pub field_at : Text → ℕ → ℕ → Option Field
@@ -111,7 +115,8 @@ without_effect (Ok e) = Err TypeMismatch
 
 abbrev pub source_row : Text → Option Ty → Option Held → ℕ → Instr → Option Source → Result Effect TypeFault
 source_row Q cr top depth line (Some src) = row cr top depth line.op line.modifier (source_kind Q src)
-source_row Q cr top depth line None = without_effect (row cr top depth line.op line.modifier (missing_kind line.operand))
+source_row Q cr top depth line None =
+    without_effect (row cr top depth line.op line.modifier (missing_kind line.operand))
 
 -- ---- the arguments of a call
 
@@ -154,7 +159,8 @@ goes_so sides.Output field = not (is_input field)
 
 abbrev pub field_fault : Text → Argument → Option Field → Option TypeFault
 field_fault Q a None = Some BadField
-field_fault Q a (Some field) = if goes_so a.side field then passing_fault a.side (field_type field) (operand_kind Q a.operand) else Some BadField
+field_fault Q a (Some field) = if goes_so a.side field
+    then passing_fault a.side (field_type field) (operand_kind Q a.operand) else Some BadField
 
 abbrev pub kind_field : BlockKind → List ℕ → Option Field
 kind_field kind name = option_and_then (slice_get (kind_fields kind)) (field_number kind name)
@@ -162,11 +168,13 @@ kind_field kind name = option_and_then (slice_get (kind_fields kind)) (field_num
 -- a field stands once among the arguments of a call; seen are those before it
 abbrev pub argument_fault : Text → Option BlockKind → List Argument → Argument → Option TypeFault
 argument_fault Q None seen a = Some BadField
-argument_fault Q (Some kind) seen a = if list_any (λ (b : Argument). same_name b.field a.field) seen then Some BadField else field_fault Q a (kind_field kind a.field)
+argument_fault Q (Some kind) seen a = if list_any (λ (b : Argument). same_name b.field a.field) seen then Some BadField
+    else field_fault Q a (kind_field kind a.field)
 
 abbrev pub arguments_fault : Text → Option BlockKind → List Argument → List Argument → Option TypeFault
 arguments_fault Q kind seen [] = None
-arguments_fault Q kind seen (a ∷ more) = first_fault (argument_fault Q kind seen a) (arguments_fault Q kind (seen ++ a ∷ []) more)
+arguments_fault Q kind seen (a ∷ more) =
+    first_fault (argument_fault Q kind seen a) (arguments_fault Q kind (seen ++ a ∷ []) more)
 
 -- an instruction's effect, where its arguments have that fault
 abbrev pub with_fault : Result Effect TypeFault → Option TypeFault → Result Effect TypeFault
@@ -177,7 +185,8 @@ with_fault (Err g) (Some f) = Err (tried_first g f)
 -- what an instruction does to the types, or its first fault; where it is no call an argument is a bad field
 abbrev pub line_row_of : Text → Option Ty → Option Held → ℕ → Instr → Result Effect TypeFault
 line_row_of Q cr top depth line =
-    with_fault (source_row Q cr top depth line (source_of Q line.operand)) (arguments_fault Q (called_kind Q line.operand) [] line.arguments)
+    with_fault (source_row Q cr top depth line (source_of Q line.operand))
+    (arguments_fault Q (called_kind Q line.operand) [] line.arguments)
 
 abbrev pub line_row : Text → Shape → Instr → Result Effect TypeFault
 line_row Q sh line = line_row_of Q sh.cr (top_of sh.kept) (length sh.kept) line
@@ -185,7 +194,8 @@ line_row Q sh line = line_row_of Q sh.cr (top_of sh.kept) (length sh.kept) line
 -- a label stands once, and not while a parenthesis is open
 abbrev pub label_at : Option ℕ → ℕ → ℕ → Result (Unit {0}) TypeFault
 label_at None n depth = Err DuplicateLabel
-label_at (Some first) n depth = if nat_eq first n then (if nat_lt 0 depth then Err Unbalanced else Ok tt) else Err DuplicateLabel
+label_at (Some first) n depth = if nat_eq first n then (if nat_lt 0 depth then Err Unbalanced else Ok tt)
+    else Err DuplicateLabel
 
 abbrev pub label_row : Text → ℕ → ℕ → Option (List ℕ) → Result (Unit {0}) TypeFault
 label_row Q n depth None = Ok tt
@@ -201,7 +211,9 @@ abbrev pub shape_on_arrival : Text → ℕ → Shape → Shape
 shape_on_arrival Q n sh = if is_labelled Q n then record sh { cr = None } else sh
 
 abbrev pub after_line : Text → ℕ → Shape → Instr → Result Shape TypeFault
-after_line Q n sh line = label_row Q n (length sh.kept) line.label >>= λ _. line_row Q sh line >>= λ e. Ok (shape_on_arrival Q (n + 1) (shape_after sh e))
+after_line Q n sh line =
+    label_row Q n (length sh.kept) line.label >>= λ _. line_row Q sh line >>= λ e. Ok
+    (shape_on_arrival Q (n + 1) (shape_after sh e))
 
 abbrev pub with_number : {X : Type 0} → ℕ → Result X TypeFault → Result X (TypeFault × ℕ)
 with_number n (Ok x) = Ok x

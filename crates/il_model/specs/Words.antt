@@ -1,5 +1,6 @@
 -- The words that operators are written as (IEC 61131-3:2003, table 52), without regard to case.
-use Rattle.std.specs.Prelude.{ℕ, ◌-◌, List, [], ◌∷◌, Bool, true, false, ◌&&◌, ◌==◌, nat_le, Option, Some, None, if◌then◌else◌, codes}
+use Rattle.std.specs.Prelude.{ℕ, ◌-◌, List, [], ◌∷◌, Bool, true, false, ◌&&◌, ◌==◌, nat_le, Option, Some, None}
+use Rattle.std.specs.Prelude.{if◌then◌else◌, codes}
 use Rattle.il_model.specs.declared.op.Op.{Op}
 use Rattle.il_model.specs.declared.op.Op.TheVariants as ops
 use Rattle.il_model.specs.declared.op.Modifier.{Modifier}
@@ -31,12 +32,17 @@ letters_cn = record { negated = true; conditional = true; opens = false }
 -- the operator words, each with its operator and letters
 abbrev pub mnemonic_table : List (List ℕ × Op × Modifier)
 mnemonic_table =
-    (codes "LD", ops.Ld, plain) ∷ (codes "LDN", ops.Ld, letter_n) ∷ (codes "ST", ops.St, plain) ∷ (codes "STN", ops.St, letter_n) ∷
+    (codes "LD", ops.Ld, plain) ∷ (codes "LDN", ops.Ld, letter_n) ∷ (codes "ST", ops.St, plain)
+    ∷ (codes "STN", ops.St, letter_n) ∷
     (codes "S", ops.S, plain) ∷ (codes "R", ops.R, plain) ∷ (codes "NOT", ops.Not, plain) ∷
-    (codes "AND", ops.And, plain) ∷ (codes "ANDN", ops.And, letter_n) ∷ (codes "&", ops.And, plain) ∷ (codes "&N", ops.And, letter_n) ∷
-    (codes "OR", ops.Or, plain) ∷ (codes "ORN", ops.Or, letter_n) ∷ (codes "XOR", ops.Xor, plain) ∷ (codes "XORN", ops.Xor, letter_n) ∷
-    (codes "ADD", ops.Add, plain) ∷ (codes "SUB", ops.Sub, plain) ∷ (codes "MUL", ops.Mul, plain) ∷ (codes "DIV", ops.Div, plain) ∷ (codes "MOD", ops.Mod, plain) ∷
-    (codes "GT", ops.Gt, plain) ∷ (codes "GE", ops.Ge, plain) ∷ (codes "EQ", ops.Eq, plain) ∷ (codes "NE", ops.Ne, plain) ∷ (codes "LE", ops.Le, plain) ∷ (codes "LT", ops.Lt, plain) ∷
+    (codes "AND", ops.And, plain) ∷ (codes "ANDN", ops.And, letter_n) ∷ (codes "&", ops.And, plain)
+    ∷ (codes "&N", ops.And, letter_n) ∷
+    (codes "OR", ops.Or, plain) ∷ (codes "ORN", ops.Or, letter_n) ∷ (codes "XOR", ops.Xor, plain)
+    ∷ (codes "XORN", ops.Xor, letter_n) ∷
+    (codes "ADD", ops.Add, plain) ∷ (codes "SUB", ops.Sub, plain) ∷ (codes "MUL", ops.Mul, plain)
+    ∷ (codes "DIV", ops.Div, plain) ∷ (codes "MOD", ops.Mod, plain) ∷
+    (codes "GT", ops.Gt, plain) ∷ (codes "GE", ops.Ge, plain) ∷ (codes "EQ", ops.Eq, plain)
+    ∷ (codes "NE", ops.Ne, plain) ∷ (codes "LE", ops.Le, plain) ∷ (codes "LT", ops.Lt, plain) ∷
     (codes "JMP", ops.Jmp, plain) ∷ (codes "JMPC", ops.Jmp, letter_c) ∷ (codes "JMPCN", ops.Jmp, letters_cn) ∷
     (codes "CAL", ops.Cal, plain) ∷ (codes "CALC", ops.Cal, letter_c) ∷ (codes "CALCN", ops.Cal, letters_cn) ∷
     (codes "RET", ops.Ret, plain) ∷ (codes "RETC", ops.Ret, letter_c) ∷ (codes "RETCN", ops.Ret, letters_cn) ∷

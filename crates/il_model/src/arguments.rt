@@ -4,7 +4,8 @@ ghost use Rattle.std.specs.Prelude.{◌≡◌, [], map, option_and_then, if◌th
 ghost use Rattle.std.specs.List.{list_any};
 ghost use Rattle.il_model.specs.Names.{same_name};
 ghost use Rattle.il_model.specs.Constants.{operand_literal};
-ghost use Rattle.il_model.specs.Typing.{fault_rank, tried_first, first_fault, operand_kind, unless_same, passing_fault, goes_so, field_fault, kind_field, argument_fault, arguments_fault, with_fault};
+ghost use Rattle.il_model.specs.Typing.{fault_rank, tried_first, first_fault, operand_kind, unless_same, passing_fault};
+ghost use Rattle.il_model.specs.Typing.{goes_so, field_fault, kind_field, argument_fault, arguments_fault, with_fault};
 ghost use Rattle.il_model.specs.Settled.{settled_argument, as_settled};
 
 use crate::indexed::IndexedProgram;
@@ -168,8 +169,8 @@ pub(crate) fn argument_fault(
     }
 }
 
-/// The fault of a call's arguments that is tried first, if one has any. A bad field comes before all others, so nothing behind
-/// it is looked at: at most nine arguments are, since a block has no more than eight fields.
+/// The fault of a call's arguments that is tried first, if one has any. A bad field comes before all others, so nothing
+/// behind it is looked at: at most nine arguments are, since a block has no more than eight fields.
 pub fn arguments_fault(
     program: &IndexedProgram,
     settles: bool,

@@ -1,10 +1,12 @@
 //! The cells of an area of the controller, and the images of inputs and outputs.
 
-/// The cells of one area: 512 bits and 64 words of 16 bits, signed.
+use crate::limits::{BITS, WORDS};
+
+/// The cells of one area: its bits, and its words of 16 bits, signed.
 #[derive(Clone, Copy, Debug, PartialEq, Eq)]
 pub struct Cells {
-    pub bits: [bool; 512],
-    pub words: [i16; 64],
+    pub bits: [bool; BITS],
+    pub words: [i16; WORDS],
 }
 
 impl Cells {
@@ -16,8 +18,8 @@ impl Cells {
         ensures { result ≡ clear_cells }
     {
         Cells {
-            bits: [false; 512],
-            words: [0; 64],
+            bits: [false; BITS],
+            words: [0; WORDS],
         }
     }
 }

@@ -1,7 +1,8 @@
 //! The types on arrival at each instruction, and whether a program is typed.
 
 ghost use Rattle.std.specs.Prelude.{◌≡◌, ◌<◌, ℕ, length, reverse, Ok, Err, Some};
-ghost use Rattle.il_model.specs.Typing.{judgement_of, shape_at, source_row, line_row, line_row_of, label_at, label_row, shape_after, shape_on_arrival, top_of, Shape, after_line};
+ghost use Rattle.il_model.specs.Typing.{judgement_of, shape_at, source_row, line_row, line_row_of, label_at, label_row};
+ghost use Rattle.il_model.specs.Typing.{shape_after, shape_on_arrival, top_of, Shape, after_line};
 ghost use Rattle.il_model.specs.Resolved.{is_labelled};
 ghost use Rattle.il_model.specs.Row.{HasRoom};
 ghost use Rattle.il_model.specs.declared.program.Instr.{Instr};
@@ -239,8 +240,9 @@ pub fn check(program: &IndexedProgram) -> Result<(), (TypeFault, usize)>
     }
 }
 
-/// Of the faults that an instruction has the one of least rank is told, in whatever program it stands, at whatever place, and with
-/// whatever types the program comes to it. For proofs; it does nothing.
+/// Of the faults that an instruction has the one of least rank is told, in whatever program it stands, at whatever
+/// place, and with whatever types the program comes to it. For proofs; it does nothing.
 pub fn the_first_fault_is_told()
-    ensures { (Q : Text) (n : ℕ) (sh : Shape) (line : Instr) → TellsFirst (applies Q n sh line) (after_line Q n sh line) }
+    ensures { (Q : Text) (n : ℕ) (sh : Shape) (line : Instr)
+        → TellsFirst (applies Q n sh line) (after_line Q n sh line) }
 {}

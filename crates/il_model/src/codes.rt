@@ -3,8 +3,11 @@
 ghost use Rattle.std.specs.Prelude.{◌≡◌, Some, false};
 ghost use Rattle.std.specs.List.{list_any};
 ghost use Rattle.il_model.specs.declared.codes.OperandForm.TheVariants as forms;
-ghost use Rattle.il_model.specs.Image.{type_code, location_code, op_code, version_number, is_long_variable, is_long_value, is_long_line, version_with, flag, modifier_code, side_code};
-ghost use Rattle.il_model.specs.Codes.{length_of, type_of, type_in, op_in, version_numbered, is_type, may_start_with, initial_of, op_of, modifier_of, usage_of, allows, has_form, allowed_by, formed_by, letters_of, side_of, is_pointless};
+ghost use Rattle.il_model.specs.Image.{type_code, location_code, op_code, version_number, is_long_variable};
+ghost use Rattle.il_model.specs.Image.{is_long_value, is_long_line, version_with, flag, modifier_code, side_code};
+ghost use Rattle.il_model.specs.Codes.{length_of, type_of, type_in, op_in, version_numbered, is_type, may_start_with};
+ghost use Rattle.il_model.specs.Codes.{initial_of, op_of, modifier_of, usage_of, allows, has_form, allowed_by};
+ghost use Rattle.il_model.specs.Codes.{formed_by, letters_of, side_of, is_pointless};
 
 use crate::coded_operand::CodedOperand;
 use crate::op::{Modifier, Op};

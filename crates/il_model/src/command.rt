@@ -1,11 +1,13 @@
 //! Commands of the controller, and their answers.
 
 use crate::cells::{InImage, OutImage};
+use crate::image_bytes::ImageBytes;
 use crate::slot::Slot;
 use crate::value::{Stop, Value};
+use std::alloc::{AllocError, Global};
 
 /// A command. A position counts instructions from 0.
-#[derive(Clone, Copy, Debug, PartialEq, Eq)]
+#[derive(Debug, PartialEq, Eq, Drop)]
 pub enum Command {
     /// Runs the program once on these inputs.
     Scan {
@@ -28,6 +30,8 @@ pub enum Command {
     ReadCr,
     /// Starts cold again; forces, breakpoints, the moment and the count of scans stay.
     Reset,
+    /// Goes on with another program, whose image these bytes are.
+    Change(ImageBytes),
 }
 
 /// Why a command is refused.
@@ -43,6 +47,10 @@ pub enum Refusal {
     BadType,
     /// There is no current result.
     NoResult,
+    /// The bytes are no image.
+    BadImage,
+    /// A scan is held or stopped.
+    NotIdle,
 }
 
 /// The answer to a command.
@@ -66,6 +74,43 @@ pub enum Answer {
     Refused(Refusal),
 }
 
+impl Command {
+    ghost use Rattle.std.specs.Prelude.{◌≡◌, IfOk};
+    ghost use Rattle.il_model.specs.Numbers.{is_change};
+
+    /// Whether it changes the program.
+    pub fn is_change(&self) -> bool
+        ensures { result ≡ is_change self.now }
+    {
+        match self {
+            Command::Change(_) => true,
+            _ => false,
+        }
+    }
+
+    /// An equal one; it fails only where memory runs out.
+    pub fn copy(&self, alloc: Global) -> Result<Command, AllocError>
+        ensures { IfOk result (λ c. c ≡ self.now) }
+    {
+        Ok(match self {
+            Command::Scan { inputs, moment } => Command::Scan {
+                inputs: *inputs,
+                moment: *moment,
+            },
+            Command::SetBreak(position) => Command::SetBreak(*position),
+            Command::ClearBreak(position) => Command::ClearBreak(*position),
+            Command::Step => Command::Step,
+            Command::Continue => Command::Continue,
+            Command::Force(slot, v) => Command::Force(*slot, *v),
+            Command::Unforce(slot) => Command::Unforce(*slot),
+            Command::ReadVar(slot) => Command::ReadVar(*slot),
+            Command::ReadCr => Command::ReadCr,
+            Command::Reset => Command::Reset,
+            Command::Change(bytes) => Command::Change(bytes.copy(alloc)?),
+        })
+    }
+}
+
 impl Refusal {
     ghost use Rattle.std.specs.Prelude.{◌≡◌};
     ghost use Rattle.il_model.specs.Numbers.{refusal_number};
@@ -80,6 +125,8 @@ impl Refusal {
             Refusal::BadSlot => 3,
             Refusal::BadType => 4,
             Refusal::NoResult => 5,
+            Refusal::BadImage => 6,
+            Refusal::NotIdle => 7,
         }
     }
 }

@@ -24,8 +24,9 @@ pub trait CountedRead {
 
     ghost faults: { Self → ℕ };
 
-    /// Reads bytes into the front of `buf` and answers how many; where it tells its bytes, 0 only where `buf` is empty or no byte
-    /// is left. It answers a fault only where the reader failed in this call; then it has as many bytes left as before.
+    /// Reads bytes into the front of `buf` and answers how many; where it tells its bytes, 0 only where `buf` is empty
+    /// or no byte is left. It answers a fault only where the reader failed in this call; then it has as many bytes left
+    /// as before.
     fn read(&mut self, buf: &mut [u8]) -> Result<usize, DeviceFault>
         ensures bound { IfOk result (λ n. n ≤ length buf.new) }
         ensures bytes { ReadConsumes (left self.old) (left self.new) result buf.new }
@@ -48,8 +49,8 @@ pub trait CountedWrite {
 
     ghost faults: { Self → ℕ };
 
-    /// Takes bytes from the front of `buf` and answers how many: one at least, unless `buf` is empty. It answers a fault only
-    /// where the writer failed in this call; then it holds what it held.
+    /// Takes bytes from the front of `buf` and answers how many: one at least, unless `buf` is empty. It answers a
+    /// fault only where the writer failed in this call; then it holds what it held.
     fn write(&mut self, buf: &[u8]) -> Result<usize, DeviceFault>
         ensures bound { IfOk result (λ n. n ≤ length buf.now) }
         ensures some { IfOk result (λ n. 0 < length buf.now → 0 < n) }
@@ -62,8 +63,9 @@ pub trait CountedWrite {
         ensures { result ≡ faults self.now };
 }
 
-/// A reader or a writer of std with a count of its failures. A refusal is one, and so is a write that takes none of the bytes of
-/// a buffer that has some. What is known of the bytes is what is known of those of the reader or writer inside.
+/// A reader or a writer of std with a count of its failures. A refusal is one, and so is a write that takes none of the
+/// bytes of a buffer that has some. What is known of the bytes is what is known of those of the reader or writer
+/// inside.
 #[derive(Drop)]
 pub struct Counted<T> {
     inner: T,
@@ -127,8 +129,8 @@ impl<T: Write> CountedWrite for Counted<T> {
     }
 }
 
-/// Writes all of the bytes, in as many writes as the writer needs. It answers a fault only where the writer failed in this call;
-/// then a beginning of the bytes went out.
+/// Writes all of the bytes, in as many writes as the writer needs. It answers a fault only where the writer failed in
+/// this call; then a beginning of the bytes went out.
 pub fn write_all<W: CountedWrite>(writer: &mut W, bytes: &[u8]) -> Result<(), DeviceFault>
     ensures ok { OnOk result (Appends (W.held writer.old) (W.held writer.new) bytes.now) }
     ensures err { OnErr result

@@ -2,7 +2,9 @@
 
 ghost use Rattle.std.specs.Prelude.{◌≡◌, ◌≤◌, ◌<◌, ◌*◌, ◌^◌, length, option_map, IfSome};
 ghost use Rattle.il_model.specs.Literal.{held_integer};
-ghost use Rattle.il_model.specs.Durations.{digits_len, is_digit_byte, is_unit_byte, unit_len, unit_of, digit_list, whole_part, fraction_of, part_text, at_unit, decimals_unit, at_decimals, begins_dot, behind_number, part_by, past_join, duration_by};
+ghost use Rattle.il_model.specs.Durations.{digits_len, is_digit_byte, is_unit_byte, unit_len, unit_of, digit_list};
+ghost use Rattle.il_model.specs.Durations.{whole_part, fraction_of, part_text, at_unit, decimals_unit, at_decimals};
+ghost use Rattle.il_model.specs.Durations.{begins_dot, behind_number, part_by, past_join, duration_by};
 
 use crate::literal::{digit, integer};
 use crate::words::{capital, is_spelled};
@@ -74,8 +76,8 @@ fn unit_from(word: &[u8]) -> Option<TimeUnit>
     }
 }
 
-/// The milliseconds that decimals of a unit are, where they are whole: from the last decimal to the first, each ten of one
-/// place have to be whole in the next.
+/// The milliseconds that decimals of a unit are, where they are whole: from the last decimal to the first, each ten of
+/// one place have to be whole in the next.
 fn whole(unit: u32, decimals: &[u8]) -> Option<u64>
     requires { unit ≤ 86400000 }
     ensures value { result ≡ whole_part unit (digit_list decimals.now) }

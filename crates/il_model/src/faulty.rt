@@ -47,8 +47,8 @@ fn faulty_in(program: &IndexedProgram, n: usize, types: &Types, line: &Instr) ->
     }
 }
 
-/// The number of the word in which the first fault of a program stands, among those of the instruction that has it: 0 for
-/// the instruction's own, then those of its arguments. Behind the last instruction it is 0.
+/// The number of the word in which the first fault of a program stands, among those of the instruction that has it: 0
+/// for the instruction's own, then those of its arguments. Behind the last instruction it is 0.
 pub fn faulty_word(program: &IndexedProgram, n: usize) -> usize
     ensures { result ≡ faulty_word program.now n }
 {

@@ -6,14 +6,16 @@ ghost use Rattle.il_model.specs.Names.{same_name};
 ghost use Rattle.il_model.specs.Resolved.{has_label, instance_in};
 ghost use Rattle.il_model.specs.NameTables.{first_in};
 
+use crate::limits::{MOST_INSTANCES, MOST_INSTRUCTIONS, MOST_VARIABLES};
 use crate::{BlockKind, Instance, Instr, Name, Operand, Place, Program, Source, Variable};
 use std::alloc::{AllocError, Global};
 use std::collections::BTreeMap;
 use std::marker::Model;
 
-/// The number of the first instruction with each label. From behind, so that an earlier one takes the place of a later one.
+/// The number of the first instruction with each label. From behind, so that an earlier one takes the place of a later
+/// one.
 fn labels<'a>(alloc: Global, code: &'a [Instr]) -> Result<BTreeMap<&'a [u8], u16>, AllocError>
-    requires { length code.now ≤ 4096 }
+    requires { length code.now ≤ MOST_INSTRUCTIONS }
     ensures { IfOk result (λ m. (name : List ℕ) → first_in m name ≡ position (has_label name) code.entry.now) }
 {
     let mut found = BTreeMap::new(alloc);
@@ -32,8 +34,9 @@ fn names<'a>(
     alloc: Global,
     variables: &'a [Variable],
 ) -> Result<BTreeMap<&'a [u8], u16>, AllocError>
-    requires { length variables.now ≤ 512 }
-    ensures { IfOk result (λ m. (name : List ℕ) → first_in m name ≡ position (λ v. same_name v.name name) variables.entry.now) }
+    requires { length variables.now ≤ MOST_VARIABLES }
+    ensures { IfOk result (λ m. (name : List ℕ)
+        → first_in m name ≡ position (λ v. same_name v.name name) variables.entry.now) }
 {
     let mut found = BTreeMap::new(alloc);
     let mut n = variables.len();
@@ -49,7 +52,7 @@ fn instance_names<'a>(
     alloc: Global,
     instances: &'a [Instance],
 ) -> Result<BTreeMap<&'a [u8], u16>, AllocError>
-    requires { length instances.now ≤ 128 }
+    requires { length instances.now ≤ MOST_INSTANCES }
     ensures { IfOk result (λ m. (name : List ℕ) → first_in m name ≡ instance_in instances.entry.now name) }
 {
     let mut found = BTreeMap::new(alloc);
@@ -82,7 +85,8 @@ impl<'a> Model for IndexedProgram<'a> {
 }
 
 impl<'a> IndexedProgram<'a> {
-    ghost use Rattle.il_model.specs.Resolved.{variable_number, place_of, target_of, instance_number, field_of, called_kind, source_of};
+    ghost use Rattle.il_model.specs.Resolved.{variable_number, place_of, target_of, instance_number, field_of};
+    ghost use Rattle.il_model.specs.Resolved.{called_kind, source_of};
 
     /// A program with the tables of its names.
     pub fn new(alloc: Global, program: &'a Program) -> Result<IndexedProgram<'a>, AllocError>
@@ -109,7 +113,7 @@ impl<'a> IndexedProgram<'a> {
     /// Its instructions.
     pub fn code(&self) -> &[Instr]
         ensures code { result.now ≡ self.now.code }
-        ensures small { length result.now ≤ 4096 }
+        ensures small { length result.now ≤ MOST_INSTRUCTIONS }
     {
         let program = self.program;
         program.code.as_slice()

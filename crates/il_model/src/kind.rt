@@ -4,7 +4,8 @@
 ghost use Rattle.std.specs.Prelude.{◌≡◌, ◌≤◌, ◌<◌, Some, IfSome, length, nat_lt, position, slice_get};
 ghost use Rattle.std.specs.Str.{bytes_eq};
 ghost use Rattle.il_model.specs.declared.kind.BlockKind.{BlockKind};
-ghost use Rattle.il_model.specs.Kinds.{kind_code, kind_of_code, kind_name, kind_of_name, kind_fields, field_name, field_type, is_input, any_field, field_number, input_count};
+ghost use Rattle.il_model.specs.Kinds.{kind_code, kind_of_code, kind_name, kind_of_name, kind_fields, field_name};
+ghost use Rattle.il_model.specs.Kinds.{field_type, is_input, any_field, field_number, input_count};
 
 use crate::value::Ty;
 

@@ -3,65 +3,155 @@
 //! image's spelling. It uses no other crate of this repository.
 //!
 //! ```rust
-//! use il_model::op::operate;
-//! use il_model::{Op, Stop, Value};
+//! use il_model::{Op, Stop, Value, operate};
 //!
 //! assert_eq!(rt; operate(Op::Add, Value::Int(2), Value::Int(3)), Some(Ok(Value::Int(5))));
 //! assert_eq!(rt; operate(Op::Add, Value::Int(32767), Value::Int(1)), Some(Err(Stop::Overflow)));
 //! ```
 //!
 //! Proved: each table of the code is its definition. An operator gives its result on unbounded numbers, or the stop
-//! where that doesn't fit; each code is read back as what it was written for; `literal` gives exactly the value of a
-//! literal. `check` answers exactly whether a program is typed, else the fault of the least instruction, and which that
-//! is is a law (`the_first_fault_is_told`). A program has at most one typed program (`settling`).
+//! where that doesn't fit; each code is read back as what it was written for; `literal_from` gives exactly the value of
+//! a literal. `check_types` answers exactly whether a program is typed, else the fault of the least instruction, and
+//! which that is is a law (`the_first_fault_is_told`). A program has at most one typed program (`settling`).
 //!
 //! Only tested: nothing; rows of `worked_rows` show it at work. By its code alone: that nothing but a failure of the
 //! reader or writer inside raises the count of a `Counted`.
 #![tactic(auto)]
 
-pub mod arguments;
-pub mod budget;
-pub mod cells;
-pub mod check;
-pub mod coded_operand;
-pub mod codes;
-pub mod command;
-pub mod constant_table;
-pub mod counted;
+mod arguments;
+mod budget;
+mod cells;
+mod check;
+mod coded_operand;
+mod codes;
+mod command;
+mod constant_table;
+mod counted;
 mod duration;
-pub mod faulty;
-pub mod fetched;
-pub mod indexed;
-pub mod kind;
-pub mod literal;
-pub mod location;
-pub mod location_table;
-pub mod name;
-pub mod op;
-pub mod program;
-pub mod resolve;
-pub mod settle;
-pub mod slot;
-pub mod snapshot;
-pub mod typing;
-pub mod value;
-pub mod words;
-pub mod written;
+mod faulty;
+mod fetched;
+mod image_bytes;
+mod indexed;
+mod kind;
+mod limits;
+mod literal;
+mod location;
+mod location_table;
+mod name;
+mod op;
+mod program;
+mod resolve;
+mod settle;
+mod slot;
+mod snapshot;
+mod typing;
+mod value;
+mod words;
+mod written;
 
+pub use arguments::argument_literal;
 pub use budget::Budget;
-pub use cells::{Cells, InImage, OutImage};
+pub use cells::Cells;
+pub use cells::InImage;
+pub use cells::OutImage;
+pub use check::Types;
+pub use check::check as check_types;
+pub use check::the_first_fault_is_told;
 pub use coded_operand::CodedOperand;
-pub use command::{Answer, Command, Refusal};
-pub use counted::{Counted, CountedRead, CountedWrite, DeviceFault, write_all};
-pub use fetched::{Deferred, Fetched, Passed, PassedArguments, Source};
-pub use kind::{BlockKind, Field};
+pub use coded_operand::FIRST_CONSTANT;
+pub use codes::MAGIC;
+pub use codes::Version;
+pub use codes::initial_of;
+pub use codes::is_formed;
+pub use codes::is_passed;
+pub use codes::is_pointless;
+pub use codes::is_type;
+pub use codes::length_of;
+pub use codes::letters_of;
+pub use codes::location_code;
+pub use codes::modifier_code;
+pub use codes::op_code;
+pub use codes::op_in;
+pub use codes::op_of;
+pub use codes::side_code;
+pub use codes::side_of;
+pub use codes::type_code;
+pub use codes::type_in;
+pub use codes::type_of;
+pub use codes::version_with;
+pub use command::Answer;
+pub use command::Command;
+pub use command::Refusal;
+pub use constant_table::Constants;
+pub use counted::Counted;
+pub use counted::CountedRead;
+pub use counted::CountedWrite;
+pub use counted::DeviceFault;
+pub use counted::write_all;
+pub use faulty::faulty_word;
+pub use fetched::Deferred;
+pub use fetched::Fetched;
+pub use fetched::Passed;
+pub use fetched::PassedArguments;
+pub use fetched::Source;
+pub use image_bytes::ImageBytes;
+pub use indexed::IndexedProgram;
+pub use kind::BlockKind;
+pub use kind::Field;
+pub use limits::BITS;
+pub use limits::LONGEST_NAME;
+pub use limits::MOST_IMAGE_BYTES;
+pub use limits::MOST_INSTANCES;
+pub use limits::MOST_INSTRUCTIONS;
+pub use limits::MOST_VARIABLES;
+pub use limits::WORDS;
 pub use literal::Literal;
+pub use location::dot;
+pub use location::location as location_from;
+pub use location_table::put_code;
 pub use name::Name;
-pub use op::{Modifier, Op};
-pub use program::{
-    Area, Argument, Arguments, Instance, Instr, Loc, Operand, Place, Program, Side, Variable,
-};
+pub use name::is_lawful_name;
+pub use name::is_reserved;
+pub use name::is_well_spelled;
+pub use op::Modifier;
+pub use op::Op;
+pub use op::Unbounded;
+pub use op::calculate;
+pub use op::long_divided;
+pub use op::long_rest;
+pub use op::operate;
+pub use op::truths;
+pub use op::within;
+pub use program::Area;
+pub use program::Argument;
+pub use program::Arguments;
+pub use program::Instance;
+pub use program::Instr;
+pub use program::Loc;
+pub use program::Operand;
+pub use program::Place;
+pub use program::Program;
+pub use program::Side;
+pub use program::Variable;
+pub use resolve::kind_of;
+pub use resolve::loc_type;
+pub use settle::settling;
 pub use slot::Slot;
-pub use snapshot::{ForcedSlot, SavedInstance, SavedPhase, Snapshot};
-pub use typing::{Effect, Held, OperandKind, TypeFault};
-pub use value::{Stop, Ty, Value};
+pub use snapshot::ForcedSlot;
+pub use snapshot::SavedInstance;
+pub use snapshot::SavedPhase;
+pub use snapshot::Snapshot;
+pub use typing::Effect;
+pub use typing::Held;
+pub use typing::OperandKind;
+pub use typing::TypeFault;
+pub use typing::row_of;
+pub use value::Stop;
+pub use value::Ty;
+pub use value::Value;
+pub use value::make;
+pub use words::Mnemonic;
+pub use words::capital;
+pub use words::is_spelled;
+pub use words::mnemonic_from;
+pub use written::literal as literal_from;

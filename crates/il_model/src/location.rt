@@ -2,7 +2,8 @@
 
 ghost use Rattle.std.specs.Prelude.{◌≡◌};
 ghost use Rattle.std.specs.List.{prefix_len};
-ghost use Rattle.il_model.specs.Locations.{is_no_dot, dot_at, bit_of, word_of, letter_area, bit_at, word_at, place_at, location_of};
+ghost use Rattle.il_model.specs.Locations.{is_no_dot, dot_at, bit_of, word_of, letter_area, bit_at, word_at, place_at};
+ghost use Rattle.il_model.specs.Locations.{location_of};
 
 use crate::literal::integer;
 use crate::program::{Area, Loc};

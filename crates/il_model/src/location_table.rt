@@ -1,4 +1,5 @@
-//! The codes at which variables lie, in a table, so that a look-up takes a time that grows as the logarithm of their number.
+//! The codes at which variables lie, in a table, so that a look-up takes a time that grows as the logarithm of their
+//! number.
 
 ghost use Rattle.std.specs.Prelude.{◌++◌, [], ◌∷◌, OnOk};
 ghost use Rattle.il_model.specs.LocationTables.{AreCodes};

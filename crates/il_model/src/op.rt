@@ -5,7 +5,8 @@ ghost use Rattle.il_model.specs.declared.value.Ty.TheVariants as types;
 ghost use Rattle.il_model.specs.Image.{op_code};
 ghost use Rattle.il_model.specs.Codes.{op_of};
 ghost use Rattle.il_model.specs.Values.{ty_of};
-ghost use Rattle.il_model.specs.Operators.{joined_type, numeric_type, operation_result, on_numbers, on_truths, in_type, bounded, quotient, remainder, calculation};
+ghost use Rattle.il_model.specs.Operators.{joined_type, numeric_type, operation_result, on_numbers, on_truths, in_type};
+ghost use Rattle.il_model.specs.Operators.{bounded, quotient, remainder, calculation};
 ghost use Rattle.std.specs.Prelude.{◌*ℤ◌, int_div, int_rem, pos, ◌≢◌};
 
 use crate::value::{Stop, Ty, Value, make};
@@ -292,7 +293,10 @@ fn long_product(a: i64, b: i64) -> i128
     a as i128 * b as i128
 }
 
-fn long_divided(a: i64, b: i64) -> i128
+/// The quotient of two LINTs, towards 0; of -2^63 by -1 it's 2^63, which fits no LINT. Inlined, like the rest, since
+/// the loop of a run calls it.
+#[inline(always)]
+pub fn long_divided(a: i64, b: i64) -> i128
     requires { b ≢ pos 0 }
     ensures { result ≡ int_div a b }
 {
@@ -303,7 +307,9 @@ fn long_divided(a: i64, b: i64) -> i128
     }
 }
 
-fn long_rest(a: i64, b: i64) -> i128
+/// The rest of a division of two LINTs, with the sign of the first.
+#[inline(always)]
+pub fn long_rest(a: i64, b: i64) -> i128
     requires { b ≢ pos 0 }
     ensures { result ≡ int_rem a b }
 {

@@ -3,6 +3,7 @@
 ghost use Rattle.std.specs.Prelude.{◌≡◌};
 
 use crate::kind::BlockKind;
+use crate::limits::{BITS, MOST_INSTANCES, MOST_INSTRUCTIONS, MOST_VARIABLES, WORDS};
 use crate::name::Name;
 use crate::op::{Modifier, Op};
 use crate::value::{Ty, Value};
@@ -45,11 +46,11 @@ impl Area {
     fn location(self, n: u16) -> Option<Loc>
         ensures { result ≡ area_loc self n }
     {
-        if n < 512 {
+        if (n as usize) < BITS {
             Some(Loc::Bit(self, n))
         } else if n < FIRST_WORD {
             None
-        } else if n < FIRST_WORD + 64 {
+        } else if (n as usize) < FIRST_WORD as usize + WORDS {
             Some(Loc::Word(self, n - FIRST_WORD))
         } else {
             None
@@ -97,8 +98,8 @@ impl Loc {
     }
 }
 
-/// Where a value lies: in a variable without a location, by its number in the order of declaration, at a location, or in a
-/// function block instance, by its number and that of its kind's field.
+/// Where a value lies: in a variable without a location, by its number in the order of declaration, at a location, or
+/// in a function block instance, by its number and that of its kind's field.
 #[derive(Clone, Copy, PartialEq, Eq)]
 pub enum Place {
     Own(u16),
@@ -195,8 +196,8 @@ pub struct Instr {
     pub arguments: Arguments,
 }
 
-/// A program: its declarations and its instructions, in their order; at most 512 variables, 128 instances and 4096
-/// instructions.
+/// A program: its declarations and its instructions, in their order; at most `MOST_VARIABLES`, `MOST_INSTANCES` and
+/// `MOST_INSTRUCTIONS` of them.
 #[derive(Drop)]
 pub struct Program {
     pub variables: Vec<Variable>,
@@ -206,13 +207,15 @@ pub struct Program {
 
 impl Model for Program {
     ghost use Rattle.std.specs.Prelude.{◌≤◌, length};
+    ghost use Rattle.il_model.specs.declared.limits.TheConstants.{MOST_VARIABLES, MOST_INSTANCES, MOST_INSTRUCTIONS};
     ghost use Rattle.il_model.specs.Text.{Text};
 
     ghost Value = { Text };
 
     ghost view = { λ p. record { variables = p.variables.items; instances = p.instances.items; code = p.code.items } };
 
-    ghost invariant = { λ p. (length p.variables.items ≤ 512) × (length p.instances.items ≤ 128) × (length p.code.items ≤ 4096) };
+    ghost invariant = { λ p. (length p.variables.items ≤ MOST_VARIABLES) × (length p.instances.items ≤ MOST_INSTANCES)
+        × (length p.code.items ≤ MOST_INSTRUCTIONS) };
 }
 
 impl Program {
@@ -227,7 +230,10 @@ impl Program {
     ) -> Option<Program>
         ensures { result ≡ program_of variables.items instances.items code.items }
     {
-        if variables.len() > 512 || instances.len() > 128 || code.len() > 4096 {
+        if variables.len() > MOST_VARIABLES
+            || instances.len() > MOST_INSTANCES
+            || code.len() > MOST_INSTRUCTIONS
+        {
             return None;
         }
         Some(Program {

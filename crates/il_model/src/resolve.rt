@@ -2,9 +2,11 @@
 
 ghost use Rattle.std.specs.Prelude.{◌≡◌, slice_get};
 ghost use Rattle.il_model.specs.Kinds.{kind_fields};
-ghost use Rattle.il_model.specs.Typing.{place_type, loc_type, field_at, is_input_field, is_writable, is_writable_area, source_kind, missing_kind};
+ghost use Rattle.il_model.specs.Typing.{place_type, loc_type, field_at, is_input_field, is_writable, is_writable_area};
+ghost use Rattle.il_model.specs.Typing.{source_kind, missing_kind};
 ghost use Rattle.il_model.specs.Areas.{area_of};
 
+use crate::limits::{BITS, WORDS};
 use crate::{Area, Field, Loc, Operand, OperandKind, Place, Program, Source, Ty};
 
 /// The type of a location: BOOL for a bit, INT for a word; none past its area.
@@ -12,8 +14,16 @@ pub fn loc_type(loc: Loc) -> Option<Ty>
     ensures { result ≡ loc_type loc }
 {
     match loc {
-        Loc::Bit(_, n) => if n < 512 { Some(Ty::Bool) } else { None },
-        Loc::Word(_, n) => if n < 64 { Some(Ty::Int) } else { None },
+        Loc::Bit(_, n) => if (n as usize) < BITS {
+            Some(Ty::Bool)
+        } else {
+            None
+        },
+        Loc::Word(_, n) => if (n as usize) < WORDS {
+            Some(Ty::Int)
+        } else {
+            None
+        },
     }
 }
 

@@ -1,11 +1,13 @@
-//! Bare numbers in a program: each takes the type that its place asks for, by the type of the current result on arrival.
+//! Bare numbers in a program: each takes the type that its place asks for, by the type of the current result on
+//! arrival.
 
 ghost use Rattle.std.specs.Prelude.{◌≡◌, ◌<◌, length, OnOk, OnErr, IfOk, IfErr, Ok, Err};
 ghost use Rattle.il_model.specs.Constants.{operand_literal};
 ghost use Rattle.il_model.specs.Text.{Text};
 ghost use Rattle.il_model.specs.Resolved.{source_of};
 ghost use Rattle.il_model.specs.Typing.{source_row, line_row_of};
-ghost use Rattle.il_model.specs.Settled.{settled_operand, settled_line, if_typed, typed_program_of, HasNoBare, IsTypedProgramOf};
+ghost use Rattle.il_model.specs.Settled.{settled_operand, settled_line, if_typed, typed_program_of, HasNoBare};
+ghost use Rattle.il_model.specs.Settled.{IsTypedProgramOf};
 
 use crate::arguments::{arguments_fault, with_fault};
 use crate::check::{Types, label_row, source_row};
@@ -34,7 +36,8 @@ fn operand_row(
     literal: Option<Value>,
 ) -> Result<Effect, TypeFault>
     requires { literal ≡ operand_literal (settled_operand cr line.now.op line.now.modifier line.now.operand) }
-    ensures { result ≡ source_row program.now cr top depth (settled_line cr line.now) (source_of program.now (settled_line cr line.now).operand) }
+    ensures { result ≡ source_row program.now cr top depth (settled_line cr line.now)
+        (source_of program.now (settled_line cr line.now).operand) }
 {
     match literal {
         Some(v) => row_of(
@@ -78,8 +81,8 @@ fn settled_row(
 impl Types {
     ghost use Rattle.il_model.specs.Typing.{after_line};
 
-    /// Goes past an instruction, in which a bare number takes the type that its place asks for. Gives the literal that the
-    /// operand then is, if it is one, or the instruction's first fault and leaves the types as they were.
+    /// Goes past an instruction, in which a bare number takes the type that its place asks for. Gives the literal that
+    /// the operand then is, if it is one, or the instruction's first fault and leaves the types as they were.
     pub fn settle(
         &mut self,
         program: &IndexedProgram,
@@ -88,8 +91,10 @@ impl Types {
     ) -> Result<Option<Value>, TypeFault>
         requires n { n < length program.now.code }
         ensures ok { OnOk result (after_line program.now n self.old (settled_line self.old.cr line.now) ≡ Ok self.new) }
-        ensures literal { IfOk result (λ v. v ≡ operand_literal (settled_operand self.old.cr line.now.op line.now.modifier line.now.operand)) }
-        ensures err { IfErr result (λ f. after_line program.now n self.old (settled_line self.old.cr line.now) ≡ Err f) }
+        ensures literal { IfOk result
+            (λ v. v ≡ operand_literal (settled_operand self.old.cr line.now.op line.now.modifier line.now.operand)) }
+        ensures err { IfErr result
+            (λ f. after_line program.now n self.old (settled_line self.old.cr line.now) ≡ Err f) }
         ensures unchanged { OnErr result (self.new ≡ self.old) }
     {
         // Read for its range: so n + 1 does not wrap.

@@ -28,7 +28,8 @@ pub enum SavedPhase {
     Stopped(Stop),
 }
 
-/// A function block instance: its kind, the values of its inputs in the order of the kind's fields, and the words of its block.
+/// A function block instance: its kind, the values of its inputs in the order of the kind's fields, and the words of
+/// its block.
 #[derive(Drop)]
 pub struct SavedInstance {
     pub kind: BlockKind,
@@ -44,9 +45,11 @@ impl Model for SavedInstance {
     ghost view = { λ x. record { kind = x.kind; inputs = x.inputs.items; words = x.words } };
 }
 
-/// A controller as it was when it was saved: all that its answers depend on but its image and its budget.
+/// A controller as it was when it was saved: all that its answers depend on but its budget.
 #[derive(Drop)]
 pub struct Snapshot {
+    /// The bytes of the image of the program in force.
+    pub image: Vec<u8>,
     /// The values of the variables without a location, in order.
     pub variables: Vec<Value>,
     /// The function block instances, in the order of declaration.
@@ -76,7 +79,24 @@ impl Model for Snapshot {
 
     ghost Value = { SavedController };
 
-    ghost view = { λ s. record { variables = s.variables.items; instances = s.instances.items; input = s.input; output = s.output; memory = s.memory; cr = s.cr; deferred = s.deferred.items; position = s.position; count = s.count; moment = s.moment; forces = s.forces.items; breaks = s.breaks.items; phase = s.phase } };
+    ghost view = { λ s. record {
+      image = s.image.items;
+      variables = s.variables.items;
+      instances = s.instances.items;
+      input = s.input;
+      output = s.output;
+      memory = s.memory;
+      cr = s.cr;
+      deferred = s.deferred.items;
+      position =
+          s.position;
+      count = s.count;
+      moment = s.moment;
+      forces = s.forces.items;
+      breaks = s.breaks.items;
+      phase =
+          s.phase;
+    } };
 }
 
 impl SavedInstance {
@@ -111,6 +131,7 @@ impl Snapshot {
         ensures { IfOk result (λ s. s ≡ self.now) }
     {
         Ok(Snapshot {
+            image: Vec::from_slice(alloc, self.image.as_slice())?,
             variables: Vec::from_slice(alloc, self.variables.as_slice())?,
             instances: copy_instances(alloc, self.instances.as_slice())?,
             input: self.input,

@@ -2,7 +2,8 @@
 
 ghost use Rattle.std.specs.Prelude.{◌≡◌};
 ghost use Rattle.il_model.specs.Settled.{settled_number, first_type};
-ghost use Rattle.il_model.specs.Row.{row, load_row, store_row, set_row, truth_row, call_row, open_row, opened_row, combine_row, close_row, leave_row, convert_row};
+ghost use Rattle.il_model.specs.Row.{row, load_row, store_row, set_row, truth_row, call_row, open_row, opened_row};
+ghost use Rattle.il_model.specs.Row.{combine_row, close_row, leave_row, convert_row};
 
 use crate::op::{Modifier, Op, joined};
 use crate::value::{Ty, Value, make};

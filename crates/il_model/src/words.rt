@@ -5,7 +5,8 @@ ghost use Rattle.il_model.specs.Words.{upper, spells, look, mnemonic_of};
 
 use crate::op::{Modifier, Op};
 
-/// An operator as it is written in one word: the operator and its letters N and C. A parenthesis is no part of the word.
+/// An operator as it is written in one word: the operator and its letters N and C. A parenthesis is no part of the
+/// word.
 #[derive(Clone, Copy, PartialEq, Eq)]
 pub struct Mnemonic {
     pub op: Op,

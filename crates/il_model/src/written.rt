@@ -3,7 +3,9 @@
 ghost use Rattle.std.specs.Prelude.{◌≡◌, ◌≤◌, ◌<◌, ◌^◌, length, option_map, IfSome};
 ghost use Rattle.il_model.specs.Literal.{held_integer};
 ghost use Rattle.il_model.specs.Values.{typed_value};
-ghost use Rattle.il_model.specs.Literals.{positive, minus, signed_by, is_no_hash, hash_at, based_by, whole_by, time_by, truth_literal, typed_literal, bare_literal, prefixed_literal, is_word, literal_by, literal_of};
+ghost use Rattle.il_model.specs.Literals.{positive, minus, signed_by, is_no_hash, hash_at, based_by, whole_by, time_by};
+ghost use Rattle.il_model.specs.Literals.{truth_literal, typed_literal, bare_literal, prefixed_literal, is_word};
+ghost use Rattle.il_model.specs.Literals.{literal_by, literal_of};
 
 use crate::duration::duration;
 use crate::literal::{Literal, integer};
@@ -169,8 +171,8 @@ fn judged(bytes: &[u8]) -> Option<Literal>
     }
 }
 
-/// The literal that a text is: a number with or without a base or a type, TRUE, FALSE, or a duration, in the range of its type
-/// (IEC 61131-3:2003, B.1.2; a bare number has 32 bits). Without regard to case. None where it is none.
+/// The literal that a text is: a number with or without a base or a type, TRUE, FALSE, or a duration, in the range of
+/// its type (IEC 61131-3:2003, B.1.2; a bare number has 32 bits). Without regard to case. None where it is none.
 pub fn literal(bytes: &[u8]) -> Option<Literal>
     ensures { result ≡ literal_of bytes.now }
 {

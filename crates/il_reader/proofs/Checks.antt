@@ -1,7 +1,7 @@
 -- A fault stands at the first token such that nothing that is read begins so: once for each way of putting readings together.
 use Rattle.std.proofs.Common.{◌≡◌, ℕ, zero, suc, length, Bool, true, false, not, cond, List, [], ◌∷◌, ◌++◌, Result, Ok, Err, refl, sym, ap, ◌∙◌, arith, ◌<◌, ◌≤◌}
 use Rattle.std.specs.List.{AllByRecursion}
-use Rattle.il_reader.specs.declared.fault.Refusal.{Refusal}
+use Rattle.il_reader.specs.declared.fault.FaultAt.{FaultAt}
 use Rattle.il_reader.specs.declared.lexeme.Sign.TheVariants as signs
 use Rattle.il_reader.specs.Tokens.{Token, goes_on, tokens_of}
 use Rattle.il_reader.specs.Front.{is_sign, first, fault_at, skip_breaks, no_token}
@@ -11,16 +11,16 @@ use Rattle.il_reader.proofs.Written.{written, sign_goes, Written}
 
 -- whether what is left is read
 abbrev pub Check : Type 0
-Check = List Token → Result (Unit {0}) Refusal
+Check = List Token → Result (Unit {0}) FaultAt
 
-abbrev pub good : Result (Unit {0}) Refusal
+abbrev pub good : Result (Unit {0}) FaultAt
 good = Ok tt
 
-abbrev pub bad : Refusal → Result (Unit {0}) Refusal
+abbrev pub bad : FaultAt → Result (Unit {0}) FaultAt
 bad f = Err f
 
 -- this was read, and these are left
-abbrev pub leaving : {X : Type 0} → X → List Token → Result (X × List Token) Refusal
+abbrev pub leaving : {X : Type 0} → X → List Token → Result (X × List Token) FaultAt
 leaving x ts = Ok (x, ts)
 
 -- a reading, and a check of what it leaves
@@ -32,7 +32,7 @@ abbrev pub GoesOn : Token → Type 0
 GoesOn t = goes_on t.class ≡ true
 
 -- The fault stands where no list that is read begins so, however it goes on, while a text can follow what is before.
-pub record FirstAt (m : Check) (ts : List Token) (f : Refusal) : Type 0 where
+pub record FirstAt (m : Check) (ts : List Token) (f : FaultAt) : Type 0 where
   pub before : List Token
   pub rest : List Token
   pub parts : before ++ rest ≡ ts
@@ -44,7 +44,7 @@ pub record FirstAt (m : Check) (ts : List Token) (f : Refusal) : Type 0 where
 
 -- each fault in a list of fewer tokens stands so
 abbrev pub Below : ℕ → Check → Type 0
-Below n m = (ts : List Token) (f : Refusal) → length ts < n → m ts ≡ bad f → FirstAt m ts f
+Below n m = (ts : List Token) (f : FaultAt) → length ts < n → m ts ≡ bad f → FirstAt m ts f
 
 -- some text is read
 abbrev pub ReadsSome : Check → Type 0
@@ -54,11 +54,11 @@ pub record Exact (n : ℕ) (m : Check) : Type 0 where
   pub placed : Below n m
   pub some : ReadsSome m
 
-pub fault_is : (f g : Refusal) → bad f ≡ bad g → f ≡ g
+pub fault_is : (f g : FaultAt) → bad f ≡ bad g → f ≡ g
 fault_is f g e = cc
 
 -- a fault at the token that stands next
-pub here : (m : Check) (ts : List Token) (f : Refusal) → bad (fault_at (first ts)) ≡ bad f → ReadsSome m → ((us : List Token) → m (first ts ∷ us) ≡ bad (fault_at (first ts))) → FirstAt m ts f
+pub here : (m : Check) (ts : List Token) (f : FaultAt) → bad (fault_at (first ts)) ≡ bad f → ReadsSome m → ((us : List Token) → m (first ts ∷ us) ≡ bad (fault_at (first ts))) → FirstAt m ts f
 here m ts f is some never = record {
   before = [];
   rest = ts;
@@ -71,7 +71,7 @@ here m ts f is some never = record {
 }
 
 -- a fault behind a token that is taken
-pub farther : (m k : Check) (t : Token) (ts : List Token) (f : Refusal) → GoesOn t → ((us : List Token) → m (t ∷ us) ≡ k us) → FirstAt k ts f → FirstAt m (t ∷ ts) f
+pub farther : (m k : Check) (t : Token) (ts : List Token) (f : FaultAt) → GoesOn t → ((us : List Token) → m (t ∷ us) ≡ k us) → FirstAt k ts f → FirstAt m (t ∷ ts) f
 farther m k t ts f goes same h = record {
   before = t ∷ h.before;
   rest = h.rest;
@@ -84,7 +84,7 @@ farther m k t ts f goes same h = record {
 }
 
 -- checks that are the same where this token stands next
-pub same_first : (m a : Check) (ts : List Token) (f : Refusal) → ((us : List Token) → first us ≡ first ts → m us ≡ a us) → ReadsSome m → FirstAt a ts f → FirstAt m ts f
+pub same_first : (m a : Check) (ts : List Token) (f : FaultAt) → ((us : List Token) → first us ≡ first ts → m us ≡ a us) → ReadsSome m → FirstAt a ts f → FirstAt m ts f
 same_first m a ts f same some h = by_front h.before h.rest h.more h.parts h.fault h.inner h.completes h.never
   where
     by_front : (before rest : List Token) (more : List ℕ) → before ++ rest ≡ ts → f ≡ fault_at (first rest) → AllByRecursion GoesOn before → a (before ++ tokens_of more) ≡ good → ((us : List Token) → a (before ++ first rest ∷ us) ≡ bad f) → FirstAt m ts f
@@ -140,7 +140,7 @@ taken_exact {X} p g w none n k e = record { placed = placed; some = some }
     some : ReadsSome (followed (taken p g) k)
     some = (written w.word e.some.0, rw (w.makes e.some.0, w.passes e.some.0) e.some.1)
 
-    by_test : (u : Token) (us : List Token) (f : Refusal) → length us < n → (b : Bool) → p u ≡ b → (cond b (leaving (g u) us) (Err (fault_at u)) >>= λ x. k x.1) ≡ bad f → FirstAt (followed (taken p g) k) (u ∷ us) f
+    by_test : (u : Token) (us : List Token) (f : FaultAt) → length us < n → (b : Bool) → p u ≡ b → (cond b (leaving (g u) us) (Err (fault_at u)) >>= λ x. k x.1) ≡ bad f → FirstAt (followed (taken p g) k) (u ∷ us) f
     by_test u us f lt true at h = farther (followed (taken p g) k) k u us f (w.goes u at) (λ vs. rw at refl) (e.placed us f lt h)
     by_test u us f lt false at h = here (followed (taken p g) k) (u ∷ us) f h some (λ vs. rw at refl)
 
@@ -216,7 +216,7 @@ past_taken_exact p g w none n k e = past_exact (followed (taken p g) k) (suc n) 
 
 -- one reading after the other
 
-pub tail : {Y Z : Type 0} (r : Result (Y × List Token) Refusal) (g : Y → Z) (k : Check) → ((r >>= λ y. leaving (g y.0) y.1) >>= (λ z. k z.1)) ≡ (r >>= λ y. k y.1)
+pub tail : {Y Z : Type 0} (r : Result (Y × List Token) FaultAt) (g : Y → Z) (k : Check) → ((r >>= λ y. leaving (g y.0) y.1) >>= (λ z. k z.1)) ≡ (r >>= λ y. k y.1)
 tail (Ok y) g k = refl
 tail (Err f) g k = refl
 
@@ -226,21 +226,21 @@ mapped_same g a k ts = tail (a ts) g k
 pub mark_same : {X : Type 0} (a : Reading X) (k : Check) (ts : List Token) → followed (mark a) k ts ≡ followed a k ts
 mark_same a k ts = tail (a ts) (λ x. tt) k
 
-pair_tail : {X Y : Type 0} (r : Result (X × List Token) Refusal) (b : Reading Y) (k : Check) → ((r >>= λ x. b x.1 >>= λ y. leaving (both x.0 y.0) y.1) >>= (λ z. k z.1)) ≡ (r >>= λ x. followed b k x.1)
+pair_tail : {X Y : Type 0} (r : Result (X × List Token) FaultAt) (b : Reading Y) (k : Check) → ((r >>= λ x. b x.1 >>= λ y. leaving (both x.0 y.0) y.1) >>= (λ z. k z.1)) ≡ (r >>= λ x. followed b k x.1)
 pair_tail (Ok x) b k = tail (b x.1) (both x.0) k
 pair_tail (Err f) b k = refl
 
 pub pair_same : {X Y : Type 0} (a : Reading X) (b : Reading Y) (k : Check) (ts : List Token) → followed (pair a b) k ts ≡ followed a (followed b k) ts
 pair_same a b k ts = pair_tail (a ts) b k
 
-led_tail : {X : Type 0} (r : Result (Unit {0} × List Token) Refusal) (a : Reading X) (k : Check) → ((r >>= λ u. a u.1) >>= (λ z. k z.1)) ≡ (r >>= λ u. followed a k u.1)
+led_tail : {X : Type 0} (r : Result (Unit {0} × List Token) FaultAt) (a : Reading X) (k : Check) → ((r >>= λ u. a u.1) >>= (λ z. k z.1)) ≡ (r >>= λ u. followed a k u.1)
 led_tail (Ok u) a k = refl
 led_tail (Err f) a k = refl
 
 pub led_same : {X : Type 0} (m : Reading (Unit {0})) (a : Reading X) (k : Check) (ts : List Token) → followed (led m a) k ts ≡ followed m (followed a k) ts
 led_same m a k ts = led_tail (m ts) a k
 
-closed_tail : {X : Type 0} (r : Result (X × List Token) Refusal) (m : Reading (Unit {0})) (k : Check) → ((r >>= λ x. m x.1 >>= λ u. leaving x.0 u.1) >>= (λ z. k z.1)) ≡ (r >>= λ x. followed m k x.1)
+closed_tail : {X : Type 0} (r : Result (X × List Token) FaultAt) (m : Reading (Unit {0})) (k : Check) → ((r >>= λ x. m x.1 >>= λ u. leaving x.0 u.1) >>= (λ z. k z.1)) ≡ (r >>= λ x. followed m k x.1)
 closed_tail (Ok x) m k = tail (m x.1) (λ u. x.0) k
 closed_tail (Err f) m k = refl
 
@@ -330,7 +330,7 @@ enough stops item less zero p ts a b = absurd (omega (arith, a))
 enough stops item less (suc n) zero ts a b = absurd (omega (arith, b))
 enough {X} stops item less (suc n) (suc p) ts a b = by_item (item ts) refl (enough stops item less n p)
   where
-    by_item : (r : Result (X × List Token) Refusal) → item ts ≡ r
+    by_item : (r : Result (X × List Token) FaultAt) → item ts ≡ r
         → ((us : List Token) → length us < n → length us < p → many_within stops item n us ≡ many_within stops item p us)
         → cond (stops ts) (leaving [] ts) (r >>= λ x. many_within stops item n x.1 >>= λ xs. leaving (x.0 ∷ xs.0) xs.1) ≡ cond (stops ts) (leaving [] ts) (r >>= λ x. many_within stops item p x.1 >>= λ xs. leaving (x.0 ∷ xs.0) xs.1)
     by_item (Ok x) is more =
@@ -344,13 +344,13 @@ pub unrolls : {X : Type 0} (stops : List Token → Bool) (item : Reading X) → 
 unfolding many many_within
 unrolls {X} stops item less k ts = by_test (stops ts) (item ts) refl
   where
-    by_test : (c : Bool) (r : Result (X × List Token) Refusal) → item ts ≡ r
+    by_test : (c : Bool) (r : Result (X × List Token) FaultAt) → item ts ≡ r
         → (cond c (leaving [] ts) (r >>= λ x. many_within stops item (length ts) x.1 >>= λ xs. leaving (x.0 ∷ xs.0) xs.1) >>= (λ z. k z.1)) ≡ cond c (k ts) (r >>= λ x. followed (many stops item) k x.1)
     by_test true r is = refl
     by_test false (Err f) is = refl
     by_test false (Ok x) is =
         tail (many_within stops item (length ts) x.1) (λ (xs : List X). x.0 ∷ xs) k
-        ∙ ap (λ (z : Result (List X × List Token) Refusal). z >>= λ y. k y.1) (enough stops item less (length ts) (suc (length x.1)) x.1 (less ts x is) (omega arith))
+        ∙ ap (λ (z : Result (List X × List Token) FaultAt). z >>= λ y. k y.1) (enough stops item less (length ts) (suc (length x.1)) x.1 (less ts x is) (omega arith))
 
 -- a check that line ends before it do not change
 abbrev pub Blind : Check → Type 0

@@ -4,7 +4,7 @@ use Rattle.std.specs.Prelude.{is_none}
 use Rattle.std.specs.List.{AllByRecursion}
 use Rattle.il_model.specs.declared.words.Mnemonic.{Mnemonic}
 use Rattle.il_model.specs.Words.{spells, mnemonic_of}
-use Rattle.il_reader.specs.declared.fault.Refusal.{Refusal}
+use Rattle.il_reader.specs.declared.fault.FaultAt.{FaultAt}
 use Rattle.il_reader.specs.declared.lexeme.Sign.{Sign}
 use Rattle.il_reader.specs.declared.lexeme.Sign.TheVariants as signs
 use Rattle.il_reader.specs.declared.lexeme.Class.{Class}
@@ -332,7 +332,7 @@ operation_exact n k e = same_exact (followed operation_at k) m (suc n) (operatio
     some : ReadsSome m
     some = (a_close e.some.0, rw (close_makes e.some.0) e.some.1)
 
-    by_case : (t : Token) (ts : List Token) (f : Refusal) → length ts < n → (o : Option Operator) → operator_of t ≡ o → by_operator k o (t ∷ ts) ≡ bad f → FirstAt m (t ∷ ts) f
+    by_case : (t : Token) (ts : List Token) (f : FaultAt) → length ts < n → (o : Option Operator) → operator_of t ≡ o → by_operator k o (t ∷ ts) ≡ bad f → FirstAt m (t ∷ ts) f
     by_case t ts f lt None is h = here m (t ∷ ts) f h some (λ us. rw is refl)
     by_case t ts f lt (Some o) is h =
         let b = behind_exact (form_of o.mnemonic.op) n k e in
@@ -405,8 +405,8 @@ content_same : (m : Check) (ts : List Token) → followed either_line_at m ts �
 unfolding either_line_at labelled_at plain_at
 content_same m ts =
     choice_same is_label labelled_at plain_at m ts
-    ∙ ap (λ (z : Result (Unit {0}) Refusal). cond (is_label ts) z (followed plain_at m ts)) (mapped_same labelled (pair (expect signs.Name) (led (mark (expect signs.Colon)) optional_operation_at)) m ts ∙ pair_same (expect signs.Name) (led (mark (expect signs.Colon)) optional_operation_at) m ts)
-    ∙ ap (λ (z : Result (Unit {0}) Refusal). cond (is_label ts) (followed (expect signs.Name) (behind_label m) ts) z) (mapped_same Plain operation_at m ts ∙ operation_same m ts)
+    ∙ ap (λ (z : Result (Unit {0}) FaultAt). cond (is_label ts) z (followed plain_at m ts)) (mapped_same labelled (pair (expect signs.Name) (led (mark (expect signs.Colon)) optional_operation_at)) m ts ∙ pair_same (expect signs.Name) (led (mark (expect signs.Colon)) optional_operation_at) m ts)
+    ∙ ap (λ (z : Result (Unit {0}) FaultAt). cond (is_label ts) (followed (expect signs.Name) (behind_label m) ts) z) (mapped_same Plain operation_at m ts ∙ operation_same m ts)
 
 content_exact : (n : ℕ) (m : Check) → Exact n m → LineEnd m → Exact (suc n) (followed either_line_at m)
 unfolding is_label operator_of behind_at expect optional_operation_at
@@ -421,7 +421,7 @@ content_exact n m e s = same_exact (followed either_line_at m) body (suc n) (con
     colon : behind_label m (token_of signs.Colon (codes ":") s.text ∷ tokens_of s.text) ≡ good
     colon = rw s.stop s.reads
 
-    behind_name : (t : Token) (ts : List Token) (f : Refusal) → length ts < n → label_test t (first ts) ≡ true → is_sign signs.Name t ≡ true → behind_label m ts ≡ bad f → FirstAt body (t ∷ ts) f
+    behind_name : (t : Token) (ts : List Token) (f : FaultAt) → length ts < n → label_test t (first ts) ≡ true → is_sign signs.Name t ≡ true → behind_label m ts ≡ bad f → FirstAt body (t ∷ ts) f
     behind_name t ts f lt is name h =
         let after : Check = λ us. body (t ∷ us) in
         let l : Exact (suc n) (behind_label m) = led_exact (mark (expect signs.Colon)) optional_operation_at _ m (sign_exact signs.Colon colon_written _ _ (optional_operation_exact n m e)) in
@@ -429,7 +429,7 @@ content_exact n m e s = same_exact (followed either_line_at m) body (suc n) (con
         let same : (us : List Token) → first us ≡ first ts → after us ≡ behind_label m us = λ us q. let at : label_test t (first us) ≡ true = ap (label_test t) q ∙ is in rw (at, name) refl in
         farther body after t ts f (sign_goes signs.Name t name) (λ us. refl) (same_first after (behind_label m) ts f same reads (l.placed ts f (omega (arith, lt)) h))
 
-    by_operation : (t : Token) (ts : List Token) (f : Refusal) → length ts < n → label_test t (first ts) ≡ false → (o : Option Operator) → operator_of t ≡ o → by_operator m o (t ∷ ts) ≡ bad f → FirstAt body (t ∷ ts) f
+    by_operation : (t : Token) (ts : List Token) (f : FaultAt) → length ts < n → label_test t (first ts) ≡ false → (o : Option Operator) → operator_of t ≡ o → by_operator m o (t ∷ ts) ≡ bad f → FirstAt body (t ∷ ts) f
     by_operation t ts f lt is None none h =
         let name = no_name t (first ts) none is in
         here body (t ∷ ts) f h some (λ us. rw (none, name) refl)
@@ -443,7 +443,7 @@ content_exact n m e s = same_exact (followed either_line_at m) body (suc n) (con
         let same : (us : List Token) → first us ≡ first ts → after us ≡ k us = λ us q. let at : label_test t (first us) ≡ false = ap (label_test t) q ∙ is in rw (at, found) refl in
         farther body after t ts f (operator_goes t o found) (λ us. refl) (same_first after k ts f same reads (b.placed ts f lt h))
 
-    by_label : (t : Token) (ts : List Token) (f : Refusal) → length ts < n → (b : Bool) → label_test t (first ts) ≡ b → cond b (followed (expect signs.Name) (behind_label m) (t ∷ ts)) (by_operator m (operator_of t) (t ∷ ts)) ≡ bad f → FirstAt body (t ∷ ts) f
+    by_label : (t : Token) (ts : List Token) (f : FaultAt) → length ts < n → (b : Bool) → label_test t (first ts) ≡ b → cond b (followed (expect signs.Name) (behind_label m) (t ∷ ts)) (by_operator m (operator_of t) (t ∷ ts)) ≡ bad f → FirstAt body (t ∷ ts) f
     by_label t ts f lt true is h =
         let name = label_name (is_sign signs.Name t) _ is in
         behind_name t ts f lt is name (rw name at h)
@@ -598,7 +598,7 @@ blocks_exact n k b blind s = list_exact no_var ends_blocks solid_block block_at 
 abbrev final : Check
 final ts = good
 
-good_is_bad : (f : Refusal) → good ≡ bad f → ⊥
+good_is_bad : (f : FaultAt) → good ≡ bad f → ⊥
 good_is_bad f e = absurd cc
 
 final_below : (n : ℕ) → Below n final
@@ -754,12 +754,12 @@ program_exact n = same_exact (followed program_at final) (behind_breaks body) n 
 
 -- the law
 
-read_good : (r : Result (ProgramText × List Token) Refusal) → (r >>= λ x. final x.1) ≡ good → (x : ProgramText × List Token) × (r ≡ Ok x)
+read_good : (r : Result (ProgramText × List Token) FaultAt) → (r >>= λ x. final x.1) ≡ good → (x : ProgramText × List Token) × (r ≡ Ok x)
 read_good (Ok x) e = (x, refl)
 read_good (Err f) e = absurd cc
 
 -- where it stands by the checks, it stands by the grammar
-by_grammar : (tokens : List Token) (f : Refusal) (at : FirstAt (followed program_at final) tokens f) → StandsAt at.before (first at.rest) f
+by_grammar : (tokens : List Token) (f : FaultAt) (at : FirstAt (followed program_at final) tokens f) → StandsAt at.before (first at.rest) f
 by_grammar tokens f at = record {
   fault = at.fault;
   begun =
@@ -773,14 +773,14 @@ by_grammar tokens f at = record {
 }
 
 -- the place, behind tokens of which each may be followed
-pub record Placed (tokens : List Token) (f : Refusal) : Type 0 where
+pub record Placed (tokens : List Token) (f : FaultAt) : Type 0 where
   pub before : List Token
   pub rest : List Token
   pub parts : before ++ rest ≡ tokens
   pub inner : AllByRecursion GoesOn before
   pub stands : StandsAt before (first rest) f
 
-pub place_of : (tokens : List Token) (f : Refusal) → program_at tokens ≡ Err f → Placed tokens f
+pub place_of : (tokens : List Token) (f : FaultAt) → program_at tokens ≡ Err f → Placed tokens f
 place_of tokens f h =
     let at : FirstAt (followed program_at final) tokens f = (program_exact (suc (length tokens))).placed tokens f (omega arith) (rw h refl) in
     record { before = at.before; rest = at.rest; parts = at.parts; inner = at.inner; stands = by_grammar tokens f at }

@@ -2,14 +2,14 @@
 use Rattle.std.proofs.Common.{◌≡◌, ℕ, zero, suc, ◌<◌, ◌≤◌, Bool, true, false, List, [], ◌∷◌, ◌++◌, length, Result, Ok, Err, refl, sym, ap, ◌∙◌, append_assoc, arith}
 use Rattle.std.specs.Prelude.{IfOk}
 use Rattle.std.proofs.lemmas.List.{append-nil}
-use Rattle.il_reader.specs.declared.fault.Refusal.{Refusal}
+use Rattle.il_reader.specs.declared.fault.FaultAt.{FaultAt}
 use Rattle.il_reader.specs.declared.fault.Failure.{Failure}
 use Rattle.il_reader.specs.declared.fault.Failure.TheVariants as failures
 use Rattle.il_reader.specs.Tokens.{Token}
 use Rattle.il_reader.specs.Reading.{◌>>=◌, Fails, Gives, Reading, many_within, many}
 
 abbrev pub Items : Type 0 → Type 0
-Items X = Result (List X × List Token) Refusal
+Items X = Result (List X × List Token) FaultAt
 
 -- what was read before, and what is still read
 abbrev pub with_front : {X : Type 0} → List X → Items X → Items X

@@ -1,7 +1,7 @@
 -- The laws of each part of the grammar.
 use Rattle.std.proofs.Common.{◌≡◌, ℕ, length, ◌<◌, Bool, true, false, cond, List, [], ◌∷◌, ◌++◌, Option, Some, None, Result, Ok, refl, sym, ap, subst, ◌∙◌, arith, codes, inl, inr, ◌⊎◌, ◌&&◌, ◌||◌}
 use Rattle.std.specs.List.{flat_map}
-use Rattle.il_reader.specs.declared.fault.Refusal.{Refusal}
+use Rattle.il_reader.specs.declared.fault.FaultAt.{FaultAt}
 use Rattle.il_reader.specs.declared.lexeme.Sign.{Sign}
 use Rattle.il_reader.specs.declared.lexeme.Sign.TheVariants as signs
 use Rattle.il_reader.specs.declared.lexeme.Class.{Class}
@@ -562,7 +562,7 @@ label_behind = mapped_law Any (Accepted forms.Label) _ spelled_behind Target _ (
     from (Opened o) d = absurd cc
     from (Called c) d = absurd cc
 
-abbrev done : BehindText × List Token → Result (BehindText × List Token) Refusal
+abbrev done : BehindText × List Token → Result (BehindText × List Token) FaultAt
 done x = Ok x
 
 call_behind : Law (Accepted forms.Call) spelled_behind (mapped Called call_at)

@@ -1,13 +1,13 @@
 -- A text has one source at most.
 use Rattle.std.proofs.Common.{◌≡◌, ℕ, List, Result, Ok, Err, sym, ap, subst, ◌∙◌}
-use Rattle.il_reader.specs.declared.fault.Refusal.{Refusal}
+use Rattle.il_reader.specs.declared.fault.FaultAt.{FaultAt}
 use Rattle.il_reader.specs.declared.fault.Fault.{Fault}
 use Rattle.il_reader.specs.Grammar.{ProgramText}
 use Rattle.il_reader.specs.Walk.{text_of}
 use Rattle.il_reader.specs.Spelling.{Says}
 use Rattle.il_reader.specs.Texts.{SourceText, Reads}
 
-abbrev read_as : ProgramText → Result ProgramText Refusal
+abbrev read_as : ProgramText → Result ProgramText FaultAt
 read_as p = Ok p
 
 abbrev source_as : SourceText → Result SourceText Fault
@@ -26,6 +26,6 @@ pub same_source : (bytes : List ℕ) (p : ProgramText) (s : SourceText) → Read
 same_source bytes p s r a b =
     ap (λ (t : List ℕ). source_as (made t s.says)) r.0 ∙ ap (λ (q : ProgramText). source_as (made bytes q)) (same_program s.says p (sym a ∙ b))
 
-pub one_outcome : (read : Result ProgramText Refusal) (p : ProgramText) (f : Refusal) → read ≡ Ok p → read ≡ Err f → ⊥
+pub one_outcome : (read : Result ProgramText FaultAt) (p : ProgramText) (f : FaultAt) → read ≡ Ok p → read ≡ Err f → ⊥
 one_outcome (Ok q) p f a b = absurd cc
 one_outcome (Err g) p f a b = absurd cc

@@ -4,7 +4,7 @@ use Rattle.std.specs.Prelude.{◌↔◌, nat_lt}
 use Rattle.std.specs.List.{AllByRecursion}
 use Rattle.std.proofs.lemmas.List.{append-nil}
 use Rattle.std.proofs.lemmas.Bool.{le-ltb, lt-ltb, ltb-true, ltb-false}
-use Rattle.il_reader.specs.declared.fault.Refusal.{Refusal}
+use Rattle.il_reader.specs.declared.fault.FaultAt.{FaultAt}
 use Rattle.il_reader.specs.declared.source.TheConstants.{TEXT_LIMIT}
 use Rattle.il_reader.specs.declared.fault.Fault.{Fault}
 use Rattle.il_reader.specs.declared.fault.ReadError.{ReadError}
@@ -43,7 +43,7 @@ text_ends (suc k) (b ∷ bs) h = text_ends k bs h
 text_ends zero (b ∷ bs) h = put_ends (piece_of (b ∷ bs)).class _ _ _ (text_ends ((piece_of (b ∷ bs)).len - 1) bs) h
 
 -- so the fault of a text stands at one of its tokens
-at_a_token : (bytes : List ℕ) (f : Refusal) → Placed (tokens_of bytes) f → IsTextFault bytes f
+at_a_token : (bytes : List ℕ) (f : FaultAt) → Placed (tokens_of bytes) f → IsTextFault bytes f
 at_a_token bytes f p = by_rest p.before p.rest p.parts p.inner p.stands
   where
     by_rest : (before rest : List Token) → before ++ rest ≡ tokens_of bytes → AllByRecursion GoesOn before → StandsAt before (first rest) f → IsTextFault bytes f
@@ -52,11 +52,11 @@ at_a_token bytes f p = by_rest p.before p.rest p.parts p.inner p.stands
         absurd (text_ends 0 bytes (subst P (sym (append-nil before) ∙ parts) inner))
     by_rest before (t ∷ after) parts inner stands = record { before = before; at = t; after = after; parts = parts; stands = stands }
 
-refused_by : (r : Result (ProgramText × List Token) Refusal) (f : Refusal) → (r >>= λ x. Ok x.0) ≡ Err f → r ≡ Err f
+refused_by : (r : Result (ProgramText × List Token) FaultAt) (f : FaultAt) → (r >>= λ x. Ok x.0) ≡ Err f → r ≡ Err f
 refused_by (Ok x) f e = absurd cc
 refused_by (Err g) f e = cc
 
-stands : (bytes : List ℕ) (f : Refusal) → text_of bytes ≡ Err f → IsTextFault bytes f
+stands : (bytes : List ℕ) (f : FaultAt) → text_of bytes ≡ Err f → IsTextFault bytes f
 unfolding text_of
 stands bytes f h = at_a_token bytes f (place_of (tokens_of bytes) f (refused_by (program_at (tokens_of bytes)) f h))
 
@@ -84,7 +84,7 @@ farther_begins xs c whole t e b =
     (c ++ ts, b.1, (b.2.0, subst P joined b.2.1))
 
 -- the fault of a text stands at one place
-one_place : (bytes : List ℕ) (f g : Refusal) → IsTextFault bytes f → IsTextFault bytes g → f ≡ g
+one_place : (bytes : List ℕ) (f g : FaultAt) → IsTextFault bytes f → IsTextFault bytes g → f ≡ g
 one_place bytes f g a b = by_parts (split_cases a.before (a.at ∷ a.after) b.before (b.at ∷ b.after) (a.parts ∙ sym b.parts))
   where
     by_parts : (a.at ∷ a.after ≡ b.at ∷ b.after) ⊎ (((c : List Token) × (b.before ≡ a.before ++ a.at ∷ c)) ⊎ ((c : List Token) × (a.before ≡ b.before ++ b.at ∷ c))) → f ≡ g
@@ -93,7 +93,7 @@ one_place bytes f g a b = by_parts (split_cases a.before (a.at ∷ a.after) b.be
     by_parts (inr (inr h)) = absurd (b.stands.not_begun (farther_begins b.before h.0 a.before b.at h.1 a.stands.begun))
 
 -- a text with a fault is not read
-not_read : (bytes : List ℕ) (f : Refusal) (p : ProgramText) → IsTextFault bytes f → text_of bytes ≡ Ok p → ⊥
+not_read : (bytes : List ℕ) (f : FaultAt) (p : ProgramText) → IsTextFault bytes f → text_of bytes ≡ Ok p → ⊥
 unfolding text_of
 not_read bytes f p a is =
     let m = bind_ok (program_at (tokens_of bytes)) (λ x. Ok x.0) p is in
@@ -101,14 +101,14 @@ not_read bytes f p a is =
     let joined : tokens_of bytes ≡ (a.before ++ a.at ∷ []) ++ a.after = sym a.parts ∙ sym (append_assoc a.before (a.at ∷ []) a.after) in
     a.stands.not_begun (a.after, m.0.0, (m.0.1, subst P joined (program_law.takes (tokens_of bytes) m.0 m.1).1))
 
-refuses : (bytes : List ℕ) (f : Refusal) → IsTextFault bytes f → text_of bytes ≡ Err f
+refuses : (bytes : List ℕ) (f : FaultAt) → IsTextFault bytes f → text_of bytes ≡ Err f
 refuses bytes f a = by_result (text_of bytes) refl
   where
-    by_result : (r : Result ProgramText Refusal) → text_of bytes ≡ r → text_of bytes ≡ Err f
+    by_result : (r : Result ProgramText FaultAt) → text_of bytes ≡ r → text_of bytes ≡ Err f
     by_result (Ok p) is = absurd (not_read bytes f p a is)
-    by_result (Err g) is = is ∙ ap (λ (h : Refusal). Err h) (one_place bytes g f (stands bytes g is) a)
+    by_result (Err g) is = is ∙ ap (λ (h : FaultAt). Err h) (one_place bytes g f (stands bytes g is) a)
 
-pub text_fault : (bytes : List ℕ) (f : Refusal) → (text_of bytes ≡ Err f) ↔ IsTextFault bytes f
+pub text_fault : (bytes : List ℕ) (f : FaultAt) → (text_of bytes ≡ Err f) ↔ IsTextFault bytes f
 text_fault bytes f = (stands bytes f, refuses bytes f)
 
 -- ---- with its line and column
@@ -119,7 +119,7 @@ as_refused g = Err g
 same_fault : (f g : Fault) → as_refused f ≡ as_refused g → f ≡ g
 same_fault f g e = cc
 
-told_fault : (bytes : List ℕ) (r : Result ProgramText Refusal) (g : Fault) → told bytes r ≡ Err g → (f : Refusal) × (g ≡ placed bytes f) × (r ≡ Err f)
+told_fault : (bytes : List ℕ) (r : Result ProgramText FaultAt) (g : Fault) → told bytes r ≡ Err g → (f : FaultAt) × (g ≡ placed bytes f) × (r ≡ Err f)
 told_fault bytes (Ok p) g e = absurd cc
 told_fault bytes (Err f) g e = (f, sym (same_fault (placed bytes f) g e), refl)
 
@@ -166,7 +166,7 @@ read_is bytes s h = subst (λ (text : List ℕ). source_of text ≡ Ok s) h.0 (s
 abbrev made : List ℕ → ProgramText → SourceText
 made bytes p = record { text = bytes; says = p }
 
-told_read : (bytes : List ℕ) (r : Result ProgramText Refusal) (s : SourceText) → told bytes r ≡ Ok s → (p : ProgramText) × (made bytes p ≡ s) × (r ≡ Ok p)
+told_read : (bytes : List ℕ) (r : Result ProgramText FaultAt) (s : SourceText) → told bytes r ≡ Ok s → (p : ProgramText) × (made bytes p ≡ s) × (r ≡ Ok p)
 told_read bytes (Ok p) s e = (p, same_read (made bytes p) s e, refl)
 told_read bytes (Err f) s e = absurd (differs s (placed bytes f) (sym e))
 

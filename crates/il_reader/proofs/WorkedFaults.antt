@@ -2,7 +2,7 @@
 use Rattle.std.proofs.Common.{◌≡◌, ℕ, List, Result, Err, refl, sym, ap, ◌∙◌, arith, codes}
 use Rattle.il_model.specs.Words.{spells, look, mnemonic_of}
 use Rattle.il_model.specs.Names.{is_well_spelled}
-use Rattle.il_reader.specs.declared.fault.Refusal.{Refusal}
+use Rattle.il_reader.specs.declared.fault.FaultAt.{FaultAt}
 use Rattle.il_reader.specs.Tokens.{name_of, word_piece, solid_piece, piece_of, sign_of, tokens_behind}
 use Rattle.il_reader.specs.Front.{skip_breaks}
 use Rattle.il_reader.specs.Reading.{expect, many_within, many, keyword}
@@ -11,7 +11,7 @@ use Rattle.il_reader.specs.Walk.{operator_at, variable_at, constant_at, field_at
 use Rattle.il_reader.specs.FirstFault.{IsTextFault, misplaced, bad_token, WorkedFaults}
 use Rattle.il_reader.proofs.TextFaults.{text_fault}
 
-fault_of : (text : List ℕ) (f : Refusal) → text_of text ≡ Err f → IsTextFault text f
+fault_of : (text : List ℕ) (f : FaultAt) → text_of text ≡ Err f → IsTextFault text f
 fault_of text f e = (text_fault text f).0 e
 
 pub record Told : Type 0 where
@@ -25,15 +25,15 @@ told : Told
 unfolding spells look mnemonic_of is_well_spelled name_of word_piece solid_piece piece_of sign_of tokens_behind skip_breaks expect many_within many keyword operator_of is_constant operator_at variable_at constant_at field_at lone_at operand_at behind_at operation_at optional_operation_at is_label labelled_at plain_at either_line_at line_at ends_lines ends_blocks bare_at begins_program program_at text_of
 told = record { operand = refl; field = refl; colon = refl; broken = refl; behind = refl }
 
-refused : Refusal → Result ProgramText Refusal
+refused : FaultAt → Result ProgramText FaultAt
 refused f = Err f
 
-same_refusal : (f g : Refusal) → refused f ≡ refused g → f ≡ g
+same_refusal : (f g : FaultAt) → refused f ≡ refused g → f ≡ g
 unfolding refused
 same_refusal f g e = cc
 
 two_places : refused (misplaced 1) ≡ refused (misplaced 4) → ⊥
-two_places e = let p : (misplaced 1).left ≡ (misplaced 4).left = ap (λ (f : Refusal). f.left) (same_refusal (misplaced 1) (misplaced 4) e) in omega arith
+two_places e = let p : (misplaced 1).left ≡ (misplaced 4).left = ap (λ (f : FaultAt). f.left) (same_refusal (misplaced 1) (misplaced 4) e) in omega arith
 
 elsewhere : IsTextFault (codes "LD ;") (misplaced 4) → ⊥
 unfolding refused

@@ -2,7 +2,7 @@
 use Rattle.std.specs.Prelude.{◌≡◌, ◌<◌, ◌≤◌, ◌⊎◌, ℕ, List, [], ◌∷◌, ◌++◌, length, Result, Ok, Err, codes}
 use Rattle.il_reader.specs.declared.source.TheConstants.{TEXT_LIMIT}
 use Rattle.il_reader.specs.declared.fault.FaultKind.TheVariants as kinds
-use Rattle.il_reader.specs.declared.fault.Refusal.{Refusal}
+use Rattle.il_reader.specs.declared.fault.FaultAt.{FaultAt}
 use Rattle.il_reader.specs.declared.fault.Fault.{Fault}
 use Rattle.il_reader.specs.declared.fault.ReadError.{ReadError}
 use Rattle.il_reader.specs.declared.fault.ReadError.TheVariants as errors
@@ -22,13 +22,13 @@ IsCompleted before = (text : List ℕ) × (s : ProgramText) × SaysTokens (befor
 
 -- The fault is that of this token: nothing of the grammar begins with it behind these, while something begins with
 -- these alone.
-pub record StandsAt (before : List Token) (at : Token) (f : Refusal) : Type 0 where
+pub record StandsAt (before : List Token) (at : Token) (f : FaultAt) : Type 0 where
   pub fault : f ≡ fault_at at
   pub begun : IsCompleted before
   pub not_begun : Begins (before ++ at ∷ []) → ⊥
 
 -- the fault of a text, at one of its tokens
-pub record IsTextFault (bytes : List ℕ) (f : Refusal) : Type 0 where
+pub record IsTextFault (bytes : List ℕ) (f : FaultAt) : Type 0 where
   pub before : List Token
   pub at : Token
   pub after : List Token
@@ -37,7 +37,7 @@ pub record IsTextFault (bytes : List ℕ) (f : Refusal) : Type 0 where
 
 -- the same with its line and column
 abbrev pub IsSourceFault : List ℕ → Fault → Type 0
-IsSourceFault bytes g = (f : Refusal) × (g ≡ placed bytes f) × IsTextFault bytes f
+IsSourceFault bytes g = (f : FaultAt) × (g ≡ placed bytes f) × IsTextFault bytes f
 
 -- the first fault of a text: over the limit it's too long, else it stands at the first token with which no text begins
 abbrev pub IsFaultOf : List ℕ → Fault → Type 0
@@ -61,10 +61,10 @@ IsTold bytes r = (first : Fault) → IsFaultOf bytes first → Answers (λ s. s)
 
 -- ---- worked texts
 
-abbrev pub misplaced : ℕ → Refusal
+abbrev pub misplaced : ℕ → FaultAt
 misplaced left = record { kind = kinds.Misplaced; left = left }
 
-abbrev pub bad_token : ℕ → Refusal
+abbrev pub bad_token : ℕ → FaultAt
 bad_token left = record { kind = kinds.BadToken; left = left }
 
 -- An operand is missing, at a token and at the end; a word is no operator and stands before no colon; a broken token

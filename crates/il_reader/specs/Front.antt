@@ -1,7 +1,7 @@
 -- What stands at the front of a list of tokens, and why it's refused there.
 use Rattle.std.specs.Prelude.{ℕ, List, [], ◌∷◌, Bool, true, false, ◌&&◌, if◌then◌else◌}
 use Rattle.il_model.specs.Words.{spells}
-use Rattle.il_reader.specs.declared.fault.Refusal.{Refusal}
+use Rattle.il_reader.specs.declared.fault.FaultAt.{FaultAt}
 use Rattle.il_reader.specs.declared.fault.FaultKind.{FaultKind}
 use Rattle.il_reader.specs.declared.fault.FaultKind.TheVariants.{Misplaced}
 use Rattle.il_reader.specs.declared.lexeme.Sign.{Sign}
@@ -32,7 +32,7 @@ abbrev pub refusal : Class → FaultKind
 refusal (classes.Broken f) = f
 refusal c = Misplaced
 
-abbrev pub fault_at : Token → Refusal
+abbrev pub fault_at : Token → FaultAt
 fault_at t = record { kind = refusal t.class; left = t.left }
 
 abbrev pub no_token : Token

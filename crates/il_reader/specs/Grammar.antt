@@ -1,5 +1,6 @@
 -- What a text says, and how the tokens in it are told apart, by IEC 61131-3:2003, Annex B.
-use Rattle.std.specs.Prelude.{ℕ, List, [], map, Option, Some, None, is_none, option_map, Bool, false, not, ◌||◌, ◌&&◌, if◌then◌else◌, codes}
+use Rattle.std.specs.Prelude.{ℕ, List, [], map, Option, Some, None, is_none, option_map, Bool, false, not, ◌||◌, ◌&&◌}
+use Rattle.std.specs.Prelude.{if◌then◌else◌, codes}
 use Rattle.il_model.specs.declared.op.Op.{Op}
 use Rattle.il_model.specs.declared.op.Op.TheVariants as ops
 use Rattle.il_model.specs.declared.words.Mnemonic.{Mnemonic}

@@ -1,7 +1,8 @@
 -- Reading from left to right, with the first fault that is met.
-use Rattle.std.specs.Prelude.{◌≡◌, ℕ, zero, suc, List, [], ◌∷◌, length, Option, Some, None, Result, Ok, Err, Bool, ◌<◌, IfOk, if◌then◌else◌}
+use Rattle.std.specs.Prelude.{◌≡◌, ℕ, zero, suc, List, [], ◌∷◌, length, Option, Some, None, Result, Ok, Err, Bool, ◌<◌}
+use Rattle.std.specs.Prelude.{IfOk, if◌then◌else◌}
 use denote.Ref.{Bor}
-use Rattle.il_reader.specs.declared.fault.Refusal.{Refusal}
+use Rattle.il_reader.specs.declared.fault.FaultAt.{FaultAt}
 use Rattle.il_reader.specs.declared.fault.Failure.{Failure}
 use Rattle.il_reader.specs.declared.fault.Failure.TheVariants as failures
 use Rattle.il_reader.specs.declared.lexeme.Sign.{Sign}
@@ -9,20 +10,20 @@ use Rattle.il_reader.specs.Tokens.{Token, tokens_of}
 use Rattle.il_reader.specs.Front.{first, others, fault_at, is_sign, is_word_token, skip_breaks}
 
 infixl 10 ◌>>=◌
-abbrev pub ◌>>=◌ : {A B : Type 0} → Result A Refusal → (A → Result B Refusal) → Result B Refusal
+abbrev pub ◌>>=◌ : {A B : Type 0} → Result A FaultAt → (A → Result B FaultAt) → Result B FaultAt
 (Ok x) >>= f = f x
 (Err e) >>= f = Err e
 
 -- what stands at the front of a list of tokens, and the tokens behind it, or the first fault
 abbrev pub Reading : Type 0 → Type 0
-Reading X = List Token → Result (X × List Token) Refusal
+Reading X = List Token → Result (X × List Token) FaultAt
 
 -- What a function returned, seen by view, is what reading gives, unless memory ran out.
-abbrev pub Fails : {Y : Type 0} → Failure → Result Y Refusal → Type 0
+abbrev pub Fails : {Y : Type 0} → Failure → Result Y FaultAt → Type 0
 Fails failures.Memory read = Unit {0}
 Fails (failures.Refused f) read = read ≡ Err f
 
-abbrev pub Gives : {X Y : Type 0} → (X → Y) → Result X Failure → Result Y Refusal → Type 0
+abbrev pub Gives : {X Y : Type 0} → (X → Y) → Result X Failure → Result Y FaultAt → Type 0
 Gives view (Ok x) read = read ≡ Ok (view x)
 Gives view (Err e) read = Fails e read
 

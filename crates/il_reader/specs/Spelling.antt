@@ -1,6 +1,7 @@
 -- What the tokens of a text are, by what it says: the productions of IEC 61131-3:2003, Annex B, each named beside its
 -- parts.
-use Rattle.std.specs.Prelude.{◌≡◌, List, [], ◌∷◌, ◌++◌, not, Bool, true, false, Option, Some, None, ℕ, codes, if◌then◌else◌}
+use Rattle.std.specs.Prelude.{◌≡◌, List, [], ◌∷◌, ◌++◌, not, Bool, true, false, Option, Some, None, ℕ, codes}
+use Rattle.std.specs.Prelude.{if◌then◌else◌}
 use Rattle.std.specs.List.{flat_map}
 use Rattle.il_reader.specs.declared.contents.Operator.{Operator}
 use Rattle.il_model.specs.declared.program.Side.{Side}
@@ -11,7 +12,12 @@ use Rattle.il_reader.specs.declared.lexeme.Sign.{Sign}
 use Rattle.il_reader.specs.declared.lexeme.Sign.TheVariants as signs
 use Rattle.il_reader.specs.Tokens.{Token, tokens_of}
 use Rattle.il_reader.specs.Front.{skip_breaks, is_sign, is_word_token, next_is_word, at_end}
-use Rattle.il_reader.specs.Grammar.{OperandText, Constant, Direct, Named, Field, ArgumentText, CallText, no_dot, before_no_dot, before_close, ends_arguments, no_open, BehindText, Nothing, Given, Target, Opened, Called, OperationText, LineText, Labelled, Plain, NamesText, Located, More, DeclarationText, ProgramText, is_constant, is_variable, form_of, operator_of, is_line_stop, is_no_label, no_value, ends_names, ends_block, ends_blocks, ends_lines, ends_named, begins_program}
+use Rattle.il_reader.specs.Grammar.{OperandText, Constant, Direct, Named, Field, ArgumentText, CallText, no_dot}
+use Rattle.il_reader.specs.Grammar.{before_no_dot, before_close, ends_arguments, no_open, BehindText, Nothing, Given}
+use Rattle.il_reader.specs.Grammar.{Target, Opened, Called, OperationText, LineText, Labelled, Plain, NamesText}
+use Rattle.il_reader.specs.Grammar.{Located, More, DeclarationText, ProgramText, is_constant, is_variable, form_of}
+use Rattle.il_reader.specs.Grammar.{operator_of, is_line_stop, is_no_label, no_value, ends_names, ends_block}
+use Rattle.il_reader.specs.Grammar.{ends_blocks, ends_lines, ends_named, begins_program}
 
 -- what stands next: any number of line ends, a token of this sort, this token, a token that is this operator, or
 -- nothing where this comes next

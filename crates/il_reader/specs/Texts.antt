@@ -2,7 +2,7 @@
 use Rattle.std.specs.Prelude.{◌≡◌, ℕ, ◌≤◌, List, length, Result, Ok, Err}
 use Rattle.il_reader.specs.declared.source.TheConstants.{TEXT_LIMIT}
 use Rattle.il_reader.specs.declared.fault.FaultKind.TheVariants as kinds
-use Rattle.il_reader.specs.declared.fault.Refusal.{Refusal}
+use Rattle.il_reader.specs.declared.fault.FaultAt.{FaultAt}
 use Rattle.il_reader.specs.declared.fault.Fault.{Fault}
 use Rattle.il_reader.specs.declared.fault.ReadError.{ReadError}
 use Rattle.il_reader.specs.declared.fault.ReadError.TheVariants as errors
@@ -28,7 +28,7 @@ abbrev pub Reads : List ℕ → SourceText → Type 0
 Reads bytes s = (s.text ≡ bytes) × IsSource s
 
 -- the fault with its place
-abbrev pub placed : List ℕ → Refusal → Fault
+abbrev pub placed : List ℕ → FaultAt → Fault
 placed bytes f = record { kind = f.kind; place = place_at bytes f.left }
 
 -- what is told of a text over the limit, whatever it says

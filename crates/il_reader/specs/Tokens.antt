@@ -1,9 +1,12 @@
 -- What stands at the front of a text.
-use Rattle.std.specs.Prelude.{ℕ, zero, suc, ◌+◌, ◌-◌, Bool, true, false, ◌&&◌, ◌||◌, List, [], ◌∷◌, length, take, drop, Option, Some, None, is_some, nat_lt, nat_le, ◌==◌, if◌then◌else◌}
+use Rattle.std.specs.Prelude.{ℕ, zero, suc, ◌+◌, ◌-◌, Bool, true, false, ◌&&◌, ◌||◌, List, [], ◌∷◌, length, take, drop}
+use Rattle.std.specs.Prelude.{Option, Some, None, is_some, nat_lt, nat_le, ◌==◌, if◌then◌else◌}
 use Rattle.std.specs.List.{prefix_len}
+use Rattle.il_model.specs.declared.limits.TheConstants.{LONGEST_NAME}
 use Rattle.il_model.specs.Names.{is_well_spelled}
 use Rattle.il_model.specs.Literals.{literal_of}
-use Rattle.il_reader.specs.declared.fault.FaultKind.TheVariants.{BadByte, BadToken, BadLiteral, UnclosedComment, TooLong}
+use Rattle.il_reader.specs.declared.fault.FaultKind.TheVariants.{BadByte, BadToken, BadLiteral, UnclosedComment}
+use Rattle.il_reader.specs.declared.fault.FaultKind.TheVariants.{TooLong}
 use Rattle.il_reader.specs.declared.lexeme.Piece.{Piece}
 use Rattle.il_reader.specs.declared.lexeme.Lexeme.{Lexeme}
 use Rattle.il_reader.specs.declared.fault.FaultKind.{FaultKind}
@@ -53,10 +56,10 @@ broken f = record { class = Some (classes.Broken f); len = 1 }
 abbrev pub end : Piece
 end = record { class = Some classes.End; len = 0 }
 
--- a name of at most 32 characters
+-- a name that is short enough
 unfoldable pub name_of : List ℕ → Piece
 name_of name = if is_well_spelled name
-    then (if nat_lt 32 (length name) then broken TooLong else sign signs.Name (length name))
+    then (if nat_lt LONGEST_NAME (length name) then broken TooLong else sign signs.Name (length name))
     else broken BadToken
 
 abbrev pub comment_piece : Option ℕ → Piece

@@ -1,8 +1,9 @@
 -- The walk over a text that private functions take, production by production of IEC 61131-3:2003, Annex B: what is
 -- read, or the first fault that is met. No public clause cites it: what `read` answers is said by Texts and FirstFault.
-use Rattle.std.specs.Prelude.{ℕ, List, [], ◌∷◌, length, Option, Some, None, Result, Ok, Err, Bool, nat_lt, if◌then◌else◌, codes}
+use Rattle.std.specs.Prelude.{ℕ, List, [], ◌∷◌, length, Option, Some, None, Result, Ok, Err, Bool, nat_lt}
+use Rattle.std.specs.Prelude.{if◌then◌else◌, codes}
 use Rattle.il_reader.specs.declared.source.TheConstants.{TEXT_LIMIT}
-use Rattle.il_reader.specs.declared.fault.Refusal.{Refusal}
+use Rattle.il_reader.specs.declared.fault.FaultAt.{FaultAt}
 use Rattle.il_reader.specs.declared.fault.Fault.{Fault}
 use Rattle.il_reader.specs.declared.lexeme.Sign.TheVariants as signs
 use Rattle.il_reader.specs.declared.contents.Operator.{Operator}
@@ -12,8 +13,14 @@ use Rattle.il_reader.specs.declared.operations.Form.{Form}
 use Rattle.il_reader.specs.declared.operations.Form.TheVariants as forms
 use Rattle.il_reader.specs.Tokens.{Token, tokens_of}
 use Rattle.il_reader.specs.Front.{first, others, fault_at, next_is, at_end, next_is_word}
-use Rattle.il_reader.specs.Reading.{◌>>=◌, expect, keyword, meaning, many, Reading, pair, led, closed, mapped, choice, past, mark, stand}
-use Rattle.il_reader.specs.Grammar.{OperandText, ArgumentText, CallText, BehindText, OperationText, LineText, NamesText, DeclarationText, ProgramText, form_of, operator_of, is_variable, is_constant, no_dot, before_dot, before_no_dot, is_line_stop, ends_arguments, before_close, no_open, is_label, ends_lines, ends_named, ends_names, no_value, ends_block, ends_blocks, begins_program, Constant, Direct, Named, Field, Nothing, Given, Target, Opened, Called, Labelled, Plain, Located, More}
+use Rattle.il_reader.specs.Reading.{◌>>=◌, expect, keyword, meaning, many, Reading, pair, led, closed, mapped, choice}
+use Rattle.il_reader.specs.Reading.{past, mark, stand}
+use Rattle.il_reader.specs.Grammar.{OperandText, ArgumentText, CallText, BehindText, OperationText, LineText, NamesText}
+use Rattle.il_reader.specs.Grammar.{DeclarationText, ProgramText, form_of, operator_of, is_variable, is_constant}
+use Rattle.il_reader.specs.Grammar.{no_dot, before_dot, before_no_dot, is_line_stop, ends_arguments, before_close}
+use Rattle.il_reader.specs.Grammar.{no_open, is_label, ends_lines, ends_named, ends_names, no_value, ends_block}
+use Rattle.il_reader.specs.Grammar.{ends_blocks, begins_program, Constant, Direct, Named, Field, Nothing, Given, Target}
+use Rattle.il_reader.specs.Grammar.{Opened, Called, Labelled, Plain, Located, More}
 use Rattle.il_reader.specs.Texts.{SourceText, placed, too_long}
 
 -- ---- operators and operands
@@ -237,12 +244,12 @@ bare_at ts = mapped bare_program
 unfoldable pub program_at : Reading ProgramText
 program_at ts = choice begins_program named_at bare_at ts
 
-unfoldable pub text_of : List ℕ → Result ProgramText Refusal
+unfoldable pub text_of : List ℕ → Result ProgramText FaultAt
 text_of bytes = program_at (tokens_of bytes) >>= λ x. Ok x.0
 
 -- ---- a text as a whole
 
-abbrev pub told : List ℕ → Result ProgramText Refusal → Result SourceText Fault
+abbrev pub told : List ℕ → Result ProgramText FaultAt → Result SourceText Fault
 told bytes (Ok p) = Ok (record { text = bytes; says = p })
 told bytes (Err f) = Err (placed bytes f)
 

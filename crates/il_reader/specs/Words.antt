@@ -1,9 +1,11 @@
 -- What the names and the operators of a text are, whatever it says.
 use Rattle.std.specs.Prelude.{◌≡◌, ℕ, ◌<◌, ◌≤◌, Bool, true, false, List, [], ◌∷◌, length, Option, Some, None}
 use Rattle.std.specs.List.{AllByRecursion, list_all}
+use Rattle.il_model.specs.declared.limits.TheConstants.{LONGEST_NAME}
 use Rattle.il_model.specs.Names.{is_well_spelled}
 use Rattle.il_reader.specs.Tokens.{Token, is_letter_byte, is_word_byte}
-use Rattle.il_reader.specs.Grammar.{LineText, Labelled, Plain, OperationText, NamesText, Located, More, DeclarationText, ProgramText}
+use Rattle.il_reader.specs.Grammar.{LineText, Labelled, Plain, OperationText, NamesText, Located, More, DeclarationText}
+use Rattle.il_reader.specs.Grammar.{ProgramText}
 use Rattle.il_reader.specs.Spelling.{operator_before}
 
 abbrev pub begins_letter : List ℕ → Bool
@@ -16,7 +18,7 @@ pub record IsWordText (w : List ℕ) : Type 0 where
   pub bytes : list_all is_word_byte w ≡ true
   pub spelled : is_well_spelled w ≡ true
   pub some : 0 < length w
-  pub short : length w ≤ 32
+  pub short : length w ≤ LONGEST_NAME
 
 abbrev pub IsWordName : Token → Type 0
 IsWordName t = IsWordText t.text

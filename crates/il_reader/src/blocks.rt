@@ -3,7 +3,8 @@
 ghost use Rattle.std.specs.Prelude.{◌≡◌, List, option_map};
 ghost use Rattle.il_reader.specs.Tokens.{Token, tokens_of, token};
 ghost use Rattle.il_reader.specs.Reading.{Takes};
-ghost use Rattle.il_reader.specs.Grammar.{DeclarationText, names_of, declaration, declarations, ends_names, ends_block, ends_blocks};
+ghost use Rattle.il_reader.specs.Grammar.{DeclarationText, names_of, declaration, declarations, ends_names, ends_block};
+ghost use Rattle.il_reader.specs.Grammar.{ends_blocks};
 ghost use Rattle.il_reader.specs.Walk.{name_at, names_at, initial_at, declaration_at, block_at};
 
 use crate::contents::{Declaration, Names};

@@ -1,8 +1,7 @@
 //! What a text says: its tokens by the places where they stand, as slices of the text.
 
 use crate::lexeme::Lexeme;
-use il_model::Side;
-use il_model::words::Mnemonic;
+use il_model::{Mnemonic, Side};
 
 /// An operator with its letters, and how many bytes the text has from its first one on.
 #[derive(Clone, Copy, PartialEq, Eq)]

@@ -25,7 +25,7 @@ pub enum FaultKind {
     /// A token, or the end of the text, that no case of the grammar allows there.
     #[error("misplaced")]
     Misplaced,
-    /// A name of more than 32 characters; or a text over its limit, at its first byte.
+    /// A name of more than `LONGEST_NAME` characters; or a text over its limit, at its first byte.
     #[error("too long")]
     TooLong,
 }
@@ -81,7 +81,7 @@ impl ReadError {
 
 /// A fault, and how many bytes the text has from its place on.
 #[derive(Clone, Copy, PartialEq, Eq)]
-pub struct Refusal {
+pub struct FaultAt {
     pub kind: FaultKind,
     pub left: usize,
 }
@@ -89,7 +89,7 @@ pub struct Refusal {
 /// Why reading ended.
 #[derive(Clone, Copy, PartialEq, Eq)]
 pub enum Failure {
-    Refused(Refusal),
+    Refused(FaultAt),
     Memory,
 }
 

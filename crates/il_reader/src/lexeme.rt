@@ -2,11 +2,13 @@
 
 ghost use Rattle.std.specs.Prelude.{◌≡◌, ◌≢◌, ◌≤◌, ◌<◌, ◌+◌, length, IfSome, true};
 ghost use Rattle.std.specs.List.{prefix_len};
-ghost use Rattle.il_reader.specs.Tokens.{is_letter_byte, is_number_start, is_blank_byte, solid_piece, is_word_byte, is_literal_byte, is_address_byte, name_of, literal_piece, word_piece, sign_of, comment_len, comment_piece, piece_of, begins_with, is_word_end, is_n, joined, tokens_of, token};
+ghost use Rattle.il_reader.specs.Tokens.{is_letter_byte, is_number_start, is_blank_byte, solid_piece, is_word_byte};
+ghost use Rattle.il_reader.specs.Tokens.{is_literal_byte, is_address_byte, name_of, literal_piece, word_piece, sign_of};
+ghost use Rattle.il_reader.specs.Tokens.{comment_len, comment_piece, piece_of, begins_with, is_word_end, is_n, joined};
+ghost use Rattle.il_reader.specs.Tokens.{tokens_of, token};
 
 use crate::fault::FaultKind;
-use il_model::name::is_well_spelled;
-use il_model::written::literal;
+use il_model::{LONGEST_NAME, is_well_spelled, literal_from};
 
 /// What the grammar asks for: a line end, a name, a literal, an address, or one of the language's marks.
 #[derive(Clone, Copy, PartialEq, Eq)]
@@ -166,7 +168,7 @@ fn name_piece(name: &[u8]) -> Piece
 {
     if !is_well_spelled(name) {
         Piece::broken(FaultKind::BadToken)
-    } else if name.len() > 32 {
+    } else if name.len() > LONGEST_NAME {
         Piece::broken(FaultKind::TooLong)
     } else {
         Piece::sign(Sign::Name, name.len())
@@ -180,7 +182,7 @@ fn judged_literal(text: &[u8]) -> Piece
     ensures fits { result.len ≤ length text.now }
     ensures moves { 0 < result.len }
 {
-    if literal(text).is_some() {
+    if literal_from(text).is_some() {
         Piece::sign(Sign::Literal, text.len())
     } else {
         Piece::broken(FaultKind::BadLiteral)

@@ -12,7 +12,7 @@ use crate::lexeme::{Sign, next};
 use crate::lists::Listed;
 use crate::operations::{at_line_stop, operation_read, optional_operation};
 use crate::reading::{expected, is, is_end, is_word, past_breaks, refused};
-use il_model::words::mnemonic_from;
+use il_model::mnemonic_from;
 use std::alloc::Global;
 
 #[tactic(auto, unfolding(crate::specs::Grammar::is_label))]

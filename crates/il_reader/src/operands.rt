@@ -4,13 +4,14 @@ ghost use Rattle.std.specs.Prelude.{◌≡◌, option_map};
 ghost use Rattle.il_reader.specs.Tokens.{token};
 ghost use Rattle.il_reader.specs.Reading.{Takes};
 ghost use Rattle.il_reader.specs.Grammar.{operand, is_truth, is_variable, is_constant};
-ghost use Rattle.il_reader.specs.Walk.{variable_at, constant_at, field_at, inner_field_at, named_by, lone_at, operand_at, inner_operand_at};
+ghost use Rattle.il_reader.specs.Walk.{variable_at, constant_at, field_at, inner_field_at, named_by, lone_at};
+ghost use Rattle.il_reader.specs.Walk.{operand_at, inner_operand_at};
 
 use crate::contents::Operand;
 use crate::fault::Failure;
 use crate::lexeme::{Lexeme, Sign, next};
 use crate::reading::{expected, is, past_breaks, refused};
-use il_model::words::is_spelled;
+use il_model::is_spelled;
 
 fn truth(t: Lexeme) -> bool
     ensures { result ≡ is_truth (token t.entry) }

@@ -3,8 +3,10 @@
 ghost use Rattle.std.specs.Prelude.{◌≡◌, option_map};
 ghost use Rattle.il_reader.specs.Tokens.{tokens_of, token};
 ghost use Rattle.il_reader.specs.Reading.{Takes};
-ghost use Rattle.il_reader.specs.Grammar.{operand, behind, operation, form_of, operator_from, operator_of, is_line_stop};
-ghost use Rattle.il_reader.specs.Walk.{operator_at, optional_operand_at, nested_at, either_at, behind_at, operation_at, optional_operation_at};
+ghost use Rattle.il_reader.specs.Grammar.{operand, behind, operation, form_of, operator_from, operator_of};
+ghost use Rattle.il_reader.specs.Grammar.{is_line_stop};
+ghost use Rattle.il_reader.specs.Walk.{operator_at, optional_operand_at, nested_at, either_at, behind_at, operation_at};
+ghost use Rattle.il_reader.specs.Walk.{optional_operation_at};
 
 use crate::calls::call_read;
 use crate::contents::{Behind, Operand, Operation, Operator};
@@ -12,8 +14,7 @@ use crate::fault::Failure;
 use crate::lexeme::{Lexeme, Sign, next};
 use crate::operands::operand_read;
 use crate::reading::{expected, is, is_end, refused};
-use il_model::op::{Modifier, Op};
-use il_model::words::{Mnemonic, mnemonic_from};
+use il_model::{Mnemonic, Modifier, Op, mnemonic_from};
 use std::alloc::Global;
 
 /// What may stand behind an operator: an operand, nothing, a label, an instance that is called, or an operand or a

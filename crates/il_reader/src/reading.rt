@@ -5,9 +5,9 @@ ghost use Rattle.il_reader.specs.Tokens.{tokens_of, token};
 ghost use Rattle.il_reader.specs.Front.{fault_at, is_sign, is_end, is_word_token, skip_breaks};
 ghost use Rattle.il_reader.specs.Reading.{Takes, Passes, expect, keyword};
 
-use crate::fault::{Failure, FaultKind, Refusal};
+use crate::fault::{Failure, FaultAt, FaultKind};
 use crate::lexeme::{Class, Lexeme, Sign, next};
-use il_model::words::is_spelled;
+use il_model::is_spelled;
 
 /// Whether a token is this sign.
 pub fn is(sign: Sign, t: Lexeme) -> bool
@@ -31,7 +31,7 @@ pub fn refused(t: Lexeme) -> Failure
         Class::Broken(kind) => kind,
         _ => FaultKind::Misplaced,
     };
-    Failure::Refused(Refusal { kind, left: t.left })
+    Failure::Refused(FaultAt { kind, left: t.left })
 }
 
 /// This sign, and what stands after it.

@@ -1,5 +1,6 @@
 -- The listing of a program: its one text, all in capital letters but ms. Each line ends with LF.
-use Rattle.std.specs.Prelude.{ℕ, suc, ◌+◌, ◌==◌, map, ◌/◌, ◌%◌, ℤ, pos, negsuc, Bool, true, false, List, [], ◌∷◌, ◌++◌, Option, Some, None, if◌then◌else◌, codes}
+use Rattle.std.specs.Prelude.{ℕ, suc, ◌+◌, ◌==◌, map, ◌/◌, ◌%◌, ℤ, pos, negsuc, Bool, true, false, List, [], ◌∷◌, ◌++◌}
+use Rattle.std.specs.Prelude.{Option, Some, None, if◌then◌else◌, codes}
 use Rattle.std.specs.List.{flat_map}
 use Rattle.std.specs.Int.Digits.{digits_of}
 use Rattle.il_model.specs.declared.value.Ty.{Ty}
@@ -55,7 +56,8 @@ area_letter areas.Memory = codes "M"
 
 -- %IX0.3, %QW7
 abbrev pub location_text : Loc → List ℕ
-location_text (Bit area n) = codes "%" ++ (area_letter area ++ (codes "X" ++ (decimal (n / 8) ++ (codes "." ++ decimal (n % 8)))))
+location_text (Bit area n) = codes "%"
+    ++ (area_letter area ++ (codes "X" ++ (decimal (n / 8) ++ (codes "." ++ decimal (n % 8)))))
 location_text (Word area n) = codes "%" ++ (area_letter area ++ (codes "W" ++ decimal n))
 
 -- ---- declarations
@@ -77,7 +79,8 @@ initial_text v = if is_zero (number_of v) then [] else codes " := " ++ literal_t
 
 -- X AT %QW0 : INT := INT#7;
 abbrev pub variable_text : Variable → List ℕ
-variable_text v = v.name ++ (at_text v.location ++ (codes " : " ++ (type_name v.ty ++ (initial_text v.initial ++ codes ";\n"))))
+variable_text v = v.name
+    ++ (at_text v.location ++ (codes " : " ++ (type_name v.ty ++ (initial_text v.initial ++ codes ";\n"))))
 
 -- T1 : TON;
 abbrev pub instance_text : Instance → List ℕ
@@ -120,7 +123,8 @@ letter b text = if b then text else []
 
 -- JMPCN, ANDN(
 abbrev pub operator_text : Op → Modifier → List ℕ
-operator_text op m = op_name op ++ (letter m.conditional (codes "C") ++ (letter m.negated (codes "N") ++ letter m.opens (codes "(")))
+operator_text op m = op_name op
+    ++ (letter m.conditional (codes "C") ++ (letter m.negated (codes "N") ++ letter m.opens (codes "(")))
 
 -- a bare number stands in no typed program
 abbrev pub operand_text : Operand → List ℕ
@@ -167,4 +171,6 @@ line_text line = label_text line.op line.label ++ (operation_text line ++ codes 
 -- ---- the whole
 
 abbrev pub listing : Text → List ℕ
-listing Q = codes "VAR\n" ++ (flat_map variable_text Q.variables ++ (flat_map instance_text Q.instances ++ (codes "END_VAR\n" ++ flat_map line_text Q.code)))
+listing Q = codes "VAR\n"
+    ++ (flat_map variable_text Q.variables
+    ++ (flat_map instance_text Q.instances ++ (codes "END_VAR\n" ++ flat_map line_text Q.code)))

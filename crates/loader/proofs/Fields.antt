@@ -20,7 +20,7 @@ use Rattle.il_model.specs.Values.{typed_value, ty_of, number_of}
 use Rattle.il_model.specs.CodedOperands.{code_of, with_code}
 use Rattle.il_model.specs.Image.{type_code, location_code, number_width, number_bytes}
 use Rattle.il_model.proofs.CodedOperands.{coded_back}
-use Rattle.il_model.proofs.Settling.{made_number}
+use Rattle.il_model.proofs.SettledPrograms.{made_number}
 use Rattle.il_model.proofs.Versions.{number_limit, IsKept, initial_made, made_type}
 use Rattle.loader.specs.declared.fault.LoadFault.{LoadFault}
 use Rattle.loader.specs.declared.fault.LoadFault.TheVariants.{Truncated}

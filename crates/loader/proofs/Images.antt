@@ -18,7 +18,7 @@ use Rattle.il_model.specs.Image.{version_number, is_long_line, version_with, ver
 use Rattle.il_model.specs.Codes.{may_have}
 use Rattle.il_model.specs.Fits.{IsMark, IsConstant, AreItems, IsText, IsImage}
 use Rattle.il_model.proofs.Marks.{table_again, table_rises, table_starts, table_labels}
-use Rattle.il_model.proofs.Constants.{are_apart}
+use Rattle.il_model.proofs.ConstantLists.{are_apart}
 use Rattle.il_model.proofs.Calls.{typed_lines}
 use Rattle.il_model.proofs.Versions.{same_version, version_may}
 use Rattle.loader.specs.declared.word.Word.{Word}

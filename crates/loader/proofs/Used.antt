@@ -16,7 +16,7 @@ use Rattle.il_model.specs.CodedOperands.{code_of, with_code, HasOwnCode}
 use Rattle.il_model.specs.Image.{numbered, coded_literal, operand_code}
 use Rattle.il_model.specs.Fits.{AreItems}
 use Rattle.il_model.proofs.CodedOperands.{coded_again}
-use Rattle.il_model.proofs.Constants.{AreApart, same_self, used_again, constants_grow}
+use Rattle.il_model.proofs.ConstantLists.{AreApart, same_self, used_again, constants_grow}
 use Rattle.il_model.proofs.Positions.{position_front, position_behind}
 use Rattle.loader.specs.declared.word.Word.{Word}
 use Rattle.loader.specs.declared.word.Content.{Content}

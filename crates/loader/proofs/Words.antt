@@ -35,7 +35,7 @@ use Rattle.il_model.specs.Codes.{length_of, is_number, is_new_name, variable_nam
 use Rattle.il_model.specs.Fits.{IsVariable, IsInstance, IsMark, AreItems}
 use Rattle.il_model.proofs.CodedOperands.{coded_back}
 use Rattle.il_model.proofs.Marks.{AreLabelled, label_in}
-use Rattle.il_model.proofs.Constants.{AreApart, same_self}
+use Rattle.il_model.proofs.ConstantLists.{AreApart, same_self}
 use Rattle.il_model.proofs.Positions.{position_behind, found_last, not_in_front}
 use Rattle.loader.proofs.Fields.{tested_some}
 

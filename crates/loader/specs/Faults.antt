@@ -1,6 +1,7 @@
 -- The numbers of the loader's errors.
 use Rattle.std.specs.Prelude.{ℕ}
-use Rattle.loader.specs.declared.fault.LoadFault.TheVariants.{Truncated, BadMagic, BadVersion, BadCount, BadWord, BadType, BadTarget, Trailing}
+use Rattle.loader.specs.declared.fault.LoadFault.TheVariants.{Truncated, BadMagic, BadVersion, BadCount, BadWord}
+use Rattle.loader.specs.declared.fault.LoadFault.TheVariants.{BadType, BadTarget, Trailing}
 use Rattle.loader.specs.declared.fault.LoadError.{LoadError}
 use Rattle.loader.specs.declared.fault.LoadError.TheVariants as errors
 

@@ -1,5 +1,6 @@
 -- The first fault of tables that were read.
-use Rattle.std.specs.Prelude.{ℕ, ◌+◌, ◌-◌, ◌*◌, suc, Bool, true, false, not, ◌&&◌, slice_get, List, [], ◌∷◌, length, Option, Some, None, Result, Ok, Err, nat_lt, nat_le, nat_eq, if◌then◌else◌}
+use Rattle.std.specs.Prelude.{ℕ, ◌+◌, ◌-◌, ◌*◌, suc, Bool, true, false, not, ◌&&◌, slice_get, List, [], ◌∷◌, length}
+use Rattle.std.specs.Prelude.{Option, Some, None, Result, Ok, Err, nat_lt, nat_le, nat_eq, if◌then◌else◌}
 use Rattle.std.specs.List.{position}
 use Rattle.std.specs.Int.{byte_len}
 use Rattle.std.specs.Option.{option_map}
@@ -53,7 +54,8 @@ is_start (Some w) = not (is_argument w.content)
 -- the addresses of labels rise from n on, and at each an instruction begins
 abbrev pub risen : ℕ → ℕ → List Word → List Mark → Result (Unit {0}) LoadFault
 risen end n words [] = Ok tt
-risen end n words (m ∷ ms) = if nat_le n m.at && is_start (slice_get words m.at) then risen end (suc m.at) words ms else Err (BadTarget (label_place end (m ∷ ms)))
+risen end n words (m ∷ ms) = if nat_le n m.at && is_start (slice_get words m.at) then risen end (suc m.at) words ms
+    else Err (BadTarget (label_place end (m ∷ ms)))
 
 -- ---- words
 
@@ -70,10 +72,12 @@ abbrev pub with_used : ℕ → Option ℕ → (ℕ → Result ℕ ℕ) → Resul
 with_used n None go = Err n
 with_used n (Some used) go = go used
 
--- how many of the constants are used by the words from the n-th on and those before them, or the first word that uses one before a lower one
+-- how many of the constants are used by the words from the n-th on and those before them, or the first word that uses
+-- one before a lower one
 abbrev pub used_from : ℕ → ℕ → List Word → Result ℕ ℕ
 used_from n used [] = Ok used
-used_from n used (w ∷ ws) = with_used n (step_used (constant_in (operand_in w.content) w.code) used) (λ u. used_from (suc n) u ws)
+used_from n used (w ∷ ws) =
+    with_used n (step_used (constant_in (operand_in w.content) w.code) used) (λ u. used_from (suc n) u ws)
 
 abbrev pub earlier : Option ℕ → Result ℕ ℕ → Option ℕ
 earlier o (Ok used) = o
@@ -98,11 +102,13 @@ takes_argument (contents.Argument side number operand) = true
 -- the first argument that stands behind something else; whether one may stand at the front says the first
 abbrev pub stray_from : Bool → List Word → Option ℕ
 stray_from may [] = None
-stray_from may (w ∷ ws) = if is_argument w.content && not may then Some 0 else option_map suc (stray_from (takes_argument w.content) ws)
+stray_from may (w ∷ ws) = if is_argument w.content && not may then Some 0
+    else option_map suc (stray_from (takes_argument w.content) ws)
 
 -- the first word that no spelling has there
 abbrev pub misspelled : List Word → Result ℕ ℕ → Option ℕ
-misspelled words used = earlier (sooner (position (λ (w : Word). says_nothing w.content) words) (stray_from false words)) used
+misspelled words used = earlier
+    (sooner (position (λ (w : Word). says_nothing w.content) words) (stray_from false words)) used
 
 -- the first fault of typing, with the number of the word where it stands
 abbrev pub at_word : Text → Result (Unit {0}) (TypeFault × ℕ) → Result (Unit {0}) (TypeFault × ℕ)
@@ -118,13 +124,15 @@ abbrev pub words_fine : ℕ → ℕ → Option ℕ → Result (Unit {0}) (TypeFa
 words_fine total count None (Ok x) = Ok tt
 words_fine total count None (Err f) = Err (type_fault (word_place total count f.1) f.0)
 words_fine total count (Some n) (Ok x) = Err (BadWord (word_place total count n))
-words_fine total count (Some n) (Err f) = if nat_le n f.1 then Err (BadWord (word_place total count n)) else Err (type_fault (word_place total count f.1) f.0)
+words_fine total count (Some n) (Err f) = if nat_le n f.1 then Err (BadWord (word_place total count n))
+    else Err (type_fault (word_place total count f.1) f.0)
 
 -- ---- the whole
 
 -- all of the constants are used
 abbrev pub all_used : Version → ℕ → ℕ → ℕ → Result ℕ ℕ → Result (Unit {0}) LoadFault
-all_used version total words count (Ok used) = agrees (BadWord (constant_place version total words count used)) (nat_eq used count)
+all_used version total words count (Ok used) =
+    agrees (BadWord (constant_place version total words count used)) (nat_eq used count)
 all_used version total words count (Err n) = Ok tt
 
 -- the version that stands in the header, and the one that the program has
@@ -135,7 +143,8 @@ abbrev pub small : Option Text → Result Text LoadFault
 small None = Err BadCount
 small (Some Q) = Ok Q
 
--- the program of the tables, where its labels rise, its words are spelled and typed, its constants are used, and the version is its own
+-- the program of the tables, where its labels rise, its words are spelled and typed, its constants are used, and the
+-- version is its own
 unfoldable pub judged_tables : ℕ → Tables → Result Text LoadFault
 judged_tables total t = do
   Q ← small (program_of t.variables t.instances (lines_of t.instances t.words))

@@ -27,6 +27,7 @@ name_in m n = option_map (λ (name : Bor (List ℕ)). name.now) (tree.get nat_cm
 abbrev pub AreNames : List Mark → BTreeMap ℕ (Bor (List ℕ)) → Type 0
 AreNames seen m = (n : ℕ) → name_in m n ≡ label_there seen n
 
-pub record AreLabelTables (seen : List Mark) (numbered : BTreeMap (Bor (List ℕ)) ℕ) (placed : BTreeMap ℕ (Bor (List ℕ))) : Type 0 where
+pub record AreLabelTables (seen : List Mark) (numbered : BTreeMap (Bor (List ℕ)) ℕ)
+    (placed : BTreeMap ℕ (Bor (List ℕ))) : Type 0 where
   pub numbers : AreNumbers seen numbered
   pub names : AreNames seen placed

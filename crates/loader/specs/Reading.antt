@@ -1,6 +1,8 @@
 -- Reading an image from left to right, with the first fault that is met.
-use Rattle.std.specs.Prelude.{◌≡◌, ℕ, ℤ, ◌-◌, zero, suc, Bool, true, false, List, [], ◌∷◌, ◌++◌, length, take, drop, Option, Some, None, Result, Ok, Err, nat_lt, nat_le, nat_eq, if◌then◌else◌}
+use Rattle.std.specs.Prelude.{◌≡◌, ℕ, ℤ, ◌-◌, zero, suc, Bool, true, false, List, [], ◌∷◌, ◌++◌, length, take, drop}
+use Rattle.std.specs.Prelude.{Option, Some, None, Result, Ok, Err, nat_lt, nat_le, nat_eq, if◌then◌else◌}
 use Rattle.std.specs.Int.{Width, w8, w16, w32, byte_len, from_be_bytes, cast_signed}
+use Rattle.il_model.specs.declared.limits.TheConstants.{MOST_VARIABLES, MOST_INSTANCES, MOST_INSTRUCTIONS}
 use Rattle.il_model.specs.declared.value.Ty.{Ty}
 use Rattle.il_model.specs.declared.program.Loc.{Loc}
 use Rattle.il_model.specs.declared.program.Variable.{Variable}
@@ -13,12 +15,15 @@ use Rattle.il_model.specs.Kinds.{kind_of_code}
 use Rattle.loader.specs.declared.word.Content.TheVariants as contents
 use Rattle.il_model.specs.declared.value.Value.{Value}
 use Rattle.il_model.specs.Marks.{Mark}
-use Rattle.il_model.specs.Codes.{is_new_name, is_new_instance, is_new_label, length_of, type_in, version_numbered, coded_location, initial_of, constant_of, op_in, letters_of, label_there, word_operand, side_of, argument_number, argument_operand}
+use Rattle.il_model.specs.Codes.{is_new_name, is_new_instance, is_new_label, length_of, type_in, version_numbered}
+use Rattle.il_model.specs.Codes.{coded_location, initial_of, constant_of, op_in, letters_of, label_there, word_operand}
+use Rattle.il_model.specs.Codes.{side_of, argument_number, argument_operand}
 use Rattle.loader.specs.declared.counts.Counts.{Counts}
 use Rattle.loader.specs.declared.word.Word.{Word}
 use Rattle.loader.specs.Tables.{Tables}
 use Rattle.loader.specs.declared.fault.LoadFault.{LoadFault}
-use Rattle.loader.specs.declared.fault.LoadFault.TheVariants.{Truncated, BadMagic, BadVersion, BadCount, BadWord, Trailing}
+use Rattle.loader.specs.declared.fault.LoadFault.TheVariants.{Truncated, BadMagic, BadVersion, BadCount, BadWord}
+use Rattle.loader.specs.declared.fault.LoadFault.TheVariants.{Trailing}
 use Rattle.loader.specs.declared.fault.LoadError.{LoadError}
 use Rattle.loader.specs.declared.fault.LoadError.TheVariants as errors
 
@@ -37,11 +42,13 @@ Gives view (Ok x) read = read ≡ Ok (view x)
 Gives view (Err e) read = Fails e read
 
 abbrev pub number_at : Width → List ℕ → Result (ℕ × List ℕ) LoadFault
-number_at w bytes = if nat_lt (length bytes) (byte_len w) then Err Truncated else Ok (from_be_bytes w (take (byte_len w) bytes), drop (byte_len w) bytes)
+number_at w bytes = if nat_lt (length bytes) (byte_len w) then Err Truncated
+    else Ok (from_be_bytes w (take (byte_len w) bytes), drop (byte_len w) bytes)
 
 -- a number as an image of this version has it
 abbrev pub signed_at : Version → List ℕ → Result (ℤ × List ℕ) LoadFault
-signed_at version bytes = number_at (number_width version) bytes >>= λ n. Ok (cast_signed (number_width version) n.0, n.1)
+signed_at version bytes =
+    number_at (number_width version) bytes >>= λ n. Ok (cast_signed (number_width version) n.0, n.1)
 
 -- what stands in a record that begins where pos says is lawful, or the fault is the record's
 abbrev pub lawful : {A : Type 0} → ℕ → Option A → Result A LoadFault
@@ -54,7 +61,8 @@ agrees fault true = Ok tt
 agrees fault false = Err fault
 
 -- as many items as a number says, each read with those before it at hand
-unfoldable pub items_from : {X : Type 0} → (List X → List ℕ → Result (X × List ℕ) LoadFault) → ℕ → List X → List ℕ → Result (List X × List ℕ) LoadFault
+unfoldable pub items_from : {X : Type 0} → (List X → List ℕ → Result (X × List ℕ) LoadFault) → ℕ → List X → List ℕ
+    → Result (List X × List ℕ) LoadFault
 items_from item zero seen bytes = Ok (seen, bytes)
 items_from item (suc n) seen bytes = item seen bytes >>= λ x. items_from item n (seen ++ x.0 ∷ []) x.1
 
@@ -65,12 +73,21 @@ count_at limit bytes = number_at w16 bytes >>= λ n. agrees BadCount (nat_le n.0
 
 unfoldable pub counts_at : List ℕ → Result (Counts × List ℕ) LoadFault
 counts_at bytes = do
-  variables ← count_at 512 bytes
-  instances ← count_at 128 variables.1
-  labels ← count_at 4096 instances.1
+  variables ← count_at MOST_VARIABLES bytes
+  instances ← count_at MOST_INSTANCES variables.1
+  labels ← count_at MOST_INSTRUCTIONS instances.1
   constants ← count_at 20480 labels.1
   words ← count_at 36864 constants.1
-  Ok (record { variables = variables.0; instances = instances.0; labels = labels.0; constants = constants.0; words = words.0 }, words.1)
+  Ok (
+    record {
+      variables = variables.0;
+      instances = instances.0;
+      labels = labels.0;
+      constants = constants.0;
+      words = words.0;
+    },
+    words.1,
+  )
 
 abbrev pub lawful_version : Option Version → Result Version LoadFault
 lawful_version None = Err BadVersion
@@ -142,14 +159,23 @@ constant_at version total seen bytes = do
   Ok (value, number.1)
 
 -- behind its code, the n-th word where it is an instruction
-unfoldable pub instruction_at : Version → ℕ → Declarations → List Mark → List Value → ℕ → ℕ → List ℕ → Result (Word × List ℕ) LoadFault
+unfoldable pub instruction_at : Version → ℕ → Declarations → List Mark → List Value → ℕ → ℕ → List ℕ
+    → Result (Word × List ℕ) LoadFault
 instruction_at version pos ds marks constants n code bytes = do
   op ← lawful pos (op_in version code)
   letters ← number_at w8 bytes
   m ← lawful pos (letters_of op letters.0)
   slot ← number_at w16 letters.1
   operand ← lawful pos (word_operand ds marks constants op m slot.0)
-  Ok (record { content = contents.Instruction (record { label = label_there marks n; op = op; modifier = m; operand = operand; arguments = [] }); code = slot.0 }, slot.1)
+  Ok (
+    record {
+      content = contents.Instruction
+          (record { label = label_there marks n; op = op; modifier = m; operand = operand; arguments = [] });
+      code =
+          slot.0;
+    },
+    slot.1,
+  )
 
 -- that where it is an argument; whether it follows a call, and whether the call's kind has the field, is judged later
 unfoldable pub argument_at : ℕ → Declarations → List Value → Side → List ℕ → Result (Word × List ℕ) LoadFault
@@ -160,18 +186,22 @@ argument_at pos ds constants side bytes = do
   operand ← lawful pos (argument_operand ds constants slot.0)
   Ok (record { content = contents.Argument side field operand; code = slot.0 }, slot.1)
 
-abbrev pub word_by : Version → ℕ → Declarations → List Mark → List Value → ℕ → ℕ → Option Side → List ℕ → Result (Word × List ℕ) LoadFault
+abbrev pub word_by : Version → ℕ → Declarations → List Mark → List Value → ℕ → ℕ → Option Side → List ℕ
+    → Result (Word × List ℕ) LoadFault
 word_by version pos ds marks constants n code None bytes = instruction_at version pos ds marks constants n code bytes
 word_by version pos ds marks constants n code (Some side) bytes = argument_at pos ds constants side bytes
 
 -- the n-th word, behind the tables that its number may point to
-unfoldable pub word_at : Version → ℕ → Declarations → List Mark → List Value → ℕ → List ℕ → Result (Word × List ℕ) LoadFault
+unfoldable pub word_at : Version → ℕ → Declarations → List Mark → List Value → ℕ → List ℕ
+    → Result (Word × List ℕ) LoadFault
 word_at version pos ds marks constants n bytes = do
   code ← number_at w8 bytes
   word_by version pos ds marks constants n code.0 (side_of code.0) code.1
 
-abbrev pub next_word : Version → ℕ → Declarations → List Mark → List Value → List Word → List ℕ → Result (Word × List ℕ) LoadFault
-next_word version total ds marks constants seen bytes = word_at version (total - length bytes) ds marks constants (length seen) bytes
+abbrev pub next_word : Version → ℕ → Declarations → List Mark → List Value → List Word → List ℕ
+    → Result (Word × List ℕ) LoadFault
+next_word version total ds marks constants seen bytes =
+    word_at version (total - length bytes) ds marks constants (length seen) bytes
 
 -- ---- the whole
 
@@ -185,8 +215,19 @@ bodies_at version total counts bytes = do
   instances ← items_from (instance_at total variables.0) counts.instances [] variables.1
   labels ← items_from (mark_at total) counts.labels [] instances.1
   constants ← items_from (constant_at version total) counts.constants [] labels.1
-  words ← items_from (next_word version total (record { variables = variables.0; instances = instances.0 }) labels.0 constants.0) counts.words [] constants.1
-  ended (record { version = version; variables = variables.0; instances = instances.0; labels = labels.0; constants = constants.0; words = words.0 }, words.1)
+  words ← items_from (next_word version total
+      (record { variables = variables.0; instances = instances.0 }) labels.0 constants.0) counts.words [] constants.1
+  ended (
+    record {
+      version = version;
+      variables = variables.0;
+      instances = instances.0;
+      labels = labels.0;
+      constants = constants.0;
+      words = words.0;
+    },
+    words.1,
+  )
 
 unfoldable pub tables_at : List ℕ → Result Tables LoadFault
 tables_at bytes = do

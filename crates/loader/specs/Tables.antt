@@ -35,10 +35,12 @@ abbrev pub is_argument : Content → Bool
 is_argument (contents.Instruction line) = false
 is_argument (contents.Argument side number operand) = true
 
--- the arguments that the words begin with, of a call to a block of that kind; in front of the other arguments and of none
+-- the arguments that the words begin with, of a call to a block of that kind; in front of the other arguments and of
+-- none
 abbrev pub with_argument : Option BlockKind → Content → List Argument → List Argument
 with_argument kind (contents.Instruction line) more = []
-with_argument kind (contents.Argument side number operand) more = record { field = argument_name kind number; side = side; operand = operand } ∷ more
+with_argument kind (contents.Argument side number operand) more =
+    record { field = argument_name kind number; side = side; operand = operand } ∷ more
 
 abbrev pub front_arguments : Option BlockKind → List Word → List Argument
 front_arguments kind [] = []
@@ -46,7 +48,8 @@ front_arguments kind (w ∷ ws) = with_argument kind w.content (front_arguments 
 
 -- an instruction takes the arguments behind it
 abbrev pub with_line : List Instance → Content → List Word → List Instr → List Instr
-with_line xs (contents.Instruction line) ws more = record line { arguments = front_arguments (kind_in xs line.operand) ws } ∷ more
+with_line xs (contents.Instruction line) ws more =
+    record line { arguments = front_arguments (kind_in xs line.operand) ws } ∷ more
 with_line xs (contents.Argument side number operand) ws more = more
 
 -- the instructions that the words stand for; an argument in front of all of them is in none, and is refused

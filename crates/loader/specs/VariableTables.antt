@@ -19,6 +19,7 @@ is_named name v = same_name v.name name
 abbrev pub AreNumbered : List Variable → BTreeMap (Bor (List ℕ)) ℕ → Type 0
 AreNumbered seen m = (name : List ℕ) → first_in m name ≡ position (is_named name) seen
 
-pub record AreVariableTables (seen : List Variable) (numbered : BTreeMap (Bor (List ℕ)) ℕ) (placed : BTreeSet ℕ) : Type 0 where
+pub record AreVariableTables (seen : List Variable) (numbered : BTreeMap (Bor (List ℕ)) ℕ)
+    (placed : BTreeSet ℕ) : Type 0 where
   pub numbers : AreNumbered seen numbered
   pub codes : AreCodes seen placed

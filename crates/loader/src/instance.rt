@@ -8,8 +8,8 @@ use std::alloc::{AllocError, Global};
 use std::collections::BTreeMap;
 use std::marker::Model;
 
-/// Instances in the order in which they were read, with a table of their names, so that a look-up takes a time that grows
-/// as the logarithm of their number.
+/// Instances in the order in which they were read, with a table of their names, so that a look-up takes a time that
+/// grows as the logarithm of their number.
 #[derive(Drop)]
 pub struct Instances<'a> {
     found: Vec<Instance>,

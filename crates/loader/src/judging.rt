@@ -6,14 +6,15 @@ ghost use Rattle.il_model.specs.Constants.{step_used};
 ghost use Rattle.loader.specs.Tables.{operand_in, is_argument};
 ghost use Rattle.loader.specs.declared.fault.LoadFault.TheVariants.{BadVersion};
 ghost use Rattle.loader.specs.Reading.{Gives, agrees};
-ghost use Rattle.loader.specs.Judging.{word_place, constant_length, constant_place, label_place, is_start, risen, constant_in, used_from, sooner, says_nothing, takes_argument, stray_from, misspelled, type_fault, words_fine, all_used, is_same};
+ghost use Rattle.loader.specs.Judging.{word_place, constant_length, constant_place, label_place, is_start, risen};
+ghost use Rattle.loader.specs.Judging.{constant_in, used_from, sooner, says_nothing, takes_argument, stray_from};
+ghost use Rattle.loader.specs.Judging.{misspelled, type_fault, words_fine, all_used, is_same};
 
 use crate::fault::{LoadError, LoadFault};
 use crate::label::Label;
 use crate::reading::agrees;
 use crate::word::{Content, Word};
-use il_model::codes::{Version, is_pointless};
-use il_model::{CodedOperand, Op, Operand, TypeFault};
+use il_model::{CodedOperand, Op, Operand, TypeFault, Version, is_pointless};
 
 fn word_place(total: usize, count: usize, n: usize) -> usize
     ensures { result ≡ word_place total count n }

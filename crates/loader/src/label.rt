@@ -4,7 +4,7 @@ ghost use Rattle.std.specs.Prelude.{◌≡◌, ◌++◌, [], ◌∷◌, OnOk, If
 ghost use Rattle.il_model.specs.Codes.{label_there, is_new_label};
 ghost use Rattle.loader.specs.LabelTables.{AreNumbers, AreNames};
 
-use il_model::name::is_lawful_name;
+use il_model::is_lawful_name;
 use std::alloc::{AllocError, Global};
 use std::collections::BTreeMap;
 use std::marker::Model;
@@ -24,8 +24,8 @@ impl<'a> Model for Label<'a> {
     ghost view = { λ l. record { name = l.name.now; at = l.at } };
 }
 
-/// Labels in the order in which they were read, with tables of their names and of their addresses, so that a look-up takes
-/// a time that grows as the logarithm of their number.
+/// Labels in the order in which they were read, with tables of their names and of their addresses, so that a look-up
+/// takes a time that grows as the logarithm of their number.
 #[derive(Drop)]
 pub struct Labels<'a> {
     found: Vec<Label<'a>>,

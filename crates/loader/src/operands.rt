@@ -3,14 +3,16 @@
 ghost use Rattle.std.specs.Prelude.{◌≡◌, Ok, slice_get};
 ghost use Rattle.std.specs.Option.{option_map};
 ghost use Rattle.il_model.specs.declared.program.Operand.TheVariants as operands;
-ghost use Rattle.il_model.specs.Codes.{label_there, target_name, variable_named, instance_named, field_named, named_operand, value_operand, numbered_operand, word_operand, argument_operand};
+ghost use Rattle.il_model.specs.Codes.{label_there, target_name, variable_named, instance_named, field_named};
+ghost use Rattle.il_model.specs.Codes.{named_operand, value_operand, numbered_operand, word_operand, argument_operand};
 ghost use Rattle.loader.specs.Reading.{Gives};
 
 use crate::declared::Declared;
 use crate::fault::LoadError;
 use crate::label::Labels;
-use il_model::codes::{is_formed, is_passed};
-use il_model::{CodedOperand, Instance, Modifier, Name, Op, Operand, Value, Variable};
+use il_model::{
+    CodedOperand, Instance, Modifier, Name, Op, Operand, Value, Variable, is_formed, is_passed,
+};
 use std::alloc::Global;
 
 /// The name of the first label at an address.

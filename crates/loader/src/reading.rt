@@ -2,8 +2,12 @@
 
 ghost use Rattle.std.specs.Prelude.{◌≡◌, [], IfOk};
 ghost use Rattle.std.specs.Int.{w8, w16, w32, w64};
-ghost use Rattle.il_model.specs.Codes.{is_new_instance, argument_number, constant_of, is_free, coded_location, version_numbered};
-ghost use Rattle.loader.specs.Reading.{Gives, number_at, signed_at, lawful, agrees, items_from, count_at, counts_at, lawful_version, header_at, spelled_name_at, first_value_at, variable_at, instance_at, mark_at, constant_at, instruction_at, argument_at, word_at, next_word};
+ghost use Rattle.il_model.specs.Codes.{is_new_instance, argument_number, constant_of, is_free, coded_location};
+ghost use Rattle.il_model.specs.Codes.{version_numbered};
+ghost use Rattle.loader.specs.Reading.{Gives, number_at, signed_at, lawful, agrees, items_from, count_at, counts_at};
+ghost use Rattle.loader.specs.Reading.{lawful_version, header_at, spelled_name_at, first_value_at, variable_at};
+ghost use Rattle.loader.specs.Reading.{instance_at, mark_at, constant_at, instruction_at, argument_at, word_at};
+ghost use Rattle.loader.specs.Reading.{next_word};
 
 use crate::counts::Counts;
 use crate::declared::Declared;
@@ -13,14 +17,10 @@ use crate::label::{Label, Labels};
 use crate::operands::{argument_operand, label_there, word_operand};
 use crate::variable::Variables;
 use crate::word::{Content, Word};
-use il_model::codes::{
-    MAGIC, Version, initial_of, is_type, length_of, letters_of, op_in, side_of, type_in,
-};
-use il_model::constant_table::Constants;
-use il_model::resolve::loc_type;
-use il_model::value::make;
 use il_model::{
-    Arguments, BlockKind, CodedOperand, Instance, Instr, Loc, Name, Side, Ty, Value, Variable,
+    Arguments, BlockKind, CodedOperand, Constants, Instance, Instr, Loc, MAGIC, MOST_INSTANCES,
+    MOST_INSTRUCTIONS, MOST_VARIABLES, Name, Side, Ty, Value, Variable, Version, initial_of,
+    is_type, length_of, letters_of, loc_type, make, op_in, side_of, type_in,
 };
 use std::alloc::Global;
 
@@ -107,11 +107,11 @@ pub fn agrees(fault: LoadFault, test: bool) -> Result<(), LoadError>
     }
 }
 
-fn count_at(limit: u16, bytes: &[u8]) -> Result<(u16, &[u8]), LoadError>
+fn count_at(limit: usize, bytes: &[u8]) -> Result<(u16, &[u8]), LoadError>
     ensures { Gives (λ x. (x.0, x.1.now)) result (count_at limit bytes.now) }
 {
     let (n, rest) = u16_at(bytes)?;
-    agrees(LoadFault::BadCount, n <= limit)?;
+    agrees(LoadFault::BadCount, usize::from(n) <= limit)?;
     Ok((n, rest))
 }
 
@@ -119,9 +119,9 @@ fn count_at(limit: u16, bytes: &[u8]) -> Result<(u16, &[u8]), LoadError>
 fn counts_at(bytes: &[u8]) -> Result<(Counts, &[u8]), LoadError>
     ensures { Gives (λ x. (x.0, x.1.now)) result (counts_at bytes.now) }
 {
-    let (variables, rest) = count_at(512, bytes)?;
-    let (instances, rest) = count_at(128, rest)?;
-    let (labels, rest) = count_at(4096, rest)?;
+    let (variables, rest) = count_at(MOST_VARIABLES, bytes)?;
+    let (instances, rest) = count_at(MOST_INSTANCES, rest)?;
+    let (labels, rest) = count_at(MOST_INSTRUCTIONS, rest)?;
     let (constants, rest) = count_at(20480, rest)?;
     let (words, rest) = count_at(36864, rest)?;
     Ok((
@@ -337,7 +337,8 @@ fn instruction_at<'a>(
     code: u8,
     bytes: &'a [u8],
 ) -> Result<(Word, &'a [u8]), LoadError>
-    ensures { Gives (λ x. (x.0, x.1.now)) result (instruction_at version position ds.now labels.now constants.now n code bytes.entry.now) }
+    ensures { Gives (λ x. (x.0, x.1.now)) result
+        (instruction_at version position ds.now labels.now constants.now n code bytes.entry.now) }
 {
     let op = lawful(position, op_in(version, code))?;
     let (letters, rest) = u8_at(bytes)?;
@@ -389,7 +390,8 @@ fn word_at<'a>(
     n: usize,
     bytes: &'a [u8],
 ) -> Result<(Word, &'a [u8]), LoadError>
-    ensures { Gives (λ x. (x.0, x.1.now)) result (word_at version position ds.now labels.now constants.now n bytes.entry.now) }
+    ensures { Gives (λ x. (x.0, x.1.now)) result
+        (word_at version position ds.now labels.now constants.now n bytes.entry.now) }
 {
     let (code, rest) = u8_at(bytes)?;
     match side_of(code) {
@@ -426,7 +428,8 @@ pub fn instances_of<'a>(
     count: u16,
     bytes: &'a [u8],
 ) -> Result<(Instances<'a>, &'a [u8]), LoadError>
-    ensures { Gives (λ x. (x.0, x.1.now)) result (items_from (instance_at total variables.now) count [] bytes.entry.now) }
+    ensures { Gives (λ x. (x.0, x.1.now)) result
+        (items_from (instance_at total variables.now) count [] bytes.entry.now) }
 {
     let mut seen = Instances::new(alloc);
     let mut rest = bytes;
@@ -486,7 +489,8 @@ fn next_word<'a>(
     seen: &[Word],
     bytes: &'a [u8],
 ) -> Result<(Word, &'a [u8]), LoadError>
-    ensures { Gives (λ x. (x.0, x.1.now)) result (next_word version total ds.now labels.now constants.now seen.now bytes.entry.now) }
+    ensures { Gives (λ x. (x.0, x.1.now)) result
+        (next_word version total ds.now labels.now constants.now seen.now bytes.entry.now) }
 {
     let position = total.saturating_sub(bytes.len());
     word_at(
@@ -511,7 +515,8 @@ pub fn words_of<'a>(
     count: u16,
     bytes: &'a [u8],
 ) -> Result<(Vec<Word>, &'a [u8]), LoadError>
-    ensures { Gives (λ x. (x.0.items, x.1.now)) result (items_from (next_word version total ds.now labels.now constants.now) count [] bytes.entry.now) }
+    ensures { Gives (λ x. (x.0.items, x.1.now)) result
+        (items_from (next_word version total ds.now labels.now constants.now) count [] bytes.entry.now) }
 {
     let mut found = Vec::new(alloc);
     let mut rest = bytes;

@@ -13,8 +13,7 @@ use crate::reading::{
 };
 use crate::variable::Variables;
 use crate::word::Word;
-use il_model::codes::Version;
-use il_model::constant_table::Constants;
+use il_model::{Constants, Version};
 use std::alloc::Global;
 use std::marker::Model;
 
@@ -34,7 +33,14 @@ impl<'a> Model for ReadTables<'a> {
 
     ghost Value = { Tables };
 
-    ghost view = { λ t. record { version = t.version; variables = t.variables; instances = t.instances; labels = t.labels; constants = t.constants; words = t.words.items } };
+    ghost view = { λ t. record {
+      version = t.version;
+      variables = t.variables;
+      instances = t.instances;
+      labels = t.labels;
+      constants = t.constants;
+      words = t.words.items;
+    } };
 }
 
 #[tactic(auto, unfolding(crate::specs::Reading::bodies_at))]

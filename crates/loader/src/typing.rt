@@ -5,10 +5,7 @@ ghost use Rattle.il_model.specs.Marks.{word_count, words_in, address_of};
 ghost use Rattle.il_model.specs.Typing.{judgement_of};
 ghost use Rattle.loader.specs.Judging.{at_word};
 
-use il_model::check::check;
-use il_model::faulty::faulty_word;
-use il_model::indexed::IndexedProgram;
-use il_model::{Instr, Program, TypeFault};
+use il_model::{IndexedProgram, Instr, Program, TypeFault, check_types, faulty_word};
 use std::alloc::{AllocError, Global};
 
 /// How many words an instruction has: its own, and one for each argument.
@@ -60,5 +57,5 @@ pub fn typed(alloc: Global, program: &Program) -> Result<Result<(), (TypeFault, 
     ensures { IfOk result (λ r. r ≡ at_word program.now (judgement_of program.now)) }
 {
     let indexed = IndexedProgram::new(alloc, program)?;
-    Ok(at_word(&indexed, check(&indexed)))
+    Ok(at_word(&indexed, check_types(&indexed)))
 }

@@ -3,9 +3,7 @@
 ghost use Rattle.std.specs.Prelude.{◌≡◌, ◌++◌, [], ◌∷◌, OnOk};
 ghost use Rattle.loader.specs.VariableTables.{AreNumbered};
 
-use il_model::location_table::put_code;
-use il_model::name::is_lawful_name;
-use il_model::{Loc, Variable};
+use il_model::{Loc, Variable, is_lawful_name, put_code};
 use std::alloc::{AllocError, Global};
 use std::collections::{BTreeMap, BTreeSet};
 use std::marker::Model;

@@ -7,10 +7,7 @@ ghost use Rattle.il_model.specs.Typing.{top_of, shape_after, shape_on_arrival, s
 ghost use Rattle.controller_model.specs.Suits.{held_of};
 ghost use Rattle.controller_model.specs.Snapshots.{same_optional, same_held, all_held};
 
-use il_model::check::Types;
-use il_model::resolve::kind_of;
-use il_model::typing::row_of;
-use il_model::{Deferred, Held, Ty, Value};
+use il_model::{Deferred, Held, Ty, Types, Value, kind_of, row_of};
 use loader::Image;
 
 /// Goes past an instruction.
@@ -47,7 +44,8 @@ pub fn types_at(image: &Image, n: u16) -> Types
 
 /// Whether a current result and deferred operators, the outermost first, are of these types.
 pub fn are_of(types: &Types, cr: Option<Value>, deferred: &[Deferred]) -> bool
-    ensures { result ≡ (same_optional (option_map ty_of cr) types.now.cr && all_held (map held_of (reverse deferred.now)) types.now.kept) }
+    ensures { result ≡ (same_optional (option_map ty_of cr) types.now.cr
+        && all_held (map held_of (reverse deferred.now)) types.now.kept) }
 {
     is_of(cr, types.cr()) && all_of(deferred, types.held())
 }

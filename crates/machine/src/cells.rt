@@ -5,7 +5,7 @@ ghost use Rattle.il_model.specs.Areas.{area_of};
 ghost use Rattle.controller_model.specs.Cold.{same_area, with_first, first_cells};
 ghost use Rattle.controller_model.specs.State.{value_in, with_value_in};
 
-use il_model::{Area, Cells, Loc, Value, Variable};
+use il_model::{Area, BITS, Cells, Loc, Value, Variable, WORDS};
 
 /// The area of a location.
 pub fn area_of(loc: Loc) -> Area
@@ -38,7 +38,7 @@ pub fn write_cells(cells: &mut Cells, loc: Loc, v: Value) -> Option<()>
 {
     match (loc, v) {
         (Loc::Bit(_, n), Value::Bool(b)) => {
-            if (n as usize) < 512 {
+            if (n as usize) < BITS {
                 cells.bits[n as usize] = b;
                 Some(())
             } else {
@@ -46,7 +46,7 @@ pub fn write_cells(cells: &mut Cells, loc: Loc, v: Value) -> Option<()>
             }
         }
         (Loc::Word(_, n), Value::Int(z)) => {
-            if (n as usize) < 64 {
+            if (n as usize) < WORDS {
                 cells.words[n as usize] = z;
                 Some(())
             } else {

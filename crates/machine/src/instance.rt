@@ -8,7 +8,7 @@ ghost use Rattle.controller_model.specs.Snapshots.{saved_instance};
 ghost use Rattle.machine.specs.Parts.{IsLawful, HasFewInputs, Restores};
 
 use arrayvec::ArrayVec;
-use function_blocks::block::Block;
+use function_blocks::Block;
 use il_model::{BlockKind, Instance, SavedInstance, Value};
 use std::alloc::{AllocError, Global};
 use std::marker::Model;
@@ -42,6 +42,19 @@ impl InstanceState {
         let block = Block::cold(declared.kind);
         InstanceState {
             inputs: cold_inputs(declared.kind),
+            first_output: block.input_count(),
+            outputs: block.outputs(),
+            block,
+        }
+    }
+
+    /// An equal one.
+    pub fn copy(&self) -> InstanceState
+        ensures { result ≡ self.now }
+    {
+        let block = copied(&self.block);
+        InstanceState {
+            inputs: restored_inputs(self.inputs.as_slice()),
             first_output: block.input_count(),
             outputs: block.outputs(),
             block,
@@ -102,8 +115,8 @@ impl InstanceState {
         }
     }
 
-    /// Calls the block with the values of the inputs. Not inlined: the loop of a run stays small enough for the compiler to have
-    /// the whole instruction in it.
+    /// Calls the block with the values of the inputs. Not inlined: the loop of a run stays small enough for the
+    /// compiler to have the whole instruction in it.
     #[inline(never)]
     pub fn call(&mut self, now: u64)
         ensures { self.new ≡ instance_after now self.old }
@@ -117,6 +130,16 @@ fn value_at(values: &[Value], n: u8) -> Option<Value>
     ensures { result ≡ slice_get values.now n }
 {
     values.get(n as usize).copied()
+}
+
+/// An equal block: that of its kind with the same words.
+fn copied(block: &Block) -> Block
+    ensures { result ≡ block.now }
+{
+    match Block::restore(block.kind(), block.save()) {
+        Some(copy) => copy,
+        None => unreachable!(),
+    }
 }
 
 /// The values of the inputs that a snapshot has.

@@ -20,6 +20,7 @@
 #![tactic(auto)]
 
 mod arrival;
+mod carrying;
 mod cells;
 mod instance;
 mod machine;

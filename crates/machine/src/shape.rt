@@ -6,7 +6,7 @@ ghost use Rattle.controller_model.specs.Snapshots.{own_types, are_types, fits_in
 ghost use Rattle.machine.specs.Parts.{HasBlock, HaveBlocks, HasNoBlock, HasNoState};
 
 use crate::arrival::{are_of, has_type, types_at};
-use function_blocks::block::Block;
+use function_blocks::Block;
 use il_model::{BlockKind, Instance, SavedInstance, Snapshot, Value, Variable};
 use loader::Image;
 
@@ -69,10 +69,11 @@ fn fit_instances(declared: &[Instance], saved: &[SavedInstance]) -> bool
     true
 }
 
-/// Whether a snapshot has a value of its type for each variable that the image declares without a location, and an instance of
-/// its kind, with a value of its type for each input, for each instance.
+/// Whether a snapshot has a value of its type for each variable that the image declares without a location, and an
+/// instance of its kind, with a value of its type for each input, for each instance.
 pub fn fits_values(image: &Image, parts: &Snapshot) -> bool
-    ensures { result ≡ (are_types parts.now.variables (own_types image.now.variables) && fit_instances image.now.instances parts.now.instances) }
+    ensures { result ≡ (are_types parts.now.variables (own_types image.now.variables)
+        && fit_instances image.now.instances parts.now.instances) }
 {
     fit_variables(parts.variables.as_slice(), image.variables())
         && fit_instances(image.instances(), parts.instances.as_slice())
@@ -97,8 +98,8 @@ pub fn have_states(instances: &[SavedInstance]) -> bool
     true
 }
 
-/// Whether a snapshot's position is an instruction's, and its current result and deferred operators are of the types on arrival
-/// there.
+/// Whether a snapshot's position is an instruction's, and its current result and deferred operators are of the types on
+/// arrival there.
 pub fn fits_run(image: &Image, parts: &Snapshot) -> bool
     ensures { result ≡ fits_run image.now parts.now }
 {

@@ -32,7 +32,7 @@ use Rattle.il_model.specs.Codes.{is_number, is_new_name, is_taken, is_type, is_f
 use Rattle.il_model.specs.Codes as codes_of
 use Rattle.il_model.specs.Fits.{IsVariable, IsInstance, AreItems, IsImage}
 use Rattle.il_reader.specs.declared.lexeme.Sign.TheVariants as signs
-use Rattle.declarations.specs.declared.fault.Refusal.{Refusal}
+use Rattle.declarations.specs.declared.fault.FaultAt.{FaultAt}
 use Rattle.declarations.specs.declared.variables.DeclaredType.{DeclaredType}
 use Rattle.declarations.specs.declared.variables.DeclaredType.TheVariants.{Elementary, Block}
 use Rattle.declarations.specs.Resolution.{declared_type, same_type, is_input, written_value, variable}
@@ -105,7 +105,7 @@ initial_back : (type : Ty) (loc : Option Loc) (v : Value) (rest : List ℕ) → 
 initial_back type loc v rest first = by_test (is_zero (number_of v)) refl
   where
     by_test : (b : Bool) → is_zero (number_of v) ≡ b → elementary_value type loc (cond b None (Some (literal_at v rest))) ≡ Ok v
-    by_test true e = ap (λ (w : Value). let r : Result Value Refusal = Ok w in r) (zero_of_type type v first.of e)
+    by_test true e = ap (λ (w : Value). let r : Result Value FaultAt = Ok w in r) (zero_of_type type v first.of e)
     by_test false e = rw (written_back type loc v rest first e) refl
 
 planned_back : (type : Ty) (v : Value) (rest : List ℕ) → IsFirst type None v → planned_value (Some (Elementary type)) (written_initial v rest) ≡ v
@@ -216,19 +216,19 @@ variables_listed Q is = items_all IsVariable IsListedVariable variable_listed []
 abbrev known_as : List Variable → List Instance → Declarations
 known_as vs xs = record { variables = vs; instances = xs }
 
-abbrev done : {A : Type 0} → A → Result A Refusal
+abbrev done : {A : Type 0} → A → Result A FaultAt
 done x = Ok x
 
 done_is : {A : Type 0} (x y : A) → done x ≡ done y → x ≡ y
 done_is x y e = cc
 
 -- the first part and then the second
-each_both : {X Y : Type 0} (step : Y → X → Result Y Refusal) (y z : Y) (xs ys : List X) → each step y xs ≡ Ok z → each step y (xs ++ ys) ≡ each step z ys
+each_both : {X Y : Type 0} (step : Y → X → Result Y FaultAt) (y z : Y) (xs ys : List X) → each step y xs ≡ Ok z → each step y (xs ++ ys) ≡ each step z ys
 unfolding each
 each_both step y z [] ys e = ap (λ w. each step w ys) (done_is y z e)
 each_both {X} {Y} step y z (x ∷ xs) ys e = by_step (step y x) (λ w. each_both step w z xs ys) e
   where
-    by_step : (r : Result Y Refusal) → ((w : Y) → each step w xs ≡ Ok z → each step w (xs ++ ys) ≡ each step z ys) → (r >>= λ w. each step w xs) ≡ Ok z → (r >>= λ w. each step w (xs ++ ys)) ≡ each step z ys
+    by_step : (r : Result Y FaultAt) → ((w : Y) → each step w xs ≡ Ok z → each step w (xs ++ ys) ≡ each step z ys) → (r >>= λ w. each step w xs) ≡ Ok z → (r >>= λ w. each step w (xs ++ ys)) ≡ each step z ys
     by_step (Ok w) again h = again w h
     by_step (Err f) again h = absurd cc
 

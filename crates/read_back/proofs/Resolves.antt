@@ -15,7 +15,7 @@ use Rattle.il_model.specs.Text.{Declarations}
 use Rattle.il_model.specs.Codes.{usage_of, allowed_by, formed_by, is_call, is_empty}
 use Rattle.il_reader.specs.declared.lexeme.Sign.TheVariants as signs
 use Rattle.il_reader.specs.Grammar.{BehindText}
-use Rattle.declarations.specs.declared.fault.Refusal.{Refusal}
+use Rattle.declarations.specs.declared.fault.FaultAt.{FaultAt}
 use Rattle.declarations.specs.Resolution.{opens, plain}
 use Rattle.declarations.specs.Walk.{each, operand_of, behind_of, behind_arguments, argument_of, pushed_argument, instruction_of, room, label_of, instruct_labelled, instruct_plain, instruct}
 use Rattle.lister.specs.Listing.{next_argument_text, operation_text, line_text}
@@ -107,7 +107,7 @@ pub lone_args : (ds : Declarations) (line : Instr) → IsListedLine ds line → 
 lone_args ds line is lone = no_args line.arguments (rw (not_call line.op line.modifier line.operand lone is.form) at is.called)
 
 none_back : (ds : Declarations) (x : BehindText) (args : List Argument) → args ≡ [] → behind_arguments ds x ≡ Ok [] → behind_arguments ds x ≡ Ok args
-none_back ds x args e h = h ∙ ap (λ (xs : List Argument). let r : Result (List Argument) Refusal = Ok xs in r) (sym e)
+none_back ds x args e h = h ∙ ap (λ (xs : List Argument). let r : Result (List Argument) FaultAt = Ok xs in r) (sym e)
 
 given_args : (ds : Declarations) (b : Bool) (o : Operand) (args : List Argument) (rest : List ℕ) → (is_instance o ≡ false → args ≡ []) → AllByRecursion (IsListedArgument ds) args → behind_arguments ds (written_behind b o args rest) ≡ Ok args
 given_args ds b operands.Absent args rest lone all = none_back ds (written_absent b) args (lone refl) (absent_no_call ds b)
@@ -175,13 +175,13 @@ room_back code left lt = rw (lt-leb 4096 (length code) lt) refl
 label_back : (name rest : List ℕ) → IsFreeName name → label_of (token_at signs.Name name rest) ≡ Ok name
 label_back name rest is = rw (capital name is.name, is.free) refl
 
-abbrev pushed : List Instr → Instr → Result (List Instr) Refusal
+abbrev pushed : List Instr → Instr → Result (List Instr) FaultAt
 pushed code line = Ok (code ++ line ∷ [])
 
 optional_back : (ds : Declarations) (name : List ℕ) (line : Instr) (rest : List ℕ) (b : Bool) → is_empty line.op ≡ b → IsListedLine ds line → instruction_of ds (Some name) (unless_empty b (written_operation line rest)) ≡ Ok (record line { label = Some name })
 unfolding instruction_of
 optional_back ds name line rest true e is =
-    ap (λ (l : Instr). let r : Result Instr Refusal = Ok l in r) (empty_line (Some name) line.op line.modifier.negated line.modifier.conditional line.modifier.opens line.operand line.arguments e is.letters is.form is.called)
+    ap (λ (l : Instr). let r : Result Instr FaultAt = Ok l in r) (empty_line (Some name) line.op line.modifier.negated line.modifier.conditional line.modifier.opens line.operand line.arguments e is.letters is.form is.called)
 optional_back ds name line rest false e is = instruction_back ds (Some name) line rest is
 
 line_by : (ds : Declarations) (code : List Instr) (label : Option (List ℕ)) (line : Instr) (rest : List ℕ) → line.label ≡ label → IsListedLabel label → IsListedLine ds line → length code < 4096

@@ -4,7 +4,7 @@ use Rattle.il_model.specs.declared.typing.TypeFault.{TypeFault}
 use Rattle.il_model.specs.Text.{Text}
 use Rattle.il_model.specs.Typing.{◌>>=◌, IsTyped}
 use Rattle.il_model.specs.Settled.{typed_program_of, IsTypedProgramOf}
-use Rattle.il_model.proofs.Settling.{typed_plain, settled_plain, typed_program}
+use Rattle.il_model.proofs.SettledPrograms.{typed_plain, settled_plain, typed_program}
 
 settles : (Q : Text) → IsTyped Q → typed_program_of Q ≡ Ok Q
 settles Q typed = settled_plain Q (typed_plain Q typed) ∙ ap (λ (r : Result (Unit {0}) (TypeFault × ℕ)). r >>= λ _. Ok Q) typed

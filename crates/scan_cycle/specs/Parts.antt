@@ -1,6 +1,7 @@
 -- What a snapshot has of a scan cycle.
 use Rattle.std.specs.Prelude.{◌≡◌, ℕ, ℤ, Bool, false, length, Option, Some, None}
 use Rattle.controller_model.specs.Forces.{no_forces}
+use Rattle.il_model.specs.declared.limits.TheConstants.{BITS, WORDS}
 use Rattle.il_model.specs.declared.value.Value.TheVariants as values
 use Rattle.il_model.specs.declared.snapshot.ForcedSlot.{ForcedSlot}
 use Rattle.il_model.specs.declared.snapshot.SavedPhase.{SavedPhase}
@@ -11,7 +12,8 @@ use Rattle.controller_model.specs.declared.forces.Mask.{Mask}
 use Rattle.controller_model.specs.declared.forces.Forces.{Forces}
 use Rattle.controller_model.specs.Scan.{Cycle}
 use Rattle.controller_model.specs.Snapshots.{forced_slots}
-pub use Rattle.machine.specs.Parts.{HasState, FitsMachine, AreLawful, HasBlock, HaveBlocks, HasNoBlock, HasNoState, Here, Later}
+pub use Rattle.machine.specs.Parts.{HasState, FitsMachine, AreLawful, HasBlock, HaveBlocks, HasNoBlock, HasNoState}
+pub use Rattle.machine.specs.Parts.{Here, Later}
 
 pub record HasCycle (Q : Text) (s : SavedController) (c : Cycle) : Type 0 where
   pub state : HasState Q s c.state
@@ -36,8 +38,8 @@ forced_word n None = None
 forced_word n (Some z) = Some (record { slot = record { 0 = n }; value = values.Int z })
 
 pub record IsMask (m : Mask) : Type 0 where
-  pub bits : length m.bits ≡ 512
-  pub words : length m.words ≡ 64
+  pub bits : length m.bits ≡ BITS
+  pub words : length m.words ≡ WORDS
 
 -- a mask has a place for each cell of its area
 pub record AreMasks (f : Forces) : Type 0 where

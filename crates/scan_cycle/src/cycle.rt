@@ -3,8 +3,10 @@
 ghost use Rattle.std.specs.Prelude.{◌≡◌, ◌<◌, ◌≤◌, ℕ, true, length, is_some, unwrap_or, IfOk, IfSome, option_map};
 ghost use Rattle.il_model.specs.Text.{Text};
 ghost use Rattle.controller_model.specs.Forces.{with_forces};
+ghost use Rattle.controller_model.specs.Changes.{carried_state};
 ghost use Rattle.controller_model.specs.Slots.{slot_value};
-ghost use Rattle.controller_model.specs.Scan.{scan_start, scan_run, scan_run_over, scan_step, scan_result, with_force, without_force, cold_again};
+ghost use Rattle.controller_model.specs.Scan.{scan_start, scan_run, scan_run_over, scan_step, scan_result, with_force};
+ghost use Rattle.controller_model.specs.Scan.{without_force, cold_again};
 ghost use Rattle.controller_model.specs.Runs.{ScanRuns, ScanRunsOver};
 ghost use Rattle.controller_model.specs.Snapshots.{fit_forces};
 ghost use Rattle.machine.specs.Parts.{FitsMachine, AreLawful};
@@ -38,7 +40,16 @@ impl Model for ScanCycle {
 
     ghost Value = { KeptCycle };
 
-    ghost view = { λ c. record { cycle = record { state = c.machine.state; count = c.count; moment = c.moment; forces = c.forces; performed = c.performed }; places = c.machine.places } };
+    ghost view = { λ c. record {
+      cycle = record {
+        state = c.machine.state;
+        count = c.count;
+        moment = c.moment;
+        forces = c.forces;
+        performed = c.performed;
+      };
+      places = c.machine.places;
+    } };
 }
 
 /// How many instructions a held scan has performed.
@@ -66,7 +77,8 @@ impl ScanCycle {
         })
     }
 
-    /// What a snapshot of a scan cycle for this image has of it: all but the breakpoints and whether a scan is open. It fails only where memory runs out.
+    /// What a snapshot of a scan cycle for this image has of it: all but the breakpoints and whether a scan is open. It
+    /// fails only where memory runs out.
     pub fn parts(&self, alloc: Global, image: &Image) -> Result<Snapshot, AllocError>
         ensures has { IfOk result (λ s. HasCycle image.now s self.now.cycle) }
         ensures lawful { IfOk result (λ s. AreLawful self.now.cycle.state.instances) }
@@ -78,8 +90,8 @@ impl ScanCycle {
         Ok(parts)
     }
 
-    /// The scan cycle that a snapshot has, where its values, its types on arrival and its forces fit the image; None where the words
-    /// of a block are no state of its kind. It fails only where memory runs out.
+    /// The scan cycle that a snapshot has, where its values, its types on arrival and its forces fit the image; None
+    /// where the words of a block are no state of its kind. It fails only where memory runs out.
     pub fn from_parts(
         alloc: Global,
         image: &Image,
@@ -116,8 +128,9 @@ impl ScanCycle {
         self.forces.whole();
     }
 
-    /// Begins a scan: it is counted, up to the greatest number of 64 bits; its moment, in milliseconds, is no less than the
-    /// last one's; the inputs are latched with the forces over them; the run is at position 0. A scan that is open is given up.
+    /// Begins a scan: it is counted, up to the greatest number of 64 bits; its moment, in milliseconds, is no less than
+    /// the last one's; the inputs are latched with the forces over them; the run is at position 0. A scan that is open
+    /// is given up.
     pub fn begin(&mut self, inputs: &InImage, moment: u64)
         ensures begun { self.new ≡ record self.old { cycle = scan_start self.old.cycle inputs.now moment } }
         ensures kept { (Q : Text) → IsCycleOf Q self.old → IsCycleOf Q self.new }
@@ -131,10 +144,10 @@ impl ScanCycle {
         self.performed = 0;
     }
 
-    /// Runs an open scan on. Before each instruction, in this order: the end, or what comes after RET, is Done, with the
-    /// outputs and the forces over them; as many instructions performed as the budget has is Stopped; a breakpoint is Held.
-    /// There is a flag for each instruction. Done leaves the machine at rest; Held and Stopped leave it at the instruction that
-    /// comes next or was refused, and only Held keeps how many were performed.
+    /// Runs an open scan on. Before each instruction, in this order: the end, or what comes after RET, is Done, with
+    /// the outputs and the forces over them; as many instructions performed as the budget has is Stopped; a breakpoint
+    /// is Held. There is a flag for each instruction. Done leaves the machine at rest; Held and Stopped leave it at the
+    /// instruction that comes next or was refused, and only Held keeps how many were performed.
     pub fn run_to(&mut self, image: &Image, breaks: &Breakpoints, budget: Budget) -> ScanOut
         requires kept { IsCycleOf image.now self.old }
         requires breaks { length image.now.code ≤ length breaks.now }
@@ -177,7 +190,8 @@ impl ScanCycle {
         self.tell(came)
     }
 
-    /// Performs the instruction that a scan is held at, and no other: the scan is then Done, Stopped, or Held at the next one.
+    /// Performs the instruction that a scan is held at, and no other: the scan is then Done, Stopped, or Held at the
+    /// next one.
     pub fn step(&mut self, image: &Image, budget: Budget) -> ScanOut
         requires kept { IsCycleOf image.now self.old }
         requires left { self.old.cycle.performed < budget.instructions }
@@ -228,11 +242,13 @@ impl ScanCycle {
         }
     }
 
-    /// Forces a location of `%I` or `%Q` (IEC 61131-3:2003 2.4.1.1) from the next latch or release on: a bit to a BOOL, a word to an INT. False, and nothing changed, where the location
-    /// is of another area or the value of another type.
+    /// Forces a location of `%I` or `%Q` (IEC 61131-3:2003 2.4.1.1) from the next latch or release on: a bit to a BOOL,
+    /// a word to an INT. False, and nothing changed, where the location is of another area or the value of another
+    /// type.
     pub fn force(&mut self, loc: Loc, v: Value) -> bool
         ensures told { result ≡ is_some (with_force self.old.cycle loc v) }
-        ensures forced { self.new ≡ record self.old { cycle = unwrap_or (with_force self.old.cycle loc v) self.old.cycle } }
+        ensures forced { self.new
+            ≡ record self.old { cycle = unwrap_or (with_force self.old.cycle loc v) self.old.cycle } }
         ensures kept { (Q : Text) → IsCycleOf Q self.old → IsCycleOf Q self.new }
         ensures performed { self.new.cycle.performed ≡ self.old.cycle.performed }
     {
@@ -242,7 +258,8 @@ impl ScanCycle {
     /// Frees a location of `%I` or `%Q`, forced or not. False, and nothing changed, where it is of another area.
     pub fn unforce(&mut self, loc: Loc) -> bool
         ensures told { result ≡ is_some (without_force self.old.cycle loc) }
-        ensures unforced { self.new ≡ record self.old { cycle = unwrap_or (without_force self.old.cycle loc) self.old.cycle } }
+        ensures unforced { self.new
+            ≡ record self.old { cycle = unwrap_or (without_force self.old.cycle loc) self.old.cycle } }
         ensures kept { (Q : Text) → IsCycleOf Q self.old → IsCycleOf Q self.new }
         ensures performed { self.new.cycle.performed ≡ self.old.cycle.performed }
     {
@@ -257,6 +274,22 @@ impl ScanCycle {
     {
         self.machine.reset(image);
         self.performed = 0;
+    }
+
+    /// Goes on from the scan cycle of another image, which has no scan open: what goes on by its name keeps its value,
+    /// or its inputs and its state; the areas, forces, moment and count stay. It takes no memory.
+    pub fn carry_over(&mut self, image: &Image, old: &ScanCycle, old_image: &Image)
+        requires new { IsCycleOf image.now self.old }
+        requires old { IsCycleOf old_image.now old.now }
+        ensures carried { self.new.cycle
+            ≡ record old.now.cycle { state = carried_state old_image.now old.now.cycle.state image.now } }
+        ensures kept { IsCycleOf image.now self.new }
+    {
+        self.machine.carry_over(image, &old.machine, old_image);
+        self.count = old.count;
+        self.moment = old.moment;
+        self.forces = old.forces.copy();
+        self.performed = old.performed;
     }
 
     /// The value of a location, a variable or a field; none where the slot is none of these.

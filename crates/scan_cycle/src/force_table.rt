@@ -42,6 +42,16 @@ impl ForceTable {
         }
     }
 
+    /// An equal one.
+    pub fn copy(&self) -> ForceTable
+        ensures { result ≡ self.now }
+    {
+        ForceTable {
+            forces: self.forces,
+            may_force: self.may_force,
+        }
+    }
+
     /// The forces of slots that rise and have values of their types.
     pub fn restored(slots: &[ForcedSlot]) -> ForceTable
         requires { fit_forces slots.now ≡ true }
@@ -89,8 +99,8 @@ impl ForceTable {
         }
     }
 
-    /// Forces a location of the inputs or outputs; false, and nothing changed, where it is of another area, or the value isn't
-    /// of its type.
+    /// Forces a location of the inputs or outputs; false, and nothing changed, where it is of another area, or the
+    /// value isn't of its type.
     pub fn force(&mut self, loc: Loc, v: Value) -> bool
         ensures told { result ≡ is_some (put_force self.old loc v) }
         ensures forced { self.new ≡ unwrap_or (put_force self.old loc v) self.old }

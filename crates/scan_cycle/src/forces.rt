@@ -1,12 +1,14 @@
 //! Values forced in place of the cells of an area.
 
-ghost use Rattle.std.specs.Prelude.{◌≡◌, ◌≤◌, ◌+◌, ◌++◌, true, length, is_some, unwrap_or, nat_lt, slice_set, OnOk, IfOk};
-ghost use Rattle.controller_model.specs.Forces.{overlay, with_forces, no_mask, no_forces, with_forced, with_freed, put_force, lift_force};
+ghost use Rattle.std.specs.Prelude.{◌≡◌, ◌≤◌, ◌+◌, ◌++◌, true, length, is_some, unwrap_or, nat_lt, slice_set, OnOk};
+ghost use Rattle.std.specs.Prelude.{IfOk};
+ghost use Rattle.controller_model.specs.Forces.{overlay, with_forces, no_mask, no_forces, with_forced, with_freed};
+ghost use Rattle.controller_model.specs.Forces.{put_force, lift_force};
 ghost use Rattle.controller_model.specs.Snapshots.{forced_bits, forced_words, forced_in, forced_slots, fit_forces};
 ghost use Rattle.scan_cycle.specs.Parts.{forced_word, IsMask, AreMasks};
 
 use controller_model::{Forces, Mask};
-use il_model::{Area, Cells, ForcedSlot, Loc, Slot, Value};
+use il_model::{Area, BITS, Cells, ForcedSlot, Loc, Slot, Value, WORDS};
 use std::alloc::{AllocError, Global};
 
 /// No forces.
@@ -23,8 +25,8 @@ fn no_mask() -> Mask
     ensures { result ≡ no_mask }
 {
     Mask {
-        bits: [None; 512],
-        words: [None; 64],
+        bits: [None; BITS],
+        words: [None; WORDS],
     }
 }
 
@@ -49,8 +51,8 @@ fn lay<T: Copy>(mask: &[Option<T>], cells: &mut [T])
     }
 }
 
-/// Forces a location of the inputs or outputs; false, and nothing changed, where it is of another area, or the value isn't of
-/// its type.
+/// Forces a location of the inputs or outputs; false, and nothing changed, where it is of another area, or the value
+/// isn't of its type.
 pub fn force(forces: &mut Forces, loc: Loc, v: Value) -> bool
     ensures told { result ≡ is_some (put_force forces.old loc v) }
     ensures forced { forces.new ≡ unwrap_or (put_force forces.old loc v) forces.old }

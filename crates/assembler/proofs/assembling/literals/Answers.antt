@@ -1,7 +1,7 @@
 use Rattle.std.proofs.Common.{ap, arith, ◌≡◌, length, rules}
 use Rattle.il_model.specs.Settled.{settled_text}
 use Rattle.il_model.proofs.Loop.{read_line}
-use Rattle.il_model.proofs.Settling.{goes_settled, fails_settled}
+use Rattle.il_model.proofs.SettledPrograms.{goes_settled, fails_settled}
 use Rattle.assembler.proofs.Literals.{one_more, all_found, open_at_end, closed_at_end}
 use Rattle.assembler.proofs.assembling.literals.Goals as goal
 

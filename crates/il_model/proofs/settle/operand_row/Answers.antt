@@ -4,7 +4,7 @@ use Rattle.il_model.specs.declared.typing.OperandKind.TheVariants as kinds
 use Rattle.il_model.specs.Text.{Text}
 use Rattle.il_model.specs.Row.{row}
 use Rattle.il_model.specs.Typing.{source_row}
-use Rattle.il_model.proofs.Settling.{literal_row, other_row}
+use Rattle.il_model.proofs.SettledPrograms.{literal_row, other_row}
 use Rattle.il_model.proofs.settle.operand_row.Goals as goal
 
 pub returns-in-Some : goal.returns-in-Some

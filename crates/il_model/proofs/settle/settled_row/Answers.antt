@@ -7,7 +7,7 @@ use Rattle.il_model.specs.Resolved.{source_of, called_kind}
 use Rattle.il_model.specs.Typing.{source_row, arguments_fault, with_fault}
 use Rattle.il_model.specs.Settled.{as_settled, settled_line}
 use Rattle.il_model.proofs.ArgumentFaults.{all_settled}
-use Rattle.il_model.proofs.Settling.{called_settled}
+use Rattle.il_model.proofs.SettledPrograms.{called_settled}
 use Rattle.il_model.proofs.settle.settled_row.Goals as goal
 
 pub returns : goal.returns

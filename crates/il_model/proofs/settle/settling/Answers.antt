@@ -1,4 +1,4 @@
-use Rattle.il_model.proofs.Settling.{typed_program, typed_only, settled_plain}
+use Rattle.il_model.proofs.SettledPrograms.{typed_program, typed_only, settled_plain}
 use Rattle.il_model.proofs.settle.settling.Goals as goal
 
 pub returns-clause-typed : goal.returns-clause-typed

@@ -3,11 +3,14 @@ use Rattle.il_model.specs.declared.snapshot.SavedPhase.{SavedPhase}
 use Rattle.il_model.specs.Snapshots.{SavedController}
 use Rattle.controller_model.specs.Snapshots.{break_positions, saved_phase, fit_breaks}
 use Rattle.scan_cycle.specs.Parts.{performed_in}
-use Rattle.debugger.proofs.Making.{IsMade, fits_machine, fits_breaks, made_of}
+use Rattle.debugger.proofs.Making.{IsMade, fits_machine, fits_slots, fits_breaks, made_of}
 use Rattle.debugger.proofs.controller.Controller.restore.Goals as goal
 
 pub from_parts-requires-clause-machine : goal.from_parts-requires-clause-machine
 from_parts-requires-clause-machine c = fits_machine c.args.image c.args.budget.instructions c.args.snapshot.now (sym c.fits.ensures ∙ c.if-not-fits.false)
+
+pub from_parts-requires-clause-forces : goal.from_parts-requires-clause-forces
+from_parts-requires-clause-forces c = fits_slots c.args.image c.args.budget.instructions c.args.snapshot.now (sym c.fits.ensures ∙ c.if-not-fits.false)
 
 made_so : (c : goal.After-restored_phase) → IsMade c.args.image c.args.budget.instructions c.args.snapshot.now c.in-Some.cycle c.of-breaks.result c.restored_phase.result
 made_so c =

@@ -1,7 +1,8 @@
 -- Worked rows of scans and of the debugger, by computing the command table.
-use Rattle.std.proofs.Common.{◌≡◌, ℕ, Bool, true, false, List, [], ◌∷◌, replicate, None, refl}
+use Rattle.std.proofs.Common.{◌≡◌, ℕ, Bool, true, false, List, [], ◌∷◌, replicate, None, Result, Ok, Err, refl, ap}
 use Rattle.std.specs.Prelude.{pos, slice_set, codes}
 use Rattle.il_model.specs.declared.value.Value.TheVariants as values
+use Rattle.il_model.specs.declared.value.Ty.TheVariants as types
 use Rattle.il_model.specs.declared.value.Stop.TheVariants as stops
 use Rattle.il_model.specs.declared.op.Op.{Op}
 use Rattle.il_model.specs.declared.op.Op.TheVariants as ops
@@ -20,7 +21,14 @@ use Rattle.il_model.specs.declared.command.Answer.TheVariants as answers
 use Rattle.il_model.specs.declared.command.Refusal.TheVariants as refusals
 use Rattle.il_model.specs.Cells.{clear_inputs, safe_image}
 use Rattle.il_model.specs.Text.{Text}
-use Rattle.controller_model.specs.Commands.{answers_of}
+use Rattle.il_model.specs.Names.{is_well_spelled}
+use Rattle.il_model.specs.Words.{spells, look, mnemonic_of}
+use Rattle.loader.specs.declared.fault.LoadFault.{LoadFault}
+use Rattle.loader.specs.declared.fault.LoadFault.TheVariants.{Truncated}
+use Rattle.loader.specs.Reading.{items_from, counts_at, header_at, spelled_name_at, name_at, first_value_at, variable_at, instance_at, mark_at, constant_at, instruction_at, argument_at, word_at, bodies_at, tables_at}
+use Rattle.loader.specs.Judging.{image_of, judged_tables}
+use Rattle.debugger.specs.Owned.{Owned, cold_owned}
+use Rattle.debugger.specs.Outcome.{on_image, owned_from, answers_from, answers_of}
 use Rattle.controller_model.specs.Scan.{next_count}
 
 abbrev line : Op → Operand → Instr
@@ -125,3 +133,45 @@ moment_goes_back = refl
 -- the greatest count of scans stays
 last_count : next_count 18446744073709551615 ≡ 18446744073709551615
 last_count = refl
+
+-- ---- another program
+
+abbrev counting : ℕ → Text
+counting n = record {
+  variables = record { name = codes "N"; ty = types.Int; location = None; initial = values.Int (pos 0) } ∷ [];
+  instances = [];
+  code = line ops.Ld (operands.Variable (codes "N")) ∷ line ops.Add (number n) ∷ line ops.St (operands.Variable (codes "N")) ∷ line ops.St (operands.Direct (Word areas.Output 0)) ∷ [];
+}
+
+-- the image of the program that adds 10
+abbrev tens : List ℕ
+tens = 73 ∷ 76 ∷ 80 ∷ 67 ∷ 0 ∷ 1 ∷ 0 ∷ 1 ∷ 0 ∷ 0 ∷ 0 ∷ 0 ∷ 0 ∷ 1 ∷ 0 ∷ 4
+    ∷ 1 ∷ 78 ∷ 1 ∷ 255 ∷ 255 ∷ 0 ∷ 0 ∷ 0 ∷ 0
+    ∷ 1 ∷ 0 ∷ 0 ∷ 0 ∷ 10
+    ∷ 1 ∷ 0 ∷ 64 ∷ 0 ∷ 9 ∷ 0 ∷ 128 ∷ 0 ∷ 2 ∷ 0 ∷ 64 ∷ 0 ∷ 2 ∷ 0 ∷ 20 ∷ 0 ∷ []
+
+tens_are : image_of tens ≡ Ok (counting 10)
+unfolding image_of judged_tables tables_at bodies_at header_at counts_at items_from spelled_name_at name_at first_value_at variable_at instance_at mark_at constant_at instruction_at argument_at word_at is_well_spelled spells look mnemonic_of
+tens_are = refl
+
+abbrev one_byte : List ℕ
+one_byte = 73 ∷ []
+
+one_byte_is_none : image_of one_byte ≡ Err Truncated
+unfolding image_of tables_at header_at
+one_byte_is_none = refl
+
+abbrev after_two : Owned
+after_two = owned_from (cold_owned (counting 1) 10) (scan false ∷ scan false ∷ [])
+
+-- N goes on
+counts_on : answers_of (counting 1) 10 (scan false ∷ scan false ∷ commands.Change tens ∷ scan false ∷ []) ≡ outputs 1 false 1 ∷ outputs 2 false 2 ∷ answers.Done ∷ outputs 3 false 12 ∷ []
+counts_on = ap (λ (r : Result Text LoadFault). outputs 1 false 1 ∷ outputs 2 false 2 ∷ (on_image after_two r).0 ∷ answers_from (on_image after_two r).1 (scan false ∷ [])) tens_are
+
+-- bytes that are no image change nothing
+no_image : answers_of (counting 1) 10 (scan false ∷ scan false ∷ commands.Change one_byte ∷ scan false ∷ []) ≡ outputs 1 false 1 ∷ outputs 2 false 2 ∷ answers.Refused refusals.BadImage ∷ outputs 3 false 3 ∷ []
+no_image = ap (λ (r : Result Text LoadFault). outputs 1 false 1 ∷ outputs 2 false 2 ∷ (on_image after_two r).0 ∷ answers_from (on_image after_two r).1 (scan false ∷ [])) one_byte_is_none
+
+-- nor does a change while a scan is held
+held_alone : answers_of (counting 1) 10 (commands.SetBreak 1 ∷ scan false ∷ commands.Change tens ∷ commands.Continue ∷ []) ≡ answers.Done ∷ answers.Held 1 ∷ answers.Refused refusals.NotIdle ∷ outputs 1 false 1 ∷ []
+held_alone = refl

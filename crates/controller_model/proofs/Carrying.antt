@@ -1,0 +1,207 @@
+-- A change carries over what goes on, and leaves a state that suits the new program.
+use Rattle.std.proofs.Common.{◌≡◌, ℕ, zero, suc, Bool, true, false, cond, List, [], ◌∷◌, ◌++◌, length, map, Option, Some, None, refl, sym, ap, subst, ◌∙◌, arith}
+use Rattle.std.specs.Prelude.{slice_get, unwrap_or, is_none}
+use Rattle.std.specs.Option.{option_map}
+use Rattle.std.proofs.lemmas.Bool.{eq-eqb}
+use Rattle.std.proofs.lemmas.List.{length-map}
+use Rattle.std.proofs.lemmas.Option.{slice_get-map}
+use Rattle.std.proofs.lemmas.Slice.Eq.{bytes_eq-Decides}
+use Rattle.il_model.specs.declared.value.Ty.{Ty}
+use Rattle.il_model.specs.declared.value.Value.{Value}
+use Rattle.il_model.specs.declared.program.Variable.{Variable}
+use Rattle.il_model.specs.declared.program.Instance.{Instance}
+use Rattle.il_model.specs.declared.program.Loc.{Loc}
+use Rattle.il_model.specs.Values.{ty_of}
+use Rattle.il_model.specs.Names.{same_name}
+use Rattle.il_model.specs.Row.{same_type}
+use Rattle.il_model.specs.Kinds.{kind_code}
+use Rattle.il_model.specs.Text.{Text}
+use Rattle.il_model.specs.Fits.{IsVariable, IsInstance, AreItems, IsText}
+use Rattle.il_model.proofs.RowTypes.{and_yes, same_type_is}
+use Rattle.controller_model.specs.State.{State, BlockInstance, has_own}
+use Rattle.controller_model.specs.Cold.{cold_instance}
+use Rattle.controller_model.specs.Suits.{KeepFirsts, HasValues, Suits, IsInstanceOf, AreInstances}
+use Rattle.controller_model.specs.Changes.{GoesOn, GoesOnAs, goes_on, goes_on_as, kept_by, kept_value, kept_instance, carried_value, carried_instance, carried_state, CarriesOver}
+use Rattle.controller_model.proofs.Apart.{variables_apart, instances_apart}
+use Rattle.controller_model.proofs.ColdSuits.{variable_ty, at_start}
+use Rattle.controller_model.proofs.Instances.{cold_is}
+use Rattle.controller_model.proofs.Fitting.{and_both, same_type_self, kind_same}
+
+-- ---- the tests tell what goes on
+
+none_of : (o : Option Loc) → is_none o ≡ true → o ≡ None
+none_of None e = refl
+none_of (Some loc) e = absurd cc
+
+pub goes_on_is : (u v : Variable) → goes_on u v ≡ true → GoesOn u v
+goes_on_is u v h =
+    let a = and_yes (same_name u.name v.name) _ h in
+    let b = and_yes (same_type u.ty v.ty) _ a.1 in
+    let c = and_yes (has_own u) (has_own v) b.1 in
+    record { name = (bytes_eq-Decides u.name v.name).0 a.0; type = same_type_is u.ty v.ty b.0; before = none_of u.location c.0; after = none_of v.location c.1 }
+
+pub is_goes_on : (u v : Variable) → GoesOn u v → goes_on u v ≡ true
+is_goes_on u v is =
+    and_both (same_name u.name v.name) _ ((bytes_eq-Decides u.name v.name).1 is.name)
+    (and_both (same_type u.ty v.ty) _ (ap (same_type u.ty) (sym is.type) ∙ same_type_self u.ty) (and_both (has_own u) (has_own v) (ap is_none is.before) (ap is_none is.after)))
+
+pub goes_on_as_is : (x y : Instance) → goes_on_as x y ≡ true → GoesOnAs x y
+goes_on_as_is x y h =
+    let a = and_yes (same_name x.name y.name) _ h in
+    record { name = (bytes_eq-Decides x.name y.name).0 a.0; kind = kind_same x.kind y.kind a.1 }
+
+pub is_goes_on_as : (x y : Instance) → GoesOnAs x y → goes_on_as x y ≡ true
+is_goes_on_as x y is =
+    and_both (same_name x.name y.name) _ ((bytes_eq-Decides x.name y.name).1 is.name) (eq-eqb (kind_code x.kind) (kind_code y.kind) (ap kind_code is.kind))
+
+false_by : (b : Bool) → (b ≡ true → ⊥) → b ≡ false
+false_by true never = absurd (never refl)
+false_by false never = refl
+
+-- ---- what stands beside the one that passes
+
+there_by : {X Y : Type 0} (p : X → Bool) (z : X) (xs : List X) (y : Y) (ys : List Y) (i : ℕ) (b : Bool) → p z ≡ b → (p z ≡ true → zero ≡ suc i) → kept_by p xs ys ≡ slice_get ys i → cond b (Some y) (kept_by p xs ys) ≡ slice_get (y ∷ ys) (suc i)
+there_by p z xs y ys i true e one more = let same = one e in absurd (omega (arith, same))
+there_by p z xs y ys i false e one more = more
+
+kept_there : {X Y : Type 0} (p : X → Bool) (xs : List X) (ys : List Y) (i : ℕ) (x : X) → length xs ≡ length ys → slice_get xs i ≡ Some x → p x ≡ true → ((k : ℕ) (z : X) → slice_get xs k ≡ Some z → p z ≡ true → k ≡ i) → kept_by p xs ys ≡ slice_get ys i
+kept_there p [] ys i x len there e one = absurd cc
+kept_there p (z ∷ xs) [] i x len there e one = absurd cc
+kept_there p (z ∷ xs) (y ∷ ys) zero x len there e one = let is : z ≡ x = cc in ap (λ b. cond b (Some y) (kept_by p xs ys)) (ap p is ∙ e)
+kept_there p (z ∷ xs) (y ∷ ys) (suc i) x len there e one =
+    there_by p z xs y ys i (p z) refl (λ f. one 0 z refl f) (kept_there p xs ys i x (omega (arith, len)) there e (λ k w at f. let same = one (suc k) w at f in omega (arith, same)))
+
+nothing_by : {X Y : Type 0} (p : X → Bool) (z : X) (xs : List X) (y : Y) (ys : List Y) → p z ≡ false → kept_by p xs ys ≡ None → kept_by p (z ∷ xs) (y ∷ ys) ≡ None
+nothing_by p z xs y ys e more = ap (λ b. cond b (Some y) (kept_by p xs ys)) e ∙ more
+
+kept_nothing : {X Y : Type 0} (p : X → Bool) (xs : List X) (ys : List Y) → ((k : ℕ) (z : X) → slice_get xs k ≡ Some z → p z ≡ false) → kept_by p xs ys ≡ None
+kept_nothing p [] ys never = refl
+kept_nothing p (z ∷ xs) [] never = refl
+kept_nothing p (z ∷ xs) (y ∷ ys) never = nothing_by p z xs y ys (never 0 z refl) (kept_nothing p xs ys (λ k w at. never (suc k) w at))
+
+-- what stands beside something stands beside one that passes
+pub record StandsBeside {X Y : Type 0} (p : X → Bool) (xs : List X) (ys : List Y) (y : Y) : Type 0 where
+  pub place : ℕ
+  pub item : X
+  pub there : slice_get xs place ≡ Some item
+  pub passes : p item ≡ true
+  pub beside : slice_get ys place ≡ Some y
+
+beside_by : {X Y : Type 0} (p : X → Bool) (z : X) (xs : List X) (w : Y) (ys : List Y) (y : Y) (b : Bool) → p z ≡ b → cond b (Some w) (kept_by p xs ys) ≡ Some y → (kept_by p xs ys ≡ Some y → StandsBeside p xs ys y) → StandsBeside p (z ∷ xs) (w ∷ ys) y
+beside_by p z xs w ys y true e h more = record { place = 0; item = z; there = refl; passes = e; beside = h }
+beside_by p z xs w ys y false e h more = let r = more h in record { place = suc r.place; item = r.item; there = r.there; passes = r.passes; beside = r.beside }
+
+kept_beside : {X Y : Type 0} (p : X → Bool) (xs : List X) (ys : List Y) (y : Y) → kept_by p xs ys ≡ Some y → StandsBeside p xs ys y
+kept_beside p [] ys y h = absurd cc
+kept_beside p (z ∷ xs) [] y h = absurd cc
+kept_beside p (z ∷ xs) (w ∷ ys) y h = beside_by p z xs w ys y (p z) refl h (λ e. kept_beside p xs ys y e)
+
+-- ---- what the new state has
+
+mapped : {X Y : Type 0} (f : X → Y) (xs : List X) (j : ℕ) (x : X) → slice_get xs j ≡ Some x → slice_get (map f xs) j ≡ Some (f x)
+mapped f xs j x there = slice_get-map f xs j ∙ ap (option_map f) there
+
+some_inside : {Y : Type 0} (o p : Option Y) (d : Y) → o ≡ p → is_none p ≡ false → Some (unwrap_or o d) ≡ p
+some_inside o None d e some = absurd cc
+some_inside o (Some y) d e some = ap (λ q. Some (unwrap_or q d)) e
+
+there_some : {X Y : Type 0} (xs : List X) (ys : List Y) (i : ℕ) (x : X) → length xs ≡ length ys → slice_get xs i ≡ Some x → is_none (slice_get ys i) ≡ false
+there_some [] ys i x len there = absurd cc
+there_some (z ∷ xs) [] i x len there = absurd cc
+there_some (z ∷ xs) (y ∷ ys) zero x len there = refl
+there_some (z ∷ xs) (y ∷ ys) (suc i) x len there = there_some xs ys i x (omega (arith, len)) there
+
+-- ---- variables
+
+value_kept : (us : List Variable) (own : List Value) (i : ℕ) (u v : Variable) → AreItems IsVariable [] us → length us ≡ length own → slice_get us i ≡ Some u → GoesOn u v → kept_value us own v ≡ slice_get own i
+value_kept us own i u v are len there is =
+    kept_there (λ w. goes_on w v) us own i u len there (is_goes_on u v is) (λ k w at f. variables_apart us are k i w u at there (let g = goes_on_is w v f in g.name ∙ sym is.name))
+
+value_first : (us : List Variable) (own : List Value) (v : Variable) → ((i : ℕ) (u : Variable) → slice_get us i ≡ Some u → GoesOn u v → ⊥) → carried_value us own v ≡ v.initial
+value_first us own v never = ap (λ o. unwrap_or o v.initial) (kept_nothing (λ w. goes_on w v) us own (λ k w at. false_by (goes_on w v) (λ e. never k w at (goes_on_is w v e))))
+
+value_typed : (us : List Variable) (own : List Value) (v : Variable) (o : Option Value) → map ty_of own ≡ map (λ u. u.ty) us → ty_of v.initial ≡ v.ty → kept_value us own v ≡ o → ty_of (unwrap_or o v.initial) ≡ v.ty
+value_typed us own v None types first e = first
+value_typed us own v (Some x) types first e =
+    let r = kept_beside (λ w. goes_on w v) us own x e in
+    let g = goes_on_is r.item v r.passes in
+    let a : Some (ty_of x) ≡ Some (r.item.ty) = sym (mapped ty_of own r.place x r.beside) ∙ ap (λ ts. slice_get ts r.place) types ∙ mapped (λ (u : Variable). u.ty) us r.place r.item r.there in
+    let b : ty_of x ≡ r.item.ty = cc in b ∙ g.type
+
+values_typed : (us : List Variable) (own : List Value) (seen vs : List Variable) → map ty_of own ≡ map (λ u. u.ty) us → AreItems IsVariable seen vs → map ty_of (map (carried_value us own) vs) ≡ map (λ (v : Variable). v.ty) vs
+values_typed us own seen [] types are = refl
+values_typed us own seen (v ∷ vs) types are =
+    ap (λ (t : Ty). t ∷ map ty_of (map (carried_value us own) vs)) (value_typed us own v (kept_value us own v) types (variable_ty seen v are.0) refl)
+    ∙ ap (λ (ts : List Ty). v.ty ∷ ts) (values_typed us own (seen ++ v ∷ []) vs types are.1)
+
+located : (v : Variable) → has_own v ≡ false → v.location ≡ None → ⊥
+located v own e = let f = ap is_none e in cc
+
+firsts_stay : (us : List Variable) (own : List Value) (vs : List Variable) → KeepFirsts vs (map (carried_value us own) vs)
+firsts_stay us own vs = λ i v there none. mapped (carried_value us own) vs i v there ∙ ap (λ x. Some x) (value_first us own v (λ k u at is. located v none is.after))
+
+-- ---- instances
+
+instances_long : (ds : List Instance) (xs : List BlockInstance) → AreInstances ds xs → length ds ≡ length xs
+instances_long [] [] are = refl
+instances_long [] (x ∷ xs) are = absurd are
+instances_long (d ∷ ds) [] are = absurd are
+instances_long (d ∷ ds) (x ∷ xs) are = let more = instances_long ds xs are.1 in omega (arith, more)
+
+instance_is : (ds : List Instance) (xs : List BlockInstance) (i : ℕ) (d : Instance) (x : BlockInstance) → AreInstances ds xs → slice_get ds i ≡ Some d → slice_get xs i ≡ Some x → IsInstanceOf d.kind x
+instance_is [] [] i d x are here there = absurd cc
+instance_is [] (y ∷ xs) i d x are here there = absurd are
+instance_is (c ∷ ds) [] i d x are here there = absurd are
+instance_is (c ∷ ds) (y ∷ xs) zero d x are here there =
+    let a : c ≡ d = cc in let b : y ≡ x = cc in subst (λ (c : Instance). IsInstanceOf c.kind x) a (subst (λ (y : BlockInstance). IsInstanceOf c.kind y) b are.0)
+instance_is (c ∷ ds) (y ∷ xs) (suc i) d x are here there = instance_is ds xs i d x are.1 here there
+
+instance_kept : (vs : List Variable) (ds : List Instance) (xs : List BlockInstance) (i : ℕ) (d y : Instance) → AreItems (IsInstance vs) [] ds → length ds ≡ length xs → slice_get ds i ≡ Some d → GoesOnAs d y → kept_instance ds xs y ≡ slice_get xs i
+instance_kept vs ds xs i d y are len there is =
+    kept_there (λ e. goes_on_as e y) ds xs i d len there (is_goes_on_as d y is) (λ k e at f. instances_apart vs ds are k i e d at there (let g = goes_on_as_is e y f in g.name ∙ sym is.name))
+
+instance_cold : (ds : List Instance) (xs : List BlockInstance) (y : Instance) → ((i : ℕ) (d : Instance) → slice_get ds i ≡ Some d → GoesOnAs d y → ⊥) → carried_instance ds xs y ≡ cold_instance y
+instance_cold ds xs y never = ap (λ o. unwrap_or o (cold_instance y)) (kept_nothing (λ e. goes_on_as e y) ds xs (λ k d at. false_by (goes_on_as d y) (λ e. never k d at (goes_on_as_is d y e))))
+
+instance_of_kind : (ds : List Instance) (xs : List BlockInstance) (y : Instance) (o : Option BlockInstance) → AreInstances ds xs → kept_instance ds xs y ≡ o → IsInstanceOf y.kind (unwrap_or o (cold_instance y))
+instance_of_kind ds xs y None are e = cold_is y
+instance_of_kind ds xs y (Some x) are e =
+    let r = kept_beside (λ d. goes_on_as d y) ds xs x e in
+    let g = goes_on_as_is r.item y r.passes in
+    subst (λ kind. IsInstanceOf kind x) g.kind (instance_is ds xs r.place r.item x are r.there r.beside)
+
+instances_of_kinds : (ds : List Instance) (xs : List BlockInstance) (ys : List Instance) → AreInstances ds xs → AreInstances ys (map (carried_instance ds xs) ys)
+instances_of_kinds ds xs [] are = tt
+instances_of_kinds ds xs (y ∷ ys) are = (instance_of_kind ds xs y (kept_instance ds xs y) are refl, instances_of_kinds ds xs ys are)
+
+-- ---- the whole
+
+values_long : (us : List Variable) (own : List Value) → map ty_of own ≡ map (λ u. u.ty) us → length us ≡ length own
+values_long us own e = sym (length-map us (λ (u : Variable). u.ty)) ∙ sym (ap length e) ∙ length-map own ty_of
+
+pub carries_over : (Q : Text) (s : State) (R : Text) → IsText Q → HasValues Q s → CarriesOver Q s R (carried_state Q s R)
+carries_over Q s R is has =
+    let long = values_long Q.variables s.own has.own in
+    let many = instances_long Q.instances s.instances has.instances in
+    record {
+      kept = λ i j u v here there on. mapped (carried_value Q.variables s.own) R.variables j v there
+          ∙ some_inside (kept_value Q.variables s.own v) (slice_get s.own i) v.initial (value_kept Q.variables s.own i u v is.variables long here on) (there_some Q.variables s.own i u long here);
+      first = λ j v there never. mapped (carried_value Q.variables s.own) R.variables j v there ∙ ap (λ x. Some x) (value_first Q.variables s.own v never);
+      kept_instances = λ i j x y here there on. mapped (carried_instance Q.instances s.instances) R.instances j y there
+          ∙ some_inside (kept_instance Q.instances s.instances y) (slice_get s.instances i) (cold_instance y) (instance_kept Q.variables Q.instances s.instances i x y is.instances many here on) (there_some Q.instances s.instances i x many here);
+      cold_instances = λ j y there never. mapped (carried_instance Q.instances s.instances) R.instances j y there ∙ ap (λ x. Some x) (instance_cold Q.instances s.instances y never);
+      input = refl;
+      output = refl;
+      memory = refl;
+    }
+
+pub carried_suits : (Q : Text) (s : State) (R : Text) → IsText R → HasValues Q s → Suits R (carried_state Q s R)
+carried_suits Q s R is has =
+    at_start R (carried_state Q s R) (record {
+      own = values_typed Q.variables s.own [] R.variables has.own is.variables;
+      firsts = firsts_stay Q.variables s.own R.variables;
+      instances = instances_of_kinds Q.instances s.instances R.instances has.instances;
+      input = has.input;
+      output = has.output;
+      memory = has.memory;
+    }) refl refl refl

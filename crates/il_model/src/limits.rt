@@ -1,0 +1,22 @@
+//! How much a program, an area, a name and an image may have.
+
+/// A program has at most so many variables.
+pub const MOST_VARIABLES: usize = 512;
+
+/// A program has at most so many function block instances.
+pub const MOST_INSTANCES: usize = 128;
+
+/// A program has at most so many instructions.
+pub const MOST_INSTRUCTIONS: usize = 4096;
+
+/// An area has so many bits.
+pub const BITS: usize = 512;
+
+/// An area has so many words.
+pub const WORDS: usize = 64;
+
+/// A name has at most so many characters.
+pub const LONGEST_NAME: usize = 32;
+
+/// An image that a change of the program brings has at most so many bytes.
+pub const MOST_IMAGE_BYTES: usize = 32768;
