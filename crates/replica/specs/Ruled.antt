@@ -21,15 +21,19 @@ use Rattle.vr_core.specs.StandsFor.{StandsFor, IsSavedAs, own_member}
 use Rattle.vr_core.specs.Follows.{Rule, AreSaved, Loses, Does}
 
 -- what the rule leaves of a replica that the old core stands for, and who is that then has sent these messages
-pub record LeavesFrom (old new : Core) (messages : List code.Message) (w : Membership) (o : Outcome Command Answer) : Type 0 where
+pub record LeavesFrom (old new : Core) (messages : List code.Message) (w : Membership)
+    (o : Outcome Command Answer) : Type 0 where
   pub replica : StandsFor new w o.replica
   pub saves : AreSaved old new o.saves
   pub sends : AllStandFrom IsSavedAs w o.replica messages o.sends
 
 -- the call did what the rule says, for each replica whose executed entries the rule's log begins with, and for whose
 -- log what is handed in fits
-pub record FollowsFrom (old : Core) (handed : body.Body) (rule : Rule) (new : Core) (sends : List code.Message) : Type 0 where
-  pub leaves : (w : Membership) (r : ReplicaState Command) → StandsFor old w r → IsPrefix (executed r) (rule w r).replica.log → Fits IsSavedAs w r (rule w r) handed → LeavesFrom old new sends w (rule w r)
+pub record FollowsFrom (old : Core) (handed : body.Body) (rule : Rule) (new : Core)
+    (sends : List code.Message) : Type 0 where
+  pub leaves : (w : Membership) (r : ReplicaState Command) → StandsFor old w r
+      → IsPrefix (executed r) (rule w r).replica.log → Fits IsSavedAs w r (rule w r) handed
+      → LeavesFrom old new sends w (rule w r)
 
 -- the same, or nothing for want of memory
 abbrev pub DoesFrom : Core → body.Body → Rule → Core → Result (Vec code.Message Global) AllocError → Type 0
@@ -39,7 +43,8 @@ DoesFrom old handed rule new (Err e) = Loses old rule new
 -- the core did what the rules make of the event, or nothing for want of memory
 abbrev pub Ruled : Core → Event → Core → Result (Vec code.Message Global) AllocError → Type 0
 Ruled old (event.Message a) new result =
-    (meant : Message Command Answer) → Stands IsSavedAs (own_member old) a meant → DoesFrom old a.body (λ w r. rules.receives w.f w.number w.answer r meant.from meant.body) new result
+    (meant : Message Command Answer) → Stands IsSavedAs (own_member old) a meant
+    → DoesFrom old a.body (λ w r. rules.receives w.f w.number w.answer r meant.from meant.body) new result
 Ruled old event.Timeout new result = Does old (λ w r. rules.on_timeout w.f w.number w.answer r) new result
 Ruled old event.Resend new result = Does old (λ w r. rules.on_resend w.f w.number w.answer r) new result
 Ruled old (event.Restart x) new result = Does old (λ w r. rules.keep w.f w.number w.answer r) new result

@@ -33,9 +33,11 @@ takes_over (StartView u c log) = true
 takes_over (NewState u p c log) = true
 takes_over _ = false
 
--- Then the log that the rules make begins with all that the member has executed; with any other message it does so anyhow.
+-- Then the log that the rules make begins with all that the member has executed; with any other message it does so
+-- anyhow.
 abbrev pub KeepsExecuted : Membership → ReplicaState Command → Input Command Answer → Type 0
-KeepsExecuted m r (Takes meant) = takes_over meant.body ≡ true → IsPrefix (executed r) (acts m.f m.number m.answer r (Takes meant)).replica.log
+KeepsExecuted m r (Takes meant) = takes_over meant.body ≡ true
+    → IsPrefix (executed r) (acts m.f m.number m.answer r (Takes meant)).replica.log
 KeepsExecuted m r TimesOut = Unit {0}
 KeepsExecuted m r Resends = Unit {0}
 
@@ -46,7 +48,8 @@ module _ {S : Type 0} (load_gives : S → Option Stored → S → Type 0) (save_
   Saved s (Some view) t = save_gives s view true t
 
   -- the member m was the record r, and its store went from s to t
-  module _ (IsSavedAs : Text → ℕ → List Command → SavedController → Type 0) (NowStands : ReplicaState Command → Type 0) (m : Membership) (r : ReplicaState Command) (s t : S) where
+  module _ (IsSavedAs : Text → ℕ → List Command → SavedController → Type 0) (NowStands : ReplicaState Command → Type 0)
+      (m : Membership) (r : ReplicaState Command) (s t : S) where
     -- the rule was done
     pub record Done (o : Outcome Command Answer) (out : List code.Message) : Type 0 where
       pub replica : NowStands o.replica
@@ -76,7 +79,9 @@ module _ {S : Type 0} (load_gives : S → Option Stored → S → Type 0) (save_
       pub stored : Stored
       pub loaded : load_gives s (Some stored) t
       pub replica : NowStands (on_restart m.f m.number m.answer (record r { stored_view = stored.view }) x).replica
-      pub sends : AllStandFrom IsSavedAs m (on_restart m.f m.number m.answer (record r { stored_view = stored.view }) x).replica out (on_restart m.f m.number m.answer (record r { stored_view = stored.view }) x).sends
+      pub sends : AllStandFrom IsSavedAs m
+          (on_restart m.f m.number m.answer (record r { stored_view = stored.view }) x).replica out
+          (on_restart m.f m.number m.answer (record r { stored_view = stored.view }) x).sends
 
     -- or memory ran out, before the load or after it
     pub record StayedDown : Type 0 where
@@ -107,11 +112,14 @@ module _ {S : Type 0} (load_gives : S → Option Stored → S → Type 0) (save_
     RestartedIf true x result = Restarted x result
     RestartedIf false x result = Acted (keep m.f m.number m.answer r) result
 
-    -- An event; of a message, for each with whole logs that it stands for. Where its rules take over a log, what they make
-    -- is to begin with what was executed, and the checkpoint of a NEWSTATE is to be of that log, which no call tests.
+    -- An event; of a message, for each with whole logs that it stands for. Where its rules take over a log, what they
+    -- make is to begin with what was executed, and the checkpoint of a NEWSTATE is to be of that log, which no call
+    -- tests.
     abbrev pub Stepped : Event → StepResult → Type 0
     Stepped (event.Message a) result =
-        (meant : Message Command Answer) → Stands IsSavedAs m a meant → KeepsExecuted m r (Takes meant) → Fits IsSavedAs m r (acts m.f m.number m.answer r (Takes meant)) a.body → Acted (acts m.f m.number m.answer r (Takes meant)) result
+        (meant : Message Command Answer) → Stands IsSavedAs m a meant → KeepsExecuted m r (Takes meant)
+        → Fits IsSavedAs m r (acts m.f m.number m.answer r (Takes meant)) a.body
+        → Acted (acts m.f m.number m.answer r (Takes meant)) result
     Stepped event.Timeout result = Acted (acts m.f m.number m.answer r TimesOut) result
     Stepped event.Resend result = Acted (acts m.f m.number m.answer r Resends) result
     Stepped (event.Restart x) result = RestartedIf (is_down r.status) x result

@@ -31,28 +31,33 @@ pub(crate) fn by_rule(core: &mut Core, alloc: Global, event: Event) -> Result<Se
 
 /// A message.
 fn receive(core: &mut Core, alloc: Global, message: Message) -> Result<Sends, AllocError>
-    ensures { (l : List (logs.Request Command)) → Carries IsSavedAs (own_member core.old) message.body l → DoesFrom core.old message.body (λ w r. rules.receives w.f w.number w.answer r (party_of message.from) (body_with l message.body)) core.new result }
+    ensures { (l : List (logs.Request Command)) → Carries IsSavedAs (own_member core.old) message.body l
+        → DoesFrom core.old message.body
+        (λ w r. rules.receives w.f w.number w.answer r (party_of message.from)
+        (body_with l message.body)) core.new result }
 {
     match message.from {
-        Party::Client(_) => from_client(core, alloc, &message.body),
+        Party::Client(_) => from_client(core, alloc, message.body),
         Party::Replica(sender) => from_replica(core, alloc, sender, message.body),
     }
 }
 
 /// From a client: a request.
-fn from_client(core: &mut Core, alloc: Global, body: &Body) -> Result<Sends, AllocError>
-    ensures { (l : List (logs.Request Command)) → DoesIfKept core.old (λ w r. rules.from_client w.f w.number w.answer r (body_with l body.now)) core.new result }
+fn from_client(core: &mut Core, alloc: Global, body: Body) -> Result<Sends, AllocError>
+    ensures { (l : List (logs.Request Command))
+        → DoesIfKept core.old (λ w r. rules.from_client w.f w.number w.answer r (body_with l body)) core.new result }
 {
     match body {
-        Body::Request(request) => on_request(core, alloc, *request),
+        Body::Request(request) => on_request(core, alloc, request),
         _ => Ok(Vec::new(alloc)),
     }
 }
 
-/// From a replica: all but requests and replies. It is sorted by protocol first, so that each function here is proved by
-/// the calls of one protocol.
+/// From a replica: all but requests and replies. It is sorted by protocol first, so that each function here is proved
+/// by the calls of one protocol.
 fn from_replica(core: &mut Core, alloc: Global, sender: u8, body: Body) -> Result<Sends, AllocError>
-    ensures { (l : List (logs.Request Command)) → Carries IsSavedAs (own_member core.old) body l → DoesFrom core.old body (receives_from sender (body_with l body)) core.new result }
+    ensures { (l : List (logs.Request Command)) → Carries IsSavedAs (own_member core.old) body l
+        → DoesFrom core.old body (receives_from sender (body_with l body)) core.new result }
 {
     match body {
         Body::Request(_)
@@ -78,7 +83,8 @@ fn in_normal_case(
     body: Body,
 ) -> Result<Sends, AllocError>
     requires part { protocol_of body ≡ NormalCase }
-    ensures { (l : List (logs.Request Command)) → DoesIfKept core.old (receives_from sender (body_with l body)) core.new result }
+    ensures { (l : List (logs.Request Command))
+        → DoesIfKept core.old (receives_from sender (body_with l body)) core.new result }
 {
     match body {
         Body::Request(_) | Body::Reply { .. } => Ok(Vec::new(alloc)),
@@ -105,7 +111,8 @@ fn in_view_change(
     body: Body,
 ) -> Result<Sends, AllocError>
     requires part { protocol_of body ≡ ViewChange }
-    ensures { (l : List (logs.Request Command)) → Carries IsSavedAs (own_member core.old) body l → DoesIfKept core.old (receives_from sender (body_with l body)) core.new result }
+    ensures { (l : List (logs.Request Command)) → Carries IsSavedAs (own_member core.old) body l
+        → DoesIfKept core.old (receives_from sender (body_with l body)) core.new result }
 {
     match body {
         Body::StartViewChange { view } => on_start_view_change(core, alloc, sender, view),
@@ -135,7 +142,8 @@ fn in_view_change(
 /// A message of recovery or of state transfer.
 fn in_recovery(core: &mut Core, alloc: Global, sender: u8, body: Body) -> Result<Sends, AllocError>
     requires part { protocol_of body ≡ Recovery }
-    ensures { (l : List (logs.Request Command)) → Carries IsSavedAs (own_member core.old) body l → DoesFrom core.old body (receives_from sender (body_with l body)) core.new result }
+    ensures { (l : List (logs.Request Command)) → Carries IsSavedAs (own_member core.old) body l
+        → DoesFrom core.old body (receives_from sender (body_with l body)) core.new result }
 {
     match body {
         Body::Recovery { nonce, stored_view } => on_recovery(

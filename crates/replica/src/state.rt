@@ -31,7 +31,8 @@ impl Replica {
         image: Image,
         budget: Budget,
     ) -> Result<Replica, AllocError>
-        ensures { IfOk result (λ replica. StandsFor replica (member config.f number image budget.instructions) world.first_replica) }
+        ensures { IfOk result (λ replica. StandsFor replica
+            (member config.f number image budget.instructions) world.first_replica) }
     {
         Ok(Replica {
             core: Core::new(alloc, config, number, image, budget)?,
@@ -46,7 +47,8 @@ impl Replica {
         image: Image,
         budget: Budget,
     ) -> Result<Replica, AllocError>
-        ensures { IfOk result (λ replica. (r : model.ReplicaState Command) → StandsFor replica (member config.f number image budget.instructions) (world.down r)) }
+        ensures { IfOk result (λ replica. (r : model.ReplicaState Command)
+            → StandsFor replica (member config.f number image budget.instructions) (world.down r)) }
     {
         Ok(Replica {
             core: Core::down(alloc, config, number, image, budget)?,
@@ -55,14 +57,16 @@ impl Replica {
 
     /// A crash: it is down until a restart, and has lost all but its store. It takes no memory.
     pub fn crash(&mut self, alloc: Global)
-        ensures { (m : Membership) (r : model.ReplicaState Command) → StandsFor self.old m r → StandsFor self.new m (world.down r) }
+        ensures { (m : Membership) (r : model.ReplicaState Command) → StandsFor self.old m r
+            → StandsFor self.new m (world.down r) }
     {
         self.core.crash(alloc);
     }
 
     /// Whether its view goes on normally.
     pub fn is_normal(&self) -> bool
-        ensures { (m : Membership) (r : model.ReplicaState Command) → StandsFor self.now m r → result ≡ model.is_normal r.status }
+        ensures { (m : Membership) (r : model.ReplicaState Command) → StandsFor self.now m r
+            → result ≡ model.is_normal r.status }
     {
         match self.core.status {
             Status::Normal => true,
@@ -72,7 +76,8 @@ impl Replica {
 
     /// Whether it is down.
     pub fn is_down(&self) -> bool
-        ensures told { (m : Membership) (r : model.ReplicaState Command) → StandsFor self.now m r → result ≡ model.is_down r.status }
+        ensures told { (m : Membership) (r : model.ReplicaState Command) → StandsFor self.now m r
+            → result ≡ model.is_down r.status }
         ensures status { IsTrue result ↔ IsDown self.now }
     {
         match self.core.status {
@@ -83,14 +88,17 @@ impl Replica {
 
     /// How many entries of its log it has executed.
     pub fn commit(&self) -> u64
-        ensures { (m : Membership) (r : model.ReplicaState Command) → StandsFor self.now m r → result ≡ r.commit_number }
+        ensures { (m : Membership) (r : model.ReplicaState Command) → StandsFor self.now m r
+            → result ≡ r.commit_number }
     {
         self.core.commit_number
     }
 
     /// The entry of its log at this place, from 0. Of those that it has executed it may keep only the last ones.
     pub fn entry(&self, place: u64) -> Option<&Request>
-        ensures { (m : Membership) (r : model.ReplicaState Command) → StandsFor self.now m r → MatchOption result ((slice_get r.log place ≡ None) ⊎ (place < r.commit_number)) (λ entry. slice_get r.log place ≡ Some (request_of entry.now)) }
+        ensures { (m : Membership) (r : model.ReplicaState Command) → StandsFor self.now m r
+            → MatchOption result ((slice_get r.log place ≡ None) ⊎ (place < r.commit_number))
+            (λ entry. slice_get r.log place ≡ Some (request_of entry.now)) }
     {
         self.core.log.get(place)
     }

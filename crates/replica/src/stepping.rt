@@ -35,7 +35,8 @@ impl Replica {
         event: Event,
         store: &mut S,
     ) -> Result<Sends, StepFault>
-        ensures row { (m : Membership) (r : model.ReplicaState Command) → StandsFor self.old m r → Stepped S.load_gives S.save_gives IsSavedAs (StandsFor self.new m) m r store.old store.new event result }
+        ensures row { (m : Membership) (r : model.ReplicaState Command) → StandsFor self.old m r
+            → Stepped S.load_gives S.save_gives IsSavedAs (StandsFor self.new m) m r store.old store.new event result }
         ensures down { IsErrOf result fault.Down ↔ IsDeafTo self.old event }
         ensures device { IsErrOf result fault.Store → Failed (S.faults store.old) (S.faults store.new) }
         ensures counts { S.faults store.old ≤ S.faults store.new }
@@ -54,7 +55,9 @@ impl Replica {
         event: Event,
         store: &mut S,
     ) -> Result<Sends, StepFault>
-        ensures row { (m : Membership) (r : model.ReplicaState Command) → StandsFor self.old m r → model.is_down r.status ≡ false → Stepped S.load_gives S.save_gives IsSavedAs (StandsFor self.new m) m r store.old store.new event result }
+        ensures row { (m : Membership) (r : model.ReplicaState Command) → StandsFor self.old m r
+            → model.is_down r.status ≡ false
+            → Stepped S.load_gives S.save_gives IsSavedAs (StandsFor self.new m) m r store.old store.new event result }
         ensures up { IsErrOf result fault.Down → ⊥ }
         ensures device { IsErrOf result fault.Store → Failed (S.faults store.old) (S.faults store.new) }
         ensures counts { S.faults store.old ≤ S.faults store.new }
@@ -88,7 +91,10 @@ impl Replica {
         store: &mut S,
     ) -> Result<Sends, StepFault>
         requires { IsDown self.old }
-        ensures row { (m : Membership) (r : model.ReplicaState Command) → StandsFor self.old m r → model.is_down r.status ≡ true → Stepped S.load_gives S.save_gives IsSavedAs (StandsFor self.new m) m r store.old store.new event.now result }
+        ensures row { (m : Membership) (r : model.ReplicaState Command) → StandsFor self.old m r
+            → model.is_down r.status ≡ true
+            → Stepped S.load_gives S.save_gives IsSavedAs
+            (StandsFor self.new m) m r store.old store.new event.now result }
         ensures down { IsErrOf result fault.Down ↔ IsDeafTo self.old event.now }
         ensures device { IsErrOf result fault.Store → Failed (S.faults store.old) (S.faults store.new) }
         ensures counts { S.faults store.old ≤ S.faults store.new }
@@ -107,7 +113,9 @@ impl Replica {
         store: &mut S,
     ) -> Result<Sends, StepFault>
         requires { IsDown self.old }
-        ensures row { (m : Membership) (r : model.ReplicaState Command) → StandsFor self.old m r → Restarted S.load_gives S.save_gives IsSavedAs (StandsFor self.new m) m r store.old store.new nonce result }
+        ensures row { (m : Membership) (r : model.ReplicaState Command) → StandsFor self.old m r
+            → Restarted S.load_gives S.save_gives IsSavedAs
+            (StandsFor self.new m) m r store.old store.new nonce result }
         ensures up { IsErrOf result fault.Down → ⊥ }
         ensures device { IsErrOf result fault.Store → Failed (S.faults store.old) (S.faults store.new) }
         ensures counts { S.faults store.old ≤ S.faults store.new }

@@ -20,7 +20,8 @@ use Rattle.vr_model.specs.StandsFor.{Stands}
 abbrev pub numbered : Membership → ℕ → Membership
 numbered g i = record g { number = i }
 
-module _ (IsSavedAs : Text → ℕ → List Command → SavedController → Type 0) (g : Membership) (past : List (Event Command × Completion)) where
+module _ (IsSavedAs : Text → ℕ → List Command → SavedController → Type 0) (g : Membership)
+    (past : List (Event Command × Completion)) where
   -- it is a NEWSTATE that hands a whole log on, which a replica had that was normal in its view; and its checkpoint and
   -- entries are of that log
   pub record IsHandedOn (log : KeptLog) (meant : Body Command Answer) : Type 0 where

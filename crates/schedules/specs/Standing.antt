@@ -1,5 +1,6 @@
 -- When the world that the code keeps is a world of the definitions.
-use Rattle.std.specs.Prelude.{◌≡◌, ℕ, ◌<◌, ◌≤◌, ◌⊎◌, List, [], ◌∷◌, ◌++◌, length, take, drop, map, replicate, Some, None, Result, MatchResult, true, false}
+use Rattle.std.specs.Prelude.{◌≡◌, ℕ, ◌<◌, ◌≤◌, ◌⊎◌, List, [], ◌∷◌, ◌++◌, length, take, drop, map, replicate, Some}
+use Rattle.std.specs.Prelude.{None, Result, MatchResult, true, false}
 use Rattle.std.specs.List.{slice_get}
 use Rattle.std.specs.Ordering.{nat_cmp}
 use Rattle.std.specs.BTreeSet.{contains}
@@ -59,7 +60,9 @@ module _ {M : Type 0} (StandsFor : M → Membership → ReplicaState Command →
     pub failing : w.failing i ≡ failing_of n.store
     pub used : (x : ℕ) → w.used i x ≡ contains nat_cmp n.used x
 
-module _ (IsSavedAs : Text → ℕ → List Command → SavedController → Type 0) {M : Type 0} (StandsFor : M → Membership → ReplicaState Command → Type 0) (g : Membership) (past : List (Event Command × Completion)) where
+module _ (IsSavedAs : Text → ℕ → List Command → SavedController → Type 0) {M : Type 0}
+    (StandsFor : M → Membership → ReplicaState Command → Type 0) (g : Membership)
+    (past : List (Event Command × Completion)) where
   -- these are the replicas, the clients, the messages and the committed list of this world
   pub record Shows (s : code.World M) (w : World Command Answer) : Type 0 where
     pub config : s.config.f ≡ g.f
@@ -75,9 +78,12 @@ module _ (g : Membership) (past : List (Event Command × Completion)) where
   -- had in its log before; and who is normal now has a log that some replica had.
   pub record Leads (later : List (Event Command × Completion)) (w v : World Command Answer) : Type 0 where
     pub grows : IsPrefix w.order v.order
-    pub had : (i : ℕ) → length w.order < (v.replicas i).commit_number → v.order ≡ take (v.replicas i).commit_number (w.replicas i).log
-    pub was : (i : ℕ) → is_normal (v.replicas i).status ≡ true → WasLogOf g.f g.answer later (v.replicas i).view (v.replicas i).log
-    pub still : (view : ℕ) (log : List (Request Command)) → WasLogOf g.f g.answer past view log → WasLogOf g.f g.answer later view log
+    pub had : (i : ℕ) → length w.order < (v.replicas i).commit_number
+        → v.order ≡ take (v.replicas i).commit_number (w.replicas i).log
+    pub was : (i : ℕ) → is_normal (v.replicas i).status ≡ true
+        → WasLogOf g.f g.answer later (v.replicas i).view (v.replicas i).log
+    pub still : (view : ℕ) (log : List (Request Command)) → WasLogOf g.f g.answer past view log
+        → WasLogOf g.f g.answer later view log
 
   -- what is known of the world after the events so far, and after whatever happens next
   pub record IsSettled (w : World Command Answer) : Type 0 where
@@ -86,28 +92,41 @@ module _ (g : Membership) (past : List (Event Command × Completion)) where
     pub agreed : (i : ℕ) → IsPrefix (executed (w.replicas i)) w.order
     pub within : (i : ℕ) → (w.replicas i).commit_number ≤ length w.order
     -- and the log that the rules make of a message that was sent begins with it
-    pub keeps : (i n : ℕ) (m : Message Command Answer) → is_down (w.replicas i).status ≡ false → slice_get w.sent n ≡ Some m → m.to ≡ ToReplica i
+    pub keeps : (i n : ℕ) (m : Message Command Answer) → is_down (w.replicas i).status ≡ false
+        → slice_get w.sent n ≡ Some m → m.to ≡ ToReplica i
         → IsPrefix (executed (w.replicas i)) (receives g.f i g.answer (w.replicas i) m.from m.body).replica.log
     -- and is, for a NEWSTATE, the log from which that was sent
-    pub hands_on : (i n view op_number commit_number : ℕ) (from : Party) (whole : List (Request Command)) → is_down (w.replicas i).status ≡ false
-        → slice_get w.sent n ≡ Some (record { from = from; to = ToReplica i; body = NewState view op_number commit_number (drop op_number whole) })
+    pub hands_on : (i n view op_number commit_number : ℕ) (from : Party) (whole : List (Request Command))
+        → is_down (w.replicas i).status ≡ false
+        → slice_get w.sent n ≡ Some
+        (record {
+          from = from;
+          to = ToReplica i;
+          body = NewState view op_number commit_number (drop op_number whole);
+        })
         → op_number ≤ length whole → WasLogOf g.f g.answer past view whole
-        → ((receives g.f i g.answer (w.replicas i) from (NewState view op_number commit_number (drop op_number whole))).replica ≡ w.replicas i)
-        ⊎ ((receives g.f i g.answer (w.replicas i) from (NewState view op_number commit_number (drop op_number whole))).replica.log ≡ whole)
+        → ((receives g.f i g.answer (w.replicas i) from
+        (NewState view op_number commit_number (drop op_number whole))).replica ≡ w.replicas i)
+        ⊎ ((receives g.f i g.answer (w.replicas i) from
+        (NewState view op_number commit_number (drop op_number whole))).replica.log ≡ whole)
 
-module _ (IsSavedAs : Text → ℕ → List Command → SavedController → Type 0) {M : Type 0} (StandsFor : M → Membership → ReplicaState Command → Type 0) (g : Membership) (past : List (Event Command × Completion)) where
+module _ (IsSavedAs : Text → ℕ → List Command → SavedController → Type 0) {M : Type 0}
+    (StandsFor : M → Membership → ReplicaState Command → Type 0) (g : Membership)
+    (past : List (Event Command × Completion)) where
   -- the event happened, and was done or lost
   pub record Happened (old new : code.World M) (w : World Command Answer) (e : Event Command) : Type 0 where
     pub completion : Completion
     pub has_step : refusal g.f w e ≡ None
     pub complete : Completes g.f g.answer w e completion
     pub shows : Shows IsSavedAs StandsFor g (past ++ (e, completion) ∷ []) new (happens g.f g.answer w e completion)
-    pub releases : releases_of new.trace.releases.items ≡ releases_of old.trace.releases.items ++ released (length old.trace.lengths.items) w e
+    pub releases : releases_of new.trace.releases.items ≡ releases_of old.trace.releases.items
+        ++ released (length old.trace.lengths.items) w e
     pub lengths : new.trace.lengths.items ≡ old.trace.lengths.items
     pub lost : new.trace.lost.items ≡ old.trace.lost.items ++ lost_at (length old.trace.lengths.items) completion
 
   -- replica i did what its rules give for what it took up, or lost it
-  pub record Acted (later : Completion → List (Event Command × Completion)) (old new : code.World M) (w : World Command Answer) (i : ℕ) (o : Outcome Command Answer) : Type 0 where
+  pub record Acted (later : Completion → List (Event Command × Completion)) (old new : code.World M)
+      (w : World Command Answer) (i : ℕ) (o : Outcome Command Answer) : Type 0 where
     pub completion : Completion
     pub may : MayEnd (w.replicas i) o (w.failing i) completion
     pub shows : Shows IsSavedAs StandsFor g (later completion) new (does g.f g.answer w i o completion)
@@ -121,36 +140,57 @@ module _ (IsSavedAs : Text → ℕ → List Command → SavedController → Type
     pub has_step : refusal g.f w e ≡ None
     pub complete : Completes g.f g.answer w e completion
     pub shows : Shows IsSavedAs StandsFor g (past ++ (e, completion) ∷ []) new (happens g.f g.answer w e completion)
-    pub releases : releases_of new.trace.releases.items ≡ releases_of old.trace.releases.items ++ released (length old.trace.lengths.items) w e
-    pub lengths : new.trace.lengths.items ≡ old.trace.lengths.items ++ length (happens g.f g.answer w e completion).order ∷ []
+    pub releases : releases_of new.trace.releases.items ≡ releases_of old.trace.releases.items
+        ++ released (length old.trace.lengths.items) w e
+    pub lengths : new.trace.lengths.items ≡ old.trace.lengths.items
+        ++ length (happens g.f g.answer w e completion).order ∷ []
     pub lost : new.trace.lost.items ≡ old.trace.lost.items ++ lost_at (length old.trace.lengths.items) completion
 
   -- this reply came to this client, and was released if it waited for it
-  pub record CameToClient (old new : code.World M) (w : World Command Answer) (c view number : ℕ) (a : Answer) : Type 0 where
+  pub record CameToClient (old new : code.World M) (w : World Command Answer) (c view number : ℕ)
+      (a : Answer) : Type 0 where
     pub shows : Shows IsSavedAs StandsFor g past new (comes_to_client g.f g.answer w c (Reply view number a))
-    pub releases : releases_of new.trace.releases.items ≡ releases_of old.trace.releases.items ++ released_to (length old.trace.lengths.items) w (ToClient c) (Reply view number a)
+    pub releases : releases_of new.trace.releases.items ≡ releases_of old.trace.releases.items
+        ++ released_to (length old.trace.lengths.items) w (ToClient c) (Reply view number a)
     pub lengths : new.trace.lengths.items ≡ old.trace.lengths.items
     pub lost : new.trace.lost.items ≡ old.trace.lost.items
 
 -- From whatever world it was, the event happened, or has no step there.
-pub record Went (IsSavedAs : Text → ℕ → List Command → SavedController → Type 0) {M : Type 0} (StandsFor : M → Membership → ReplicaState Command → Type 0) (old new : code.World M) (e : Event Command) (result : Result (Unit {0}) EventFault) : Type 0 where
-  pub went : (g : Membership) (past : List (Event Command × Completion)) (w : World Command Answer) → Shows IsSavedAs StandsFor g past old w → IsSettled g past w
+pub record Went (IsSavedAs : Text → ℕ → List Command → SavedController → Type 0) {M : Type 0}
+    (StandsFor : M → Membership → ReplicaState Command → Type 0) (old new : code.World M) (e : Event Command)
+    (result : Result (Unit {0}) EventFault) : Type 0 where
+  pub went : (g : Membership) (past : List (Event Command × Completion)) (w : World Command Answer)
+      → Shows IsSavedAs StandsFor g past old w → IsSettled g past w
       → MatchResult result (λ _. Happened IsSavedAs StandsFor g past old new w e) (IsReason (refusal g.f w e))
 
 -- From whatever world it was, the replica did what its rules give for what it took up, or lost it.
-pub record WentAt (IsSavedAs : Text → ℕ → List Command → SavedController → Type 0) {M : Type 0} (StandsFor : M → Membership → ReplicaState Command → Type 0) (old new : code.World M) (i : ℕ) (e : taken.Event) (result : Result (Unit {0}) EventFault) : Type 0 where
-  pub went : (g : Membership) (past : List (Event Command × Completion)) (w : World Command Answer) (t : Taken) (later : Completion → List (Event Command × Completion)) → Shows IsSavedAs StandsFor g past old w
+pub record WentAt (IsSavedAs : Text → ℕ → List Command → SavedController → Type 0) {M : Type 0}
+    (StandsFor : M → Membership → ReplicaState Command → Type 0) (old new : code.World M) (i : ℕ) (e : taken.Event)
+    (result : Result (Unit {0}) EventFault) : Type 0 where
+  pub went : (g : Membership) (past : List (Event Command × Completion)) (w : World Command Answer) (t : Taken)
+      (later : Completion → List (Event Command × Completion)) → Shows IsSavedAs StandsFor g past old w
       → IsPrefix (executed (w.replicas i)) w.order → (w.replicas i).commit_number ≤ length w.order
-      → ((c : Completion) → Leads g past (later c) w (does g.f g.answer w i (by_rules (numbered g i) (w.stores i) (w.replicas i) t) c))
-      → IsTaken IsSavedAs (numbered g i) e t → KeepsExecuted (numbered g i) (w.replicas i) t → FitsTaken IsSavedAs (numbered g i) (w.replicas i) e t
-      → MatchResult result (λ _. Acted IsSavedAs StandsFor g past later old new w i (by_rules (numbered g i) (w.stores i) (w.replicas i) t)) (λ fault. fault ≡ Memory)
+      → ((c : Completion) → Leads g past (later c) w
+      (does g.f g.answer w i (by_rules (numbered g i) (w.stores i) (w.replicas i) t) c))
+      → IsTaken IsSavedAs (numbered g i) e t → KeepsExecuted (numbered g i) (w.replicas i) t
+      → FitsTaken IsSavedAs (numbered g i) (w.replicas i) e t
+      → MatchResult result (λ _. Acted IsSavedAs StandsFor g past later old new w i
+      (by_rules (numbered g i) (w.stores i) (w.replicas i) t)) (λ fault. fault ≡ Memory)
 
 -- From whatever world it was, the reply came to this client.
-pub record WentToClient (IsSavedAs : Text → ℕ → List Command → SavedController → Type 0) {M : Type 0} (StandsFor : M → Membership → ReplicaState Command → Type 0) (old new : code.World M) (c view number : ℕ) (a : Answer) (result : Result (Unit {0}) EventFault) : Type 0 where
-  pub went : (g : Membership) (past : List (Event Command × Completion)) (w : World Command Answer) → Shows IsSavedAs StandsFor g past old w
-      → MatchResult result (λ _. CameToClient IsSavedAs StandsFor g past old new w c view number a) (λ fault. fault ≡ Memory)
+pub record WentToClient (IsSavedAs : Text → ℕ → List Command → SavedController → Type 0) {M : Type 0}
+    (StandsFor : M → Membership → ReplicaState Command → Type 0) (old new : code.World M) (c view number : ℕ)
+    (a : Answer) (result : Result (Unit {0}) EventFault) : Type 0 where
+  pub went : (g : Membership) (past : List (Event Command × Completion)) (w : World Command Answer)
+      → Shows IsSavedAs StandsFor g past old w
+      → MatchResult result (λ _. CameToClient IsSavedAs StandsFor g past old new w c view number a)
+      (λ fault. fault ≡ Memory)
 
--- From whatever world it was, the event happened, and the length of the committed list is noted; or it has no step there.
-pub record WentOn (IsSavedAs : Text → ℕ → List Command → SavedController → Type 0) {M : Type 0} (StandsFor : M → Membership → ReplicaState Command → Type 0) (old new : code.World M) (e : Event Command) (result : Result (Unit {0}) EventFault) : Type 0 where
-  pub went : (g : Membership) (past : List (Event Command × Completion)) (w : World Command Answer) → Shows IsSavedAs StandsFor g past old w → IsSettled g past w
+-- From whatever world it was, the event happened, and the length of the committed list is noted; or it has no step
+-- there.
+pub record WentOn (IsSavedAs : Text → ℕ → List Command → SavedController → Type 0) {M : Type 0}
+    (StandsFor : M → Membership → ReplicaState Command → Type 0) (old new : code.World M) (e : Event Command)
+    (result : Result (Unit {0}) EventFault) : Type 0 where
+  pub went : (g : Membership) (past : List (Event Command × Completion)) (w : World Command Answer)
+      → Shows IsSavedAs StandsFor g past old w → IsSettled g past w
       → MatchResult result (λ _. HappenedOn IsSavedAs StandsFor g past old new w e) (IsReason (refusal g.f w e))

@@ -34,13 +34,17 @@ pub trait Member: Drop {
         event: Event,
         store: &mut MemoryStore,
     ) -> Result<Sends, AllocError>
-        ensures { (m : Membership) (r : ReplicaState Command) (t : Taken) → StandsFor self.old m r → IsTaken IsSavedAs m event t → KeepsExecuted m r t → FitsTaken IsSavedAs m r event t → MatchResult result
-            (λ sends. Does IsSavedAs m (StandsFor self.new m) r store.old store.new (by_rules m store.old.view r t) false sends.items)
-            (λ _. Does IsSavedAs m (StandsFor self.new m) r store.old store.new (by_rules m store.old.view r t) true []) };
+        ensures { (m : Membership) (r : ReplicaState Command) (t : Taken) → StandsFor self.old m r
+            → IsTaken IsSavedAs m event t → KeepsExecuted m r t → FitsTaken IsSavedAs m r event t → MatchResult result
+            (λ sends. Does IsSavedAs m (StandsFor self.new m) r store.old store.new
+            (by_rules m store.old.view r t) false sends.items)
+            (λ _. Does IsSavedAs m (StandsFor self.new m) r store.old store.new
+            (by_rules m store.old.view r t) true []) };
 
     /// It is down, and has lost all but its store.
     fn crash(&mut self, alloc: Global)
-        ensures { (m : Membership) (r : ReplicaState Command) → StandsFor self.old m r → StandsFor self.new m (down r) };
+        ensures { (m : Membership) (r : ReplicaState Command) → StandsFor self.old m r
+            → StandsFor self.new m (down r) };
 
     /// Whether it is down.
     fn is_down(&self) -> bool
@@ -53,5 +57,6 @@ pub trait Member: Drop {
     /// The entry of its log at this place; of those that it has executed it may have no more than what they left.
     fn entry(&self, place: u64) -> Option<&Request>
         ensures { (m : Membership) (r : ReplicaState Command) → StandsFor self.now m r
-            → MatchOption result ((slice_get r.log place ≡ None) ⊎ (place < r.commit_number)) (λ x. slice_get r.log place ≡ Some (request_of x.now)) };
+            → MatchOption result ((slice_get r.log place ≡ None) ⊎ (place < r.commit_number))
+            (λ x. slice_get r.log place ≡ Some (request_of x.now)) };
 }

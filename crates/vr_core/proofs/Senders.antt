@@ -1,5 +1,5 @@
 -- Calls that drop what comes from no other replica of the group.
-use Rattle.std.proofs.Common.{◌≡◌, ℕ, Bool, true, false, cond, not, ◌&&◌, ltb, eqb, List, [], Result, Ok, Err, Vec, Global, ap, ◌∙◌, sym, subst}
+use Rattle.std.proofs.Common.{◌≡◌, ℕ, Bool, true, false, cond, not, ◌&&◌, ltb, eqb, [], Result, Ok, Err, Vec, Global, ap, sym, subst}
 use Rattle.std.specs.declared.alloc.AllocError.{AllocError}
 use Rattle.il_model.specs.declared.command.Command.{Command}
 use Rattle.il_model.specs.declared.command.Answer.{Answer}
@@ -16,7 +16,7 @@ use Rattle.vr_model.specs.Steps.{Matters}
 use Rattle.vr_model.specs.World.{executed}
 use Rattle.vr_core.specs.declared.state.Core.{Core}
 use Rattle.vr_core.specs.StandsFor.{StandsFor, IsSavedAs}
-use Rattle.vr_core.specs.Follows.{Rule, Tells, Leaves, Follows, Does, FollowsIfKept, DoesIfKept, FollowsIfFits, DoesIfFits, receives_from}
+use Rattle.vr_core.specs.Follows.{Rule, Tells, Leaves, Follows, Does, DoesIfKept, DoesIfFits, receives_from}
 use Rattle.vr_core.proofs.Doing.{does_as, does_keep}
 use Rattle.vr_core.proofs.Keeping.{kept_as, kept_of}
 

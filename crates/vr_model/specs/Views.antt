@@ -31,7 +31,8 @@ pub record SentDoViewChange {C A : Type 0} (sent : List (Message C A)) (replica 
   pub later : ℕ
   pub content : DoViewChange C
   pub above : view < later
-  pub is : slice_get sent place ≡ Some (record { from = Replica replica; to = to; body = DoViewChangeMessage later content })
+  pub is : slice_get sent place ≡ Some
+      (record { from = Replica replica; to = to; body = DoViewChangeMessage later content })
 
 -- it is normal in a view above this one
 abbrev pub IsNormalAbove : {C : Type 0} → ReplicaState C → ℕ → Type 0
@@ -47,8 +48,8 @@ module _ {C A : Type 0} (f : ℕ) (answer : List C → A) (events : List (Event 
     pub moment : ℕ
     pub was : IsNormalAbove ((before f answer events moment).replicas replica) view
 
-  -- At some moment of the run the view's primary was normal in it, and its log began with this: so this is a beginning of
-  -- the view's log, and its primary holds it.
+  -- At some moment of the run the view's primary was normal in it, and its log began with this: so this is a beginning
+  -- of the view's log, and its primary holds it.
   pub record IsBeginning (view : ℕ) (log : List (Request C)) : Type 0 where
     pub moment : ℕ
     pub normal : is_normal ((before f answer events moment).replicas (primary f view)).status ≡ true
@@ -63,8 +64,8 @@ module _ {C A : Type 0} (f : ℕ) (answer : List C → A) (events : List (Event 
     pub view_is : ((before f answer events moment).replicas replica).view ≡ view
     pub log_is : ((before f answer events moment).replicas replica).log ≡ log
 
-  -- A replica accepted a beginning of the view's log if it is the view's primary and holds it, or sent a PREPAREOK of the
-  -- view that reaches its end; also if it crashed since.
+  -- A replica accepted a beginning of the view's log if it is the view's primary and holds it, or sent a PREPAREOK of
+  -- the view that reaches its end; also if it crashed since.
   pub data HasAccepted (view : ℕ) (log : List (Request C)) (replica : ℕ) : Type 0 where
     Holds : replica ≡ primary f view → IsBeginning view log → HasAccepted view log replica
     Acknowledged : IsAcknowledged world.sent replica view (length log) → HasAccepted view log replica

@@ -1,5 +1,6 @@
 mod OwnState
 mod Telling
+mod Restarting
 mod Table
 mod Ending
 mod CatchingUp

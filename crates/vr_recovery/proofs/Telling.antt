@@ -1,19 +1,15 @@
 -- What the core's table of responses tells, and what it has of its log.
-use Rattle.std.proofs.Common.{◌≡◌, ℕ, Bool, map, subst, zero, suc, ◌+◌, max, true, false, cond, List, [], ◌∷◌, ◌++◌, length, take, drop, get_or, length-drop, ◌-◌, Option, Some, None, is_some, Result, Ok, Err, Vec, Global, Bor, refl, ap, ap₂, add-one, ◌∙◌, sym}
-use Rattle.std.specs.Prelude.{slice_get, IfOk}
-use Rattle.std.specs.Option.{option_map, option_copied}
-use Rattle.std.proofs.lemmas.Option.{get_or_from_slice_get}
-use Rattle.std.specs.declared.alloc.AllocError.{AllocError}
+use Rattle.std.proofs.Common.{◌≡◌, ℕ, Bool, map, subst, ◌+◌, max, cond, List, [], ◌++◌, Option, Some, None, is_some, Result, Ok, Err, Bor, refl, ap, ap₂, add-one, ◌∙◌, sym}
+use Rattle.std.specs.Prelude.{OnErr}
+use Rattle.std.specs.Option.{option_copied}
 use Rattle.il_model.specs.declared.command.Command.{Command}
-use Rattle.vr_model.specs.declared.message.Request as code
 use Rattle.vr_model.specs.declared.message.Message as sent
-use Rattle.vr_model.specs.declared.message.PrimaryState as primary_state
-use Rattle.vr_model.specs.Groups.{primary, group_size, how_many}
+use Rattle.vr_model.specs.Groups.{group_size, how_many}
 use Rattle.vr_model.specs.Membership.{Membership}
 use Rattle.vr_model.specs.Messages.{Recovery}
 use Rattle.vr_model.specs.Rules.{send_others}
 use Rattle.vr_model.specs.Replicas.{ReplicaState}
-use Rattle.vr_model.specs.Choices.{state_of, view_of, latest}
+use Rattle.vr_model.specs.Choices.{view_of, latest}
 use Rattle.vr_model.specs.declared.message.Body.TheVariants as says
 use Rattle.vr_model.specs.Choices.{others}
 use Rattle.vr_model.specs.StandsFor.{AllStand}
@@ -22,12 +18,16 @@ use Rattle.vr_core.specs.declared.state.Response.{Response}
 use Rattle.vr_core.specs.StandsFor.{IsSavedAs}
 use Rattle.vr_core.specs.Follows.{Tells, message_from}
 use Rattle.vr_core.proofs.Sent.{sent_others}
-use Rattle.vr_recovery.specs.Responses.{HasState}
 use Rattle.vr_recovery.specs.ComingUp.{Begins, ComesUp}
 
 -- the same answer
 pub told_by : {X : Type 0} (core : Core) (f : Membership → ReplicaState Command → X) (x y : X) → Tells core f x → x ≡ y → Tells core f y
 told_by core f x y t e = record { tells = λ w r st. sym e ∙ t.tells w r st }
+
+-- what always holds does after an error
+pub on_err : {X E : Type 0} (r : Result X E) (P : Type 0) → P → OnErr r P
+on_err (Ok x) P p = tt
+on_err (Err e) P p = p
 
 -- what is behind a reference is there or not as the reference is
 pub copied_some : (o : Option (Bor Response)) → is_some (option_copied o) ≡ is_some o

@@ -1,5 +1,6 @@
 -- Which of a replica's responses is kept, and what the primary of a view told.
-use Rattle.std.specs.Prelude.{◌≡◌, ℕ, nat_lt, ◌==◌, ◌&&◌, ◌||◌, Bool, false, not, List, Option, Some, None, slice_index_or, slice_set}
+use Rattle.std.specs.Prelude.{◌≡◌, ℕ, nat_lt, ◌==◌, ◌&&◌, ◌||◌, Bool, false, not, List, Option, Some, None}
+use Rattle.std.specs.Prelude.{slice_index_or, slice_set}
 use Rattle.il_model.specs.declared.command.Command.{Command}
 use Rattle.vr_model.specs.declared.message.PrimaryState as code
 use Rattle.vr_model.specs.Groups.{primary}
@@ -37,7 +38,8 @@ with_back kept s (Some o) = slice_set kept s o
 
 -- it keeps the response of s: whoever stood for what was there before stands for it with the one that the rule keeps
 pub record Keeps (old : Core) (s : ℕ) (a : Response) (new : Core) : Type 0 where
-  pub keeps : (w : Membership) (r : ReplicaState Command) (content : RecoveryResponse Command) → StandsFor old w r → ResponseStands w a content
+  pub keeps : (w : Membership) (r : ReplicaState Command) (content : RecoveryResponse Command) → StandsFor old w r
+      → ResponseStands w a content
       → StandsFor new w (record r { responses = put r.responses s (Some (kept_response (r.responses s) content)) })
 
 -- the primary of this view told its state in it

@@ -12,14 +12,14 @@ ghost use Rattle.vr_core.specs.StandsFor.{IsSavedAs, own_member};
 ghost use Rattle.vr_core.specs.Follows.{Tells, DoesIfKept, DoesIfFits, op_number_of, receives_from};
 
 use crate::entries::{catch_up, catch_up_as_primary, go_on};
-use crate::handed::fits;
+use crate::handed::is_reached;
 use crate::taking_up::{adopt_and_take_up, take_up, take_up_as_primary};
 use std::alloc::{AllocError, Global};
 use vr_core::Core;
 use vr_model::{Log, Request, Sends};
 
-/// NEWSTATE: the view's log past an op number. A backup of that view appends what lies past its own
-/// log; who is behind adopts the view, if what it has executed is neither cut nor left behind. One whose checkpoint can't be taken up here
+/// NEWSTATE: the view's log past an op number. A backup of that view appends what lies past its own log; who is behind
+/// adopts the view, if what it has executed is neither cut nor left behind. One whose checkpoint can't be taken up here
 /// is dropped.
 pub fn on_new_state(
     core: &mut Core,
@@ -30,7 +30,10 @@ pub fn on_new_state(
     commit_number: u64,
     log: Log,
 ) -> Result<Sends, AllocError>
-    ensures { (l : List (logs.Request Command)) → IsCarriedPart IsSavedAs (own_member core.old) op_number commit_number log l → DoesIfFits core.old (says.NewState view op_number commit_number log) (receives_from sender (NewState view op_number commit_number l)) core.new result }
+    ensures { (l : List (logs.Request Command))
+        → IsCarriedPart IsSavedAs (own_member core.old) op_number commit_number log l
+        → DoesIfFits core.old (says.NewState view op_number commit_number log)
+        (receives_from sender (NewState view op_number commit_number l)) core.new result }
 {
     if core.is_other(sender) {
         new_state_of_other(core, alloc, view, op_number, commit_number, log)
@@ -48,12 +51,22 @@ fn new_state_of_other(
     commit_number: u64,
     log: Log,
 ) -> Result<Sends, AllocError>
-    ensures { (l : List (logs.Request Command)) → IsCarriedPart IsSavedAs (own_member core.old) op_number commit_number log l → DoesIfFits core.old (says.NewState view op_number commit_number log) (λ w r. rules.on_new_state w.f w.number w.answer r view op_number commit_number l) core.new result }
+    ensures { (l : List (logs.Request Command))
+        → IsCarriedPart IsSavedAs (own_member core.old) op_number commit_number log l
+        → DoesIfFits core.old (says.NewState view op_number commit_number log)
+        (λ w r. rules.on_new_state w.f w.number w.answer r view op_number commit_number l) core.new result }
 {
     if log.checkpoint().is_some() {
         on_checkpoint(core, alloc, view, op_number, commit_number, log)
     } else {
-        on_entries(core, alloc, view, op_number, commit_number, log.entries())
+        on_entries(
+            core,
+            alloc,
+            view,
+            op_number,
+            commit_number,
+            log.into_entries(),
+        )
     }
 }
 
@@ -64,9 +77,11 @@ fn on_entries(
     view: u64,
     op_number: u64,
     commit_number: u64,
-    entries: &[Request],
+    entries: Vec<Request>,
 ) -> Result<Sends, AllocError>
-    ensures { DoesIfKept core.old (λ w r. rules.on_new_state w.f w.number w.answer r view op_number commit_number (requests_of entries.now)) core.new result }
+    ensures { DoesIfKept core.old
+        (λ w r. rules.on_new_state w.f w.number w.answer r view op_number commit_number
+        (requests_of entries.items)) core.new result }
 {
     let count = entries.len() as u64;
     if core.is_backup_in(view) {
@@ -94,9 +109,12 @@ fn on_checkpoint(
     log: Log,
 ) -> Result<Sends, AllocError>
     requires { is_some log.checkpoint ≡ true }
-    ensures { (l : List (logs.Request Command)) → IsCarriedPart IsSavedAs (own_member core.old) op_number commit_number log l → DoesIfFits core.old (says.NewState view op_number commit_number log) (λ w r. rules.on_new_state w.f w.number w.answer r view op_number commit_number l) core.new result }
+    ensures { (l : List (logs.Request Command))
+        → IsCarriedPart IsSavedAs (own_member core.old) op_number commit_number log l
+        → DoesIfFits core.old (says.NewState view op_number commit_number log)
+        (λ w r. rules.on_new_state w.f w.number w.answer r view op_number commit_number l) core.new result }
 {
-    if !fits(core, &log, commit_number) {
+    if !is_reached(&log, commit_number) {
         return Ok(Vec::new(alloc));
     }
     let count = log.op_number().saturating_sub(op_number);
@@ -117,7 +135,8 @@ fn on_checkpoint(
 
 /// Whether so many entries past this op number begin within its log and go past its end.
 fn goes_past(core: &Core, op_number: u64, count: u64) -> bool
-    ensures told { Tells core.now (λ w r. nat_le op_number (length r.log) && nat_lt (length r.log) (op_number + count)) result }
+    ensures told { Tells core.now
+        (λ w r. nat_le op_number (length r.log) && nat_lt (length r.log) (op_number + count)) result }
     ensures within { result ≡ true → (op_number ≤ op_number_of core.now) × (op_number_of core.now - op_number < count) }
 {
     let held = core.op_number();
@@ -126,7 +145,9 @@ fn goes_past(core: &Core, op_number: u64, count: u64) -> bool
 
 /// Whether it is behind this view, and so many entries past this op number leave nothing out.
 fn may_catch_up(core: &Core, view: u64, op_number: u64, count: u64) -> bool
-    ensures told { Tells core.now (λ w r. rules.behind w.f w.number w.answer r view && (nat_le op_number r.commit_number && nat_le r.commit_number (op_number + count))) result }
+    ensures told { Tells core.now
+        (λ w r. rules.behind w.f w.number w.answer r view
+        && (nat_le op_number r.commit_number && nat_le r.commit_number (op_number + count))) result }
     ensures behind { result ≡ true → Tells core.now (λ w r. rules.behind w.f w.number w.answer r view) true }
     ensures within { result ≡ true → op_number ≤ core.now.commit_number }
 {
@@ -135,7 +156,8 @@ fn may_catch_up(core: &Core, view: u64, op_number: u64, count: u64) -> bool
 
 /// Whether so many entries past this op number begin within what it has executed and reach its end.
 fn reaches(core: &Core, op_number: u64, count: u64) -> bool
-    ensures told { Tells core.now (λ w r. nat_le op_number r.commit_number && nat_le r.commit_number (op_number + count)) result }
+    ensures told { Tells core.now
+        (λ w r. nat_le op_number r.commit_number && nat_le r.commit_number (op_number + count)) result }
     ensures within { result ≡ true → op_number ≤ core.now.commit_number }
 {
     op_number <= core.commit_number && core.commit_number - op_number <= count

@@ -1,6 +1,7 @@
 //! How a recovery ends.
 
-ghost use Rattle.std.specs.Prelude.{◌≡◌, ◌==◌, ◌≤◌, ◌<◌, [], ◌&&◌, true, false, nat_le, ◌+◌, is_some, Some, OnOk, OnErr, MatchResult};
+ghost use Rattle.std.specs.Prelude.{◌≡◌, ◌==◌, ◌≤◌, ◌<◌, [], ◌&&◌, true, false, nat_le, ◌+◌, is_some, Some, IfOk, OnOk};
+ghost use Rattle.std.specs.Prelude.{OnErr, MatchResult};
 ghost use Rattle.vr_model.specs.Groups.{group_size, how_many};
 ghost use Rattle.vr_model.specs.Choices as choices;
 ghost use Rattle.vr_model.specs.Rules as rules;
@@ -12,19 +13,20 @@ ghost use Rattle.vr_model.specs.Messages.{RecoveryResponse, RecoveryResponseMess
 ghost use Rattle.vr_core.specs.StandsFor.{ResponseStands, own_member};
 ghost use Rattle.vr_core.specs.Begun.{IsBegun, IsNotBegun};
 ghost use Rattle.vr_core.specs.Follows.{Tells, FollowsIfKept, DoesIfKept, receives_from};
-ghost use Rattle.vr_recovery.specs.Responses.{HasState};
+ghost use Rattle.vr_core.specs.Changes.{IsReadyFor};
+ghost use Rattle.vr_recovery.specs.Responses.{HasState, kept_of, stays};
 ghost use Rattle.vr_recovery.specs.Recovering.{Recovers};
 
 use crate::handed::fits;
-use crate::responses::{count, is_told, keep, kept, latest, put, put_back};
+use crate::responses::{count, is_told, keep, kept, latest, put, put_back, stays_kept};
 use debugger::{Controller, SnapError};
 use std::alloc::{AllocError, Global};
-use vr_core::{Core, Response, Status};
+use vr_core::{Core, ReadyChanges, Response, Status};
 use vr_model::{PrimaryState, Sends};
 
-/// RECOVERYRESPONSE with a nonce. It recovers when those of more than half of the group are kept, the latest view among them is no earlier than its stored view, and the primary of that view told its
-/// state. One whose checkpoint can't be taken up here is dropped. It fails only where it would recover and memory runs
-/// out.
+/// RECOVERYRESPONSE with a nonce. It recovers when those of more than half of the group are kept, the latest view among
+/// them is no earlier than its stored view, and the primary of that view told its state. One whose checkpoint can't be
+/// taken up here is dropped. It fails only where it would keep the response or recover, and memory runs out.
 pub fn on_recovery_response(
     core: &mut Core,
     alloc: Global,
@@ -32,7 +34,8 @@ pub fn on_recovery_response(
     nonce: u64,
     response: Response,
 ) -> Result<Sends, AllocError>
-    ensures { (a : RecoveryResponse Command) → ResponseStands (own_member core.old) response a → DoesIfKept core.old (receives_from sender (RecoveryResponseMessage nonce a)) core.new result }
+    ensures { (a : RecoveryResponse Command) → ResponseStands (own_member core.old) response a
+        → DoesIfKept core.old (receives_from sender (RecoveryResponseMessage nonce a)) core.new result }
 {
     if core.is_other(sender) {
         response_of_other(core, alloc, sender, nonce, response)
@@ -50,9 +53,14 @@ fn response_of_other(
     response: Response,
 ) -> Result<Sends, AllocError>
     requires { sender < group_size core.old.config.f }
-    ensures { (a : RecoveryResponse Command) → ResponseStands (own_member core.old) response a → DoesIfKept core.old (λ w r. rules.on_recovery_response w.f w.number w.answer r sender nonce a) core.new result }
+    ensures { (a : RecoveryResponse Command) → ResponseStands (own_member core.old) response a
+        → DoesIfKept core.old
+        (λ w r. rules.on_recovery_response w.f w.number w.answer r sender nonce a) core.new result }
 {
-    if !recovers_with(core, nonce) || !response_fits(core, &response) {
+    if !recovers_with(core, nonce) {
+        return Ok(Vec::new(alloc));
+    }
+    if !response_fits(core, alloc, sender, &response)? {
         return Ok(Vec::new(alloc));
     }
     let before = keep(core, sender, response);
@@ -65,13 +73,25 @@ fn response_of_other(
     }
 }
 
-/// Whether the checkpoint of a response, if it has one, can be taken up here.
-fn response_fits(core: &Core, response: &Response) -> bool
-    ensures { result ≡ false → (a : RecoveryResponse Command) → ResponseStands (own_member core.now) response.now a → ⊥ }
+/// Whether the checkpoint of a response, if it has one, can be taken up here. It fails only where the response would be
+/// kept of this sender, and memory runs out.
+fn response_fits(
+    core: &Core,
+    alloc: Global,
+    sender: u8,
+    response: &Response,
+) -> Result<bool, AllocError>
+    ensures fits { IfOk result
+        (λ fits. fits ≡ false → (a : RecoveryResponse Command) → ResponseStands (own_member core.now) response.now a
+        → ⊥) }
+    ensures err { OnErr result (stays (kept_of core.now sender) response.now ≡ false) }
 {
+    if stays_kept(core, sender, response) {
+        return Ok(true);
+    }
     match &response.state {
-        Some(state) => fits(core, &state.log, state.commit_number),
-        None => true,
+        Some(state) => fits(core, alloc, &state.log, state.commit_number),
+        None => Ok(true),
     }
 }
 
@@ -88,25 +108,27 @@ fn recover_if_told(core: &mut Core, alloc: Global) -> Result<(), AllocError>
     requires { core.old.status ≡ Recovering }
     ensures ok { OnOk result (FollowsIfKept core.old (λ w r. rules.recovers w.f w.number w.answer r) core.new []) }
     ensures err { OnErr result (core.new ≡ core.old) }
-    ensures lost { OnErr result (Tells core.old (λ w r. is_normal (rules.recovers w.f w.number w.answer r).replica.status) true) }
+    ensures lost { OnErr result
+        (Tells core.old (λ w r. is_normal (rules.recovers w.f w.number w.answer r).replica.status) true) }
 {
     let view = latest(core);
     if !is_enough(core, view) || !is_told(core, view) {
         return Ok(());
     }
-    match begun(core, alloc, view) {
-        Ok(begun) => {
-            recover(core, alloc, view, begun);
-            Ok(())
-        }
-        Err(SnapError::Memory) => Err(AllocError),
-        Err(_) => Ok(()),
-    }
+    let begun = match begun(core, alloc, view) {
+        Ok(begun) => begun,
+        Err(SnapError::Memory) => return Err(AllocError),
+        Err(_) => return Ok(()),
+    };
+    let changes = prepared(core, alloc, view)?;
+    recover(core, alloc, view, begun, changes);
+    Ok(())
 }
 
 /// What the core begins with, by the state that the primary of this view told.
 fn begun(core: &Core, alloc: Global, view: u64) -> Result<Option<Controller>, SnapError>
-    ensures { (h : HasState core.now view) → MatchResult result (IsBegun core.now h.state.log) (IsNotBegun core.now h.state.log) }
+    ensures { (h : HasState core.now view)
+        → MatchResult result (IsBegun core.now h.state.log) (IsNotBegun core.now h.state.log) }
 {
     match kept(core, core.config.primary(view)) {
         Some(
@@ -119,26 +141,50 @@ fn begun(core: &Core, alloc: Global, view: u64) -> Result<Option<Controller>, Sn
     }
 }
 
+/// The changes among the entries that it executes then, ready.
+fn prepared(core: &Core, alloc: Global, view: u64) -> Result<ReadyChanges, AllocError>
+    ensures { (h : HasState core.now view) → IfOk result (IsReadyFor core.now h.state.log h.state.commit_number) }
+{
+    match kept(core, core.config.primary(view)) {
+        Some(
+            Response {
+                state: Some(state),
+                ..
+            },
+        ) => core.prepare_handed(alloc, &state.log, state.commit_number),
+        _ => Ok(ReadyChanges::none(alloc)),
+    }
+}
+
 /// Whether more than half of the group answered, and this view is no earlier than its stored one.
 fn is_enough(core: &Core, view: u64) -> bool
     requires { core.now.status ≡ Recovering }
-    ensures told { Tells core.now (λ w r. nat_le (w.f + 1) (how_many (λ s. is_some (r.responses s)) (group_size w.f)) && nat_le r.stored_view view) result }
+    ensures told { Tells core.now
+        (λ w r. nat_le (w.f + 1) (how_many (λ s. is_some (r.responses s)) (group_size w.f))
+        && nat_le r.stored_view view) result }
     ensures stored { result ≡ true → core.now.stored_view ≤ view }
 {
     core.config.f < count(core) && core.stored_view <= view
 }
 
 /// It adopts this view, with the log that its primary told, from what it begins with.
-fn recover(core: &mut Core, alloc: Global, view: u64, begun: Option<Controller>)
+fn recover(
+    core: &mut Core,
+    alloc: Global,
+    view: u64,
+    begun: Option<Controller>,
+    changes: ReadyChanges,
+)
     requires stored { core.old.stored_view ≤ view }
     requires told { HasState core.old view }
     requires begun { (h : HasState core.old view) → IsBegun core.old h.state.log begun }
+    requires ready { (h : HasState core.old view) → IsReadyFor core.old h.state.log h.state.commit_number changes }
     ensures { (h : HasState core.old view) → Recovers core.old view h.state core.new }
 {
     core.adopt(view);
     if let Some(state) = take_state(core, view) {
         core.replace_log(state.log, begun);
-        core.execute_to(alloc, state.commit_number);
+        core.execute_to(alloc, state.commit_number, changes);
     }
 }
 

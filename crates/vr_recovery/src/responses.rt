@@ -40,7 +40,7 @@ fn log_length(response: &Response) -> u64
 }
 
 /// Whether what is kept of a replica stays where this response comes.
-fn stays_kept(core: &Core, replica: u8, response: &Response) -> bool
+pub(crate) fn stays_kept(core: &Core, replica: u8, response: &Response) -> bool
     ensures { result ≡ stays (kept_of core.now replica) response.now }
 {
     match kept(core, replica) {

@@ -23,7 +23,10 @@ pub(crate) fn take_up(
     commit_number: u64,
     log: Log,
 ) -> Result<Sends, AllocError>
-    ensures ok { IfOk result (λ sends. (l : List (logs.Request Command)) → StandsForLog core.old commit_number log l → FollowsIfKept core.old (λ w r. rules.holds_log w.f w.number w.answer r l commit_number) core.new sends.items) }
+    ensures ok { IfOk result
+        (λ sends. (l : List (logs.Request Command)) → StandsForLog core.old commit_number log l
+        → FollowsIfKept core.old
+        (λ w r. rules.holds_log w.f w.number w.answer r l commit_number) core.new sends.items) }
     ensures err { OnErr result (core.new ≡ core.old) }
 {
     let begun = match core.begun(alloc, &log) {
@@ -31,9 +34,10 @@ pub(crate) fn take_up(
         Err(SnapError::Memory) => return Err(AllocError),
         Err(_) => return Ok(Vec::new(alloc)),
     };
+    let changes = core.prepare_handed(alloc, &log, commit_number)?;
     let sends = Vec::with_capacity(alloc, 1)?;
     core.replace_log(log, begun);
-    Ok(hold(core, alloc, sends, commit_number))
+    Ok(hold(core, alloc, sends, commit_number, changes))
 }
 
 /// The same of who is behind: it adopts a view that another replica is the primary of.
@@ -46,7 +50,9 @@ pub(crate) fn adopt_and_take_up(
 ) -> Result<Sends, AllocError>
     requires behind { Tells core.old (λ w r. rules.behind w.f w.number w.answer r view) true }
     requires backup { primary core.old.config.f view ≡ core.old.number → ⊥ }
-    ensures ok { IfOk result (λ sends. (l : List (logs.Request Command)) → StandsForLog core.old commit_number log l → FollowsIfKept core.old (λ w r. catches_up w r view l commit_number) core.new sends.items) }
+    ensures ok { IfOk result
+        (λ sends. (l : List (logs.Request Command)) → StandsForLog core.old commit_number log l
+        → FollowsIfKept core.old (λ w r. catches_up w r view l commit_number) core.new sends.items) }
     ensures err { OnErr result (core.new ≡ core.old) }
 {
     let begun = match core.begun(alloc, &log) {
@@ -54,10 +60,11 @@ pub(crate) fn adopt_and_take_up(
         Err(SnapError::Memory) => return Err(AllocError),
         Err(_) => return Ok(Vec::new(alloc)),
     };
+    let changes = core.prepare_handed(alloc, &log, commit_number)?;
     let sends = Vec::with_capacity(alloc, 1)?;
     core.replace_log(log, begun);
     core.adopt(view);
-    Ok(hold(core, alloc, sends, commit_number))
+    Ok(hold(core, alloc, sends, commit_number, changes))
 }
 
 /// The same of a view of its own: it replies to what it executes. No run comes to this. Replies to what the checkpoint
@@ -71,15 +78,23 @@ pub(crate) fn take_up_as_primary(
 ) -> Result<Sends, AllocError>
     requires behind { Tells core.old (λ w r. rules.behind w.f w.number w.answer r view) true }
     requires own { primary core.old.config.f view ≡ core.old.number }
-    ensures ok { IfOk result (λ sends. (l : List (logs.Request Command)) → StandsForLog core.old commit_number log l → FollowsIfKept core.old (λ w r. catches_up w r view l commit_number) core.new sends.items) }
+    ensures ok { IfOk result
+        (λ sends. (l : List (logs.Request Command)) → StandsForLog core.old commit_number log l
+        → FollowsIfKept core.old (λ w r. catches_up w r view l commit_number) core.new sends.items) }
     ensures err { OnErr result (core.new ≡ core.old) }
 {
     if core.commit_number < log.base() {
         return Err(AllocError);
     }
+    let begun = match core.begun(alloc, &log) {
+        Ok(begun) => begun,
+        Err(SnapError::Memory) => return Err(AllocError),
+        Err(_) => return Ok(Vec::new(alloc)),
+    };
     let executed = commit_number.min(log.op_number());
+    let changes = core.prepare_handed(alloc, &log, executed)?;
     let room = Vec::with_capacity(alloc, log.entries().len() + 1)?;
-    core.replace_log(log, None);
+    core.replace_log(log, begun);
     core.adopt(view);
-    Ok(hold_as_primary(core, alloc, room, executed))
+    Ok(hold_as_primary(core, alloc, room, executed, changes))
 }

@@ -18,9 +18,11 @@ use Rattle.vr_model.specs.StandsFor.{IsCarried}
 use Rattle.vr_core.specs.declared.state.Core.{Core}
 use Rattle.vr_model.specs.Membership.{Membership}
 use Rattle.vr_core.specs.StandsFor.{StandsFor, StandsForLog, IsSavedAs, own_member}
+use Rattle.debugger.specs.Prepared.{Prepared}
+use Rattle.vr_core.specs.Changes.{AreReady, between, IsReadyFor, BecomesIfReady, FollowsIfReady}
 use Rattle.vr_core.proofs.WholeLogs.{is_own, begins, whole_length}
 use Rattle.vr_core.proofs.Sent.{sent_more, sent_none, sent_to}
-use Rattle.vr_core.specs.Follows.{Tells, Says, AreSent, Becomes, Replaces, Adopts, Leaves, Follows, FollowsIfKept, Loses, executed_to, op_number_of, message_from}
+use Rattle.vr_core.specs.Follows.{Tells, Says, AreSent, Replaces, Adopts, Leaves, FollowsIfKept, Loses, executed_to, op_number_of, message_from}
 use Rattle.vr_core.proofs.Doing.{lost, does_keep}
 use Rattle.vr_core.proofs.Keeping.{saved_above, kept_of}
 
@@ -56,6 +58,10 @@ module _ (core : Core) (handed : KeptLog) (u c : ℕ) (behind_it : Tells core (�
   carried : (mid : Core) (w : Membership) (r q : ReplicaState Command) → StandsFor core w r → StandsFor mid w q → StandsForLog mid c handed l
   carried mid w r q st now = subst (λ m. IsCarried IsSavedAs m c handed l) (is_own core w st.member ∙ sym (is_own mid w now.member)) its
 
+  -- what is ready for it
+  ready_for : (w : Membership) (r : ReplicaState Command) → StandsFor core w r → (n : ℕ) (ps : List Prepared) → IsReadyFor core handed n ps → AreReady (between l (max r.commit_number (base_of handed.checkpoint)) n) ps
+  ready_for w r st n ps ready = subst (λ (k : ℕ). AreReady (between l (max k (base_of handed.checkpoint)) n) ps) (sym st.commit_number) (ready.ready l its.stands)
+
   within : base_of handed.checkpoint ≤ length l
   within = begins (own_member core) handed.checkpoint l its.stands.first
 
@@ -78,10 +84,10 @@ module _ (core : Core) (handed : KeptLog) (u c : ℕ) (behind_it : Tells core (�
   start_lost = lost core (λ w r. on_start_view w.f w.number w.answer r u c l) (λ w r st.
       subst (λ o. Matters r o) (sym (adopts_rule w r st)) (behind_matters w.f w.number w.answer r u (adopts_it w r) (sym (behind_it.tells w r st)) refl refl))
 
-  pub start_follows : (adopting holding new : Core) (sends : List sent.Message) → (primary core.config.f u ≡ core.number → ⊥) → Adopts core u adopting → Replaces adopting handed c holding → Becomes holding (λ w r. executed_to c r) new
+  pub start_follows : (adopting holding new : Core) (ps : List Prepared) (sends : List sent.Message) → (primary core.config.f u ≡ core.number → ⊥) → Adopts core u adopting → Replaces adopting handed c holding → IsReadyFor core handed c ps → BecomesIfReady holding c ps (λ w r. executed_to c r) new
       → Says core (λ w r. cond (ltb (max r.commit_number (min c (end_of handed))) (end_of handed)) (send w.f w.number w.answer (primary w.f u) (PrepareOk u (end_of handed)) ∷ []) []) sends
       → FollowsIfKept core (λ w r. on_start_view w.f w.number w.answer r u c l) new sends
-  start_follows adopting holding new sends backup adopts replaces executes told = record {
+  start_follows adopting holding new ps sends backup adopts replaces ready executes told = record {
     leaves = λ w r st prefix.
         let same = adopts_rule w r st in
         let kept : IsPrefix (executed r) l = subst (λ (o : Outcome Command Answer). IsPrefix (executed r) o.replica.log) same prefix in
@@ -92,7 +98,7 @@ module _ (core : Core) (handed : KeptLog) (u c : ℕ) (behind_it : Tells core (�
         let reached : base_of handed.checkpoint ≤ c = its.reached in
         let low_base : base_of handed.checkpoint ≤ length l = within in
         let e : max (max r.commit_number (base_of handed.checkpoint)) (min c (length l)) ≡ max r.commit_number (min c (length l)) = omega arith in
-        let three = subst (λ n. StandsFor new w (record (adopted w.f w.number w.answer r u) { log = l; commit_number = n })) e (executes.becomes w (record (adopted w.f w.number w.answer r u) { log = l; commit_number = max r.commit_number (base_of handed.checkpoint) }) two) in
+        let three = subst (λ n. StandsFor new w (record (adopted w.f w.number w.answer r u) { log = l; commit_number = n })) e (executes.becomes w (record (adopted w.f w.number w.answer r u) { log = l; commit_number = max r.commit_number (base_of handed.checkpoint) }) two (ready_for w r st c ps ready)) in
         let other = ne_eqb (primary w.f u) w.number (λ e. backup (ap (λ f. primary f u) (sym st.member.f) ∙ e ∙ st.member.number)) in
         let k = max r.commit_number (min c (length l)) in
         let q = record (adopted w.f w.number w.answer r u) { log = l; commit_number = k } in
@@ -108,11 +114,11 @@ module _ (core : Core) (handed : KeptLog) (u c : ℕ) (behind_it : Tells core (�
   }
 
   -- it is the primary, and replies
-  pub start_replies : (adopting holding new : Core) (some more sends : List sent.Message) (k number : ℕ) → base_of handed.checkpoint ≤ core.commit_number → primary core.config.f u ≡ core.number → Adopts core u adopting → Replaces adopting handed c holding
-      → k ≡ max core.commit_number (min c (end_of handed)) → number ≡ min k (op_number_of holding) → Follows holding (λ w r. commits_to w.f w.number w.answer r number) new some
+  pub start_replies : (adopting holding new : Core) (ps : List Prepared) (some more sends : List sent.Message) (k number : ℕ) → base_of handed.checkpoint ≤ core.commit_number → primary core.config.f u ≡ core.number → Adopts core u adopting → Replaces adopting handed c holding
+      → k ≡ max core.commit_number (min c (end_of handed)) → number ≡ min k (op_number_of holding) → IsReadyFor core handed k ps → FollowsIfReady holding number ps (λ w r. commits_to w.f w.number w.answer r number) new some
       → sends ≡ some ++ more → ((w : Membership) (r : ReplicaState Command) → StandsFor new w r → AreSent w more (cond (ltb k (end_of handed)) (send w.f w.number w.answer (primary w.f u) (PrepareOk u (end_of handed)) ∷ []) []))
       → FollowsIfKept core (λ w r. on_start_view w.f w.number w.answer r u c l) new sends
-  start_replies adopting holding new some more sends k number early own adopts replaces is_k is_number commits joined told = record {
+  start_replies adopting holding new ps some more sends k number early own adopts replaces is_k is_number ready commits joined told = record {
     leaves = λ w r st prefix.
         let same = adopts_rule w r st in
         let kept : IsPrefix (executed r) l = subst (λ (o : Outcome Command Answer). IsPrefix (executed r) o.replica.log) same prefix in
@@ -124,7 +130,6 @@ module _ (core : Core) (handed : KeptLog) (u c : ℕ) (behind_it : Tells core (�
         let cn : r.commit_number ≡ core.commit_number = st.commit_number in
         let stays : max r.commit_number (base_of handed.checkpoint) ≡ r.commit_number = omega arith in
         let held : StandsFor holding w mid = subst (λ n. StandsFor holding w (record (adopted w.f w.number w.answer r u) { log = l; commit_number = n })) stays two in
-        let left = commits.leaves w mid held in
         let prim = eq-eqb (primary w.f u) w.number (ap (λ f. primary f u) st.member.f ∙ own ∙ sym st.member.number) in
         let m = max r.commit_number (min c (length l)) in
         let n : length l ≡ end_of handed = same_length in
@@ -132,6 +137,9 @@ module _ (core : Core) (handed : KeptLog) (u c : ℕ) (behind_it : Tells core (�
         let e1 : k ≡ m = omega arith in
         let e2 : number ≡ m = omega arith in
         let e3 : max r.commit_number number ≡ m = omega arith in
+        let same_end : k ≡ number = e1 ∙ sym e2 in
+        let for_k : AreReady (between l r.commit_number k) ps = subst (λ (n : ℕ). AreReady (between l n k) ps) stays (ready_for w r st k ps ready) in
+        let left = commits.leaves w mid held (subst (λ (n : ℕ). AreReady (between l r.commit_number n) ps) same_end for_k) in
         let q = record mid { commit_number = m } in
         let three = subst (λ x. StandsFor new w (record mid { commit_number = x })) e3 left.replica in
         let goes : ℕ → ℕ → List (Message Command Answer) = λ x y. cond (ltb x y) (send w.f w.number w.answer (primary w.f u) (PrepareOk u y) ∷ []) [] in

@@ -5,7 +5,8 @@ use Rattle.std.specs.List.{slice_get}
 use Rattle.std.proofs.lemmas.List.{length-map}
 use Rattle.il_model.specs.declared.command.Command.{Command}
 use Rattle.il_model.specs.Text.{Text}
-use Rattle.controller_model.specs.Commands.{Control, cold_control, command_outcome, answers_from}
+use Rattle.debugger.specs.Owned.{Owned, cold_owned}
+use Rattle.debugger.specs.Outcome.{outcome, answers_from}
 use Rattle.vr_model.specs.Logs.{Request}
 use Rattle.vr_model.specs.Choices.{commands}
 use Rattle.vr_model.specs.Checkpoints.{request_of, requests_of}
@@ -20,12 +21,11 @@ use Rattle.schedules.specs.Standing.{release_of}
 use Rattle.schedules.specs.Traces.{IsTraced}
 use Rattle.vr_world.specs.Released.{StandsAtItsPlace, AllStandAtTheirPlaces}
 
-module _ (Q : Text) (budget : ℕ) where
-  answer_from : (s : Control) (cs : List Command) (j : ℕ) → j < length cs → slice_get (answers_from Q budget s cs) j ≡ Some (last_of (answers_from Q budget s (take (suc j) cs)))
-  answer_from s [] j l = absurd (omega arith)
-  answer_from s (c ∷ cs) zero l = refl
-  answer_from s (c ∷ []) (suc j) l = absurd (omega arith)
-  answer_from s (c ∷ d ∷ ds) (suc j) l = answer_from (command_outcome Q budget s c).1 (d ∷ ds) j (omega arith)
+answer_from : (o : Owned) (cs : List Command) (j : ℕ) → j < length cs → slice_get (answers_from o cs) j ≡ Some (last_of (answers_from o (take (suc j) cs)))
+answer_from o [] j l = absurd (omega arith)
+answer_from o (c ∷ cs) zero l = refl
+answer_from o (c ∷ []) (suc j) l = absurd (omega arith)
+answer_from o (c ∷ d ∷ ds) (suc j) l = answer_from (outcome o c).1 (d ∷ ds) j (omega arith)
 
 -- the commands of a beginning
 commands_of_first : (n : ℕ) (log : List (Request Command)) → commands (take n log) ≡ take n (commands log)
@@ -75,7 +75,7 @@ module _ (f : ℕ) (Q : Text) (budget : ℕ) (events : List WorldEvent) where
         entry = got.at;
         client = ap (λ (m : Request Command). m.client) got.is ∙ its.client_is;
         number = ap (λ (m : Request Command). m.number) got.is ∙ its.number_is;
-        answer = answer_from Q budget (cold_control Q) (commands order) p low ∙ ap Some (sym answered);
+        answer = answer_from (cold_owned Q budget) (commands order) p low ∙ ap Some (sym answered);
       }
 
   stand : (trace : Trace) → IsTraced IsSavedAs (member f 0 Q budget) events trace → AllStandAtTheirPlaces Q budget trace

@@ -3,7 +3,7 @@ use Rattle.std.specs.Prelude.{◌≡◌, ℕ, List, Some}
 use Rattle.std.specs.List.{slice_get}
 use Rattle.il_model.specs.declared.command.Answer.{Answer}
 use Rattle.il_model.specs.Text.{Text}
-use Rattle.controller_model.specs.Commands.{answers_of}
+use Rattle.debugger.specs.Outcome.{answers_of}
 use Rattle.vr_model.specs.declared.message.Request.{Request}
 use Rattle.vr_model.specs.Choices.{commands}
 use Rattle.vr_model.specs.Checkpoints.{requests_of}
@@ -25,4 +25,5 @@ pub record StandsAtItsPlace (Q : Text) (budget : ℕ) (trace : Trace) (release :
 
 -- so each release does
 abbrev pub AllStandAtTheirPlaces : Text → ℕ → Trace → Type 0
-AllStandAtTheirPlaces Q budget trace = (k : ℕ) (release : Release) → slice_get trace.releases.items k ≡ Some release → StandsAtItsPlace Q budget trace release
+AllStandAtTheirPlaces Q budget trace = (k : ℕ) (release : Release) → slice_get trace.releases.items k ≡ Some release
+    → StandsAtItsPlace Q budget trace release

@@ -12,4 +12,5 @@ shelf_loads s None t = ⊥
 -- a save is made where it isn't told to fail; else the new view or the old one is kept, and it is told no longer
 abbrev pub shelf_saves : Shelf → ℕ → Bool → Shelf → Type 0
 shelf_saves s view true t = (s.store.failing ≡ None) × (t.store ≡ record s.store { view = view })
-shelf_saves s view false t = (new : Bool) × (failing_of s.store ≡ Some new) × (t.store ≡ record { view = (if new then view else s.store.view); failing = None })
+shelf_saves s view false t = (new : Bool) × (failing_of s.store ≡ Some new)
+    × (t.store ≡ record { view = (if new then view else s.store.view); failing = None })

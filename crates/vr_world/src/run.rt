@@ -21,7 +21,8 @@ fn group(
     image: &Image,
     budget: Budget,
 ) -> Result<Vec<Seat>, AllocError>
-    ensures { IfOk result (λ seats. AreNew (λ seat. StandsFor seat.replica) (member config.f 0 image.now budget.instructions) seats.items) }
+    ensures { IfOk result (λ seats. AreNew (λ seat. StandsFor seat.replica)
+        (member config.f 0 image.now budget.instructions) seats.items) }
 {
     let mut seats = Vec::new(alloc);
     for number in 0..config.group_size() {
@@ -33,13 +34,14 @@ fn group(
 
 /// Runs a schedule over a group of new replicas of a program, each scan within the budget.
 ///
-/// Whatever is submitted, delivered, lost, repeated, timed out, crashed and restarted, there is one list of the clients' commands, which
-/// grows and is never revised and has each command at most once, such that every answer that is released is the one
-/// that the table of commands gives for the program at that command's place in the list. The trace has that list, how long it was after each
-/// event, the releases, all messages that were sent and the events that were lost for want of memory.
+/// Whatever is submitted, delivered, lost, repeated, timed out, crashed and restarted, there is one list of the
+/// clients' commands, which grows and is never revised and has each command at most once, such that every answer that
+/// is released is the one that the table of commands gives for the program at that command's place in the list. The
+/// trace has that list, how long it was after each event, the releases, all messages that were sent and the events that
+/// were lost for want of memory.
 ///
-/// `BadSchedule` is answered exactly where an event can't take place: the first one, and the lowest reason. Where memory runs
-/// out for what the run itself keeps there is no trace.
+/// `BadSchedule` is answered exactly where an event can't take place: the first one, and the lowest reason. Where
+/// memory runs out for what the run itself keeps there is no trace.
 pub fn run_world(
     alloc: Global,
     config: &Config,
@@ -47,7 +49,9 @@ pub fn run_world(
     budget: Budget,
     events: &[WorldEvent],
 ) -> Result<Trace, WorldError>
-    ensures traced { MatchResult result (IsTraced IsSavedAs (member config.now.f 0 image.now budget.instructions) events.now) (Fails (member config.now.f 0 image.now budget.instructions) events.now) }
+    ensures traced { MatchResult result
+        (IsTraced IsSavedAs (member config.now.f 0 image.now budget.instructions) events.now)
+        (Fails (member config.now.f 0 image.now budget.instructions) events.now) }
     ensures answers { IfOk result (AllStandAtTheirPlaces image.now budget.instructions) }
 {
     let seats = group(alloc, *config, image, budget)?;

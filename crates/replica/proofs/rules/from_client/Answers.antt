@@ -1,5 +1,5 @@
 use Rattle.replica.proofs.Dispatched.{not_from_client}
 use Rattle.replica.proofs.rules.from_client.Goals as goal
 
-pub returns-in_default : goal.returns-in_default
-returns-in_default c = λ l. not_from_client c.args.core.now l c.args.body.now c.new.result c.in_default.not-Request c.new.ensures.items
+pub returns : goal.returns
+returns c = λ l. not_from_client c.args.core.now l c.args.body c.new.result c.in_default.not-Request c.new.ensures.items

@@ -7,5 +7,5 @@ on_checkpoint-requires c = mapped_some _ c.checkpoint.result c.args.log.checkpoi
 
 pub returns-else-is_some : goal.returns-else-is_some
 returns-else-is_some c = λ l its.
-    entries_fit c.args.core.now c.on_entries.new.core c.args.view c.args.op_number c.args.commit_number c.args.log c.entries.result.now l c.on_entries.result
-    (mapped_some _ c.checkpoint.result c.args.log.checkpoint false c.checkpoint.ensures (sym c.is_some.ensures ∙ c.if-is_some.false)) c.entries.ensures its c.on_entries.ensures
+    entries_fit c.args.core.now c.on_entries.new.core c.args.view c.args.op_number c.args.commit_number c.args.log c.into_entries.result.items l c.on_entries.result
+    (mapped_some _ c.checkpoint.result c.args.log.checkpoint false c.checkpoint.ensures (sym c.is_some.ensures ∙ c.if-is_some.false)) c.into_entries.ensures its c.on_entries.ensures

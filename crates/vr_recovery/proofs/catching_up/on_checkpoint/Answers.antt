@@ -5,10 +5,10 @@ use Rattle.vr_recovery.proofs.Telling.{told_by}
 use Rattle.vr_recovery.proofs.NewState.{whole_of, past_size, goes_fits, joins_fits, fits_of, not_past, not_catching}
 use Rattle.vr_recovery.proofs.catching_up.on_checkpoint.Goals as goal
 
-pub returns-then-not-fits : goal.returns-then-not-fits
-returns-then-not-fits c = λ l its.
+pub returns-then-not-is_reached : goal.returns-then-not-is_reached
+returns-then-not-is_reached c = λ l its.
     let w = whole_of (own_member c.args.core.now) c.args.op_number c.args.commit_number c.args.log l c.requires its in
-    absurd (c.fits.ensures (search rules) w.whole w.carried)
+    absurd (c.is_reached.ensures (search rules) c.args.core.now w.whole w.carried)
 
 pub returns-then-goes_past : goal.returns-then-goes_past
 returns-then-goes_past c = λ l its.

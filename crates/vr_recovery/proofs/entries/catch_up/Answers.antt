@@ -1,7 +1,12 @@
+use Rattle.std.proofs.Common.{List, subst}
+use Rattle.vr_model.specs.declared.message.Request as code
+use Rattle.vr_model.specs.Checkpoints.{requests_of}
+use Rattle.vr_core.specs.Changes.{IsReadyPast}
 use Rattle.vr_recovery.proofs.CatchingUp.{catches_up_so}
 use Rattle.vr_recovery.proofs.entries.catch_up.Goals as goal
 
 pub returns-clause-ok : goal.returns-clause-ok
 returns-clause-ok c =
+    let ready = subst (λ (es : List code.Request). IsReadyPast c.args.core.now c.args.op_number (requests_of es) c.args.commit_number c.in_ok-changes.changes) c.as_slice.ensures.value c.in_ok-changes.ensures in
     catches_up_so c.args.core.now c.replace_log_past.new.self c.adopt.new.self c.hold.new.core c.args.view c.args.commit_number c.requires.behind c.adopt.ensures.adopted c.hold.result.items
-    c.args.op_number c.args.entries.now c.requires.backup c.in_ok-replace_log_past.ensures.ok c.hold.ensures
+    c.args.op_number c.args.entries.items c.in_ok-changes.changes c.requires.within c.requires.backup c.in_ok-replace_log_past.ensures.ok ready c.hold.ensures

@@ -1,22 +1,28 @@
-use Rattle.std.proofs.Common.{rules, ◌≡◌, ◌∙◌, [], true, false, List, ap, sym, subst}
+use Rattle.std.proofs.Common.{rules, true, false, List, ap, sym, subst}
 use Rattle.vr_model.specs.declared.message.Message as sent
 use Rattle.vr_core.specs.declared.state.Core.{Core}
 use Rattle.vr_core.specs.Follows.{FollowsIfKept}
 use Rattle.vr_recovery.proofs.Telling.{told_by}
 use Rattle.vr_recovery.proofs.Table.{undone}
-use Rattle.vr_recovery.proofs.Ending.{rule, drops_response, takes_response, loses_response}
-use Rattle.vr_recovery.proofs.recovering.response_of_other.Goals.{then-not-recovers_with-via-then-not-recovers_with, then-not-recovers_with-via-else-not-recovers_with+then-not-response_fits}
+use Rattle.vr_core.proofs.Keeping.{kept_err}
+use Rattle.vr_recovery.proofs.Ending.{rule, drops_response, fresh_lost, takes_response, loses_response}
 use Rattle.vr_recovery.proofs.recovering.response_of_other.Goals as goal
 
 pub returns-then-not-recovers_with : goal.returns-then-not-recovers_with
 returns-then-not-recovers_with c = λ a its.
     let core = c.args.core.now in
-    elim c.then-not-recovers_with.branch [
-      | then-not-recovers_with-via-then-not-recovers_with w ↦
-          subst (λ (ms : List sent.Message). FollowsIfKept core (rule core c.args.sender c.args.nonce a) core ms) (sym c.new.ensures.items)
-          (drops_response core c.args.sender c.args.nonce a (told_by core _ _ false c.recovers_with.ensures.told (let e = w.if-not-recovers_with.true in search rules)))
-      | then-not-recovers_with-via-else-not-recovers_with+then-not-response_fits w ↦ absurd (w.response_fits.ensures (let e = w.if-not-response_fits.true in search rules) a its)
-    ]
+    subst (λ (ms : List sent.Message). FollowsIfKept core (rule core c.args.sender c.args.nonce a) core ms) (sym c.new.ensures.items)
+    (drops_response core c.args.sender c.args.nonce a (told_by core _ _ false c.recovers_with.ensures.told (search rules)))
+
+pub returns-in_err-response_fits : goal.returns-in_err-response_fits
+returns-in_err-response_fits c = λ a its.
+    let core = c.args.core.now in
+    let asked = told_by core _ _ true c.recovers_with.ensures.told (search rules) in
+    kept_err core (rule core c.args.sender c.args.nonce a) core c.from_residual.result c.from_residual.ensures.0
+    (fresh_lost core c.args.sender c.args.nonce a asked (c.recovers_with.ensures.status (search rules)) c.requires c.args.response its c.in_err-response_fits.ensures.err)
+
+pub returns-then-not-branch : goal.returns-then-not-branch
+returns-then-not-branch c = λ a its. absurd (c.in_ok-response_fits.ensures.fits (search rules) a its)
 
 pub returns-in-Ok : goal.returns-in-Ok
 returns-in-Ok c = λ a its.

@@ -8,4 +8,4 @@ returns-clause-ok c = λ l its.
     let early : base_of c.args.log.checkpoint ≤ c.args.core.now.commit_number = omega arith in
     let is : c.min-executed.result ≡ min c.args.commit_number (end_of c.args.log) = c.min-executed.ensures ∙ ap (min c.args.commit_number) c.op_number.ensures.value in
     adopts_so_replying c.args.core.now c.replace_log.new.self c.adopt.new.self c.hold_as_primary.new.core c.args.view c.args.commit_number c.requires.behind c.adopt.ensures.adopted c.hold_as_primary.result.items
-    c.args.log l its (c.replace_log.ensures.replaces c.args.commit_number) c.min-executed.result c.requires.own early is c.hold_as_primary.ensures
+    c.args.log l its (c.replace_log.ensures.replaces c.args.commit_number) c.min-executed.result c.in_ok-changes.changes c.requires.own early is c.in_ok-changes.ensures c.hold_as_primary.ensures

@@ -30,5 +30,5 @@ pub returns-then-changes_to : goal.returns-then-changes_to
 returns-then-changes_to c = λ a its.
     let core = c.args.core.now in
     let d = c.args.do_view_change in
-    keep_here core c.keep.new.core c.args.view c.keep.result d.replica a (sym c.primary.ensures.primary ∙ c.if-primary-core.false)
-    (subst (λ b. Tells core (λ w r. is_view_change r.status && eqb r.view c.args.view) b) c.if-changes_to.true c.changes_to.ensures.told) (c.keep.ensures a its)
+    keep_here core c.keep_handed.new.core c.args.view c.keep_handed.result d.replica a (sym c.primary.ensures.primary ∙ c.if-primary-core.false)
+    (subst (λ b. Tells core (λ w r. is_view_change r.status && eqb r.view c.args.view) b) c.if-changes_to.true c.changes_to.ensures.told) (c.keep_handed.ensures a its)
