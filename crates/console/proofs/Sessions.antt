@@ -14,8 +14,9 @@ use Rattle.il_model.specs.Text.{Text}
 use Rattle.replicas.specs.Serving.{Grows}
 use Rattle.console.specs.declared.session.ConsoleEnd.{ConsoleEnd}
 use Rattle.console.specs.declared.session.ConsoleEnd.TheVariants as ends
+use Rattle.console.specs.InForce.{brought_by, goes_on_with, in_force_after}
 use Rattle.console.specs.Lines.{line_end, HasNoEnd, kept, AsksFor, AsksForNothing, Outcome, Submitted, Refused, IsOutcome, FitsCommand, text_of, submitted_by}
-use Rattle.console.specs.Sessions.{Turn, line_of, IsTurn, lines_of, texts_of, submitted_in, Scene, scene, Serves, Breaks, Stops, Ended, Talks, Takes, TakesShort, StopsAt, IsWhyUnwritten, Writes}
+use Rattle.console.specs.Sessions.{Turn, line_of, AreTurns, lines_of, texts_of, submitted_in, Scene, scene, Serves, Breaks, Stops, Ended, Talks, Takes, TakesShort, StopsAt, IsWhyUnwritten, Writes}
 use Rattle.console.proofs.Waiting.{grows_none, grows_more, all_more}
 
 lines_both : (ts us : List Turn) → lines_of (ts ++ us) ≡ lines_of ts ++ lines_of us
@@ -39,52 +40,75 @@ lines_on a p b q more ts us first then =
 submitted_on : (a b c : Option (List (Command × Answer))) (ts us : List Turn) → Grows a b (submitted_in ts) → Grows b c (submitted_in us) → Grows a c (submitted_in (ts ++ us))
 submitted_on a b c ts us h k = subst (λ (l : List (Command × Answer)). Grows a c l) (sym (submitted_both ts us)) (grows_more a b c (submitted_in ts) (submitted_in us) h k)
 
+in_force_both : (Q : Text) (past more : List (Command × Answer)) → in_force_after Q (past ++ more) ≡ in_force_after (in_force_after Q past) more
+in_force_both Q [] more = refl
+in_force_both Q ((command, answer) ∷ past) more = in_force_both (goes_on_with Q (brought_by command) answer) past more
+
+-- the program in force behind one turn and others
+in_force_on : (Q : Text) (t : Turn) (ts : List Turn) → in_force_after Q (submitted_in (t ∷ ts)) ≡ in_force_after (in_force_after Q (submitted_by t.outcome)) (submitted_in ts)
+in_force_on Q t ts =
+    ap (in_force_after Q) (flat_map-cons (λ (x : Turn). submitted_by x.outcome) t ts)
+    ∙ in_force_both Q (submitted_by t.outcome) (submitted_in ts)
+
+turns_both : (Q : Text) (ts us : List Turn) → AreTurns Q ts → AreTurns (in_force_after Q (submitted_in ts)) us → AreTurns Q (ts ++ us)
+turns_both Q [] us h k = k
+turns_both Q (t ∷ ts) us h k = (h.0, turns_both (in_force_after Q (submitted_by t.outcome)) ts us h.1 (subst (λ (R : Text). AreTurns R us) (in_force_on Q t ts) k))
+
+program_on : (Q R S : Text) (ts us : List Turn) → R ≡ in_force_after Q (submitted_in ts) → S ≡ in_force_after R (submitted_in us) → S ≡ in_force_after Q (submitted_in (ts ++ us))
+program_on Q R S ts us h k =
+    k ∙ (ap (λ (P : Text). in_force_after P (submitted_in us)) h
+    ∙ (sym (in_force_both Q (submitted_in ts) (submitted_in us)) ∙ ap (in_force_after Q) (sym (submitted_both ts us))))
+
 -- what one gives
 one_of : {A B : Type 0} (f : A → List B) (x : A) → flat_map f (x ∷ []) ≡ f x
 one_of f x = flat_map-cons f x [] ∙ append-nil (f x)
 
 -- ---- one piece behind another
 
-pub serves_none : (Q : Text) (rest : List ℕ) (s : Scene) → HasNoEnd rest → Serves Q rest [] rest s s
-serves_none Q rest s unended = record {
+pub serves_none : (rest : List ℕ) (s : Scene) → HasNoEnd rest → Serves rest [] rest s s
+serves_none rest s unended = record {
   turns = [];
   lines = append-nil rest;
   unended = unended;
   each = tt;
   submitted = grows_none s.answered;
+  program = refl;
   written = Appends-nil s.held;
 }
 
-pub serves_more : (Q : Text) (a p b q c : List ℕ) (s t u : Scene) → Serves Q a p b s t → Serves Q b q c t u → Serves Q a (p ++ q) c s u
-serves_more Q a p b q c s t u h k = record {
+pub serves_more : (a p b q c : List ℕ) (s t u : Scene) → Serves a p b s t → Serves b q c t u → Serves a (p ++ q) c s u
+serves_more a p b q c s t u h k = record {
   turns = h.turns ++ k.turns;
   lines = lines_on a p b q c h.turns k.turns h.lines k.lines;
   unended = k.unended;
-  each = all_more (IsTurn Q) h.turns k.turns h.each k.each;
+  each = turns_both s.program h.turns k.turns h.each (subst (λ (Q : Text). AreTurns Q k.turns) h.program k.each);
   submitted = submitted_on s.answered t.answered u.answered h.turns k.turns h.submitted k.submitted;
+  program = program_on s.program t.program u.program h.turns k.turns h.program k.program;
   written = subst (Appends s.held u.held) (sym (texts_both h.turns k.turns)) (Appends-trans s.held t.held u.held (texts_of h.turns) (texts_of k.turns) h.written k.written);
 }
 
-breaks_more : (Q : Text) (a p b q : List ℕ) (s t u : Scene) → Serves Q a p b s t → Breaks Q b q t u → Breaks Q a (p ++ q) s u
-breaks_more Q a p b q s t u h k = record {
+breaks_more : (a p b q : List ℕ) (s t u : Scene) → Serves a p b s t → Breaks b q t u → Breaks a (p ++ q) s u
+breaks_more a p b q s t u h k = record {
   turns = h.turns ++ k.turns;
   more = k.more;
   lines = lines_on a p b q k.more h.turns k.turns h.lines k.lines;
-  each = all_more (IsTurn Q) h.turns k.turns h.each k.each;
+  each = turns_both s.program h.turns k.turns h.each (subst (λ (Q : Text). AreTurns Q k.turns) h.program k.each);
   submitted = submitted_on s.answered t.answered u.answered h.turns k.turns h.submitted k.submitted;
+  program = program_on s.program t.program u.program h.turns k.turns h.program k.program;
   output = texts_of h.turns ++ k.output;
   unwritten = k.unwritten;
   begins = texts_both h.turns k.turns ∙ (ap (λ (l : List ℕ). texts_of h.turns ++ l) k.begins ∙ sym (append_assoc (texts_of h.turns) k.output k.unwritten));
   written = Appends-trans s.held t.held u.held (texts_of h.turns) k.output h.written k.written;
 }
 
-breaks_early : (Q : Text) (a p q : List ℕ) (s t : Scene) → Breaks Q a p s t → Breaks Q a (p ++ q) s t
-breaks_early Q a p q s t h = record {
+breaks_early : (a p q : List ℕ) (s t : Scene) → Breaks a p s t → Breaks a (p ++ q) s t
+breaks_early a p q s t h = record {
   turns = h.turns;
   more = h.more ++ q;
   lines = sym (append_assoc a p q) ∙ (ap (λ (l : List ℕ). l ++ q) h.lines ∙ append_assoc (lines_of h.turns) h.more q);
   each = h.each;
   submitted = h.submitted;
+  program = h.program;
   output = h.output;
   unwritten = h.unwritten;
   begins = h.begins;
@@ -92,13 +116,14 @@ breaks_early Q a p q s t h = record {
 }
 
 -- nothing had its turn
-pub breaks_none : (Q : Text) (a p : List ℕ) (s : Scene) → Breaks Q a p s s
-breaks_none Q a p s = record {
+pub breaks_none : (a p : List ℕ) (s : Scene) → Breaks a p s s
+breaks_none a p s = record {
   turns = [];
   more = a ++ p;
   lines = refl;
   each = tt;
   submitted = grows_none s.answered;
+  program = refl;
   output = [];
   unwritten = [];
   begins = refl;
@@ -106,13 +131,14 @@ breaks_none Q a p s = record {
 }
 
 -- what was served is a break, too
-serves_breaks : (Q : Text) (a p b : List ℕ) (s t : Scene) → Serves Q a p b s t → Breaks Q a p s t
-serves_breaks Q a p b s t h = record {
+serves_breaks : (a p b : List ℕ) (s t : Scene) → Serves a p b s t → Breaks a p s t
+serves_breaks a p b s t h = record {
   turns = h.turns;
   more = b;
   lines = h.lines;
   each = h.each;
   submitted = h.submitted;
+  program = h.program;
   output = texts_of h.turns;
   unwritten = [];
   begins = sym (append-nil (texts_of h.turns));
@@ -128,28 +154,29 @@ failed_later w v w' low high (inl h) = inl (omega arith)
 failed_later w v w' low high (inr h) = elim (le_cases w v low) [ inl e ↦ inr (e ∙ h) | inr l ↦ inl (omega arith) ]
 
 -- an end over a later piece; the failures are those of both calls
-pub stops_more : (end : ConsoleEnd) (Q : Text) (a p b q : List ℕ) (w v w' : ℕ) (s t u : Scene) → w ≤ v → v ≤ w' → Serves Q a p b s t → Stops end Q b q (Failed v w') t u → Stops end Q a (p ++ q) (Failed w w') s u
-stops_more ends.Closed Q a p b q w v w' s t u low high h k = absurd k
-stops_more ends.Device Q a p b q w v w' s t u low high h k = (failed_later w v w' low high k.0, breaks_more Q a p b q s t u h k.1)
-stops_more ends.Memory Q a p b q w v w' s t u low high h k = breaks_more Q a p b q s t u h k
-stops_more ends.Unanswered Q a p b q w v w' s t u low high h k = breaks_more Q a p b q s t u h k
+pub stops_more : (end : ConsoleEnd) (a p b q : List ℕ) (w v w' : ℕ) (s t u : Scene) → w ≤ v → v ≤ w' → Serves a p b s t → Stops end b q (Failed v w') t u → Stops end a (p ++ q) (Failed w w') s u
+stops_more ends.Closed a p b q w v w' s t u low high h k = absurd k
+stops_more ends.Device a p b q w v w' s t u low high h k = (failed_later w v w' low high k.0, breaks_more a p b q s t u h k.1)
+stops_more ends.Memory a p b q w v w' s t u low high h k = breaks_more a p b q s t u h k
+stops_more ends.Unanswered a p b q w v w' s t u low high h k = breaks_more a p b q s t u h k
 
-pub stops_early : (end : ConsoleEnd) (Q : Text) (a p q : List ℕ) (fails : Type 0) (s t : Scene) → Stops end Q a p fails s t → Stops end Q a (p ++ q) fails s t
-stops_early ends.Closed Q a p q fails s t k = absurd k
-stops_early ends.Device Q a p q fails s t k = (k.0, breaks_early Q a p q s t k.1)
-stops_early ends.Memory Q a p q fails s t k = breaks_early Q a p q s t k
-stops_early ends.Unanswered Q a p q fails s t k = breaks_early Q a p q s t k
+pub stops_early : (end : ConsoleEnd) (a p q : List ℕ) (fails : Type 0) (s t : Scene) → Stops end a p fails s t → Stops end a (p ++ q) fails s t
+stops_early ends.Closed a p q fails s t k = absurd k
+stops_early ends.Device a p q fails s t k = (k.0, breaks_early a p q s t k.1)
+stops_early ends.Memory a p q fails s t k = breaks_early a p q s t k
+stops_early ends.Unanswered a p q fails s t k = breaks_early a p q s t k
 
 -- ---- one byte
 
 -- it goes on a line
-pub goes_on : (Q : Text) (rest : List ℕ) (byte : ℕ) (s : Scene) → HasNoEnd rest → (byte ≡ line_end → ⊥) → Serves Q rest (byte ∷ []) (rest ++ byte ∷ []) s s
-goes_on Q rest byte s unended other = record {
+pub goes_on : (rest : List ℕ) (byte : ℕ) (s : Scene) → HasNoEnd rest → (byte ≡ line_end → ⊥) → Serves rest (byte ∷ []) (rest ++ byte ∷ []) s s
+goes_on rest byte s unended other = record {
   turns = [];
   lines = refl;
   unended = all_more (λ (b : ℕ). b ≡ line_end → ⊥) rest (byte ∷ []) unended (other, tt);
   each = tt;
   submitted = grows_none s.answered;
+  program = refl;
   written = Appends-nil s.held;
 }
 
@@ -172,77 +199,83 @@ one_line rest outcome =
     sym (append-nil (lines_of (turn_at rest outcome ∷ [])) ∙ one_of line_of (turn_at rest outcome))
 
 -- it ends a line, which has its turn
-pub takes_turn : (Q : Text) (rest : List ℕ) (command : Option Command) (s t : Scene) → HasNoEnd rest → IsKnown Q rest command → Takes command s t → Serves Q rest (line_end ∷ []) [] s t
-takes_turn Q rest command s t unended known h = record {
+pub takes_turn : (rest : List ℕ) (command : Option Command) (s t : Scene) → HasNoEnd rest → IsKnown s.program rest command → Takes command s t → Serves rest (line_end ∷ []) [] s t
+takes_turn rest command s t unended known h = record {
   turns = turn_at rest h.outcome ∷ [];
   lines = one_line rest h.outcome;
   unended = tt;
-  each = ((unended, is_outcome Q rest command h.outcome known h.fits), tt);
+  each = ((unended, is_outcome s.program rest command h.outcome known h.fits), tt);
   submitted = subst (λ (l : List (Command × Answer)). Grows s.answered t.answered l) (sym (one_of (λ (x : Turn). submitted_by x.outcome) (turn_at rest h.outcome))) h.submitted;
+  program = h.program ∙ ap (in_force_after s.program) (sym (one_of (λ (x : Turn). submitted_by x.outcome) (turn_at rest h.outcome)));
   written = subst (Appends s.held t.held) (sym (one_of (λ (x : Turn). text_of x.outcome) (turn_at rest h.outcome))) h.written;
 }
 
-takes_short : (Q : Text) (rest : List ℕ) (command : Option Command) (s t : Scene) → HasNoEnd rest → IsKnown Q rest command → TakesShort command s t → Breaks Q rest (line_end ∷ []) s t
-takes_short Q rest command s t unended known h = record {
+takes_short : (rest : List ℕ) (command : Option Command) (s t : Scene) → HasNoEnd rest → IsKnown s.program rest command → TakesShort command s t → Breaks rest (line_end ∷ []) s t
+takes_short rest command s t unended known h = record {
   turns = turn_at rest h.outcome ∷ [];
   more = [];
   lines = one_line rest h.outcome;
-  each = ((unended, is_outcome Q rest command h.outcome known h.fits), tt);
+  each = ((unended, is_outcome s.program rest command h.outcome known h.fits), tt);
   submitted = subst (λ (l : List (Command × Answer)). Grows s.answered t.answered l) (sym (one_of (λ (x : Turn). submitted_by x.outcome) (turn_at rest h.outcome))) h.submitted;
+  program = h.program ∙ ap (in_force_after s.program) (sym (one_of (λ (x : Turn). submitted_by x.outcome) (turn_at rest h.outcome)));
   output = h.output;
   unwritten = h.unwritten;
   begins = one_of (λ (x : Turn). text_of x.outcome) (turn_at rest h.outcome) ∙ h.begins;
   written = h.written;
 }
 
-pub stops_at : (end : ConsoleEnd) (Q : Text) (rest : List ℕ) (command : Option Command) (fails : Type 0) (s t : Scene) → HasNoEnd rest → IsKnown Q rest command → StopsAt end command fails s t → Stops end Q rest (line_end ∷ []) fails s t
-stops_at ends.Closed Q rest command fails s t unended known k = absurd k
-stops_at ends.Device Q rest command fails s t unended known k = (k.0, takes_short Q rest command s t unended known k.1)
-stops_at ends.Memory Q rest command fails s t unended known k = takes_short Q rest command s t unended known k
-stops_at ends.Unanswered Q rest command fails s t unended known k = subst (λ (x : Scene). Breaks Q rest (line_end ∷ []) s x) (sym k) (breaks_none Q rest (line_end ∷ []) s)
+pub stops_at : (end : ConsoleEnd) (rest : List ℕ) (command : Option Command) (fails : Type 0) (s t : Scene) → HasNoEnd rest → IsKnown s.program rest command → StopsAt end command fails s t → Stops end rest (line_end ∷ []) fails s t
+stops_at ends.Closed rest command fails s t unended known k = absurd k
+stops_at ends.Device rest command fails s t unended known k = (k.0, takes_short rest command s t unended known k.1)
+stops_at ends.Memory rest command fails s t unended known k = elim k [
+  | inl same ↦ subst (λ (x : Scene). Breaks rest (line_end ∷ []) s x) (sym same) (breaks_none rest (line_end ∷ []) s)
+  | inr some ↦ takes_short rest command s t unended known some
+]
+stops_at ends.Unanswered rest command fails s t unended known k = subst (λ (x : Scene). Breaks rest (line_end ∷ []) s x) (sym k) (breaks_none rest (line_end ∷ []) s)
 
-short : (command : Option Command) (outcome : Outcome) (s t : Scene) (n : ℕ) → FitsCommand command outcome → Grows s.answered t.answered (submitted_by outcome) → Appends s.held t.held (take n (text_of outcome)) → TakesShort command s t
-short command outcome s t n fits submitted written = record {
+short : (command : Option Command) (outcome : Outcome) (s t : Scene) (n : ℕ) → FitsCommand command outcome → Grows s.answered t.answered (submitted_by outcome) → t.program ≡ in_force_after s.program (submitted_by outcome) → Appends s.held t.held (take n (text_of outcome)) → TakesShort command s t
+short command outcome s t n fits submitted program written = record {
   outcome = outcome;
   fits = fits;
   submitted = submitted;
+  program = program;
   output = take n (text_of outcome);
   unwritten = drop n (text_of outcome);
   begins = sym (take-append-drop n (text_of outcome));
   written = written;
 }
 
-took_short : (end : ConsoleEnd) (command : Option Command) (outcome : Outcome) (fails : Type 0) (s t : Scene) → FitsCommand command outcome → Grows s.answered t.answered (submitted_by outcome) → IsWhyUnwritten end fails → (n : ℕ) → Appends s.held t.held (take n (text_of outcome)) → StopsAt end command fails s t
-took_short ends.Closed command outcome fails s t fits submitted why n written = absurd why
-took_short ends.Device command outcome fails s t fits submitted why n written = (why, short command outcome s t n fits submitted written)
-took_short ends.Memory command outcome fails s t fits submitted why n written = short command outcome s t n fits submitted written
-took_short ends.Unanswered command outcome fails s t fits submitted why n written = absurd why
+took_short : (end : ConsoleEnd) (command : Option Command) (outcome : Outcome) (fails : Type 0) (s t : Scene) → FitsCommand command outcome → Grows s.answered t.answered (submitted_by outcome) → t.program ≡ in_force_after s.program (submitted_by outcome) → IsWhyUnwritten end fails → (n : ℕ) → Appends s.held t.held (take n (text_of outcome)) → StopsAt end command fails s t
+took_short ends.Closed command outcome fails s t fits submitted program why n written = absurd why
+took_short ends.Device command outcome fails s t fits submitted program why n written = (why, short command outcome s t n fits submitted program written)
+took_short ends.Memory command outcome fails s t fits submitted program why n written = inr (short command outcome s t n fits submitted program written)
+took_short ends.Unanswered command outcome fails s t fits submitted program why n written = absurd why
 
 -- what one line came to, by how its answer was written
-pub took : (result : Result (Unit {0}) ConsoleEnd) (command : Option Command) (outcome : Outcome) (fails : Type 0) (s t : Scene) → FitsCommand command outcome → Grows s.answered t.answered (submitted_by outcome) → Writes result (text_of outcome) fails s.held t.held
+pub took : (result : Result (Unit {0}) ConsoleEnd) (command : Option Command) (outcome : Outcome) (fails : Type 0) (s t : Scene) → FitsCommand command outcome → Grows s.answered t.answered (submitted_by outcome) → t.program ≡ in_force_after s.program (submitted_by outcome) → Writes result (text_of outcome) fails s.held t.held
     → MatchResult result (λ done. Takes command s t) (λ end. StopsAt end command fails s t)
-took (Ok done) command outcome fails s t fits submitted wrote = record { outcome = outcome; fits = fits; submitted = submitted; written = wrote }
-took (Err end) command outcome fails s t fits submitted wrote = took_short end command outcome fails s t fits submitted wrote.0 wrote.1 wrote.2
+took (Ok done) command outcome fails s t fits submitted program wrote = record { outcome = outcome; fits = fits; submitted = submitted; program = program; written = wrote }
+took (Err end) command outcome fails s t fits submitted program wrote = took_short end command outcome fails s t fits submitted program wrote.0 wrote.1 wrote.2
 
 fits_none : (command : Option Command) → command ≡ None → FitsCommand command Refused
 fits_none command is = subst (λ (c : Option Command). FitsCommand c Refused) (sym is) tt
 
 -- a refused line
-pub refused : (result : Result (Unit {0}) ConsoleEnd) (command : Option Command) (fails : Type 0) (answered : Option (List (Command × Answer))) (held held' : Option (List ℕ)) → command ≡ None → Writes result (text_of Refused) fails held held'
-    → MatchResult result (λ done. Takes command (scene answered held) (scene answered held')) (λ end. StopsAt end command fails (scene answered held) (scene answered held'))
-refused result command fails answered held held' is wrote = took result command Refused fails (scene answered held) (scene answered held') (fits_none command is) (grows_none answered) wrote
+pub refused : (result : Result (Unit {0}) ConsoleEnd) (command : Option Command) (fails : Type 0) (answered : Option (List (Command × Answer))) (held held' : Option (List ℕ)) (Q : Text) → command ≡ None → Writes result (text_of Refused) fails held held'
+    → MatchResult result (λ done. Takes command (scene answered held Q) (scene answered held' Q)) (λ end. StopsAt end command fails (scene answered held Q) (scene answered held' Q))
+refused result command fails answered held held' Q is wrote = took result command Refused fails (scene answered held Q) (scene answered held' Q) (fits_none command is) (grows_none answered) refl wrote
 
 -- a command that was answered
-pub answered_one : (result : Result (Unit {0}) ConsoleEnd) (fails : Type 0) (command : Command) (answer : Answer) (a b : Option (List (Command × Answer))) (held held' : Option (List ℕ)) → Grows a b ((command, answer) ∷ []) → Writes result (text_of (Submitted command answer)) fails held held'
-    → MatchResult result (λ done. Takes (Some command) (scene a held) (scene b held')) (λ end. StopsAt end (Some command) fails (scene a held) (scene b held'))
-answered_one result fails command answer a b held held' submitted wrote = took result (Some command) (Submitted command answer) fails (scene a held) (scene b held') refl submitted wrote
+pub answered_one : (result : Result (Unit {0}) ConsoleEnd) (fails : Type 0) (command : Command) (answer : Answer) (a b : Option (List (Command × Answer))) (held held' : Option (List ℕ)) (Q R : Text) → Grows a b ((command, answer) ∷ []) → R ≡ goes_on_with Q (brought_by command) answer → Writes result (text_of (Submitted command answer)) fails held held'
+    → MatchResult result (λ done. Takes (Some command) (scene a held Q) (scene b held' R)) (λ end. StopsAt end (Some command) fails (scene a held Q) (scene b held' R))
+answered_one result fails command answer a b held held' Q R submitted program wrote = took result (Some command) (Submitted command answer) fails (scene a held Q) (scene b held' R) refl submitted program wrote
 
 -- a line that was ended
-pub ended_line : (result : Result (Unit {0}) ConsoleEnd) (Q : Text) (rest : List ℕ) (command : Option Command) (line : Option (List ℕ)) (fails : Type 0) (s t : Scene) → line ≡ kept [] → HasNoEnd rest → IsKnown Q rest command
+pub ended_line : (result : Result (Unit {0}) ConsoleEnd) (rest : List ℕ) (command : Option Command) (line : Option (List ℕ)) (fails : Type 0) (s t : Scene) → line ≡ kept [] → HasNoEnd rest → IsKnown s.program rest command
     → MatchResult result (λ done. Takes command s t) (λ end. StopsAt end command fails s t)
-    → MatchResult result (λ done. (line ≡ kept []) × Serves Q rest (line_end ∷ []) [] s t) (λ end. Stops end Q rest (line_end ∷ []) fails s t)
-ended_line (Ok done) Q rest command line fails s t is unended known h = (is, takes_turn Q rest command s t unended known h)
-ended_line (Err end) Q rest command line fails s t is unended known h = stops_at end Q rest command fails s t unended known h
+    → MatchResult result (λ done. (line ≡ kept []) × Serves rest (line_end ∷ []) [] s t) (λ end. Stops end rest (line_end ∷ []) fails s t)
+ended_line (Ok done) rest command line fails s t is unended known h = (is, takes_turn rest command s t unended known h)
+ended_line (Err end) rest command line fails s t is unended known h = stops_at end rest command fails s t unended known h
 
 -- what is known of a line whose command was looked for
 pub known : (Q : Text) (o : Option Command) (line : Option (List ℕ)) → IfSome o (λ command. (rest : List ℕ) → line ≡ kept rest → AsksFor Q rest command) → IfNone o ((rest : List ℕ) → line ≡ kept rest → AsksForNothing rest) → (rest : List ℕ) → line ≡ kept rest → IsKnown Q rest o
@@ -250,45 +283,45 @@ known Q (Some command) line some none rest is = some rest is
 known Q None line some none rest is = none rest is
 
 -- one byte more on the line, or memory ran out
-pub extended : (result : Result (Unit {0}) ConsoleEnd) (Q : Text) (byte : ℕ) (line line' : Option (List ℕ)) (fails : Type 0) (s : Scene) → (byte ≡ line_end → ⊥)
+pub extended : (result : Result (Unit {0}) ConsoleEnd) (byte : ℕ) (line line' : Option (List ℕ)) (fails : Type 0) (s : Scene) → (byte ≡ line_end → ⊥)
     → MatchResult result (λ done. (rest : List ℕ) → line ≡ kept rest → line' ≡ kept (rest ++ byte ∷ [])) (λ end. end ≡ ends.Memory)
     → (rest : List ℕ) → HasNoEnd rest → line ≡ kept rest
-    → MatchResult result (λ done. (rest' : List ℕ) × (line' ≡ kept rest') × Serves Q rest (byte ∷ []) rest' s s) (λ end. Stops end Q rest (byte ∷ []) fails s s)
-extended (Ok done) Q byte line line' fails s other went rest unended is = (rest ++ byte ∷ [], went rest is, goes_on Q rest byte s unended other)
-extended (Err end) Q byte line line' fails s other went rest unended is = subst (λ (e : ConsoleEnd). Stops e Q rest (byte ∷ []) fails s s) (sym went) (breaks_none Q rest (byte ∷ []) s)
+    → MatchResult result (λ done. (rest' : List ℕ) × (line' ≡ kept rest') × Serves rest (byte ∷ []) rest' s s) (λ end. Stops end rest (byte ∷ []) fails s s)
+extended (Ok done) byte line line' fails s other went rest unended is = (rest ++ byte ∷ [], went rest is, goes_on rest byte s unended other)
+extended (Err end) byte line line' fails s other went rest unended is = subst (λ (e : ConsoleEnd). Stops e rest (byte ∷ []) fails s s) (sym went) (breaks_none rest (byte ∷ []) s)
 
 -- ---- the session
 
 -- a session that goes on
-pub record GoesOn (Q : Text) (left left' : Option (List ℕ)) (r r' w w' : ℕ) (line : Option (List ℕ)) (before after : Scene) : Type 0 where
+pub record GoesOn (left left' : Option (List ℕ)) (r r' w w' : ℕ) (line : Option (List ℕ)) (before after : Scene) : Type 0 where
   pub input : List ℕ
   pub rest : List ℕ
   pub read : Consumes left left' input
   pub unended : HasNoEnd rest
   pub is : line ≡ kept rest
-  pub served : Serves Q [] input rest before after
+  pub served : Serves [] input rest before after
   pub reads : r ≤ r'
   pub writes : w ≤ w'
 
-pub starts : (Q : Text) (left : Option (List ℕ)) (r w : ℕ) (line : Option (List ℕ)) (s : Scene) → line ≡ kept [] → GoesOn Q left left r r w w line s s
-starts Q left r w line s is = record {
+pub starts : (left : Option (List ℕ)) (r w : ℕ) (line : Option (List ℕ)) (s : Scene) → line ≡ kept [] → GoesOn left left r r w w line s s
+starts left r w line s is = record {
   input = [];
   rest = [];
   read = Consumes-nil left;
   unended = tt;
   is = is;
-  served = serves_none Q [] s tt;
+  served = serves_none [] s tt;
   reads = omega arith;
   writes = omega arith;
 }
 
 -- what one piece did, for whatever was there of a line
-abbrev pub PieceServed : Text → List ℕ → Option (List ℕ) → Option (List ℕ) → Scene → Scene → Type 0
-PieceServed Q piece line line' before after = (rest : List ℕ) → HasNoEnd rest → line ≡ kept rest → (rest' : List ℕ) × (line' ≡ kept rest') × Serves Q rest piece rest' before after
+abbrev pub PieceServed : List ℕ → Option (List ℕ) → Option (List ℕ) → Scene → Scene → Type 0
+PieceServed piece line line' before after = (rest : List ℕ) → HasNoEnd rest → line ≡ kept rest → (rest' : List ℕ) × (line' ≡ kept rest') × Serves rest piece rest' before after
 
-pub goes_further : (Q : Text) (left left1 left2 : Option (List ℕ)) (r r1 r2 w w1 w2 : ℕ) (line line' : Option (List ℕ)) (s t u : Scene) (piece : List ℕ)
-    → GoesOn Q left left1 r r1 w w1 line s t → Consumes left1 left2 piece → r1 ≤ r2 → w1 ≤ w2 → PieceServed Q piece line line' t u → GoesOn Q left left2 r r2 w w2 line' s u
-goes_further Q left left1 left2 r r1 r2 w w1 w2 line line' s t u piece h read reads writes served =
+pub goes_further : (left left1 left2 : Option (List ℕ)) (r r1 r2 w w1 w2 : ℕ) (line line' : Option (List ℕ)) (s t u : Scene) (piece : List ℕ)
+    → GoesOn left left1 r r1 w w1 line s t → Consumes left1 left2 piece → r1 ≤ r2 → w1 ≤ w2 → PieceServed piece line line' t u → GoesOn left left2 r r2 w w2 line' s u
+goes_further left left1 left2 r r1 r2 w w1 w2 line line' s t u piece h read reads writes served =
     let more = served h.rest h.unended h.is in
     record {
       input = h.input ++ piece;
@@ -296,39 +329,39 @@ goes_further Q left left1 left2 r r1 r2 w w1 w2 line line' s t u piece h read re
       read = Consumes-trans left left1 left2 h.input piece h.read read;
       unended = more.2.unended;
       is = more.1;
-      served = serves_more Q [] h.input h.rest piece more.0 s t u h.served more.2;
+      served = serves_more [] h.input h.rest piece more.0 s t u h.served more.2;
       reads = omega (arith, h.reads, reads);
       writes = omega (arith, h.writes, writes);
     }
 
 -- what a stop over the whole input is
-ended : (end : ConsoleEnd) (Q : Text) (input : List ℕ) (left : Option (List ℕ)) (fails : Type 0) (other : Type 0) (s t : Scene) → Stops end Q [] input fails s t → Ended end Q input left (other ⊎ fails) s t
-ended ends.Closed Q input left fails other s t k = absurd k
-ended ends.Device Q input left fails other s t k = (inr k.0, k.1)
-ended ends.Memory Q input left fails other s t k = k
-ended ends.Unanswered Q input left fails other s t k = k
+ended : (end : ConsoleEnd) (input : List ℕ) (left : Option (List ℕ)) (fails : Type 0) (other : Type 0) (s t : Scene) → Stops end [] input fails s t → Ended end input left (other ⊎ fails) s t
+ended ends.Closed input left fails other s t k = absurd k
+ended ends.Device input left fails other s t k = (inr k.0, k.1)
+ended ends.Memory input left fails other s t k = k
+ended ends.Unanswered input left fails other s t k = k
 
-pub ends_with : (end : ConsoleEnd) (Q : Text) (left left1 left2 : Option (List ℕ)) (r r1 r2 w w1 w2 : ℕ) (line : Option (List ℕ)) (s t u : Scene) (piece : List ℕ)
-    → GoesOn Q left left1 r r1 w w1 line s t → Consumes left1 left2 piece → w1 ≤ w2 → ((rest : List ℕ) → HasNoEnd rest → line ≡ kept rest → Stops end Q rest piece (Failed w1 w2) t u) → Talks end Q left left2 r r2 w w2 s u
-ends_with end Q left left1 left2 r r1 r2 w w1 w2 line s t u piece h read writes stops = record {
+pub ends_with : (end : ConsoleEnd) (left left1 left2 : Option (List ℕ)) (r r1 r2 w w1 w2 : ℕ) (line : Option (List ℕ)) (s t u : Scene) (piece : List ℕ)
+    → GoesOn left left1 r r1 w w1 line s t → Consumes left1 left2 piece → w1 ≤ w2 → ((rest : List ℕ) → HasNoEnd rest → line ≡ kept rest → Stops end rest piece (Failed w1 w2) t u) → Talks end left left2 r r2 w w2 s u
+ends_with end left left1 left2 r r1 r2 w w1 w2 line s t u piece h read writes stops = record {
   input = h.input ++ piece;
   read = Consumes-trans left left1 left2 h.input piece h.read read;
-  ended = ended end Q (h.input ++ piece) left2 (Failed w w2) (Failed r r2) s u (stops_more end Q [] h.input h.rest piece w w1 w2 s t u h.writes writes h.served (stops h.rest h.unended h.is));
+  ended = ended end (h.input ++ piece) left2 (Failed w w2) (Failed r r2) s u (stops_more end [] h.input h.rest piece w w1 w2 s t u h.writes writes h.served (stops h.rest h.unended h.is));
 }
 
 -- its reader fails
-pub ends_unread : (Q : Text) (left left1 left2 : Option (List ℕ)) (r r1 r2 w w1 : ℕ) (line : Option (List ℕ)) (s t : Scene)
-    → GoesOn Q left left1 r r1 w w1 line s t → Keeps left1 left2 → Failed r1 r2 → r1 ≤ r2 → Talks ends.Device Q left left2 r r2 w w1 s t
-ends_unread Q left left1 left2 r r1 r2 w w1 line s t h read failed reads = record {
+pub ends_unread : (left left1 left2 : Option (List ℕ)) (r r1 r2 w w1 : ℕ) (line : Option (List ℕ)) (s t : Scene)
+    → GoesOn left left1 r r1 w w1 line s t → Keeps left1 left2 → Failed r1 r2 → r1 ≤ r2 → Talks ends.Device left left2 r r2 w w1 s t
+ends_unread left left1 left2 r r1 r2 w w1 line s t h read failed reads = record {
   input = h.input;
   read = Consumes-kept left left1 left2 h.input h.read read;
-  ended = (inl (failed_later r r1 r2 h.reads reads failed), serves_breaks Q [] h.input h.rest s t h.served);
+  ended = (inl (failed_later r r1 r2 h.reads reads failed), serves_breaks [] h.input h.rest s t h.served);
 }
 
 -- its reader is at its end
-pub ends_closed : (Q : Text) (left left1 left2 : Option (List ℕ)) (r r1 r2 w w1 : ℕ) (line : Option (List ℕ)) (s t : Scene)
-    → GoesOn Q left left1 r r1 w w1 line s t → Consumes left1 left2 [] → IsAtEnd left2 → Talks ends.Closed Q left left2 r r2 w w1 s t
-ends_closed Q left left1 left2 r r1 r2 w w1 line s t h read over = record {
+pub ends_closed : (left left1 left2 : Option (List ℕ)) (r r1 r2 w w1 : ℕ) (line : Option (List ℕ)) (s t : Scene)
+    → GoesOn left left1 r r1 w w1 line s t → Consumes left1 left2 [] → IsAtEnd left2 → Talks ends.Closed left left2 r r2 w w1 s t
+ends_closed left left1 left2 r r1 r2 w w1 line s t h read over = record {
   input = h.input;
   read = subst (Consumes left left2) (append-nil h.input) (Consumes-trans left left1 left2 h.input [] h.read read);
   ended = (over, h.rest, h.served);
@@ -337,26 +370,26 @@ ends_closed Q left left1 left2 r r1 r2 w w1 line s t h read over = record {
 -- ---- byte after byte
 
 -- how a piece ended a session
-abbrev pub PieceStopped : ConsoleEnd → Text → List ℕ → Option (List ℕ) → Type 0 → Scene → Scene → Type 0
-PieceStopped end Q piece line fails before after = (rest : List ℕ) → HasNoEnd rest → line ≡ kept rest → Stops end Q rest piece fails before after
+abbrev pub PieceStopped : ConsoleEnd → List ℕ → Option (List ℕ) → Type 0 → Scene → Scene → Type 0
+PieceStopped end piece line fails before after = (rest : List ℕ) → HasNoEnd rest → line ≡ kept rest → Stops end rest piece fails before after
 
 -- what one piece did, or how it ended the session
-abbrev pub PieceWent : Result (Unit {0}) ConsoleEnd → Text → List ℕ → Option (List ℕ) → Option (List ℕ) → Type 0 → Scene → Scene → Type 0
-PieceWent result Q piece line line' fails before after =
+abbrev pub PieceWent : Result (Unit {0}) ConsoleEnd → List ℕ → Option (List ℕ) → Option (List ℕ) → Type 0 → Scene → Scene → Type 0
+PieceWent result piece line line' fails before after =
     (rest : List ℕ) → HasNoEnd rest → line ≡ kept rest → MatchResult result
-    (λ done. (rest' : List ℕ) × (line' ≡ kept rest') × Serves Q rest piece rest' before after)
-    (λ end. Stops end Q rest piece fails before after)
+    (λ done. (rest' : List ℕ) × (line' ≡ kept rest') × Serves rest piece rest' before after)
+    (λ end. Stops end rest piece fails before after)
 
-pub piece_none : (Q : Text) (line : Option (List ℕ)) (s : Scene) → PieceServed Q [] line line s s
-piece_none Q line s = λ rest unended is. (rest, is, serves_none Q rest s unended)
+pub piece_none : (line : Option (List ℕ)) (s : Scene) → PieceServed [] line line s s
+piece_none line s = λ rest unended is. (rest, is, serves_none rest s unended)
 
-pub piece_more : (Q : Text) (p q : List ℕ) (line line' line'' : Option (List ℕ)) (s t u : Scene) → PieceServed Q p line line' s t → PieceServed Q q line' line'' t u → PieceServed Q (p ++ q) line line'' s u
-piece_more Q p q line line' line'' s t u first then = λ rest unended is.
+pub piece_more : (p q : List ℕ) (line line' line'' : Option (List ℕ)) (s t u : Scene) → PieceServed p line line' s t → PieceServed q line' line'' t u → PieceServed (p ++ q) line line'' s u
+piece_more p q line line' line'' s t u first then = λ rest unended is.
     let a = first rest unended is in
     let b = then a.0 a.2.unended a.1 in
-    (b.0, b.1, serves_more Q rest p a.0 q b.0 s t u a.2 b.2)
+    (b.0, b.1, serves_more rest p a.0 q b.0 s t u a.2 b.2)
 
-pub piece_stops : (end : ConsoleEnd) (Q : Text) (p q more : List ℕ) (line line' : Option (List ℕ)) (w v w' : ℕ) (s t u : Scene) → w ≤ v → v ≤ w' → PieceServed Q p line line' s t → PieceStopped end Q q line' (Failed v w') t u → PieceStopped end Q ((p ++ q) ++ more) line (Failed w w') s u
-piece_stops end Q p q more line line' w v w' s t u low high first then = λ rest unended is.
+pub piece_stops : (end : ConsoleEnd) (p q more : List ℕ) (line line' : Option (List ℕ)) (w v w' : ℕ) (s t u : Scene) → w ≤ v → v ≤ w' → PieceServed p line line' s t → PieceStopped end q line' (Failed v w') t u → PieceStopped end ((p ++ q) ++ more) line (Failed w w') s u
+piece_stops end p q more line line' w v w' s t u low high first then = λ rest unended is.
     let a = first rest unended is in
-    stops_early end Q rest (p ++ q) more (Failed w w') s u (stops_more end Q rest p a.0 q w v w' s t u low high a.2 (then a.0 a.2.unended a.1))
+    stops_early end rest (p ++ q) more (Failed w w') s u (stops_more end rest p a.0 q w v w' s t u low high a.2 (then a.0 a.2.unended a.1))

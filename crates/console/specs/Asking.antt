@@ -55,7 +55,8 @@ pub record Waits (c : Client) (command : Command) (before after : Way) (c' : Cli
   pub same : c' ≡ record submitted { state = record submitted.state { view = c'.state.view } }
 
 -- Then a REPLY with its number came, the first: this is its answer, and nothing waits any more.
-pub record IsAnswered (c : Client) (command : Command) (before after : Way) (answer : Answer) (c' : Client) : Type 0 where
+pub record IsAnswered (c : Client) (command : Command) (before after : Way) (answer : Answer)
+    (c' : Client) : Type 0 where
   pub waiting : Client
   pub between : Way
   pub waits : Waits c command before between waiting

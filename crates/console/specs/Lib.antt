@@ -1,4 +1,5 @@
 pub mod Asking
+pub mod InForce
 pub mod Lines
 pub mod Sending
 pub mod Sessions

@@ -19,7 +19,8 @@ pub record AskedOne (command : List ℕ) (left left' held held' out out' : Optio
   pub answered : Passed left left' out out'
 
 -- The same of each of these, one behind the other.
-abbrev pub Asked : List (List ℕ) → Option (List ℕ) → Option (List ℕ) → Option (List ℕ) → Option (List ℕ) → Option (List ℕ) → Option (List ℕ) → Type 0
+abbrev pub Asked : List (List ℕ) → Option (List ℕ) → Option (List ℕ) → Option (List ℕ) → Option (List ℕ)
+    → Option (List ℕ) → Option (List ℕ) → Type 0
 Asked [] left left' held held' out out' = Consumes left left' [] × (Appends held held' [] × Appends out out' [])
 Asked (command ∷ commands) left left' held held' out out' =
     (left1 : Option (List ℕ)) × (held1 : Option (List ℕ)) × (out1 : Option (List ℕ))

@@ -19,8 +19,8 @@ use vr_model::Sends;
 
 /// Submits a command under the client's next number, and receives until it is answered: by the first REPLY with that
 /// number, whatever else comes meanwhile. After each period without it the same request is sent again, to all. It is
-/// unanswered where the link is closed; and where the client has a request that waits, or its numbers are used up, in
-/// which case nothing was submitted.
+/// unanswered where the link is closed; and where the client has a request that waits, its numbers are used up, or
+/// memory runs out, in which case nothing was submitted.
 pub fn ask<R: Wait + Clock, L: Link>(
     rt: &R,
     alloc: Global,
@@ -32,7 +32,13 @@ pub fn ask<R: Wait + Clock, L: Link>(
     ensures { IfOk result (λ answer. IsAnswered client.old command.now
         (way (L.inputs link.old) (L.sent link.old)) (way (L.inputs link.new) (L.sent link.new)) answer client.new) }
 {
-    let Some(request) = client.submit(command) else {
+    let Ok(one) = command.copy(alloc) else {
+        return Err(Unanswered);
+    };
+    let Ok(same) = command.copy(alloc) else {
+        return Err(Unanswered);
+    };
+    let Some(request) = client.submit(one, same) else {
         return Err(Unanswered);
     };
     link.send(request);
@@ -71,7 +77,8 @@ fn ask_again<R: Clock, L: Link>(
     link: &mut L,
     asked: Option<Instant>,
 ) -> Option<Instant>
-    ensures sent { (again : List (List Sent)) × AllByRecursion (SendsAt client.now Retries) again × Grows (L.sent link.old) (L.sent link.new) (joined again) }
+    ensures sent { (again : List (List Sent)) × AllByRecursion (SendsAt client.now Retries) again
+        × Grows (L.sent link.old) (L.sent link.new) (joined again) }
     ensures same { L.inputs link.new ≡ L.inputs link.old }
 {
     let Ok(now) = Instant::now(rt) else {

@@ -70,14 +70,15 @@ impl Line {
         alloc: Global,
         image: &Image,
     ) -> Result<Option<Command>, AllocError>
-        ensures some { IfOk result (λ o. IfSome o (λ command. (line : List ℕ) → self.now ≡ kept line → AsksFor image.now line command)) }
+        ensures some { IfOk result
+            (λ o. IfSome o (λ command. (line : List ℕ) → self.now ≡ kept line → AsksFor image.now line command)) }
         ensures none { IfOk result (λ o. IfNone o ((line : List ℕ) → self.now ≡ kept line → AsksForNothing line)) }
     {
         if self.is_too_long {
             return Ok(None);
         }
         match one_command(alloc, self.bytes.as_slice()) {
-            Ok(named) => Ok(unless_scan(image, &named)),
+            Ok(named) => Ok(unless_scan(image, named)),
             Err(JsonFault::Shape) => Ok(None),
             Err(JsonFault::Memory) => Err(AllocError),
         }
@@ -85,11 +86,11 @@ impl Line {
 }
 
 /// What a named command is, unless it's a scan.
-fn unless_scan(image: &Image, named: &NamedCommand) -> Option<Command>
-    ensures some { IfSome result (λ command. (IsScan named.now → ⊥) × (command ≡ meant image.now named.now)) }
-    ensures none { IfNone result (IsScan named.now) }
+fn unless_scan(image: &Image, named: NamedCommand) -> Option<Command>
+    ensures some { IfSome result (λ command. (IsScan named → ⊥) × (command ≡ meant image.now named)) }
+    ensures none { IfNone result (IsScan named) }
 {
-    if is_scan(named) {
+    if is_scan(&named) {
         None
     } else {
         Some(meant(image, named))

@@ -20,7 +20,8 @@ pub fn send_commands<R: CountedRead, W: CountedWrite, O: CountedWrite>(
     writer: &mut W,
     out: &mut O,
 ) -> Result<(), DeviceFault>
-    ensures { OnOk result (Asked (map item_bytes commands.now) (R.left reader.old) (R.left reader.new) (W.held writer.old) (W.held writer.new) (O.held out.old) (O.held out.new)) }
+    ensures { OnOk result (Asked (map item_bytes commands.now) (R.left reader.old) (R.left reader.new)
+        (W.held writer.old) (W.held writer.new) (O.held out.old) (O.held out.new)) }
 {
     for command in commands {
         send_command(command.as_slice(), reader, writer, out)?;
@@ -35,7 +36,8 @@ fn send_command<R: CountedRead, W: CountedWrite, O: CountedWrite>(
     writer: &mut W,
     out: &mut O,
 ) -> Result<(), DeviceFault>
-    ensures { OnOk result (AskedOne command.now (R.left reader.old) (R.left reader.new) (W.held writer.old) (W.held writer.new) (O.held out.old) (O.held out.new)) }
+    ensures { OnOk result (AskedOne command.now (R.left reader.old) (R.left reader.new) (W.held writer.old)
+        (W.held writer.new) (O.held out.old) (O.held out.new)) }
 {
     write_all(writer, command)?;
     write_all(writer, &[LINE_END])?;

@@ -12,7 +12,9 @@ IsKept None held = IsPartial held
 IsKept (Some fault) held = Unit {0}
 
 -- Ok where no fault was met, a fault where it's that; want of memory changes nothing
-abbrev pub Feeding : Result (Unit {0}) SessionFault → Ending HeaderFault → List ℕ → Ending HeaderFault → List Adu → List Adu → Type 0
+abbrev pub Feeding : Result (Unit {0}) SessionFault → Ending HeaderFault → List ℕ → Ending HeaderFault → List Adu
+    → List Adu → Type 0
 Feeding (Ok done) before piece after out out' = Took adus before piece after out out' × IsRest after
-Feeding (Err (faults.Header fault)) before piece after out out' = Took adus before piece after out out' × (after ≡ Fault fault)
+Feeding (Err (faults.Header fault)) before piece after out out' = Took adus before piece after out out'
+    × (after ≡ Fault fault)
 Feeding (Err faults.Memory) before piece after out out' = (after ≡ before) × (out' ≡ out)

@@ -1,5 +1,6 @@
 -- Bits and words as bytes.
-use Rattle.std.specs.Prelude.{ℕ, ℤ, ◌+◌, ◌*◌, ◌/◌, ◌%◌, ◌^◌, ◌==◌, Bool, false, if◌then◌else◌, List, length, get_or, slice_index, map}
+use Rattle.std.specs.Prelude.{ℕ, ℤ, ◌+◌, ◌*◌, ◌/◌, ◌%◌, ◌^◌, ◌==◌, Bool, false, if◌then◌else◌, List, length, get_or}
+use Rattle.std.specs.Prelude.{slice_index, map}
 use Rattle.std.specs.List.{range_with_len, flat_map}
 use Rattle.std.specs.Int.{w16, to_be_bytes, cast_signed, cast_unsigned}
 use Rattle.modbus_gateway.specs.Frames.{number_at}
@@ -11,7 +12,8 @@ bit_value bits k = if get_or bits k false then 1 else 0
 -- eight bits from a place on, the lowest first
 abbrev pub byte_of : List Bool → ℕ → ℕ
 byte_of bits k = bit_value bits k + 2 * bit_value bits (k + 1) + 4 * bit_value bits (k + 2) + 8 * bit_value bits (k + 3)
-    + 16 * bit_value bits (k + 4) + 32 * bit_value bits (k + 5) + 64 * bit_value bits (k + 6) + 128 * bit_value bits (k + 7)
+    + 16 * bit_value bits (k + 4) + 32 * bit_value bits (k + 5) + 64 * bit_value bits (k + 6) + 128 * bit_value bits
+    (k + 7)
 
 -- bits as bytes, the lowest first, padded with 0
 abbrev pub bytes_of_bits : List Bool → List ℕ

@@ -1,16 +1,20 @@
 -- The reply to a request, and the write that it makes.
-use Rattle.std.specs.Prelude.{◌≡◌, ℕ, ◌+◌, ◌==◌, Bool, true, bit_or, if◌then◌else◌, List, [], ◌∷◌, length, take, drop, slice_index, slice_range, Option, Some, None, Result, Ok, Err}
+use Rattle.std.specs.Prelude.{◌≡◌, ℕ, ◌+◌, ◌==◌, Bool, true, bit_or, if◌then◌else◌, List, [], ◌∷◌, length, take, drop}
+use Rattle.std.specs.Prelude.{slice_index, slice_range, Option, Some, None, Result, Ok, Err}
 use Rattle.std.specs.Int.{w16, cast_signed}
 use Rattle.il_model.specs.declared.cells.Cells.{Cells}
-use Rattle.process_image.specs.Book.{Book, Change, bits_at, words_at, mask_at, after_change, cells_of, with_change, is_full}
+use Rattle.process_image.specs.Book.{Book, Change, bits_at, words_at, mask_at, after_change, cells_of, with_change}
+use Rattle.process_image.specs.Book.{is_full}
 use Rattle.process_image.specs.Calls.{Does, read_gave}
 use Rattle.process_image.specs.Staging.{Changed}
 use Rattle.modbus_gateway.specs.declared.request.Image.{Image}
 use Rattle.modbus_gateway.specs.declared.request.Image.TheVariants.{Staged, Released}
 use Rattle.modbus_gateway.specs.declared.request.Function.{Function}
-use Rattle.modbus_gateway.specs.declared.request.Function.TheVariants.{ReadBits, ReadWords, WriteBit, WriteWord, WriteBits, WriteWords, MaskWord, WriteReadWords}
+use Rattle.modbus_gateway.specs.declared.request.Function.TheVariants.{ReadBits, ReadWords, WriteBit, WriteWord}
+use Rattle.modbus_gateway.specs.declared.request.Function.TheVariants.{WriteBits, WriteWords, MaskWord, WriteReadWords}
 use Rattle.modbus_gateway.specs.declared.request.Exception.{Exception}
-use Rattle.modbus_gateway.specs.declared.request.Exception.TheVariants.{IllegalFunction, IllegalDataAddress, IllegalDataValue, ServerDeviceFailure}
+use Rattle.modbus_gateway.specs.declared.request.Exception.TheVariants.{IllegalFunction, IllegalDataAddress}
+use Rattle.modbus_gateway.specs.declared.request.Exception.TheVariants.{IllegalDataValue, ServerDeviceFailure}
 use Rattle.modbus_gateway.specs.declared.request.Request.{Request}
 use Rattle.modbus_gateway.specs.Frames.{number_at}
 use Rattle.modbus_gateway.specs.Requests.{request_of}
@@ -40,7 +44,8 @@ read_outcome reply = record { staged = None; reply = reply }
 
 -- a write; refused says that the staging answers Full or Memory
 abbrev pub write_outcome : Bool → List ℕ → Change → List ℕ → Outcome
-write_outcome refused pdu change reply = if refused then read_outcome (exception_of pdu ServerDeviceFailure) else record { staged = Some change; reply = reply }
+write_outcome refused pdu change reply = if refused then read_outcome (exception_of pdu ServerDeviceFailure)
+    else record { staged = Some change; reply = reply }
 
 -- two masks on the word at a place, echoed
 abbrev pub mask_outcome : Bool → List ℕ → ℕ → Outcome
@@ -66,12 +71,19 @@ LooksAt Released before after released cells = (after ≡ before) × (cells ≡ 
 
 -- a request that passed each check, from its address on for so many cells
 abbrev pub outcome_by : List ℕ → Cells → Cells → Bool → Function → ℕ → ℕ → Outcome
-outcome_by pdu staged released refused (ReadBits image) at count = read_outcome (data_reply pdu (bytes_of_bits (slice_range (image_cells image staged released).bits at (at + count))))
-outcome_by pdu staged released refused (ReadWords image) at count = read_outcome (data_reply pdu (bytes_of_words (slice_range (image_cells image staged released).words at (at + count))))
-outcome_by pdu staged released refused WriteBit at count = write_outcome refused pdu (bits_at at ((number_at pdu 3 == 65280) ∷ [])) pdu
-outcome_by pdu staged released refused WriteWord at count = write_outcome refused pdu (words_at at (cast_signed w16 (number_at pdu 3) ∷ [])) pdu
-outcome_by pdu staged released refused WriteBits at count = write_outcome refused pdu (bits_at at (bits_of_bytes (drop 6 pdu) count)) (take 5 pdu)
-outcome_by pdu staged released refused WriteWords at count = write_outcome refused pdu (words_at at (words_of_bytes (drop 6 pdu) count)) (take 5 pdu)
+outcome_by pdu staged released refused (ReadBits image) at count =
+    read_outcome (data_reply pdu (bytes_of_bits (slice_range (image_cells image staged released).bits at (at + count))))
+outcome_by pdu staged released refused (ReadWords image) at count =
+    read_outcome
+    (data_reply pdu (bytes_of_words (slice_range (image_cells image staged released).words at (at + count))))
+outcome_by pdu staged released refused WriteBit at count =
+    write_outcome refused pdu (bits_at at ((number_at pdu 3 == 65280) ∷ [])) pdu
+outcome_by pdu staged released refused WriteWord at count =
+    write_outcome refused pdu (words_at at (cast_signed w16 (number_at pdu 3) ∷ [])) pdu
+outcome_by pdu staged released refused WriteBits at count =
+    write_outcome refused pdu (bits_at at (bits_of_bytes (drop 6 pdu) count)) (take 5 pdu)
+outcome_by pdu staged released refused WriteWords at count =
+    write_outcome refused pdu (words_at at (words_of_bytes (drop 6 pdu) count)) (take 5 pdu)
 outcome_by pdu staged released refused MaskWord at count = mask_outcome refused pdu at
 outcome_by pdu staged released refused WriteReadWords at count = write_read_outcome refused pdu staged at count
 
@@ -87,8 +99,11 @@ abbrev pub book_after : Book → Option Change → Book
 book_after b None = b
 book_after b (Some change) = with_change b change
 
--- Over a staging that tells its book the reply is to that book's cells, and a full one refuses; over one that doesn't, it is to some cells.
+-- Over a staging that tells its book the reply is to that book's cells, and a full one refuses; over one that doesn't,
+-- it is to some cells.
 abbrev pub Replies : Option Book → Option Book → (Cells → Bool → Outcome) → List ℕ → Type 0
-Replies None after outcome reply = (after ≡ None) × (cells : Cells) × (refused : Bool) × (reply ≡ (outcome cells refused).reply)
+Replies None after outcome reply = (after ≡ None) × (cells : Cells) × (refused : Bool)
+    × (reply ≡ (outcome cells refused).reply)
 Replies (Some b) None outcome reply = ⊥
-Replies (Some b) (Some c) outcome reply = (refused : Bool) × (is_full b ≡ true → refused ≡ true) × (c ≡ book_after b (outcome (cells_of b) refused).staged) × (reply ≡ (outcome (cells_of b) refused).reply)
+Replies (Some b) (Some c) outcome reply = (refused : Bool) × (is_full b ≡ true → refused ≡ true)
+    × (c ≡ book_after b (outcome (cells_of b) refused).staged) × (reply ≡ (outcome (cells_of b) refused).reply)

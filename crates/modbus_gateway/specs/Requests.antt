@@ -1,10 +1,15 @@
--- What a request asks for, or the exception that answers it: the function code first, then the shape of the PDU, then the addresses.
-use Rattle.std.specs.Prelude.{◌≡◌, ℕ, ◌+◌, ◌*◌, ◌/◌, ◌≤◌, ◌==◌, Bool, true, not, ◌&&◌, ◌||◌, nat_le, if◌then◌else◌, List, length, slice_index, Option, Some, None, Result, Ok, Err}
+-- What a request asks for, or the exception that answers it: the function code first, then the shape of the PDU, then
+-- the addresses.
+use Rattle.std.specs.Prelude.{◌≡◌, ℕ, ◌+◌, ◌*◌, ◌/◌, ◌≤◌, ◌==◌, Bool, true, not, ◌&&◌, ◌||◌, nat_le, if◌then◌else◌}
+use Rattle.std.specs.Prelude.{List, length, slice_index, Option, Some, None, Result, Ok, Err}
+use Rattle.il_model.specs.declared.limits.TheConstants.{BITS, WORDS}
 use Rattle.modbus_gateway.specs.declared.request.Image.TheVariants.{Staged, Released}
 use Rattle.modbus_gateway.specs.declared.request.Function.{Function}
-use Rattle.modbus_gateway.specs.declared.request.Function.TheVariants.{ReadBits, ReadWords, WriteBit, WriteWord, WriteBits, WriteWords, MaskWord, WriteReadWords}
+use Rattle.modbus_gateway.specs.declared.request.Function.TheVariants.{ReadBits, ReadWords, WriteBit, WriteWord}
+use Rattle.modbus_gateway.specs.declared.request.Function.TheVariants.{WriteBits, WriteWords, MaskWord, WriteReadWords}
 use Rattle.modbus_gateway.specs.declared.request.Exception.{Exception}
-use Rattle.modbus_gateway.specs.declared.request.Exception.TheVariants.{IllegalFunction, IllegalDataAddress, IllegalDataValue}
+use Rattle.modbus_gateway.specs.declared.request.Exception.TheVariants.{IllegalFunction, IllegalDataAddress}
+use Rattle.modbus_gateway.specs.declared.request.Exception.TheVariants.{IllegalDataValue}
 use Rattle.modbus_gateway.specs.declared.request.Request.{Request}
 use Rattle.modbus_gateway.specs.Frames.{number_at}
 
@@ -47,30 +52,33 @@ is_lawful (ReadBits image) pdu = (length pdu == 5) && is_quantity 3 2000 pdu
 is_lawful (ReadWords image) pdu = (length pdu == 5) && is_quantity 3 125 pdu
 is_lawful WriteBit pdu = (length pdu == 5) && ((number_at pdu 3 == 0) || (number_at pdu 3 == 65280))
 is_lawful WriteWord pdu = length pdu == 5
-is_lawful WriteBits pdu = nat_le 6 (length pdu) && (is_quantity 3 1968 pdu && has_bytes 5 ((number_at pdu 3 + 7) / 8) pdu)
+is_lawful WriteBits pdu = nat_le 6 (length pdu)
+    && (is_quantity 3 1968 pdu && has_bytes 5 ((number_at pdu 3 + 7) / 8) pdu)
 is_lawful WriteWords pdu = nat_le 6 (length pdu) && (is_quantity 3 123 pdu && has_bytes 5 (2 * number_at pdu 3) pdu)
 is_lawful MaskWord pdu = length pdu == 7
-is_lawful WriteReadWords pdu = nat_le 10 (length pdu) && (is_quantity 3 125 pdu && (is_quantity 7 121 pdu && has_bytes 9 (2 * number_at pdu 7) pdu))
+is_lawful WriteReadWords pdu = nat_le 10 (length pdu)
+    && (is_quantity 3 125 pdu && (is_quantity 7 121 pdu && has_bytes 9 (2 * number_at pdu 7) pdu))
 
 -- how many cells its area has
 abbrev pub area_length : Function → ℕ
-area_length (ReadBits image) = 512
-area_length (ReadWords image) = 64
-area_length WriteBit = 512
-area_length WriteWord = 64
-area_length WriteBits = 512
-area_length WriteWords = 64
-area_length MaskWord = 64
-area_length WriteReadWords = 64
+area_length (ReadBits image) = BITS
+area_length (ReadWords image) = WORDS
+area_length WriteBit = BITS
+area_length WriteWord = WORDS
+area_length WriteBits = BITS
+area_length WriteWords = WORDS
+area_length MaskWord = WORDS
+area_length WriteReadWords = WORDS
 
 -- the words that 23 writes are there
 abbrev pub writes_within : Function → List ℕ → Bool
-writes_within WriteReadWords pdu = nat_le (number_at pdu 5 + number_at pdu 7) 64
+writes_within WriteReadWords pdu = nat_le (number_at pdu 5 + number_at pdu 7) WORDS
 writes_within _ pdu = true
 
 -- the cells that it asks for are there, and those that it writes besides
 abbrev pub is_within_area : Function → List ℕ → Bool
-is_within_area function pdu = nat_le (number_at pdu 1 + quantity_of function pdu) (area_length function) && writes_within function pdu
+is_within_area function pdu = nat_le (number_at pdu 1 + quantity_of function pdu) (area_length function)
+    && writes_within function pdu
 
 abbrev pub judged : Option Function → List ℕ → Result Request Exception
 judged None pdu = Err IllegalFunction

@@ -29,17 +29,20 @@ pub record Answers (before : Images) (request reply : Adu) (after : Images) : Ty
   pub rising : IsRising after.seen
   pub transaction : reply.transaction ≡ request.transaction
   pub unit : reply.unit ≡ request.unit
-  pub pdu : Replies before.told after.told (λ staged refused. modbus_reply request.pdu staged (shown after.seen).image.cells refused) reply.pdu
+  pub pdu : Replies before.told after.told
+      (λ staged refused. modbus_reply request.pdu staged (shown after.seen).image.cells refused) reply.pdu
 
 -- these requests, one behind another
 abbrev pub AnswersAll : Images → List Adu → List Adu → Images → Type 0
 AnswersAll before [] [] after = after ≡ before
 AnswersAll before [] (reply ∷ replies) after = ⊥
 AnswersAll before (request ∷ requests) [] after = ⊥
-AnswersAll before (request ∷ requests) (reply ∷ replies) after = (between : Images) × Answers before request reply between × AnswersAll between requests replies after
+AnswersAll before (request ∷ requests) (reply ∷ replies) after = (between : Images)
+    × Answers before request reply between × AnswersAll between requests replies after
 
 -- The stream goes on from one ending to another, each request that is whole now was answered, and the answers went out.
-pub record Serves (from : Ending HeaderFault) (input : List ℕ) (to : Ending HeaderFault) (images images' : Images) (held held' : Option (List ℕ)) : Type 0 where
+pub record Serves (from : Ending HeaderFault) (input : List ℕ) (to : Ending HeaderFault) (images images' : Images)
+    (held held' : Option (List ℕ)) : Type 0 where
   pub requests : List Adu
   pub replies : List Adu
   pub fed : Feeds adus from input requests to
@@ -64,7 +67,8 @@ pub record Adds (before : Images) (requests : List Adu) (out out' : List ℕ) (a
 
 -- These are the first of the requests, and were answered.
 abbrev pub AnswersSome : Images → List Adu → Images → Type 0
-AnswersSome before requests after = (count : ℕ) × (replies : List Adu) × AnswersAll before (take count requests) replies after
+AnswersSome before requests after = (count : ℕ) × (replies : List Adu)
+    × AnswersAll before (take count requests) replies after
 
 -- of a stream whose last bytes are kept, and of which this piece came
 abbrev pub BreaksAfter : Ending HeaderFault → List ℕ → Images → Images → Option (List ℕ) → Option (List ℕ) → Type 0
@@ -72,21 +76,28 @@ BreaksAfter (Rest bytes) piece images images' held held' = Breaks (bytes ++ piec
 BreaksAfter (Fault fault) piece images images' held held' = ⊥
 
 -- how a session ended over one piece of its stream
-abbrev pub Stops : SessionEnd → Ending HeaderFault → List ℕ → Type 0 → Images → Images → Option (List ℕ) → Option (List ℕ) → Type 0
+abbrev pub Stops : SessionEnd → Ending HeaderFault → List ℕ → Type 0 → Images → Images → Option (List ℕ)
+    → Option (List ℕ) → Type 0
 Stops ends.Closed from piece fails images images' held held' = ⊥
-Stops (ends.Fault (faults.Header fault)) from piece fails images images' held held' = Serves from piece (Fault fault) images images' held held'
-Stops (ends.Fault faults.Memory) from piece fails images images' held held' = BreaksAfter from piece images images' held held'
+Stops (ends.Fault (faults.Header fault)) from piece fails images images' held held' =
+    Serves from piece (Fault fault) images images' held held'
+Stops (ends.Fault faults.Memory) from piece fails images images' held held' =
+    BreaksAfter from piece images images' held held'
 Stops ends.Device from piece fails images images' held held' = fails × BreaksAfter from piece images images' held held'
 
 -- how a session ended that read this input; its reader's bytes at the end, and whether its reader or its writer failed
-abbrev pub Ended : SessionEnd → List ℕ → Option (List ℕ) → Type 0 → Images → Images → Option (List ℕ) → Option (List ℕ) → Type 0
-Ended ends.Closed input left fails images images' held held' = IsAtEnd left × (rest : List ℕ) × Serves (Rest []) input (Rest rest) images images' held held'
-Ended (ends.Fault (faults.Header fault)) input left fails images images' held held' = Serves (Rest []) input (Fault fault) images images' held held'
+abbrev pub Ended : SessionEnd → List ℕ → Option (List ℕ) → Type 0 → Images → Images → Option (List ℕ) → Option (List ℕ)
+    → Type 0
+Ended ends.Closed input left fails images images' held held' = IsAtEnd left × (rest : List ℕ)
+    × Serves (Rest []) input (Rest rest) images images' held held'
+Ended (ends.Fault (faults.Header fault)) input left fails images images' held held' =
+    Serves (Rest []) input (Fault fault) images images' held held'
 Ended (ends.Fault faults.Memory) input left fails images images' held held' = Breaks input images images' held held'
 Ended ends.Device input left fails images images' held held' = fails × Breaks input images images' held held'
 
 -- what a session did, by what its reader had left and its writer held before and after, and how often each had failed
-pub record Talks (end : SessionEnd) (left left' : Option (List ℕ)) (r r' : ℕ) (held held' : Option (List ℕ)) (w w' : ℕ) (images images' : Images) : Type 0 where
+pub record Talks (end : SessionEnd) (left left' : Option (List ℕ)) (r r' : ℕ) (held held' : Option (List ℕ)) (w w' : ℕ)
+    (images images' : Images) : Type 0 where
   pub input : List ℕ
   pub read : Consumes left left' input
   pub ended : Ended end input left' (Failed r r' ⊎ Failed w w') images images' held held'

@@ -1,6 +1,7 @@
 //! Bits and words as bytes.
 ghost use Rattle.std.specs.Prelude.{◌≡◌, ◌+◌, ◌*◌, ◌/◌, ◌≤◌, ◌<◌, ◌++◌, ◌∷◌, [], length};
-ghost use Rattle.modbus_gateway.specs.Packing.{bit_value, byte_of, bytes_of_bits, bit_of, bits_of_bytes, bytes_of_words, word_of, words_of_bytes};
+ghost use Rattle.modbus_gateway.specs.Packing.{bit_value, byte_of, bytes_of_bits, bit_of, bits_of_bytes};
+ghost use Rattle.modbus_gateway.specs.Packing.{bytes_of_words, word_of, words_of_bytes};
 ghost use Rattle.arrayvec.specs.ArrayVec.{array_vec_len};
 
 use crate::adu::Pdu;

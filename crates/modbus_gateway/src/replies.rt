@@ -2,14 +2,15 @@
 ghost use Rattle.std.specs.Prelude.{◌≡◌, ◌+◌, ◌<◌, ◌≤◌, length, slice_range};
 ghost use Rattle.modbus_gateway.specs.declared.request.Function.TheVariants.{MaskWord, WriteReadWords};
 ghost use Rattle.modbus_gateway.specs.Requests.{HasLength, IsSound};
-ghost use Rattle.modbus_gateway.specs.Replies.{exception_of, data_reply, mask_outcome, write_read_outcome, LooksAt, outcome_by, modbus_reply, Replies};
+ghost use Rattle.modbus_gateway.specs.Replies.{exception_of, data_reply, mask_outcome, write_read_outcome, LooksAt};
+ghost use Rattle.modbus_gateway.specs.Replies.{outcome_by, modbus_reply, Replies};
 ghost use Rattle.modbus_gateway.specs.Packing.{bytes_of_bits, bytes_of_words};
 
 use crate::adu::{Pdu, pdu_of};
 use crate::header::number_at;
 use crate::packing::{bits_of, put_bits, put_words, words_of};
 use crate::request::{Exception, Function, Image, Request, request_of};
-use il_model::Cells;
+use il_model::{BITS, Cells, WORDS};
 use process_image::{Staging, View};
 
 /// The function code with bit 7 set, then the exception's number.
@@ -28,7 +29,7 @@ fn exception(pdu: &[u8], exception: Exception) -> Pdu
 
 #[tactic(auto, using(crate::proofs::Lengths::length_between_bits))]
 fn shown_bits(pdu: &[u8], bits: &[bool], at: usize, count: usize) -> Pdu
-    requires { (0 < length pdu.now) × (at + count ≤ length bits.now) × (length bits.now ≡ 512) }
+    requires { (0 < length pdu.now) × (at + count ≤ length bits.now) × (length bits.now ≡ BITS) }
     ensures { result.items ≡ data_reply pdu.now (bytes_of_bits (slice_range bits.now at (at + count))) }
 {
     let mut reply = pdu_of(&[pdu[0], ((count + 7) / 8) as u8]);
@@ -38,7 +39,7 @@ fn shown_bits(pdu: &[u8], bits: &[bool], at: usize, count: usize) -> Pdu
 
 #[tactic(auto, using(crate::proofs::Lengths::length_between_words))]
 fn shown_words(pdu: &[u8], words: &[i16], at: usize, count: usize) -> Pdu
-    requires { (0 < length pdu.now) × (at + count ≤ length words.now) × (length words.now ≡ 64) }
+    requires { (0 < length pdu.now) × (at + count ≤ length words.now) × (length words.now ≡ WORDS) }
     ensures { result.items ≡ data_reply pdu.now (bytes_of_words (slice_range words.now at (at + count))) }
 {
     let mut reply = pdu_of(&[pdu[0], (2 * count) as u8]);
@@ -57,8 +58,9 @@ fn cells_of<S: Staging>(image: Image, staging: &mut S, released: &View) -> Cells
 
 /// Lays two masks on the word at `at`.
 fn mask_word<S: Staging>(pdu: &[u8], at: usize, staging: &mut S) -> Pdu
-    requires { HasLength MaskWord pdu.now × (at < 64) }
-    ensures { Replies (S.told staging.old) (S.told staging.new) (λ staged refused. mask_outcome refused pdu.now at) result.items }
+    requires { HasLength MaskWord pdu.now × (at < WORDS) }
+    ensures { Replies (S.told staging.old) (S.told staging.new)
+        (λ staged refused. mask_outcome refused pdu.now at) result.items }
 {
     match staging.mask_word(at, number_at(pdu, 3), number_at(pdu, 5)) {
         Ok(_) => pdu_of(pdu),
@@ -68,8 +70,9 @@ fn mask_word<S: Staging>(pdu: &[u8], at: usize, staging: &mut S) -> Pdu
 
 /// Writes words, and shows `count` of them from `at` on as they are then.
 fn write_read<S: Staging>(pdu: &[u8], at: usize, count: usize, staging: &mut S) -> Pdu
-    requires { (length pdu.now ≤ 253) × HasLength WriteReadWords pdu.now × (at + count ≤ 64) }
-    ensures { Replies (S.told staging.old) (S.told staging.new) (λ staged refused. write_read_outcome refused pdu.now staged at count) result.items }
+    requires { (length pdu.now ≤ 253) × HasLength WriteReadWords pdu.now × (at + count ≤ WORDS) }
+    ensures { Replies (S.told staging.old) (S.told staging.new)
+        (λ staged refused. write_read_outcome refused pdu.now staged at count) result.items }
 {
     let words = words_of(&pdu[10..], usize::from(number_at(pdu, 7)));
     match staging.write_read(usize::from(number_at(pdu, 5)), words.as_slice()) {
@@ -81,7 +84,9 @@ fn write_read<S: Staging>(pdu: &[u8], at: usize, count: usize, staging: &mut S) 
 /// Acts on a request that passed each check.
 fn perform<S: Staging>(pdu: &[u8], request: Request, staging: &mut S, released: &View) -> Pdu
     requires { (0 < length pdu.now) × (length pdu.now ≤ 253) × IsSound pdu.now request }
-    ensures { Replies (S.told staging.old) (S.told staging.new) (λ staged refused. outcome_by pdu.now staged released.now.image.cells refused request.function request.address request.quantity) result.items }
+    ensures { Replies (S.told staging.old) (S.told staging.new)
+        (λ staged refused.
+        outcome_by pdu.now staged released.now.image.cells refused request.function request.address request.quantity) result.items }
 {
     let at = request.address;
     let count = request.quantity;
@@ -123,7 +128,8 @@ fn perform<S: Staging>(pdu: &[u8], request: Request, staging: &mut S, released: 
 /// count or value of a bit, 02 for cells past the area, 04 where the staging has no room or no memory for the write.
 pub fn reply<S: Staging>(pdu: &[u8], staging: &mut S, released: &View) -> Pdu
     requires { (0 < length pdu.now) × (length pdu.now ≤ 253) }
-    ensures { Replies (S.told staging.old) (S.told staging.new) (λ staged refused. modbus_reply pdu.now staged released.now.image.cells refused) result.items }
+    ensures { Replies (S.told staging.old) (S.told staging.new)
+        (λ staged refused. modbus_reply pdu.now staged released.now.image.cells refused) result.items }
 {
     match request_of(pdu) {
         Ok(request) => perform(pdu, request, staging, released),

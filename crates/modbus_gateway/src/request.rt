@@ -2,9 +2,12 @@
 ghost use Rattle.std.specs.Prelude.{◌≡◌, ◌+◌, ◌<◌, ◌≤◌, length, IfOk};
 ghost use Rattle.std.specs.Bool.{OnTrue};
 ghost use Rattle.modbus_gateway.specs.declared.request.Function.TheVariants.{WriteReadWords};
-ghost use Rattle.modbus_gateway.specs.Requests.{function_of, quantity_of, is_quantity, has_bytes, is_lawful, area_length, writes_within, is_within_area, request_of as asked, HasLength, IsSound};
+ghost use Rattle.modbus_gateway.specs.Requests.{function_of, quantity_of, is_quantity, has_bytes, is_lawful};
+ghost use Rattle.modbus_gateway.specs.Requests.{area_length, writes_within, is_within_area, request_of as asked};
+ghost use Rattle.modbus_gateway.specs.Requests.{HasLength, IsSound};
 
 use crate::header::number_at;
+use il_model::{BITS, WORDS};
 
 /// Why a request isn't done (V1.1b3, section 7).
 #[derive(Clone, Copy)]
@@ -133,12 +136,12 @@ impl Function {
         ensures { result ≡ area_length self }
     {
         match self {
-            Function::ReadBits(_) | Function::WriteBit | Function::WriteBits => 512,
+            Function::ReadBits(_) | Function::WriteBit | Function::WriteBits => BITS,
             Function::ReadWords(_)
             | Function::WriteWord
             | Function::WriteWords
             | Function::MaskWord
-            | Function::WriteReadWords => 64,
+            | Function::WriteReadWords => WORDS,
         }
     }
 
@@ -149,7 +152,7 @@ impl Function {
     {
         match self {
             Function::WriteReadWords => {
-                usize::from(number_at(pdu, 5)) + usize::from(number_at(pdu, 7)) <= 64
+                usize::from(number_at(pdu, 5)) + usize::from(number_at(pdu, 7)) <= WORDS
             }
             _ => true,
         }

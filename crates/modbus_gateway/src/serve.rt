@@ -34,7 +34,8 @@ fn answer<S: Staging, J: Naming>(
     released: &mut ReleasedReader<J>,
 ) -> Adu
     requires { IsFramed request.now }
-    ensures is { Answers (images_of (S.told staging.old) released.old) request.now result (images_of (S.told staging.new) released.new) }
+    ensures is { Answers (images_of (S.told staging.old) released.old) request.now result
+        (images_of (S.told staging.new) released.new) }
     ensures short { length result.pdu ≤ 253 }
 {
     let view = released.read();
@@ -53,8 +54,12 @@ fn answer_all<S: Staging, J: Naming>(
     released: &mut ReleasedReader<J>,
 ) -> Result<(), AllocError>
     requires { AllByRecursion IsFramed requests.now }
-    ensures ok { OnOk result (Adds (images_of (S.told staging.old) released.old) requests.now out.old.items out.new.items (images_of (S.told staging.new) released.new)) }
-    ensures err { OnErr result (AnswersSome (images_of (S.told staging.old) released.old) requests.now (images_of (S.told staging.new) released.new)) }
+    ensures ok { OnOk result
+        (Adds (images_of (S.told staging.old) released.old) requests.now out.old.items out.new.items
+        (images_of (S.told staging.new) released.new)) }
+    ensures err { OnErr result
+        (AnswersSome (images_of (S.told staging.old) released.old) requests.now
+        (images_of (S.told staging.new) released.new)) }
 {
     for request in requests {
         answer(request, staging, released).write_to(out)?;
@@ -80,8 +85,12 @@ fn serve_piece<W: CountedWrite, S: Staging, J: Naming>(
 ) -> Result<(), SessionEnd>
     requires { IsRest buffers.old.session }
     ensures served { MatchResult result
-        (λ _. Serves buffers.old.session piece.now buffers.new.session (images_of (S.told staging.old) released.old) (images_of (S.told staging.new) released.new) (W.held writer.old) (W.held writer.new) × IsRest buffers.new.session)
-        (λ end. Stops end buffers.old.session piece.now (Failed (W.faults writer.old) (W.faults writer.new)) (images_of (S.told staging.old) released.old) (images_of (S.told staging.new) released.new) (W.held writer.old) (W.held writer.new)) }
+        (λ _. Serves buffers.old.session piece.now buffers.new.session (images_of (S.told staging.old) released.old)
+        (images_of (S.told staging.new) released.new) (W.held writer.old) (W.held writer.new)
+        × IsRest buffers.new.session)
+        (λ end. Stops end buffers.old.session piece.now (Failed (W.faults writer.old) (W.faults writer.new))
+        (images_of (S.told staging.old) released.old) (images_of (S.told staging.new) released.new)
+        (W.held writer.old) (W.held writer.new)) }
     ensures counts { W.faults writer.old ≤ W.faults writer.new }
 {
     let Buffers {
@@ -104,9 +113,10 @@ fn serve_piece<W: CountedWrite, S: Staging, J: Naming>(
     }
 }
 
-/// Serves a session to its end. It reads requests in pieces, as they come, and writes the replies in order: those to the requests
-/// that a piece makes whole in one write, each by what `released` shows when its turn comes. Where it ends by `Device`, or for want
-/// of memory, a beginning of the replies went out, and requests whose replies didn't may have been done.
+/// Serves a session to its end. It reads requests in pieces, as they come, and writes the replies in order: those to
+/// the requests that a piece makes whole in one write, each by what `released` shows when its turn comes. Where it ends
+/// by `Device`, or for want of memory, a beginning of the replies went out, and requests whose replies didn't may have
+/// been done.
 pub fn serve_session<H: Wait, R: CountedRead, W: CountedWrite, S: Staging, J: Naming>(
     rt: &H,
     alloc: Global,
@@ -115,7 +125,9 @@ pub fn serve_session<H: Wait, R: CountedRead, W: CountedWrite, S: Staging, J: Na
     staging: &mut S,
     released: &mut ReleasedReader<J>,
 ) -> SessionEnd
-    ensures { Talks result (R.left reader.old) (R.left reader.new) (R.faults reader.old) (R.faults reader.new) (W.held writer.old) (W.held writer.new) (W.faults writer.old) (W.faults writer.new) (images_of (S.told staging.old) released.old) (images_of (S.told staging.new) released.new) }
+    ensures { Talks result (R.left reader.old) (R.left reader.new) (R.faults reader.old) (R.faults reader.new)
+        (W.held writer.old) (W.held writer.new) (W.faults writer.old) (W.faults writer.new)
+        (images_of (S.told staging.old) released.old) (images_of (S.told staging.new) released.new) }
 {
     let mut buffers = Buffers {
         session: Session::new(),

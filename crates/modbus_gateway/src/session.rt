@@ -40,7 +40,9 @@ fn take_units(
     out: &mut Vec<Adu>,
 ) -> Result<Option<HeaderFault>, AllocError>
     requires { IsPartial held.old.items }
-    ensures ok { IfOk result (λ fault. Took adus (Rest held.old.items) piece.now (ending_of held.new.items fault) out.old.items out.new.items) }
+    ensures ok { IfOk result
+        (λ fault. Took adus (Rest held.old.items) piece.now
+        (ending_of held.new.items fault) out.old.items out.new.items) }
     ensures err { OnErr result ((more : List Unit) × (out.new.items ≡ out.old.items ++ more)) }
 {
     for byte in piece {
@@ -89,8 +91,8 @@ impl Session {
         }
     }
 
-    /// Takes the next piece of the stream, and adds each unit that is whole now. A fault of the stream is answered for good. Want of
-    /// memory changes nothing: the same piece may be fed again.
+    /// Takes the next piece of the stream, and adds each unit that is whole now. A fault of the stream is answered for
+    /// good. Want of memory changes nothing: the same piece may be fed again.
     pub fn feed(&mut self, piece: &[u8], out: &mut Vec<Adu>) -> Result<(), SessionFault>
         ensures { Feeding result self.old piece.now self.new out.old.items out.new.items }
     {

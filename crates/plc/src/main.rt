@@ -7,7 +7,7 @@ use console::send_commands;
 use il_model::{Budget, Counted, CountedWrite};
 use plc_json::command_texts;
 use plc_serve::{ReportFile, Service, Settings};
-use plc_tool::{Fault, NewFile};
+use plc_tool::{Fault, NewFile, change_to};
 use plc_words::{Words, WordsError, read_words};
 use process_image::NewList;
 use std::io::{BufWriter, Write};
@@ -75,8 +75,8 @@ fn text_of(path: &Option<String>) -> Option<&str> {
     }
 }
 
-/// Opens what can only be read, and is empty, at each of descriptors 0 to 2 that is closed: so no file or socket is opened there, and a write to a
-/// stream that is closed fails.
+/// Opens what can only be read, and is empty, at each of descriptors 0 to 2 that is closed: so no file or socket is
+/// opened there, and a write to a stream that is closed fails.
 fn hold_streams(rt: &HostRuntime) -> io::Result<()> {
     for _ in 0..STREAMS {
         let empty = fs::open(rt, "/dev/null")?;
@@ -124,6 +124,7 @@ fn perform<W: Write, E: CountedWrite>(
             budget,
         } => sim(rt, source, schedule, &config, budget, out, err),
         Words::Ask { port, commands } => ask(rt, port, commands, out, err),
+        Words::Change { port, source } => change(rt, port, source, out, err),
         Words::Serve {
             source,
             store,
@@ -164,6 +165,23 @@ fn given_words(rt: &HostRuntime) -> Result<Vec<String>, WordsError> {
 
 fn file(rt: &HostRuntime, path: &str) -> Result<Vec<u8>, Fault> {
     Ok(fs::read(rt, path)?)
+}
+
+/// A source and another file; or the status, where one can't be read. The source is judged before the other is missed.
+fn both<E: CountedWrite>(
+    rt: &HostRuntime,
+    source: &str,
+    other: &str,
+    err: &mut E,
+) -> Result<(Vec<u8>, Vec<u8>), u8> {
+    let source = match file(rt, source) {
+        Ok(source) => source,
+        Err(fault) => return Err(plc_tool::tell(fault, err)),
+    };
+    match file(rt, other) {
+        Ok(other) => Ok((source, other)),
+        Err(fault) => Err(plc_tool::run_unread(rt.alloc(), source.as_slice(), fault, err)),
+    }
 }
 
 fn asm<W: Write, E: CountedWrite>(
@@ -208,13 +226,9 @@ fn run<W: Write, E: CountedWrite>(
     out: &mut W,
     err: &mut E,
 ) -> u8 {
-    let source = match file(rt, source) {
-        Ok(source) => source,
-        Err(fault) => return plc_tool::tell(fault, err),
-    };
-    let commands = match file(rt, commands) {
-        Ok(commands) => commands,
-        Err(fault) => return plc_tool::run_unread(rt.alloc(), source.as_slice(), fault, err),
+    let (source, commands) = match both(rt, source, commands, err) {
+        Ok(files) => files,
+        Err(status) => return status,
     };
     let mut counted = Counted::new(&mut *out);
     let status = plc_tool::run(
@@ -237,13 +251,9 @@ fn sim<W: Write, E: CountedWrite>(
     out: &mut W,
     err: &mut E,
 ) -> u8 {
-    let source = match file(rt, source) {
-        Ok(source) => source,
-        Err(fault) => return plc_tool::tell(fault, err),
-    };
-    let schedule = match file(rt, schedule) {
-        Ok(schedule) => schedule,
-        Err(fault) => return plc_tool::run_unread(rt.alloc(), source.as_slice(), fault, err),
+    let (source, schedule) = match both(rt, source, schedule, err) {
+        Ok(files) => files,
+        Err(status) => return status,
     };
     let mut counted = Counted::new(&mut *out);
     let status = plc_tool::sim(
@@ -275,10 +285,40 @@ fn ask<W: Write, E: CountedWrite>(
 /// Sends each command of a file to the console at a port, and prints its answer.
 fn asked<W: Write>(rt: &HostRuntime, port: u16, commands: &str, out: &mut W) -> Result<(), Fault> {
     let commands = command_texts(rt.alloc(), file(rt, commands)?.as_slice())?;
+    send(rt, port, commands.as_slice(), out)
+}
+
+fn change<W: Write, E: CountedWrite>(
+    rt: &HostRuntime,
+    port: u16,
+    source: &str,
+    out: &mut W,
+    err: &mut E,
+) -> u8 {
+    let status = match changed(rt, port, source, out) {
+        Ok(()) => 0,
+        Err(fault) => plc_tool::tell(fault, err),
+    };
+    flushed(status, out, err)
+}
+
+/// Sends the change to the program of a file to the console at a port, and prints its answer.
+fn changed<W: Write>(rt: &HostRuntime, port: u16, source: &str, out: &mut W) -> Result<(), Fault> {
+    let command = change_to(rt.alloc(), file(rt, source)?.as_slice())?;
+    send(rt, port, &[command], out)
+}
+
+/// Sends each of these as a line to the console at a port, and prints its answer.
+fn send<W: Write>(
+    rt: &HostRuntime,
+    port: u16,
+    commands: &[Vec<u8>],
+    out: &mut W,
+) -> Result<(), Fault> {
     let stream = TcpStream::connect(rt, ("127.0.0.1", port))?;
     stream.set_nodelay(true)?;
     Ok(send_commands(
-        commands.as_slice(),
+        commands,
         &mut Counted::new(&stream),
         &mut Counted::new(&stream),
         &mut Counted::new(&mut *out),

@@ -4,3 +4,4 @@ mod Once
 mod Whole
 mod Nesting
 mod Texts
+mod Changes

@@ -1,12 +1,18 @@
 -- The commands that JSON data gives, by RFC 8259's values: an array of them, each a word or an object with one member.
-use Rattle.std.specs.Prelude.{◌≡◌, ℕ, ◌^◌, ◌&&◌, ◌||◌, not, ℤ, pos, negsuc, Bool, true, false, List, [], ◌∷◌, map, Option, Some, None, option_and_then, option_map, bytes_eq, codes, nat_eq, nat_lt, if◌then◌else◌, IsUtf8, string_bytes}
+use Rattle.std.specs.Prelude.{◌≡◌, ℕ, ◌^◌, ◌&&◌, ◌||◌, not, ℤ, pos, negsuc, Bool, true, false, List, [], ◌∷◌, map}
+use Rattle.std.specs.Prelude.{Option, Some, None, option_and_then, option_map, bytes_eq, codes, nat_eq, nat_lt, nat_le}
+use Rattle.std.specs.Prelude.{length, Result, Ok, Err, if◌then◌else◌, IsUtf8, string_bytes}
 use Rattle.std.specs.List.{range_with_len}
+use Rattle.il_model.specs.declared.limits.TheConstants.{BITS, WORDS, MOST_IMAGE_BYTES}
 use Rattle.il_model.specs.declared.cells.Cells.{Cells}
 use Rattle.il_model.specs.declared.cells.InImage.{InImage}
 use Rattle.il_model.specs.declared.command.Command.{Command}
-use Rattle.il_model.specs.declared.command.Command.TheVariants.{Scan, SetBreak, ClearBreak, Step, Continue, ReadCr, Reset}
+use Rattle.il_model.specs.declared.command.Command.TheVariants.{Scan, SetBreak, ClearBreak, Step, Continue, ReadCr}
+use Rattle.il_model.specs.declared.command.Command.TheVariants.{Reset, Change}
 use Rattle.il_model.specs.declared.value.Value.{Value}
 use Rattle.il_model.specs.declared.value.Value.TheVariants as values
+use Rattle.hex.specs.Hex.{decode_of}
+use Rattle.hex.specs.declared.error.FromHexError.{FromHexError}
 use Rattle.serde_json.specs.Data.{Data, Items, no_items, item, Members, no_members, member}
 use Rattle.serde_json.specs.Find.{get, as_number, as_u64, as_i64, as_bool, as_str, as_array, as_object}
 use Rattle.serde_json.specs.Read.{read as read_text}
@@ -88,7 +94,7 @@ items_in (item d more) = d ∷ items_in more
 
 -- the bits of an area: TRUE are those whose numbers are given
 abbrev pub bits_given : List ℕ → Option (List Bool)
-bits_given numbers = if are_once 512 numbers then Some (map (λ n. is_in n numbers) (range_with_len 0 512)) else None
+bits_given numbers = if are_once BITS numbers then Some (map (λ n. is_in n numbers) (range_with_len 0 BITS)) else None
 
 abbrev pub bits_of : List Data → Option (List Bool)
 bits_of ds = option_and_then bits_given (all_of number_at ds)
@@ -105,7 +111,8 @@ numbers_of pairs = map (λ p. p.0) pairs
 
 -- the words of an area, by pairs of a number and a value; the others are 0
 abbrev pub words_given : List (ℕ × ℤ) → Option (List ℤ)
-words_given pairs = if are_once 64 (numbers_of pairs) then Some (map (λ n. value_of n pairs) (range_with_len 0 64)) else None
+words_given pairs = if are_once WORDS (numbers_of pairs)
+    then Some (map (λ n. value_of n pairs) (range_with_len 0 WORDS)) else None
 
 abbrev pub words_of : List Data → Option (List ℤ)
 words_of ds = option_and_then words_given (all_of numbered_word ds)
@@ -115,7 +122,8 @@ image_with bits words = let cells : Cells = record { bits = bits; words = words 
 
 abbrev pub image_of : Data → Data → Option InImage
 image_of bits words =
-    (as_array bits) >>= λ numbers. bits_of (items_in numbers) >>= λ bits. (as_array words) >>= λ pairs. words_of (items_in pairs) >>= λ words. Some (image_with bits words)
+    (as_array bits) >>= λ numbers. bits_of (items_in numbers) >>= λ bits. (as_array words) >>= λ pairs. words_of
+    (items_in pairs) >>= λ words. Some (image_with bits words)
 
 -- ---- commands
 
@@ -132,7 +140,8 @@ has_three ms = false
 
 -- the members ix, iw and moment
 abbrev pub scan_with : Data → Option Command
-scan_with d = get (codes "ix") d >>= λ bits. get (codes "iw") d >>= λ words. image_of bits words >>= λ inputs. get (codes "moment") d >>= λ at. number_at at >>= λ moment. Some (Scan inputs moment)
+scan_with d = get (codes "ix") d >>= λ bits. get (codes "iw") d >>= λ words. image_of bits words >>= λ inputs. get
+    (codes "moment") d >>= λ at. number_at at >>= λ moment. Some (Scan inputs moment)
 
 -- an object with these and no other
 abbrev pub scan_of : Data → Option Command
@@ -156,6 +165,18 @@ forced_at d = option_and_then forced_pair (pair_at d)
 abbrev pub force_of : Data → Option Named
 force_of d = option_map (λ f. Force f.0 f.1) (forced_at d)
 
+-- bytes that may be those of an image
+abbrev pub image_bytes : Result (List ℕ) FromHexError → Option (List ℕ)
+image_bytes (Ok bytes) = if nat_le (length bytes) MOST_IMAGE_BYTES then Some bytes else None
+image_bytes (Err fault) = None
+
+-- hex digits, two a byte, of both cases
+abbrev pub bytes_of : List ℕ → Option (List ℕ)
+bytes_of digits = image_bytes (decode_of digits)
+
+abbrev pub change_of : Data → Option Command
+change_of d = option_map Change (option_and_then bytes_of (as_str d))
+
 -- the command of a key
 abbrev pub keyed_of : List ℕ × Data → Option Named
 keyed_of (key, d) = if bytes_eq key (codes "scan") then option_map Plain (scan_of d) else (
@@ -163,7 +184,8 @@ keyed_of (key, d) = if bytes_eq key (codes "scan") then option_map Plain (scan_o
     if bytes_eq key (codes "clear") then option_map Plain (option_map ClearBreak (position_of d)) else (
     if bytes_eq key (codes "force") then force_of d else (
     if bytes_eq key (codes "unforce") then option_map Unforce (as_str d) else (
-    if bytes_eq key (codes "read") then option_map Read (as_str d) else None)))))
+    if bytes_eq key (codes "read") then option_map Read (as_str d) else (
+    if bytes_eq key (codes "change") then option_map Plain (change_of d) else None))))))
 
 abbrev pub only_member : Members → Option (List ℕ × Data)
 only_member no_members = None

@@ -1,11 +1,13 @@
 -- The events that a JSON value gives, part by part.
-use Rattle.std.specs.Prelude.{◌≡◌, ℕ, List, map, codes, Bool, true, false, Option, Some, None, option_and_then, option_map, bytes_eq, if◌then◌else◌, IsUtf8}
+use Rattle.std.specs.Prelude.{◌≡◌, ℕ, List, map, codes, Bool, true, false, Option, Some, None, option_and_then}
+use Rattle.std.specs.Prelude.{option_map, bytes_eq, if◌then◌else◌, IsUtf8}
 use Rattle.serde_json.specs.Data.{Data}
 use Rattle.serde_json.specs.Find.{as_str, as_object}
 use Rattle.plc_json.specs.Commands.{Named, named, command_of, number_at, pair_at, only_member, each_in}
 use Rattle.plc_json.specs.declared.event.NamedEvent.{NamedEvent}
 use Rattle.plc_json.specs.declared.event.NamedEvent.TheVariants as events
-use Rattle.plc_json.specs.declared.event.NamedEvent.TheVariants.{Retry, ClientRestart, Deliver, Timeout, Resend, Crash, Restart, StoreFail}
+use Rattle.plc_json.specs.declared.event.NamedEvent.TheVariants.{Retry, ClientRestart, Deliver, Timeout, Resend, Crash}
+use Rattle.plc_json.specs.declared.event.NamedEvent.TheVariants.{Restart, StoreFail}
 
 -- an event of a number alone
 abbrev pub numbered_event : List ℕ → ℕ → Option NamedEvent
@@ -25,11 +27,13 @@ restart_event d = option_and_then restart_of (pair_at d)
 
 -- which view a store keeps whose save fails
 abbrev pub keeps_new : List ℕ → Option Bool
-keeps_new word = if bytes_eq word (codes "old") then Some false else (if bytes_eq word (codes "new") then Some true else None)
+keeps_new word = if bytes_eq word (codes "old") then Some false
+    else (if bytes_eq word (codes "new") then Some true else None)
 
 -- a replica, and which view its store keeps
 abbrev pub store_fail_of : Data × Data → Option NamedEvent
-store_fail_of (replica, kept) = option_and_then (λ i. option_map (λ b. StoreFail i b) (option_and_then keeps_new (as_str kept))) (number_at replica)
+store_fail_of (replica, kept) =
+    option_and_then (λ i. option_map (λ b. StoreFail i b) (option_and_then keeps_new (as_str kept))) (number_at replica)
 
 abbrev pub store_fail_event : Data → Option NamedEvent
 store_fail_event d = option_and_then store_fail_of (pair_at d)

@@ -1,10 +1,12 @@
 -- A text that is one command.
-use Rattle.std.specs.Prelude.{◌≡◌, ◌≤◌, ℕ, List, Option, Some, None, option_and_then, IsUtf8, Vec}
+use Rattle.std.specs.Prelude.{◌≡◌, ◌≤◌, ℕ, List, Option, Some, None, option_and_then, codes, IsUtf8, Vec}
 use Rattle.std.specs.Global.{Global}
 use Rattle.std.specs.List.{AllByRecursion}
-use Rattle.serde_json.specs.Data.{Data, depth}
+use Rattle.serde_json.specs.Data.{Data, depth, object, member, no_members, string}
 use Rattle.serde_json.specs.Read.{read as read_text, max_depth}
+use Rattle.il_model.specs.declared.command.Command.TheVariants.{Change}
 use Rattle.plc_json.specs.declared.command.NamedCommand.{NamedCommand}
+use Rattle.plc_json.specs.declared.command.NamedCommand.TheVariants.{Plain}
 use Rattle.plc_json.specs.Commands.{Named, named, command_of, all_of, commands_in}
 
 -- the command of a text; an object's last member of a key is the one that counts
@@ -19,6 +21,14 @@ HasCommand text c = IsUtf8 text × (command_in text ≡ Some (named c))
 abbrev pub HasNoCommand : List ℕ → Type 0
 HasNoCommand text = IsUtf8 text → command_in text ≡ None
 
+-- the text is the command that goes on with the program of this image
+abbrev pub IsChange : List ℕ → List ℕ → Type 0
+IsChange image text = HasCommand text (Plain (Change image))
+
+-- a change as data, with these hex digits
+abbrev pub digits_data : List ℕ → Data
+digits_data digits = object (member (codes "change") (string digits) no_members)
+
 -- the text says this value's command
 abbrev pub SaysCommand : Data → List ℕ → Type 0
 SaysCommand d text = (c : Named) × (command_of d ≡ Some c) × (command_in text ≡ Some c)
@@ -29,7 +39,8 @@ SayCommands ds texts = (cs : List Named) × (all_of command_of ds ≡ Some cs) �
 
 -- As commands alone, these texts say the commands of the text, in order.
 abbrev pub HasTexts : List ℕ → List (List ℕ) → Type 0
-HasTexts text texts = IsUtf8 text × (cs : List Named) × (commands_in text ≡ Some cs) × (all_of command_in texts ≡ Some cs)
+HasTexts text texts = IsUtf8 text × (cs : List Named) × (commands_in text ≡ Some cs)
+    × (all_of command_in texts ≡ Some cs)
 
 abbrev pub bytes_of : Vec ℕ Global → List ℕ
 bytes_of v = v.items

@@ -3,12 +3,15 @@
 ghost use Rattle.std.specs.Prelude.{◌≡◌, Some, None, IfOk, IfErr, map, option_map, string_bytes};
 ghost use Rattle.serde_json.specs.Find.{as_str};
 ghost use Rattle.serde_json.specs.View.{view, members_view};
-ghost use Rattle.plc_json.specs.Commands.{position_of, word_alone, forced_value, scan_of, force_of, forced_at, keyed_of, scan_with, only_member, command_of, all_of, named, HasCommands, HasNoCommands, Plain};
-ghost use Rattle.plc_json.specs.Faults.{IsFaultOf};
+ghost use Rattle.plc_json.specs.Commands.{position_of, word_alone, forced_value, scan_of, force_of, forced_at};
+ghost use Rattle.plc_json.specs.Commands.{keyed_of, scan_with, only_member, change_of, command_of, all_of, named};
+ghost use Rattle.plc_json.specs.Commands.{HasCommands, HasNoCommands, Plain};
+ghost use Rattle.plc_json.specs.Faults.{IsFaultOf, digits_fault};
 ghost use Rattle.plc_json.specs.declared.command.JsonFault.TheVariants.{Memory, Shape};
 
 use crate::image::in_image;
-use il_model::{Command, Value};
+use hex::FromHexError;
+use il_model::{Command, ImageBytes, Value};
 use serde_json::{Map, Value as Json};
 use std::alloc::{AllocError, AllocFailed, Global};
 use thiserror::Error;
@@ -73,13 +76,25 @@ impl From<serde_json::Error> for JsonFault {
     }
 }
 
+impl From<FromHexError> for JsonFault {
+    ghost from_gives = { λ error e. e ≡ digits_fault error };
+
+    fn from(error: FromHexError) -> JsonFault {
+        match error {
+            FromHexError::OutOfMemory => JsonFault::Memory,
+            _ => JsonFault::Shape,
+        }
+    }
+}
+
 /// The commands of a text, in its order.
 ///
-/// Every command is judged before any is given. `Shape` is the answer where the text is no JSON (RFC 8259), where the value
-/// is no array of commands of the shapes that this crate gives (another word or key, a key too many or one left out), where
-/// a bit or a word lies outside its area or is given twice, and where a number has a fraction or an exponent, is `-0`, or
-/// lies outside its field's type. Any text is a name, and what is forced is judged whatever the name. Of equal keys in one
-/// object the last counts. `Memory` comes where memory ran out.
+/// Every command is judged before any is given. `Shape` is the answer where the text is no JSON (RFC 8259), where the
+/// value is no array of commands of the shapes that this crate gives (another word or key, a key too many or one left
+/// out), where a bit or a word lies outside its area or is given twice, where a number has a fraction or an exponent,
+/// is `-0`, or lies outside its field's type, and where an image is no pairs of hex digits, or more than 32768 of them.
+/// Any text is a name, and what is forced is judged whatever the name. Of equal keys in one object the last counts.
+/// `Memory` comes where memory ran out.
 pub fn commands(alloc: Global, text: &[u8]) -> Result<Vec<NamedCommand>, JsonFault>
     ensures found { IfOk result (λ v. HasCommands text.now v.items) }
     ensures refused { IfErr result (λ e. e ≡ Shape → HasNoCommands text.now) }
@@ -162,6 +177,7 @@ fn keyed(alloc: Global, key: &str, argument: &Json) -> Result<NamedCommand, Json
         "read" => Ok(NamedCommand::Read {
             name: name(alloc, argument)?,
         }),
+        "change" => change(alloc, argument),
         _ => Err(JsonFault::Shape),
     }
 }
@@ -187,6 +203,17 @@ fn position(argument: &Json) -> Option<u16>
     ensures { result ≡ position_of (view argument.now) }
 {
     u16::try_from(argument.as_u64()?).ok()
+}
+
+/// A change of the program, by the hex digits of an image.
+fn change(alloc: Global, argument: &Json) -> Result<NamedCommand, JsonFault>
+    ensures found { IfOk result (λ c. option_map Plain (change_of (view argument.now)) ≡ Some (named c)) }
+    ensures refused { IfErr result (λ e. e ≡ Shape → option_map Plain (change_of (view argument.now)) ≡ None) }
+{
+    let digits = argument.as_str().ok_or(JsonFault::Shape)?;
+    let bytes = hex::decode(alloc, digits)?;
+    let bytes = ImageBytes::new(bytes).ok_or(JsonFault::Shape)?;
+    Ok(NamedCommand::Plain(Command::Change(bytes)))
 }
 
 fn force(alloc: Global, argument: &Json) -> Result<NamedCommand, JsonFault>

@@ -3,7 +3,8 @@
 ghost use Rattle.std.specs.Prelude.{◌≡◌, Some, None, IfOk, IfErr, map};
 ghost use Rattle.serde_json.specs.View.{view};
 ghost use Rattle.plc_json.specs.Commands.{number_at, all_of};
-ghost use Rattle.plc_json.specs.Events.{HasSchedule, HasNoSchedule, event_of, event_by, submit_event, scheduled, numbered_event, keyed_event, restart_event, keeps_new, store_fail_event};
+ghost use Rattle.plc_json.specs.Events.{HasSchedule, HasNoSchedule, event_of, event_by, submit_event, scheduled};
+ghost use Rattle.plc_json.specs.Events.{numbered_event, keyed_event, restart_event, keeps_new, store_fail_event};
 ghost use Rattle.plc_json.specs.declared.command.JsonFault.TheVariants.{Shape};
 
 use crate::command::{JsonFault, NamedCommand, command, only_member};
@@ -27,8 +28,9 @@ pub enum NamedEvent {
 
 /// The events of a text, in its order.
 ///
-/// Every event is judged before any is given, as `commands` judges commands; numbers of clients, replicas, messages and nonces
-/// are those of 64 bits. `Shape` is the answer where the text is no JSON (RFC 8259), or no array of events of the shapes that this crate gives.
+/// Every event is judged before any is given, as `commands` judges commands; numbers of clients, replicas, messages and
+/// nonces are those of 64 bits. `Shape` is the answer where the text is no JSON (RFC 8259), or no array of events of
+/// the shapes that this crate gives.
 /// `Memory` comes where memory ran out.
 pub fn schedule(alloc: Global, text: &[u8]) -> Result<Vec<NamedEvent>, JsonFault>
     ensures found { IfOk result (λ v. HasSchedule text.now v.items) }

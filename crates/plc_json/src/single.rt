@@ -1,16 +1,20 @@
 //! A text that is one command, as a console's line is.
 
-ghost use Rattle.std.specs.Prelude.{◌≡◌, ◌≤◌, IfOk, IfErr, None, map};
+ghost use Rattle.std.specs.Prelude.{◌≡◌, ◌≤◌, IfOk, IfErr, Some, None, map, string_bytes};
+ghost use Rattle.hex.specs.Hex.{decode_of};
+ghost use Rattle.il_model.specs.declared.command.Command.TheVariants.{Change};
 ghost use Rattle.serde_json.specs.Data.{depth};
 ghost use Rattle.serde_json.specs.Read.{max_depth};
 ghost use Rattle.serde_json.specs.View.{view};
-ghost use Rattle.plc_json.specs.Commands.{HasNoCommands, all_of, command_of};
-ghost use Rattle.plc_json.specs.Single.{HasCommand, HasNoCommand, HasTexts, NestWithin, SayCommands, SaysCommand, bytes_of};
+ghost use Rattle.plc_json.specs.Commands.{HasNoCommands, Plain, all_of, command_of};
+ghost use Rattle.plc_json.specs.Single.{HasCommand, HasNoCommand, HasTexts, IsChange, NestWithin, SayCommands};
+ghost use Rattle.plc_json.specs.Single.{SaysCommand, bytes_of, digits_data};
 ghost use Rattle.plc_json.specs.declared.command.JsonFault.TheVariants.{Shape};
 
 use crate::command::{JsonFault, NamedCommand, command};
-use serde_json::Value as Json;
-use std::alloc::Global;
+use il_model::ImageBytes;
+use serde_json::{Value as Json, json};
+use std::alloc::{AllocError, Global};
 
 /// The command of a text, of the shapes that `commands` takes in an array. `Shape` is the answer where the text is no
 /// JSON (RFC 8259), or no command. `Memory` comes where memory ran out.
@@ -53,4 +57,36 @@ fn one_text(alloc: Global, json: &Json) -> Result<Vec<u8>, JsonFault>
 {
     command(alloc, json)?;
     Ok(json.to_vec(alloc)?)
+}
+
+/// The text of the command that goes on with the program of this image: JSON (RFC 8259) without white space between its
+/// tokens. It fails only where memory runs out.
+pub fn change_text(alloc: Global, image: &ImageBytes) -> Result<Vec<u8>, AllocError>
+    ensures { IfOk result (λ v. IsChange image.now v.items) }
+{
+    let json = change_value(alloc, image)?;
+    Ok(json.to_vec(alloc)?)
+}
+
+/// The same as a value.
+fn change_value(alloc: Global, image: &ImageBytes) -> Result<Json, AllocError>
+    ensures says { IfOk result (λ v. command_of (view v) ≡ Some (Plain (Change image.now))) }
+    ensures nests { IfOk result (λ v. depth (view v) ≤ max_depth) }
+{
+    let digits = digits_of(alloc, image.as_slice())?;
+    digits_value(alloc, digits)
+}
+
+/// The hex digits of bytes.
+fn digits_of(alloc: Global, bytes: &[u8]) -> Result<String, AllocError>
+    ensures { IfOk result (λ s. decode_of (string_bytes s) ≡ Ok bytes.now) }
+{
+    hex::encode(alloc, bytes)
+}
+
+/// An object with one member, the hex digits of a change.
+fn digits_value(alloc: Global, digits: String) -> Result<Json, AllocError>
+    ensures { IfOk result (λ v. view v ≡ digits_data (string_bytes digits)) }
+{
+    json!(in alloc; {"change": digits})
 }

@@ -36,10 +36,11 @@ abbrev pub halt_by : Body Command Answer → Option Notice
 halt_by (Reply view number answer) = halt_of answer
 halt_by _ = None
 
--- There is a message whose release was published, if it has one, and by which the scan was held or stopped, if it was; whatever log is meant by what it
--- carries.
+-- There is a message whose release was published, if it has one, and by which the scan was held or stopped, if it was;
+-- whatever log is meant by what it carries.
 pub record Scans (scanned : Scanned) (old new : List Release) : Type 0 where
   pub message : Message
   pub knows : ClientState Command
   pub halts : (log : List (Request Command)) → scanned.halt ≡ halt_by (body_with log message.body)
-  pub published : (log : List (Request Command)) → Publishes (release_by knows (body_with log message.body)) scanned.is_released old new
+  pub published : (log : List (Request Command))
+      → Publishes (release_by knows (body_with log message.body)) scanned.is_released old new

@@ -2,8 +2,8 @@
 use Rattle.std.specs.Prelude.{◌≡◌, ℕ, ◌+◌, ◌-◌, ◌/◌, ◌^◌, min, if◌then◌else◌, nat_lt}
 use Rattle.std.specs.Duration.{max_nanos}
 
--- Behind a scan that was due then and came now: a period after that was due; or, where it came a period late or more, a period from now, so that
--- none is made up for.
+-- Behind a scan that was due then and came now: a period after that was due; or, where it came a period late or more, a
+-- period from now, so that none is made up for.
 abbrev pub due_behind : ℕ → ℕ → ℕ → ℕ
 due_behind due now period = if nat_lt now (due + period) then due + period else now + period
 
@@ -13,7 +13,8 @@ next_due due now period = min (due_behind due now period) max_nanos
 
 -- a scan that was due then came at this moment, in milliseconds, and the next one is due after it
 abbrev pub IsAwaited : ℕ → ℕ → ℕ → ℕ → Type 0
-IsAwaited period due due_after moment = (now : ℕ) × (moment ≡ min (now / 1_000_000) (2 ^ 64 - 1)) × (due_after ≡ next_due due now period)
+IsAwaited period due due_after moment = (now : ℕ) × (moment ≡ min (now / 1_000_000) (2 ^ 64 - 1))
+    × (due_after ≡ next_due due now period)
 
 -- scans that were due at 3 s, each 100 ms, by when they came
 pub record WorkedDues : Type 0 where

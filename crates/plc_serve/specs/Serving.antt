@@ -23,7 +23,11 @@ port_line port = (codes "serving on 127.0.0.1:" ++ decimal port) ++ codes "\n"
 -- the line of a report: compact JSON (RFC 8259), its keys in order
 abbrev pub report_line : ℕ → ℕ → ℕ → ℕ → List ℕ
 report_line crashes scans sessions writes =
-    codes "{\"crashes\":" ++ (decimal crashes ++ (codes ",\"scans\":" ++ (decimal scans ++ (codes ",\"sessions\":" ++ (decimal sessions ++ (codes ",\"writes\":" ++ (decimal writes ++ codes "}\n")))))))
+    codes "{\"crashes\":" ++ (decimal crashes
+    ++ (codes ",\"scans\":"
+    ++ (decimal scans
+    ++ (codes ",\"sessions\":"
+    ++ (decimal sessions ++ (codes ",\"writes\":" ++ (decimal writes ++ codes "}\n")))))))
 
 -- a report with so many scans was written
 pub record IsReported {W : Type 0} (w : CountedWriter W) (scans : ℕ) (old new : W) : Type 0 where
@@ -51,7 +55,8 @@ IsAtMostServingTold w old new = (new ≡ old) ⊎ IsServingTold w old new
 abbrev pub IsWhyRefused : List ℕ → Fault → Type 0
 IsWhyRefused text fault = IsTextFault text fault ⊎ (fault ≡ Store)
 
--- the last that was told is the line of a fault of a device or of memory; before it the lines of serving were, or nothing
+-- the last that was told is the line of a fault of a device or of memory; before it the lines of serving were, or
+-- nothing
 pub record IsToldAtLast {W : Type 0} (w : CountedWriter W) (status : ℕ) (old new : W) : Type 0 where
   pub before : W
   pub at_most : IsAtMostServingTold w old before

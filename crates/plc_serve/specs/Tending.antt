@@ -1,8 +1,8 @@
 -- When a replica crashes on purpose, and when one whose store failed is started anew.
 use Rattle.std.specs.Prelude.{ℕ, ◌+◌, ◌*◌, min, nat_le, nat_lt, ◌&&◌, Bool, false, if◌then◌else◌, Option, Some, None}
 
--- whether one crashes behind a release: by each how many releases, how many there were since the last crash with this one, and whether the replica that
--- was restarted last is normal again
+-- whether one crashes behind a release: by each how many releases, how many there were since the last crash with this
+-- one, and whether the replica that was restarted last is normal again
 abbrev pub crashes_now : Option ℕ → ℕ → Bool → Bool
 crashes_now None releases is_over = false
 crashes_now (Some every) releases is_over = nat_le every releases && is_over

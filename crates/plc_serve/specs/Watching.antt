@@ -1,5 +1,6 @@
 -- What an operator is told while a controller is served.
-use Rattle.std.specs.Prelude.{◌≡◌, ℕ, ◌-◌, nat_le, Bool, true, false, if◌then◌else◌, List, [], ◌∷◌, ◌++◌, codes, Option, Some, None}
+use Rattle.std.specs.Prelude.{◌≡◌, ℕ, ◌-◌, nat_le, Bool, true, false, if◌then◌else◌, List, [], ◌∷◌, ◌++◌, codes, Option}
+use Rattle.std.specs.Prelude.{Some, None}
 use Rattle.std.specs.Fmt.{decimal}
 use Rattle.il_model.specs.declared.counted.CountedWrite.{Ghosts as CountedWriter}
 use Rattle.plc_tool.specs.Lines.{stop_name}
@@ -16,12 +17,14 @@ notice_line (notices.Normal number) = replica_line number (codes " normal\n")
 notice_line (notices.Store number) = replica_line number (codes " store\n")
 notice_line (notices.Crashed number) = replica_line number (codes " crashed\n")
 notice_line (notices.Held position) = (codes "held " ++ decimal position) ++ codes "\n"
-notice_line (notices.Stopped stop position) = (codes "stopped " ++ (stop_name stop ++ (codes " " ++ decimal position))) ++ codes "\n"
+notice_line (notices.Stopped stop position) = (codes "stopped " ++ (stop_name stop ++ (codes " " ++ decimal position)))
+    ++ codes "\n"
 
 -- the lines of these went out, one behind the other, and nothing else
 abbrev pub WentOutInOrder : {W : Type 0} → CountedWriter W → List Notice → W → W → Type 0
 WentOutInOrder w [] old new = new ≡ old
-WentOutInOrder {W} w (notice ∷ notices) old new = (next : W) × WentOut w (notice_line notice) old next × WentOutInOrder w notices next new
+WentOutInOrder {W} w (notice ∷ notices) old new = (next : W) × WentOut w (notice_line notice) old next
+    × WentOutInOrder w notices next new
 
 -- there are notices that were told, and nothing else was
 pub record AreNoticesTold {W : Type 0} (w : CountedWriter W) (old new : W) : Type 0 where
@@ -43,15 +46,17 @@ abbrev pub is_lost : ℕ → Option ℕ → ℕ → Bool
 is_lost longest None now = false
 is_lost longest (Some since) now = nat_le longest (now - since)
 
--- what is to be told of a replica, by whether it was told down, and since when it hasn't been normal: that it's normal again, or that it's down
+-- what is to be told of a replica, by whether it was told down, and since when it hasn't been normal: that it's normal
+-- again, or that it's down
 abbrev pub change : Bool → Option ℕ → ℕ → Option Bool
 change true None now = Some true
 change true (Some since) now = None
 change false None now = None
 change false (Some since) now = if nat_le patience (now - since) then Some false else None
 
--- What is to be told of a scan that was held or stopped, by what was of the scan before it: its line went out where that's another, and else nothing
--- did.
+-- What is to be told of a scan that was held or stopped, by what was of the scan before it: its line went out where
+-- that's another, and else nothing did.
 abbrev pub IsHaltTold : {W : Type 0} → CountedWriter W → Option Notice → Option Notice → W → W → Type 0
 IsHaltTold w before None old new = new ≡ old
-IsHaltTold w before (Some halt) old new = (before ≡ Some halt → new ≡ old) × ((before ≡ Some halt → ⊥) → WentOut w (notice_line halt) old new)
+IsHaltTold w before (Some halt) old new = (before ≡ Some halt → new ≡ old)
+    × ((before ≡ Some halt → ⊥) → WentOut w (notice_line halt) old new)

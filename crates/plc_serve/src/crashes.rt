@@ -5,8 +5,8 @@ ghost use Rattle.plc_serve.specs.Tending.{crashes_now, turn_behind};
 
 use vr_model::Config;
 
-/// When replicas crash: behind so many releases one does, in turn from replica 0, but not before the one that was restarted last is normal
-/// again. Then it crashes behind a later release, and the count of releases begins anew there.
+/// When replicas crash: behind so many releases one does, in turn from replica 0, but not before the one that was
+/// restarted last is normal again. Then it crashes behind a later release, and the count of releases begins anew there.
 #[derive(Clone, Copy)]
 pub(crate) struct Crashes {
     size: u8,
@@ -43,9 +43,11 @@ impl Crashes {
         self.restarted
     }
 
-    /// Counts a release, by whether the replica that crashed last is normal again: the replica that is to crash behind it, if one is.
+    /// Counts a release, by whether the replica that crashed last is normal again: the replica that is to crash behind
+    /// it, if one is.
     pub(crate) fn released(&mut self, is_over: bool) -> Option<u8>
-        ensures crashes { IfSome result (λ number. (number ≡ self.old.next) × (self.new.next ≡ turn_behind self.old.size number)
+        ensures crashes { IfSome result
+            (λ number. (number ≡ self.old.next) × (self.new.next ≡ turn_behind self.old.size number)
             × (self.new.count ≡ min (self.old.count + 1) (2 ^ 64 - 1)) × (self.new.releases ≡ 0)) }
         ensures none { IfNone result ((self.new.next ≡ self.old.next) × (self.new.count ≡ self.old.count)
             × (self.new.releases ≡ min (self.old.releases + 1) (2 ^ 32 - 1))) }

@@ -59,7 +59,8 @@ impl<R: Wait + Clock + Drop, L: Link + Drop> Desk<R, L> {
     /// Submits a command under the client's next number. Its answer is that of the first REPLY with that number.
     fn ask(&mut self, command: &Command) -> Result<Answer, Unanswered>
         ensures { IfOk result (λ answer. IsAnswered self.old.client command.now
-            (way (L.inputs self.old.link) (L.sent self.old.link)) (way (L.inputs self.new.link) (L.sent self.new.link)) answer self.new.client) }
+            (way (L.inputs self.old.link) (L.sent self.old.link))
+            (way (L.inputs self.new.link) (L.sent self.new.link)) answer self.new.client) }
     {
         let Desk {
             rt,
@@ -80,17 +81,23 @@ impl<R: Wait + Clock + Drop, L: Link + Drop> Submits for Desk<R, L> {
     }
 }
 
-/// What the sessions share, of which there is one at a time: where connections come in, the desk, and the program.
+/// What a session works with: the desk, and the image of the program in force, in which names are looked up.
+#[derive(Drop)]
+struct Workplace<R: Drop, L: Drop> {
+    desk: Desk<R, L>,
+    image: Image,
+}
+
+/// What the sessions share, of which there is one at a time: where connections come in, and what each works with.
 #[derive(Drop)]
 struct Console<R: Drop, L: Drop> {
     door: Door,
-    desks: Places<Desk<R, L>>,
-    image: Image,
+    places: Places<Workplace<R, L>>,
     /// A session ends whose client sends nothing, or takes nothing, for so long.
     idle: Duration,
 }
 
-/// Serves one connection to its end, whichever it is, and frees the desk.
+/// Serves one connection to its end, whichever it is, and frees the place. A change of the program lasts beyond it.
 fn attend<R: Wait + Clock + Drop, L: Link + Drop>(
     rt: &R,
     alloc: Global,
@@ -98,18 +105,18 @@ fn attend<R: Wait + Clock + Drop, L: Link + Drop>(
     place: usize,
     stream: &TcpStream,
 ) {
-    if let Some(mut desk) = console.desks.lend(rt, place) {
+    if let Some(mut workplace) = console.places.lend(rt, place) {
         let _ = serve_console(
             rt,
             alloc,
-            &console.image,
+            &mut workplace.image,
             &mut Counted::new(stream),
             &mut Counted::new(stream),
-            &mut desk,
+            &mut workplace.desk,
         );
-        console.desks.give_back(rt, place, desk);
+        console.places.give_back(rt, place, workplace);
     }
-    console.desks.leave(rt, place);
+    console.places.leave(rt, place);
 }
 
 /// Gives each connection a session, in a thread of its own, until the console is closed and its session ended. Where
@@ -124,10 +131,10 @@ where
             let Some(stream) = console.door.next(rt) else {
                 break;
             };
-            if let Some(place) = admit(rt, &console.desks, &stream, console.idle) {
+            if let Some(place) = admit(rt, &console.places, &stream, console.idle) {
                 let session = scope.spawn(move || attend(rt, alloc, console, place, &stream));
                 if session.is_err() {
-                    console.desks.leave(rt, place);
+                    console.places.leave(rt, place);
                 }
             }
         }
@@ -146,7 +153,7 @@ where
     R: Wait + Threads + Clock + Copy + Send + Sync + Drop + 'static,
     L: Relink + Send + Drop + 'static,
 {
-    /// For the commands of a program, which this desk submits.
+    /// For the commands of a program, which this desk submits; a change of it goes on with another one.
     pub(crate) fn new(
         alloc: Global,
         door: Door,
@@ -157,13 +164,13 @@ where
         ensures { IfErr result (λ e. status_of e ≡ 2) }
     {
         let cutter = desk.link.cutter()?;
-        let mut desks = Vec::with_capacity(alloc, 1)?;
-        desks.push(desk)?;
+        let image = image.copy(alloc)?;
+        let mut workplaces = Vec::with_capacity(alloc, 1)?;
+        workplaces.push(Workplace { desk, image })?;
         Ok(NewConsole {
             console: Console {
                 door,
-                desks: Places::new(alloc, desks)?,
-                image: image.copy(alloc)?,
+                places: Places::new(alloc, workplaces)?,
                 idle,
             },
             cutter,
@@ -209,7 +216,7 @@ where
             acceptor,
         } = self;
         console.door.shut();
-        console.desks.close(rt);
+        console.places.close(rt);
         cutter.cut();
         acceptor.join(rt);
     }

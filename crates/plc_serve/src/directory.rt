@@ -25,8 +25,8 @@ pub(crate) struct Taken {
 }
 
 impl Directory<'_> {
-    /// Makes the directory, where it isn't there, and takes it in one step: of two starts at once one has it. Where another start has
-    /// it, or the file of a replica is there, nothing was changed.
+    /// Makes the directory, where it isn't there, and takes it in one step: of two starts at once one has it. Where
+    /// another start has it, or the file of a replica is there, nothing was changed.
     pub(crate) fn take<R: Files + Copy + Drop>(self, rt: R, alloc: Global) -> Result<Taken, Fault>
         ensures { IfErr result (λ e. status_of e ≡ 1 → e ≡ Store) }
     {

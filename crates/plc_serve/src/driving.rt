@@ -1,6 +1,7 @@
 //! The driver of a group: the client that has it scan once a period, and publishes what it releases.
 
-ghost use Rattle.std.specs.Prelude.{◌≡◌, ◌+◌, if◌then◌else◌, IfErr, OnOk, OnErr, IfOk, IfSome, IfNone, List, length, false};
+ghost use Rattle.std.specs.Prelude.{◌≡◌, ◌+◌, if◌then◌else◌, IfErr, OnOk, OnErr, IfOk, IfSome, IfNone, List, length};
+ghost use Rattle.std.specs.Prelude.{false};
 ghost use Rattle.plc_tool.specs.Status.{status_of};
 ghost use Rattle.il_model.specs.declared.command.Command.{Command as Asked};
 ghost use Rattle.vr_model.specs.Logs.{Request as Entry};
@@ -170,7 +171,8 @@ impl<L: Link + Drop, J: Naming, P: Pen<J> + Drop> Drive<L, J, P> {
         L: Relink + Send + 'static,
         T: Starts + Send + Drop + 'static,
         ensures scanned { IfOk result (λ scanned. Scans scanned self.old.writer self.new.writer) }
-        ensures counted { IfOk result (λ scanned. length self.new.writer ≡ length self.old.writer + (if scanned.is_released then 1 else 0)) }
+        ensures counted { IfOk result
+            (λ scanned. length self.new.writer ≡ length self.old.writer + (if scanned.is_released then 1 else 0)) }
         ensures told { AreNoticesTold E.CountedWrite err.old err.new }
         ensures err { IfErr result (λ e. status_of e ≡ 2) }
     {
@@ -189,10 +191,14 @@ impl<L: Link + Drop, J: Naming, P: Pen<J> + Drop> Drive<L, J, P> {
         unreachable!()
     }
 
-    /// Receives once. Where that brings the reply that is waited for, what it releases is published, and this is what came of the scan.
+    /// Receives once. Where that brings the reply that is waited for, what it releases is published, and this is what
+    /// came of the scan.
     fn hear(&mut self) -> Result<Option<Scanned>, Fault>
-        ensures scanned { IfOk result (λ heard. IfSome heard (λ scanned. Scans scanned self.old.writer self.new.writer)) }
-        ensures counted { IfOk result (λ heard. IfSome heard (λ scanned. length self.new.writer ≡ length self.old.writer + (if scanned.is_released then 1 else 0))) }
+        ensures scanned { IfOk result
+            (λ heard. IfSome heard (λ scanned. Scans scanned self.old.writer self.new.writer)) }
+        ensures counted { IfOk result
+            (λ heard. IfSome heard
+            (λ scanned. length self.new.writer ≡ length self.old.writer + (if scanned.is_released then 1 else 0))) }
         ensures kept { IfOk result (λ heard. IfNone heard (self.new.writer ≡ self.old.writer)) }
         ensures err { IfErr result (λ e. status_of e ≡ 2) }
     {
@@ -234,8 +240,10 @@ impl<L: Link + Drop, J: Naming, P: Pen<J> + Drop> Drive<L, J, P> {
     /// Takes a message of the group. Whether it was the reply that is waited for: then what it releases is published.
     fn take(&mut self, message: &Message) -> Result<bool, Fault>
         ensures published { IfOk result (λ is_released. (log : List (Entry Asked))
-            → Publishes (release_by self.old.driver.state (body_with log message.now.body)) is_released self.old.writer self.new.writer) }
-        ensures counted { IfOk result (λ is_released. length self.new.writer ≡ length self.old.writer + (if is_released then 1 else 0)) }
+            → Publishes (release_by self.old.driver.state
+            (body_with log message.now.body)) is_released self.old.writer self.new.writer) }
+        ensures counted { IfOk result
+            (λ is_released. length self.new.writer ≡ length self.old.writer + (if is_released then 1 else 0)) }
         ensures kept { IfOk result (λ is_released. is_released ≡ false → self.new.writer ≡ self.old.writer) }
         ensures same { OnErr result (self.new.writer ≡ self.old.writer) }
         ensures err { IfErr result (λ e. status_of e ≡ 2) }

@@ -55,8 +55,8 @@ where
         self.cluster.is_normal(number)
     }
 
-    /// Tells what changed of the replicas since the last look at them, and starts those anew whose store failed, where that is due. Where
-    /// one can't be started, that's tried again at the next time.
+    /// Tells what changed of the replicas since the last look at them, and starts those anew whose store failed, where
+    /// that is due. Where one can't be started, that's tried again at the next time.
     pub(crate) fn tend<E: CountedWrite>(
         &mut self,
         alloc: Global,

@@ -17,7 +17,8 @@
 //! many releases; the scan behind one is due a period later, or a period after one that came late (`specs/Pacing`).
 //!
 //! Only tested: how threads, channels, sockets and locks are joined, and what a client sees of it (`serve_rows` and
-//! `failing_rows` of `worked_threads`, `tools/try-serve`, `tools/try-clients`). Nothing says when a scan comes, or that one does.
+//! `failing_rows` of `worked_threads`, `tools/try-serve`, `tools/try-clients`). Nothing says when a scan comes, or that
+//! one does.
 #![tactic(auto)]
 
 mod crashes;

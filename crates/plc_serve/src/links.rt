@@ -1,4 +1,5 @@
-//! The links of a group: those of its replicas by their numbers, then that of its driver, and of its console, if it has one.
+//! The links of a group: those of its replicas by their numbers, then that of its driver, and of its console, if it has
+//! one.
 
 ghost use Rattle.std.specs.Prelude.{◌≡◌, IfErr};
 ghost use Rattle.plc_tool.specs.Status.{status_of};

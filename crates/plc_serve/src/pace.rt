@@ -54,7 +54,8 @@ impl Pace {
 
     /// Sleeps until the next scan is due, and gives its moment in milliseconds. By then the one behind it is due.
     pub(crate) fn await_scan<R: Clock>(&mut self, rt: &R) -> Result<u64, Fault>
-        ensures awaited { IfOk result (IsAwaited (as_nanos self.old.period) (as_nanos self.old.due) (as_nanos self.new.due)) }
+        ensures awaited { IfOk result
+            (IsAwaited (as_nanos self.old.period) (as_nanos self.old.due) (as_nanos self.new.due)) }
         ensures period { self.new.period ≡ self.old.period }
         ensures err { IfErr result (λ e. status_of e ≡ 2) }
     {
@@ -72,8 +73,8 @@ impl Pace {
     }
 }
 
-/// When the scan behind one is due that was due then and came now: a period after that was due, or, where it came a period late or
-/// more, a period from now.
+/// When the scan behind one is due that was due then and came now: a period after that was due, or, where it came a
+/// period late or more, a period from now.
 fn next_due(due: Duration, now: Duration, period: Duration) -> Duration
     ensures { as_nanos result ≡ next_due (as_nanos due) (as_nanos now) (as_nanos period) }
 {

@@ -36,7 +36,8 @@ impl<T: Drop> Places<T> {
         })
     }
 
-    /// Takes a free place for a connection, of which it keeps this handle: the number of the place. None where each is taken, or they are closed.
+    /// Takes a free place for a connection, of which it keeps this handle: the number of the place. None where each is
+    /// taken, or they are closed.
     pub(crate) fn take<R: Wait>(&self, rt: &R, stream: TcpStream) -> Option<usize> {
         for (number, place) in self.places.iter().enumerate() {
             let mut place = place.lock(rt);

@@ -13,8 +13,8 @@ use std::io;
 use std::io::Write;
 use std::rt::Files;
 
-/// The file of a report: it's made, or emptied if it's there, at its first write, even if that is of no byte. Where none is wanted, what is written
-/// is lost.
+/// The file of a report: it's made, or emptied if it's there, at its first write, even if that is of no byte. Where
+/// none is wanted, what is written is lost.
 #[derive(Drop)]
 pub struct ReportFile<'a, R: Files> {
     file: Option<NewFile<'a, R>>,
@@ -63,7 +63,8 @@ pub(crate) struct Counts {
 
 /// The line that tells them.
 fn line_of(alloc: Global, counts: Counts) -> Result<String, AllocError>
-    ensures { IfOk result (λ line. string_bytes line ≡ report_line counts.crashes counts.scans counts.sessions counts.writes) }
+    ensures { IfOk result (λ line. string_bytes line
+        ≡ report_line counts.crashes counts.scans counts.sessions counts.writes) }
 {
     let Counts {
         crashes,
@@ -91,7 +92,9 @@ pub(crate) fn put_report<F: CountedWrite>(
     counts: Counts,
     report: &mut F,
 ) -> Result<(), Fault>
-    ensures put { OnOk result (Appends (F.held report.old) (F.held report.new) (report_line counts.crashes counts.scans counts.sessions counts.writes)) }
+    ensures put { OnOk result
+        (Appends (F.held report.old) (F.held report.new)
+        (report_line counts.crashes counts.scans counts.sessions counts.writes)) }
     ensures err { IfErr result (λ e. status_of e ≡ 2) }
 {
     let line = line_of(alloc, counts)?;

@@ -7,7 +7,8 @@ ghost use Rattle.plc_tool.specs.Status.{status_of};
 ghost use Rattle.plc_tool.specs.Telling.{IsTold};
 ghost use Rattle.plc_tool.specs.Meaning.{IsGoodText, IsTypedProgramOfText};
 ghost use Rattle.plc_serve.specs.Watching.{AreNoticesTold};
-ghost use Rattle.plc_serve.specs.Serving.{scans_line, IsReported, IsPortTold, IsServingTold, IsAtMostServingTold, IsWhyRefused, IsToldAtLast};
+ghost use Rattle.plc_serve.specs.Serving.{scans_line, IsReported, IsPortTold, IsServingTold, IsAtMostServingTold};
+ghost use Rattle.plc_serve.specs.Serving.{IsWhyRefused, IsToldAtLast};
 
 use crate::crashes::Crashes;
 use crate::desk::{Desk, NewConsole};
@@ -62,10 +63,11 @@ pub struct Settings {
     pub console: Option<u16>,
 }
 
-/// Judges the text, then the directory, and serves the controller until it has released so many scans: the status. What it serves is the
-/// controller of the text's program, by replicas that each keep a file of the directory. Once it takes connections, `err` has
-/// the line that tells where, and then a line for each change of a replica, and for a stop. At the end `report` has its line, and `out` then
-/// the line that tells how many scans there were, or `err` that of the fault.
+/// Judges the text, then the directory, and serves the controller until it has released so many scans: the status. What
+/// it serves is the controller of the text's program, by replicas that each keep a file of the directory. Once it takes
+/// connections, `err` has the line that tells where, and then a line for each change of a replica, and for a stop. At
+/// the end `report` has its line, and `out` then the line that tells how many scans there were, or `err` that of the
+/// fault.
 pub fn serve<J, R, S, F: CountedWrite, W: Write, E: CountedWrite>(
     rt: R,
     alloc: Global,
@@ -92,7 +94,8 @@ where
     // On `err` there is the line of a port, then those of what changed, and nothing else.
     ensures told { result ≡ 0 → IsServingTold E.CountedWrite err.old err.new }
     // Nothing is started then.
-    ensures refused { result ≡ 1 → IsTold E.CountedWrite (IsWhyRefused source.now) result err.old err.new × ((out.new ≡ out.old) × (report.new ≡ report.old)) }
+    ensures refused { result ≡ 1 → IsTold E.CountedWrite (IsWhyRefused source.now) result err.old err.new
+        × ((out.new ≡ out.old) × (report.new ≡ report.old)) }
     // Before it these lines were told, or nothing.
     ensures failed { result ≡ 2 → IsToldAtLast E.CountedWrite result err.old err.new }
 {
@@ -137,7 +140,9 @@ where
     ensures good { OnOk result (IsGoodText source.now) }
     ensures told { OnOk result (IsServingTold E.CountedWrite err.old err.new) }
     ensures at_most { IsAtMostServingTold E.CountedWrite err.old err.new }
-    ensures refused { IfErr result (λ e. status_of e ≡ 1 → IsWhyRefused source.now e × (err.new ≡ err.old) × ((out.new ≡ out.old) × (report.new ≡ report.old))) }
+    ensures refused { IfErr result
+        (λ e. status_of e ≡ 1 → IsWhyRefused source.now e × (err.new ≡ err.old)
+        × ((out.new ≡ out.old) × (report.new ≡ report.old))) }
 {
     let image = image(alloc, source)?;
     let directory = Directory {
@@ -206,8 +211,8 @@ where
     }
 }
 
-/// The same over these links, those of the replicas, then that of the driver, and last that of the console if there is one; it ends each thread
-/// that it began.
+/// The same over these links, those of the replicas, then that of the driver, and last that of the console if there is
+/// one; it ends each thread that it began.
 fn control_over<J, R, L, S, E: CountedWrite>(
     rt: R,
     alloc: Global,
@@ -264,7 +269,8 @@ where
     done
 }
 
-/// Listens at the port, with a place for each session: what the driver writes to, and the server, which lets no client in yet.
+/// Listens at the port, with a place for each session: what the driver writes to, and the server, which lets no client
+/// in yet.
 fn server<J: Naming, R>(
     rt: R,
     alloc: Global,

@@ -112,8 +112,8 @@ pub(crate) fn admit<R: Wait + Clock, T: Drop>(
     place_for(rt, places, stream)
 }
 
-/// Gives each connection a session, in a thread of its own, until the server is closed and each session ended. Where no place is free, or no
-/// thread is to be had, the connection is closed unanswered.
+/// Gives each connection a session, in a thread of its own, until the server is closed and each session ended. Where no
+/// place is free, or no thread is to be had, the connection is closed unanswered.
 fn accept_all<R: Wait + Threads + Clock + Sync, J: Naming + Send + Sync>(
     rt: &R,
     alloc: Global,
@@ -165,7 +165,8 @@ fn line_of(alloc: Global, port: u16) -> Result<String, AllocError>
     format!(in alloc; "serving on 127.0.0.1:{port}\n")
 }
 
-/// A server that takes connections, and whose port was told. It can't be let go of but by `close`, which joins its thread.
+/// A server that takes connections, and whose port was told. It can't be let go of but by `close`, which joins its
+/// thread.
 pub(crate) struct OpenServer<J: Naming> {
     server: Arc<Server<J>>,
     acceptor: JoinHandle<()>,
@@ -198,8 +199,8 @@ impl<J: Naming + Send + Sync + 'static> OpenServer<J> {
         &self.server.stage
     }
 
-    /// Takes no connection any more, and ends each session and the thread. How many connections were given a session, and how many writes
-    /// got a ticket.
+    /// Takes no connection any more, and ends each session and the thread. How many connections were given a session,
+    /// and how many writes got a ticket.
     pub(crate) fn close<R: Threads + Wait>(self, rt: &R) -> (u64, u64) {
         let OpenServer { server, acceptor } = self;
         server.door.shut();

@@ -53,7 +53,8 @@ impl Seen {
 
     /// Shows whether it's normal now.
     fn see(&mut self, is_normal: bool, now: Duration)
-        ensures since { option_map as_nanos self.new.since ≡ lapsed_since (option_map as_nanos self.old.since) is_normal (as_nanos now) }
+        ensures since { option_map as_nanos self.new.since ≡ lapsed_since (option_map as_nanos self.old.since) is_normal
+            (as_nanos now) }
         ensures same { self.new.is_told_down ≡ self.old.is_told_down }
     {
         self.since = lapsed_since(self.since, is_normal, now);
@@ -195,7 +196,8 @@ impl Watch {
         )
     }
 
-    /// Tells what changed since the last look. Where fewer than f+1 replicas have been normal for too long, it's a device fault.
+    /// Tells what changed since the last look. Where fewer than f+1 replicas have been normal for too long, it's a
+    /// device fault.
     pub(crate) fn look<E: CountedWrite>(
         &mut self,
         alloc: Global,
@@ -220,8 +222,10 @@ impl Watch {
 
     /// Whether the group is lost, by whether a majority is normal now.
     fn is_lost(&mut self, is_majority: bool, now: Duration) -> bool
-        ensures since { option_map as_nanos self.new.without_majority ≡ lapsed_since (option_map as_nanos self.old.without_majority) is_majority (as_nanos now) }
-        ensures lost { result ≡ is_lost (as_nanos self.old.patience) (option_map as_nanos self.new.without_majority) (as_nanos now) }
+        ensures since { option_map as_nanos self.new.without_majority ≡ lapsed_since
+            (option_map as_nanos self.old.without_majority) is_majority (as_nanos now) }
+        ensures lost { result ≡ is_lost (as_nanos self.old.patience) (option_map as_nanos self.new.without_majority)
+            (as_nanos now) }
     {
         self.without_majority = lapsed_since(self.without_majority, is_majority, now);
         match self.without_majority {

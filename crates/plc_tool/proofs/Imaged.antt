@@ -6,7 +6,7 @@ use Rattle.il_model.specs.Declarable.{IsDeclared}
 use Rattle.il_model.specs.Settled.{IsTypedProgramOf}
 use Rattle.il_model.specs.Image.{spelling}
 use Rattle.il_model.proofs.Declaring.{declared_image}
-use Rattle.il_model.proofs.Settling.{typed_only}
+use Rattle.il_model.proofs.SettledPrograms.{typed_only}
 use Rattle.assembler.specs.Assembled.{IsSpelled}
 use Rattle.loader.specs.declared.fault.LoadFault.{LoadFault}
 use Rattle.loader.specs.declared.fault.LoadError.{LoadError}

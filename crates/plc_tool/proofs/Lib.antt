@@ -2,6 +2,7 @@ pub mod Imaged
 mod Numbered
 mod Parts
 mod Told
+mod Unchanged
 mod Answered
 mod Items
 mod Known

@@ -1,6 +1,6 @@
 -- A text that is put in parts.
-use Rattle.std.proofs.Common.{◌≡◌, ◌+◌, ◌≤◌, ◌⊎◌, inl, inr, ℕ, List, ◌++◌, take, length, min, Result, Ok, Err, subst, sym, ◌∙◌, arith}
-use Rattle.std.proofs.KnownBytes.{Appends-trans}
+use Rattle.std.proofs.Common.{◌≡◌, ◌+◌, ◌≤◌, ◌⊎◌, inl, inr, ℕ, List, ◌++◌, take, length, min, Result, Ok, Err, refl, subst, sym, ◌∙◌, arith}
+use Rattle.std.proofs.KnownBytes.{Appends-nil, Appends-trans}
 use Rattle.std.proofs.lemmas.List.{take_min, take-append-le}
 use Rattle.std.proofs.Math.Seq.{take-append-add}
 use Rattle.std.specs.Result.{IsErrAnd}
@@ -44,6 +44,10 @@ then {w = w} {a = a} {b = b} {s = s} {t = t} {u = u} {r = Err e} h k = record {
   why = later h.counts k.counts k.why;
   counts = omega arith;
 }
+
+-- nothing was put, since memory ran out
+pub unput : {W : Type 0} {w : CountedWriter W} (a : List ℕ) (t : W) → Puts w a t t (Err faults.Memory)
+unput {w = w} a t = record { sent = (0, Appends-nil (w.held t)); why = inr refl; counts = omega arith }
 
 -- what `?` hands on
 pub handed_on : {W : Type 0} {w : CountedWriter W} {a : List ℕ} {s t : W} {e : Fault} (r : Result (Unit {0}) Fault) → IsErrAnd r (λ x. x ≡ e) → Puts w a s t (Err e) → Puts w a s t r

@@ -1,8 +1,9 @@
 -- What a text means: its program, and the answers to commands.
-use Rattle.std.specs.Prelude.{◌≡◌, ◌⊎◌, ℕ, List, ◌++◌, map, take, codes, Option, Err}
+use Rattle.std.specs.Prelude.{◌≡◌, ◌<◌, ◌⊎◌, ℕ, List, ◌++◌, length, take, codes, Option, Err}
 use Rattle.std.specs.Fmt.{decimal}
 use Rattle.std.specs.Io.KnownBytes.{Appends}
 use Rattle.il_model.specs.declared.command.Answer.{Answer}
+use Rattle.il_model.specs.declared.limits.TheConstants.{MOST_IMAGE_BYTES}
 use Rattle.il_model.specs.Text.{Text}
 use Rattle.il_model.specs.declared.typing.TypeFault.{TypeFault}
 use Rattle.il_model.specs.Typing.{IsTyped}
@@ -12,7 +13,7 @@ use Rattle.il_model.specs.Image.{spelling}
 use Rattle.il_model.specs.Fits.{IsImage}
 use Rattle.il_model.specs.Counted.{Failed}
 use Rattle.il_model.specs.declared.counted.CountedWrite.{Ghosts as CountedWriter}
-use Rattle.controller_model.specs.Commands.{answers_of}
+use Rattle.debugger.specs.Owned.{cold_owned}
 use Rattle.il_reader.specs.Texts.{SourceText, Reads}
 use Rattle.il_reader.specs.FirstFault.{IsFaultOf}
 use Rattle.il_reader.specs.declared.fault.Fault as read_faults
@@ -27,7 +28,8 @@ use Rattle.loader.specs.declared.fault.LoadFault.{LoadFault}
 use Rattle.loader.specs.Judging.{image_of}
 use Rattle.lister.specs.Listing.{listing}
 use Rattle.plc_json.specs.declared.command.NamedCommand.{NamedCommand}
-use Rattle.plc_tool.specs.Named.{meant}
+use Rattle.plc_json.specs.Single.{IsChange}
+use Rattle.plc_tool.specs.Named.{answers_by}
 use Rattle.plc_tool.specs.Told.{of_read, of_declaration, of_assembly, of_bytes}
 use Rattle.plc_tool.specs.declared.fault.Fault.{Fault}
 use Rattle.plc_tool.specs.declared.fault.Fault.TheVariants as faults
@@ -52,6 +54,12 @@ pub record IsImageOfText (text bytes : List ℕ) : Type 0 where
   pub is : IsTypedProgramOfText text program
   pub image : IsImage program
   pub spelled : bytes ≡ spelling program
+
+-- the line is the command that goes on with the program that the text says, by its image
+pub record IsChangeTo (text line : List ℕ) : Type 0 where
+  pub image : List ℕ
+  pub is : IsImageOfText text image
+  pub changes : IsChange image line
 
 -- the line that tells how many words the program's image has, those of arguments too
 abbrev pub words_line : Text → List ℕ
@@ -93,9 +101,9 @@ pub record IsCutShort {W : Type 0} (w : CountedWriter W) (bytes : List ℕ) (old
   pub spelled : bytes ≡ spelling program
   pub cut : IsCutOff w (listing program) old new
 
--- what a controller of the program answers to commands with names, at so many instructions a scan
+-- What a controller that starts from the program answers to commands with names, at so many instructions a scan.
 abbrev pub answers_to : Text → ℕ → List NamedCommand → List Answer
-answers_to Q budget commands = answers_of Q budget (map (meant Q) commands)
+answers_to Q budget commands = answers_by (cold_owned Q budget) commands
 
 -- what is answered is what the definitions give for the text's typed program
 pub record IsAnswered (text : List ℕ) (budget : ℕ) (commands : List NamedCommand) (answers : List Answer) : Type 0 where
@@ -140,6 +148,16 @@ IsProgramFault text told = IsReadFault text told ⊎ IsDeclarationFault text tol
 -- what is told of a text that has no typed program: its first fault, in the first layer that refuses it
 abbrev pub IsTextFault : List ℕ → Fault → Type 0
 IsTextFault text told = IsProgramFault text told ⊎ IsTypingFault text told
+
+-- the text's image is longer than that of a change may be
+pub record IsTooLong (text : List ℕ) : Type 0 where
+  pub image : List ℕ
+  pub is : IsImageOfText text image
+  pub long : MOST_IMAGE_BYTES < length image
+
+-- what is told of a text that gives no change: its first fault; or its image is too long
+abbrev pub IsFaultOfChange : List ℕ → Fault → Type 0
+IsFaultOfChange text told = IsTextFault text told ⊎ ((told ≡ faults.Commands) × IsTooLong text)
 
 -- what is told of bytes that are no image: their first fault
 pub record IsImageFault (bytes : List ℕ) (told : Fault) : Type 0 where

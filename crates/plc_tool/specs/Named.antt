@@ -1,5 +1,5 @@
 -- What named commands mean to a program: names give way to their slots.
-use Rattle.std.specs.Prelude.{◌≡◌, ℕ, List, map, None, unwrap_or}
+use Rattle.std.specs.Prelude.{◌≡◌, ℕ, List, [], ◌∷◌, None, unwrap_or}
 use Rattle.std.specs.String.{string_bytes}
 use Rattle.il_model.specs.declared.slot.Slot.{Slot}
 use Rattle.il_model.specs.declared.command.Answer.{Answer}
@@ -8,8 +8,9 @@ use Rattle.il_model.specs.declared.command.Command.TheVariants.{Force, Unforce, 
 use Rattle.il_model.specs.declared.program.Place.{Place}
 use Rattle.il_model.specs.Text.{Text}
 use Rattle.controller_model.specs.Slots.{slot_place, slot_of}
-use Rattle.controller_model.specs.Commands.{forcible_at, answers_from}
+use Rattle.controller_model.specs.Commands.{forcible_at}
 use Rattle.debugger.specs.Owned.{Owned}
+use Rattle.debugger.specs.Outcome.{outcome}
 use Rattle.plc_json.specs.declared.command.NamedCommand.{NamedCommand}
 use Rattle.plc_json.specs.declared.command.NamedCommand.TheVariants as named
 
@@ -32,6 +33,8 @@ meant Q (named.Force name value) = Force (slot_meant Q (string_bytes name)) valu
 meant Q (named.Unforce name) = Unforce (slot_meant Q (string_bytes name))
 meant Q (named.Read name) = ReadVar (slot_meant Q (string_bytes name))
 
--- what a controller answers to named commands, one after another
+-- what a controller answers to named commands, one after another; each name is one of the program in force
 abbrev pub answers_by : Owned → List NamedCommand → List Answer
-answers_by c commands = answers_from c.program c.budget c.control (map (meant c.program) commands)
+answers_by c [] = []
+answers_by c (asked ∷ more) = (outcome c (meant c.program asked)).0
+    ∷ answers_by (outcome c (meant c.program asked)).1 more

@@ -11,7 +11,8 @@ use Rattle.assembler.specs.declared.fault.AsmError.TheVariants as assemblies
 use Rattle.loader.specs.declared.fault.LoadError.{LoadError}
 use Rattle.loader.specs.declared.fault.LoadError.TheVariants as loads
 use Rattle.loader.specs.declared.fault.LoadFault.{LoadFault}
-use Rattle.loader.specs.declared.fault.LoadFault.TheVariants.{Truncated, BadMagic, BadVersion, BadCount, BadWord, BadType, BadTarget, Trailing}
+use Rattle.loader.specs.declared.fault.LoadFault.TheVariants.{Truncated, BadMagic, BadVersion, BadCount, BadWord}
+use Rattle.loader.specs.declared.fault.LoadFault.TheVariants.{BadType, BadTarget, Trailing}
 use Rattle.plc_tool.specs.declared.fault.Fault.{Fault}
 use Rattle.plc_tool.specs.declared.fault.Fault.TheVariants as faults
 

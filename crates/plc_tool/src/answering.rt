@@ -5,7 +5,8 @@ ghost use Rattle.std.specs.Prelude.{◌≡◌, IfOk, IfErr};
 ghost use Rattle.il_model.specs.Declarable.{IsDeclared};
 ghost use Rattle.il_model.specs.Settled.{IsTypedProgramOf};
 ghost use Rattle.assembler.specs.Assembled.{IsSpelled};
-ghost use Rattle.plc_tool.specs.Meaning.{IsProgramOf, IsTypedProgramOfText, IsImageOfText, IsAnswered, IsProgramFault, IsUntyped, IsTextFault, OrMemory};
+ghost use Rattle.plc_tool.specs.Meaning.{IsProgramOf, IsTypedProgramOfText, IsImageOfText, IsAnswered, IsProgramFault};
+ghost use Rattle.plc_tool.specs.Meaning.{IsUntyped, IsTextFault, OrMemory};
 
 use crate::fault::Fault;
 use crate::naming::answers_of;

@@ -2,7 +2,8 @@
 
 ghost use Rattle.std.specs.Prelude.{◌≡◌, ◌≤◌, ◌⊎◌, List, IfErr, IsErr, IsOk, OnOk};
 ghost use Rattle.il_model.specs.Counted.{Failed};
-ghost use Rattle.plc_tool.specs.Meaning.{IsAssembled, IsAssemblyCutShort, IsListed, IsCutShort, IsTextFault, IsImageFault, IsRefused, IsFirstFault};
+ghost use Rattle.plc_tool.specs.Meaning.{IsAssembled, IsAssemblyCutShort, IsListed, IsCutShort, IsTextFault};
+ghost use Rattle.plc_tool.specs.Meaning.{IsImageFault, IsRefused, IsFirstFault};
 ghost use Rattle.plc_json.specs.declared.command.NamedCommand.{NamedCommand};
 ghost use Rattle.plc_json.specs.declared.event.NamedEvent.{NamedEvent};
 ghost use Rattle.plc_json.specs.Commands.{HasCommands};

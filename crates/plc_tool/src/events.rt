@@ -9,46 +9,63 @@ use il_model::Command;
 use loader::Image;
 use plc_json::{NamedCommand, NamedEvent};
 use schedules::{Kept, WorldEvent};
-use std::alloc::Global;
+use std::alloc::{AllocError, Global};
 
 /// The command that a named one is, or `None` where its name is no slot's.
-fn command_known(image: &Image, named: &NamedCommand) -> Option<Command>
-    ensures { result ≡ command_known image.now named.now }
+fn command_known(
+    alloc: Global,
+    image: &Image,
+    named: &NamedCommand,
+) -> Result<Option<Command>, AllocError>
+    ensures { IfOk result (λ c. c ≡ command_known image.now named.now) }
 {
     match named {
-        NamedCommand::Plain(command) => Some(*command),
+        NamedCommand::Plain(command) => Ok(Some(command.copy(alloc)?)),
         NamedCommand::Force { name, value } => {
-            Some(Command::Force(slot(image, name.as_bytes())?, *value))
+            Ok(slot(image, name.as_bytes()).map(|slot| Command::Force(slot, *value)))
         }
-        NamedCommand::Unforce { name } => Some(Command::Unforce(slot(image, name.as_bytes())?)),
-        NamedCommand::Read { name } => Some(Command::ReadVar(slot(image, name.as_bytes())?)),
+        NamedCommand::Unforce { name } => {
+            Ok(slot(image, name.as_bytes()).map(|slot| Command::Unforce(slot)))
+        }
+        NamedCommand::Read { name } => {
+            Ok(slot(image, name.as_bytes()).map(|slot| Command::ReadVar(slot)))
+        }
     }
 }
 
 /// The event that a named one is, or `None` where a name in it is no slot's.
-fn event_known(image: &Image, named: &NamedEvent) -> Option<WorldEvent>
-    ensures { result ≡ event_known image.now named.now }
+fn event_known(
+    alloc: Global,
+    image: &Image,
+    named: &NamedEvent,
+) -> Result<Option<WorldEvent>, AllocError>
+    ensures { IfOk result (λ e. e ≡ event_known image.now named.now) }
 {
-    match named {
-        NamedEvent::Submit { client, command } => Some(WorldEvent::Submit {
-            client: *client,
-            command: command_known(image, command)?,
-        }),
-        NamedEvent::Retry { client } => Some(WorldEvent::Retry { client: *client }),
-        NamedEvent::ClientRestart { client } => Some(WorldEvent::ClientRestart { client: *client }),
-        NamedEvent::Deliver { message } => Some(WorldEvent::Deliver { message: *message }),
-        NamedEvent::Timeout { replica } => Some(WorldEvent::Timeout { replica: *replica }),
-        NamedEvent::Resend { replica } => Some(WorldEvent::Resend { replica: *replica }),
-        NamedEvent::Crash { replica } => Some(WorldEvent::Crash { replica: *replica }),
-        NamedEvent::Restart { replica, nonce } => Some(WorldEvent::Restart {
+    Ok(Some(match named {
+        NamedEvent::Submit { client, command } => {
+            let Some(command) = command_known(alloc, image, command)? else {
+                return Ok(None);
+            };
+            WorldEvent::Submit {
+                client: *client,
+                command,
+            }
+        }
+        NamedEvent::Retry { client } => WorldEvent::Retry { client: *client },
+        NamedEvent::ClientRestart { client } => WorldEvent::ClientRestart { client: *client },
+        NamedEvent::Deliver { message } => WorldEvent::Deliver { message: *message },
+        NamedEvent::Timeout { replica } => WorldEvent::Timeout { replica: *replica },
+        NamedEvent::Resend { replica } => WorldEvent::Resend { replica: *replica },
+        NamedEvent::Crash { replica } => WorldEvent::Crash { replica: *replica },
+        NamedEvent::Restart { replica, nonce } => WorldEvent::Restart {
             replica: *replica,
             nonce: *nonce,
-        }),
-        NamedEvent::StoreFail { replica, keeps_new } => Some(WorldEvent::StoreFail {
+        },
+        NamedEvent::StoreFail { replica, keeps_new } => WorldEvent::StoreFail {
             replica: *replica,
             kept: if *keeps_new { Kept::New } else { Kept::Old },
-        }),
-    }
+        },
+    }))
 }
 
 /// The events that named ones are, the names in them looked up in the program.
@@ -62,7 +79,7 @@ pub fn all_known(
 {
     let mut events = Vec::new(alloc);
     for asked in named {
-        let Some(event) = event_known(image, asked) else {
+        let Some(event) = event_known(alloc, image, asked)? else {
             return Err(Fault::Schedule);
         };
         events.push(event)?;

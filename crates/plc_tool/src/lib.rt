@@ -28,6 +28,7 @@
 mod answering;
 mod assembly;
 mod calls;
+mod changing;
 mod events;
 mod fault;
 mod layers;
@@ -43,6 +44,7 @@ mod telling;
 
 pub use answering::{answers, image, image_bytes};
 pub use calls::{asm, ended, list, run, run_commands, run_unread, sim, sim_events};
+pub use changing::change_to;
 pub use fault::Fault;
 pub use line::{AnswerLine, put_line};
 pub use naming::meant;

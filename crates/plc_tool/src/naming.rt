@@ -1,10 +1,11 @@
 //! What named commands mean to the controller of a program.
 
-ghost use Rattle.std.specs.Prelude.{◌≡◌, None, IfOk};
+ghost use Rattle.std.specs.Prelude.{◌≡◌, None, IfOk, OnErr};
 ghost use Rattle.controller_model.specs.Slots.{slot_of};
+ghost use Rattle.debugger.specs.Outcome.{outcome};
 ghost use Rattle.plc_tool.specs.Named.{IsNoSlot, slot_meant, meant, answers_by};
 
-use debugger::{Controller, slot};
+use debugger::{Controller, prepare, slot};
 use il_model::{Answer, Command, Slot};
 use loader::Image;
 use plc_json::NamedCommand;
@@ -20,14 +21,61 @@ fn slot_meant(image: &Image, name: &str) -> Slot
     slot(image, name.as_bytes()).unwrap_or(NO_SLOT)
 }
 
-pub fn meant(image: &Image, named: &NamedCommand) -> Command
-    ensures { result ≡ meant image.now named.now }
+/// What a named command is to a controller of this program.
+pub fn meant(image: &Image, named: NamedCommand) -> Command
+    ensures { result ≡ meant image.now named }
 {
     match named {
-        NamedCommand::Plain(command) => *command,
-        NamedCommand::Force { name, value } => Command::Force(slot_meant(image, name), *value),
-        NamedCommand::Unforce { name } => Command::Unforce(slot_meant(image, name)),
-        NamedCommand::Read { name } => Command::ReadVar(slot_meant(image, name)),
+        NamedCommand::Plain(command) => command,
+        NamedCommand::Force { name, value } => {
+            Command::Force(slot_meant(image, name.as_str()), value)
+        }
+        NamedCommand::Unforce { name } => Command::Unforce(slot_meant(image, name.as_str())),
+        NamedCommand::Read { name } => Command::ReadVar(slot_meant(image, name.as_str())),
+    }
+}
+
+/// Answers a command that has no name.
+fn answer_plain(
+    alloc: Global,
+    controller: &mut Controller,
+    command: &Command,
+) -> Result<Answer, AllocError>
+    ensures answered { IfOk result (λ a. (a, controller.new) ≡ outcome controller.old command.now) }
+    ensures unchanged { OnErr result (controller.new ≡ controller.old) }
+{
+    if command.is_change() {
+        let ready = prepare(alloc, command)?;
+        Ok(controller.apply_ready(ready))
+    } else {
+        Ok(controller.apply(command))
+    }
+}
+
+/// Answers a named command; its name is looked up in the program in force. Where memory runs out nothing was done.
+pub fn answer(
+    alloc: Global,
+    controller: &mut Controller,
+    named: &NamedCommand,
+) -> Result<Answer, AllocError>
+    ensures answered { IfOk result
+        (λ a. (a, controller.new) ≡ outcome controller.old (meant controller.old.program named.now)) }
+    ensures unchanged { OnErr result (controller.new ≡ controller.old) }
+{
+    match named {
+        NamedCommand::Plain(command) => answer_plain(alloc, controller, command),
+        NamedCommand::Force { name, value } => {
+            let slot = slot_meant(controller.image(), name);
+            Ok(controller.apply(&Command::Force(slot, *value)))
+        }
+        NamedCommand::Unforce { name } => {
+            let slot = slot_meant(controller.image(), name);
+            Ok(controller.apply(&Command::Unforce(slot)))
+        }
+        NamedCommand::Read { name } => {
+            let slot = slot_meant(controller.image(), name);
+            Ok(controller.apply(&Command::ReadVar(slot)))
+        }
     }
 }
 
@@ -41,8 +89,8 @@ pub fn answers_of(
 {
     let mut answers = Vec::new(alloc);
     for named in commands {
-        let command = meant(controller.image(), named);
-        answers.push(controller.apply(&command))?;
+        let next = answer(alloc, controller, named)?;
+        answers.push(next)?;
     }
     Ok(answers)
 }

@@ -2,7 +2,8 @@
 
 ghost use Rattle.std.specs.Prelude.{Some};
 ghost use Rattle.std.specs.Fmt.{DisplaysOnOk};
-ghost use Rattle.plc_tool.specs.Reports.{comma, length_text, entry_text, release_text, lengths_text, order_text, releases_text, released_text, ordered_text, report_text};
+ghost use Rattle.plc_tool.specs.Reports.{comma, length_text, entry_text, release_text, lengths_text, order_text};
+ghost use Rattle.plc_tool.specs.Reports.{releases_text, released_text, ordered_text, report_text};
 
 use crate::line::AnswerLine;
 use schedules::{Release, Trace};

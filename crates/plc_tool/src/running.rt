@@ -9,7 +9,7 @@ ghost use Rattle.plc_tool.specs.Putting.{Puts, IsRun, IsRunCutShort, IsWhyStoppe
 use crate::answering::image;
 use crate::fault::Fault;
 use crate::line::put_line;
-use crate::naming::meant;
+use crate::naming::answer;
 use debugger::Controller;
 use il_model::{Budget, CountedWrite};
 use plc_json::NamedCommand;
@@ -26,8 +26,7 @@ fn put_answers<W: CountedWrite>(
     ensures { Puts W.CountedWrite (lines_of (answers_by controller.old commands.now)) out.old out.new result }
 {
     for named in commands {
-        let command = meant(controller.image(), named);
-        let answer = controller.apply(&command);
+        let answer = answer(alloc, controller, named)?;
         put_line(alloc, &answer, out)?;
     }
     Ok(())

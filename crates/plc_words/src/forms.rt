@@ -50,6 +50,9 @@ const REPORT: &str = "report";
 /// The word of the option `--console`.
 const CONSOLE: &str = "console";
 
+/// The word of the option `--change`.
+const CHANGE: &str = "change";
+
 const NO_FORM: &str = "error: the words name no form of call\n";
 
 const STATUSES: &str = "Exit status:
@@ -100,6 +103,9 @@ const COMMANDS: &str = with_source_faults!(
                              a number over a word
   {\"unforce\":\"%IX0.0\"}       takes it off again
   {\"read\":\"T1.ET\"}           tells the value of a location, a variable or an instance's field
+  {\"change\":\"494C50..\"}      goes on with another program, whose image has these bytes, two digits
+                             each; variables without a location go on by name and type, instances
+                             by name and kind
 
 Answers:
   outputs S ..               scan number S is done: its TRUE bits as QXb.n, its words that aren't 0
@@ -109,7 +115,8 @@ Answers:
   value V                    a value, as TRUE, INT#5, DINT#5, LINT#5 or T#5ms
   done
   refused N                  1 no scan is held, 2 no such instruction, 3 no such name or it can't be
-                             forced, 4 a value of another type, 5 there is no current result
+                             forced, 4 a value of another type, 5 there is no current result,
+                             6 no image, 7 a scan is held or stopped: no change
 
 Where COMMANDS is no such array, 'plc: commands' is told, and nothing has run.
 "
@@ -202,16 +209,21 @@ The report is one line of JSON, written at the end before 'scans N':
 "
 );
 
-const ASKING: &str =
+const ASKING: &str = with_source_faults!(
     "COMMANDS is a JSON array of the commands of 'plc run', without scans, which are the driver's. Each is
 submitted to the group of 'plc serve --console PORT' once the one before it is answered, and its
 answer is a line, as 'plc run' prints it. A scan is answered 'plc: commands'.
 
-The status is 0 where each command was answered. A fault is one line on standard error:
-  plc: commands              the file is no list of commands; nothing was sent
-  plc: device                the file can't be read, nobody serves a console at the port, or another
-                             client has it, or it ended before each command was answered
-  plc: memory                memory ran out";
+With --change SOURCE one command is sent: the change to the program of a text. Where the answer is
+'done', the console looks names up in that program from then on.
+
+The status is 0 where each command was answered. Where the console can't be asked:
+  plc: commands              COMMANDS is no list of commands, or the image of SOURCE has more than
+                             32768 bytes; nothing was sent
+  plc: device                nobody serves a console at the port, or another client has it, or it
+                             ended before each command was answered
+"
+);
 
 /// What the words ask for.
 #[derive(Clone, Copy, PartialEq, Eq)]
@@ -238,8 +250,9 @@ pub enum Words<'a> {
         config: Config,
         budget: Budget,
     },
-    /// Serves the program of a file to Modbus clients at a port, by a group of replicas with stores in a directory: a scan each period, in
-    /// milliseconds and within the budget, until there were so many. A client that's idle for so many seconds is let go.
+    /// Serves the program of a file to Modbus clients at a port, by a group of replicas with stores in a directory: a
+    /// scan each period, in milliseconds and within the budget, until there were so many. A client that's idle for so
+    /// many seconds is let go.
     Serve {
         source: &'a str,
         store: &'a str,
@@ -262,6 +275,11 @@ pub enum Words<'a> {
     Ask {
         port: u16,
         commands: &'a str,
+    },
+    /// Sends the change to the program of a file to the console at a port, and prints what it answers.
+    Change {
+        port: u16,
+        source: &'a str,
     },
 }
 
@@ -363,7 +381,7 @@ fn serve_command<'a>(alloc: Global) -> Result<Command<'a>, AllocError> {
 
 fn ask_command<'a>(alloc: Global) -> Result<Command<'a>, AllocError> {
     Command::new(alloc, "ask")
-        .about("Sends a file of commands to the console of a served controller")
+        .about("Sends commands, or another program, to the console of a served controller")
         .after_help(ASKING)
         .arg(
             Arg::new(alloc, "PORT")
@@ -371,7 +389,25 @@ fn ask_command<'a>(alloc: Global) -> Result<Command<'a>, AllocError> {
                 .value_parser(value_parser!(u16).range(1..=65_535))
                 .help("The port of 127.0.0.1, as --console has it"),
         )?
-        .arg(file(alloc, "COMMANDS").help("The commands, in JSON"))
+        .arg(asked_commands(alloc)?.help("The commands, in JSON"))?
+        .arg(change(alloc))
+}
+
+/// The file of commands is left out where the program is to be changed.
+fn asked_commands<'a>(alloc: Global) -> Result<Arg<'a>, AllocError> {
+    Arg::new(alloc, "COMMANDS")
+        .action(ArgAction::Set)
+        .required_unless_present(CHANGE)?
+        .conflicts_with(CHANGE)
+}
+
+/// The option is refused where it is given twice or empty.
+fn change<'a>(alloc: Global) -> Arg<'a> {
+    Arg::new(alloc, CHANGE)
+        .long(CHANGE)
+        .value_name("SOURCE")
+        .value_parser(ValueParser::NonEmptyString)
+        .help("The text of the program to go on with, in place of COMMANDS")
 }
 
 fn file<'a>(alloc: Global, name: &'a str) -> Arg<'a> {
@@ -504,10 +540,19 @@ fn form_of<'a>(matches: &ArgMatches<'a>) -> Option<Words<'a>> {
             report: inner.get_str(REPORT),
             console: inner.get_one::<u16>(CONSOLE),
         }),
-        "ask" => Some(Words::Ask {
-            port: inner.get_one::<u16>("PORT")?,
+        "ask" => asked(inner),
+        _ => None,
+    }
+}
+
+/// What is sent to a console: the commands of a file, or a change of the program.
+fn asked<'a>(inner: &ArgMatches<'a>) -> Option<Words<'a>> {
+    let port = inner.get_one::<u16>("PORT")?;
+    match inner.get_str(CHANGE) {
+        Some(source) => Some(Words::Change { port, source }),
+        None => Some(Words::Ask {
+            port,
             commands: inner.get_str("COMMANDS")?,
         }),
-        _ => None,
     }
 }

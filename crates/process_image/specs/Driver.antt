@@ -24,7 +24,8 @@ abbrev pub scan_of : Cells → ℕ → Command
 scan_of cells moment = Scan (record { cells = cells }) moment
 
 -- One sample was taken, and the client submitted the scan of exactly its cells, as it may.
-pub record SubmitsSample (d : Client) (told : Option Book) (moment : ℕ) (sends : List Message) (d' : Client) (told' : Option Book) : Type 0 where
+pub record SubmitsSample (d : Client) (told : Option Book) (moment : ℕ) (sends : List Message) (d' : Client)
+    (told' : Option Book) : Type 0 where
   pub cells : Cells
   pub next : ℕ
   pub sample : Changed told told' (λ b c. Does b (sample_gave cells next) c)
@@ -35,5 +36,6 @@ pub record SubmitsSample (d : Client) (told : Option Book) (moment : ℕ) (sends
 -- the release by a message: of a REPLY with the waiting number, where its answer has an image
 abbrev pub release_by : ClientState Command → Body Command Answer → Option Release
 release_by k (Reply view number answer) =
-    if is_waiting k.waits number then option_map (λ image. record { number = number; image = image }) (released_image answer) else None
+    if is_waiting k.waits number
+    then option_map (λ image. record { number = number; image = image }) (released_image answer) else None
 release_by k _ = None

@@ -5,7 +5,8 @@ use Rattle.logbook.specs.Pages.{Cell, Step, View as Sight, Book, Named}
 use Rattle.process_image.specs.declared.release.Release.{Release}
 use Rattle.process_image.specs.Releases.{IsRising, number_of}
 
--- the word is the number of the last release of the list, which rises. A book has two words, of which this one leaves the second at 0
+-- the word is the number of the last release of the list, which rises. A book has two words, of which this one leaves
+-- the second at 0
 pub record IsKept (cells : List Cell) (log : List Release) : Type 0 where
   pub words : cells ≡ (number_of log, true) ∷ (0, true) ∷ []
   pub rising : IsRising log

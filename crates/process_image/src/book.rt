@@ -3,14 +3,10 @@ ghost use Rattle.std.specs.Prelude.{◌≡◌, ◌+◌, ◌<◌, ◌≤◌, ◌�
 ghost use Rattle.process_image.specs.Book.{Book, bits_at, words_at, mask_at, masked, cells_of, is_full, new_book};
 ghost use Rattle.process_image.specs.Calls.{Does, read_gave, sample_gave, wrote};
 
-use il_model::cells::{Cells, InImage};
+use il_model::{BITS, Cells, InImage, WORDS};
 use std::alloc::{AllocError, Global};
 use std::marker::Model;
 use thiserror::Error;
-
-const BITS: usize = 512;
-
-const WORDS: usize = 64;
 
 /// So many writes may stand between two samples.
 const MOST_WRITES: usize = 4096;
@@ -65,6 +61,7 @@ pub struct StageBook {
 impl Model for StageBook {
     ghost use Rattle.std.specs.Prelude.{◌≡◌, ◌≤◌, length};
     ghost use Rattle.process_image.specs.Book.{Book, replayed};
+    ghost use Rattle.process_image.specs.declared.book.TheConstants.{MOST_WRITES};
 
     ghost Value = { Book };
 
@@ -72,7 +69,8 @@ impl Model for StageBook {
 
     ghost view = { λ b. record { sample = b.sample; changes = changes_of b.entries.items; next = b.next } };
 
-    ghost invariant = { λ b. (b.cells ≡ replayed b.sample (changes_of b.entries.items)) × (length b.entries.items ≤ 4096) × (length b.entries.items ≤ b.next) };
+    ghost invariant = { λ b. (b.cells ≡ replayed b.sample (changes_of b.entries.items))
+        × (length b.entries.items ≤ MOST_WRITES) × (length b.entries.items ≤ b.next) };
 }
 
 /// The bits of `word` that are set in `and_mask`; of the others those of `or_mask`.
@@ -120,12 +118,14 @@ impl StageBook {
         self.entries.len() == MOST_WRITES || self.next == u64::MAX
     }
 
-    /// Writes these bits, the first at `address` of 0 to 511, all or none. `Address` where one lies past the area, else `Full` at
-    /// 4096 writes since the last sample or where the tickets are used up, else `Memory` where a growth was refused.
+    /// Writes these bits, the first at `address` of 0 to 511, all or none. `Address` where one lies past the area, else
+    /// `Full` at 4096 writes since the last sample or where the tickets are used up, else `Memory` where a growth was
+    /// refused.
     pub fn write_bits(&mut self, address: usize, values: &[bool]) -> Result<Ticket, StageError>
         ensures ok { IfOk result (λ t. Does self.old (wrote (bits_at address values.now) t.number) self.new) }
-        ensures address { (result ≡ Err StageError.Address) ↔ (512 < address + length values.now) }
-        ensures full { (result ≡ Err StageError.Full) ↔ ((address + length values.now ≤ 512) × (is_full self.old ≡ true)) }
+        ensures address { (result ≡ Err StageError.Address) ↔ (BITS < address + length values.now) }
+        ensures full { (result ≡ Err StageError.Full)
+            ↔ ((address + length values.now ≤ BITS) × (is_full self.old ≡ true)) }
         ensures err { OnErr result (self.new ≡ self.old) }
     {
         if address > BITS || values.len() > BITS - address {
@@ -148,12 +148,14 @@ impl StageBook {
         Ok(Ticket { number })
     }
 
-    /// Writes these words, the first at `address` of 0 to 63, all or none. `Address` where one lies past the area, else `Full` at
-    /// 4096 writes since the last sample or where the tickets are used up, else `Memory` where a growth was refused.
+    /// Writes these words, the first at `address` of 0 to 63, all or none. `Address` where one lies past the area, else
+    /// `Full` at 4096 writes since the last sample or where the tickets are used up, else `Memory` where a growth was
+    /// refused.
     pub fn write_words(&mut self, address: usize, values: &[i16]) -> Result<Ticket, StageError>
         ensures ok { IfOk result (λ t. Does self.old (wrote (words_at address values.now) t.number) self.new) }
-        ensures address { (result ≡ Err StageError.Address) ↔ (64 < address + length values.now) }
-        ensures full { (result ≡ Err StageError.Full) ↔ ((address + length values.now ≤ 64) × (is_full self.old ≡ true)) }
+        ensures address { (result ≡ Err StageError.Address) ↔ (WORDS < address + length values.now) }
+        ensures full { (result ≡ Err StageError.Full)
+            ↔ ((address + length values.now ≤ WORDS) × (is_full self.old ≡ true)) }
         ensures err { OnErr result (self.new ≡ self.old) }
     {
         if address > WORDS || values.len() > WORDS - address {
@@ -177,8 +179,8 @@ impl StageBook {
     }
 
     /// Lays two masks on the word at `address` of 0 to 63 as it is now: the bits that are set in `and_mask` stay, the
-    /// others become those of `or_mask`. `Address` where there is no such word, else `Full` at 4096 writes since the last
-    /// sample or where the tickets are used up, else `Memory` where a growth was refused.
+    /// others become those of `or_mask`. `Address` where there is no such word, else `Full` at 4096 writes since the
+    /// last sample or where the tickets are used up, else `Memory` where a growth was refused.
     pub fn mask_word(
         &mut self,
         address: usize,
@@ -186,8 +188,8 @@ impl StageBook {
         or_mask: u16,
     ) -> Result<Ticket, StageError>
         ensures ok { IfOk result (λ t. Does self.old (wrote (mask_at address and_mask or_mask) t.number) self.new) }
-        ensures address { (result ≡ Err StageError.Address) ↔ (64 ≤ address) }
-        ensures full { (result ≡ Err StageError.Full) ↔ ((address < 64) × (is_full self.old ≡ true)) }
+        ensures address { (result ≡ Err StageError.Address) ↔ (WORDS ≤ address) }
+        ensures full { (result ≡ Err StageError.Full) ↔ ((address < WORDS) × (is_full self.old ≡ true)) }
         ensures err { OnErr result (self.new ≡ self.old) }
     {
         if address >= WORDS {
@@ -208,10 +210,12 @@ impl StageBook {
 
     /// As `write_words`, and then as `read`: the cells have this write.
     pub fn write_read(&mut self, address: usize, values: &[i16]) -> Result<Written, StageError>
-        ensures wrote { IfOk result (λ w. Does self.old (wrote (words_at address values.now) w.ticket.number) self.new) }
+        ensures wrote { IfOk result
+            (λ w. Does self.old (wrote (words_at address values.now) w.ticket.number) self.new) }
         ensures read { IfOk result (λ w. Does self.new (read_gave w.inputs.cells) self.new) }
-        ensures address { (result ≡ Err StageError.Address) ↔ (64 < address + length values.now) }
-        ensures full { (result ≡ Err StageError.Full) ↔ ((address + length values.now ≤ 64) × (is_full self.old ≡ true)) }
+        ensures address { (result ≡ Err StageError.Address) ↔ (WORDS < address + length values.now) }
+        ensures full { (result ≡ Err StageError.Full)
+            ↔ ((address + length values.now ≤ WORDS) × (is_full self.old ≡ true)) }
         ensures err { OnErr result (self.new ≡ self.old) }
     {
         let ticket = self.write_words(address, values)?;

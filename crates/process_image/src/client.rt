@@ -1,5 +1,6 @@
 //! A client of a replicated controller: it submits one command at a time, and takes the first REPLY to it.
-ghost use Rattle.std.specs.Prelude.{◌≡◌, ◌+◌, ◌^◌, ◌<◌, ◌↔◌, false, true, not, List, [], IfSome, IfNone, IfOk, IsNone, None, is_some};
+ghost use Rattle.std.specs.Prelude.{◌≡◌, ◌+◌, ◌^◌, ◌<◌, ◌↔◌, false, true, not, List, [], IfSome, IfNone, IfOk, IsNone};
+ghost use Rattle.std.specs.Prelude.{None, is_some};
 ghost use Rattle.il_model.specs.declared.command.Command.{Command as Asked};
 ghost use Rattle.vr_model.specs.Logs.{Request as Entry};
 ghost use Rattle.vr_model.specs.Messages.{Replica, Client, RequestMessage};
@@ -42,18 +43,27 @@ impl Model for GroupClient {
 
     ghost Value = { Client };
 
-    ghost view = { λ d. record { f = d.config.f; number = d.client.number; state = record { starts = d.starts; sequence = d.sequence; view = d.view; waits = option_map request_of d.waiting } } };
+    ghost view = { λ d. record {
+      f = d.config.f;
+      number = d.client.number;
+      state = record {
+        starts = d.starts;
+        sequence = d.sequence;
+        view = d.view;
+        waits = option_map request_of d.waiting;
+      };
+    } };
 }
 
 /// The client's REQUEST to a replica.
-fn request_to(client: ClientNumber, replica: u8, request: &Request) -> Message
+fn request_to(client: ClientNumber, replica: u8, request: Request) -> Message
     ensures { message_with [] result
-        ≡ record { from = Client client.number; to = Replica replica; body = RequestMessage (request_of request.now) } }
+        ≡ record { from = Client client.number; to = Replica replica; body = RequestMessage (request_of request) } }
 {
     Message {
         from: Party::Client(client),
         to: Party::Replica(replica),
-        body: Body::Request(*request),
+        body: Body::Request(request),
     }
 }
 
@@ -100,22 +110,30 @@ impl GroupClient {
     }
 
     /// Submits a command under the next number: the REQUEST is for the primary of the greatest view that the client has
-    /// heard of, and waits. `None` while a request waits, and where the numbers are used up.
-    pub fn submit(&mut self, command: &Command) -> Option<Message>
-        ensures some { IfSome result (λ message. SubmitsCommand self.old command.now message self.new) }
+    /// heard of, and waits. The command is handed in twice: one goes out, the other waits. `None` while a request
+    /// waits, and where the numbers are used up.
+    pub fn submit(&mut self, command: Command, same: Command) -> Option<Message>
+        requires { same ≡ command }
+        ensures some { IfSome result (λ message. SubmitsCommand self.old command message self.new) }
         ensures none { IsNone result ↔ (cannot_submit self.old.state ≡ true) }
         ensures same { IfNone result (self.new ≡ self.old) }
     {
         let sequence = self.next_sequence()?;
-        let request = Request {
-            client: self.client,
-            number: u64::from(self.starts) * NUMBERS_OF_A_START + u64::from(sequence),
-            command: *command,
-        };
+        let client = self.client;
+        let number = u64::from(self.starts) * NUMBERS_OF_A_START + u64::from(sequence);
         let primary = self.config.primary(self.view);
         self.sequence = sequence;
-        self.waiting = Some(request);
-        Some(request_to(self.client, primary, &request))
+        self.waiting = Some(Request {
+            client,
+            number,
+            command: same,
+        });
+        let request = Request {
+            client,
+            number,
+            command,
+        };
+        Some(request_to(client, primary, request))
     }
 
     /// The REQUEST that waits, to every replica; nothing where none waits.
@@ -127,7 +145,7 @@ impl GroupClient {
             return Ok(sends);
         };
         for replica in 0..self.config.group_size() {
-            sends.push(request_to(self.client, replica, request))?;
+            sends.push(request_to(self.client, replica, request.copy(alloc)?))?;
         }
         Ok(sends)
     }
@@ -144,8 +162,10 @@ impl GroupClient {
     /// Takes a message to the client. The first REPLY with the number that waits ends the waiting, and gives its
     /// answer.
     pub fn on_reply(&mut self, message: &Message) -> Option<Answered>
-        ensures heard { (log : List (Entry Asked)) → BecomesAt self.old (Hears (message_with log message.now)) self.new }
-        ensures answer { (log : List (Entry Asked)) → result ≡ answer_by self.old.state (body_with log message.now.body) }
+        ensures heard { (log : List (Entry Asked))
+            → BecomesAt self.old (Hears (message_with log message.now)) self.new }
+        ensures answer { (log : List (Entry Asked))
+            → result ≡ answer_by self.old.state (body_with log message.now.body) }
     {
         let Body::Reply {
             view,

@@ -85,7 +85,8 @@ pub trait Pen<J: Naming>: Drop {
 
     /// Readers find the list with this release from now on, or the same as before.
     fn show(&mut self, release: Release) -> Result<(), AllocError>
-        ensures { MatchResult result (λ _. releases self.new ≡ releases self.old ++ release ∷ []) (λ _. releases self.new ≡ releases self.old) };
+        ensures { MatchResult result (λ _. releases self.new ≡ releases self.old ++ release ∷ [])
+            (λ _. releases self.new ≡ releases self.old) };
 
     fn front(&self) -> &Front<J>
         ensures { result.now ≡ releases self.now };
@@ -95,7 +96,8 @@ impl<J: Naming, R: Wait + Drop> Pen<J> for WriteHandle<Shown<J>, Release, R> {
     ghost releases = { λ w. published w };
 
     fn show(&mut self, release: Release) -> Result<(), AllocError> {
-        // A release that could not be absorbed would stay in the way. None does: only this writer makes the list longer.
+        // A release that could not be absorbed would stay in the way. None does: only this writer makes the list
+        // longer.
         if self.has_pending_operations() || self.append(release).is_err() {
             return Err(AllocError);
         }

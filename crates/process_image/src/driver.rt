@@ -72,7 +72,9 @@ impl ScanDriver {
         }
         let mut sends = Vec::with_capacity(alloc, 1)?;
         let inputs = staging.sample().inputs;
-        let Some(request) = self.client.submit(&Command::Scan { inputs, moment }) else {
+        let scan = Command::Scan { inputs, moment };
+        let same = Command::Scan { inputs, moment };
+        let Some(request) = self.client.submit(scan, same) else {
             unreachable!()
         };
         let Ok(()) = sends.push(request) else {
@@ -91,8 +93,10 @@ impl ScanDriver {
     /// Takes a message to client 0. The first REPLY with the number that waits ends the waiting, and gives a release
     /// where its answer has an image.
     pub fn on_reply(&mut self, message: &Message) -> Option<Release>
-        ensures heard { (log : List (Entry Asked)) → BecomesAt self.old (Hears (message_with log message.now)) self.new }
-        ensures release { (log : List (Entry Asked)) → result ≡ release_by self.old.state (body_with log message.now.body) }
+        ensures heard { (log : List (Entry Asked))
+            → BecomesAt self.old (Hears (message_with log message.now)) self.new }
+        ensures release { (log : List (Entry Asked))
+            → result ≡ release_by self.old.state (body_with log message.now.body) }
     {
         let answered = self.client.on_reply(message)?;
         let image = answered.answer.image()?;

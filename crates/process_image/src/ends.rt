@@ -47,7 +47,8 @@ impl<J: Naming, P: Pen<J>> Model for ReleasedWriter<J, P> {
     ghost invariant = { λ w. P.releases w.pen ≡ w.front };
 }
 
-/// What a writer told: the list of its releases so far, for a reader to learn. It holds the number and the image of the last.
+/// What a writer told: the list of its releases so far, for a reader to learn. It holds the number and the image of the
+/// last.
 #[derive(Drop)]
 pub struct Told<J: Naming> {
     front: Front<J>,
@@ -79,9 +80,9 @@ impl<J: Naming> Model for ReleasedReader<J> {
 }
 
 impl<J: Naming, P: Pen<J>> ReleasedWriter<J, P> {
-    /// Publishes a release: a reader that enters from now on sees it or a later one. It waits for readers that are inside since
-    /// before the last call. `Stale` where its number isn't above the last one's, of which 0 is no number, else `Memory` where a
-    /// growth was refused.
+    /// Publishes a release: a reader that enters from now on sees it or a later one. It waits for readers that are
+    /// inside since before the last call. `Stale` where its number isn't above the last one's, of which 0 is no number,
+    /// else `Memory` where a growth was refused.
     pub fn publish(&mut self, release: Release) -> Result<(), PublishError>
         ensures ok { OnOk result (self.new ≡ self.old ++ release ∷ []) }
         ensures stale { (result ≡ Err PublishError.Stale) ↔ (release.number ≤ number_of self.old) }
@@ -109,8 +110,9 @@ impl<J: Naming, P: Pen<J>> ReleasedWriter<J, P> {
 }
 
 impl<J: Naming> ReleasedReader<J> {
-    /// The last release of some list that the writer published, which begins with all that this reader saw before or learnt. Where
-    /// the writer is gone it is the last that the reader saw or learnt. It takes no memory, and waits for nobody.
+    /// The last release of some list that the writer published, which begins with all that this reader saw before or
+    /// learnt. Where the writer is gone it is the last that the reader saw or learnt. It takes no memory, and waits for
+    /// nobody.
     pub fn read(&mut self) -> View
         ensures shown { result ≡ shown self.new }
         ensures seen { IsPrefix self.old self.new }
@@ -133,7 +135,8 @@ impl<J: Naming> ReleasedReader<J> {
     }
 }
 
-/// Of what the writer told and what a reader saw or learnt, one list begins the other. It does nothing: its contract is a law.
+/// Of what the writer told and what a reader saw or learnt, one list begins the other. It does nothing: its contract is
+/// a law.
 pub fn agree<J: Naming>(told: &Told<J>, reader: &ReleasedReader<J>)
     ensures { IsPrefix told.now reader.now ⊎ IsPrefix reader.now told.now }
 {
@@ -180,8 +183,8 @@ fn ends<J: Naming, R: Wait + Drop>(
     Ok((ReleasedWriter { pen, front }, readers))
 }
 
-/// A writer that has published nothing, and so many readers, which see the safe image and 0. `list` is a new list of the name `J`.
-/// The writer keeps `rt`, since `publish` and its drop wait for readers.
+/// A writer that has published nothing, and so many readers, which see the safe image and 0. `list` is a new list of
+/// the name `J`. The writer keeps `rt`, since `publish` and its drop wait for readers.
 pub fn released<J: Naming, R: Wait + Drop>(
     list: NewList,
     alloc: Global,

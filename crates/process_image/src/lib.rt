@@ -20,21 +20,22 @@
 //! `worked_parts`, by threads, in many rounds). That a reader waits for nobody is `left_right`'s.
 #![tactic(auto)]
 
-pub mod book;
-pub mod calls;
-pub mod client;
-pub mod copies;
-pub mod driver;
-pub mod ends;
-pub mod list;
-pub mod release;
-pub mod staging;
+mod book;
+mod calls;
+mod client;
+mod copies;
+mod driver;
+mod ends;
+mod list;
+mod release;
+mod staging;
 
 pub use book::{Sample, StageBook, StageError, Ticket, Written};
+pub use calls::each_sample_holds_its_writes;
 pub use client::{Answered, GroupClient};
 pub use copies::{Pen, SharedPen};
 pub use driver::ScanDriver;
-pub use ends::{PublishError, ReleasedReader, ReleasedWriter, Told, Unmade, released};
+pub use ends::{PublishError, ReleasedReader, ReleasedWriter, Told, Unmade, agree, released};
 pub use list::{Naming, NewList};
 pub use release::{Release, View};
 pub use staging::{Stage, StageHandle, Staging};

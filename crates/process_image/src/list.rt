@@ -1,5 +1,5 @@
-//! The list of releases. It exists in the proofs alone: threads share the number of its last release, and each keeps a beginning of
-//! the list that it saw.
+//! The list of releases. It exists in the proofs alone: threads share the number of its last release, and each keeps a
+//! beginning of the list that it saw.
 ghost use Rattle.std.specs.Prelude.{◌≡◌, ◌<◌, ◌++◌, ◌∷◌, ◌⊎◌, [], MatchBool};
 ghost use mathlib.Core.List.{IsPrefix};
 ghost use Rattle.std.specs.Bool.{OnTrue};
@@ -150,7 +150,8 @@ impl<J: Naming> Model for Front<J> {
 
     ghost view = { λ f. f.seen.log };
 
-    ghost invariant = { λ f. (f.view ≡ shown f.seen.log) × (f.count ≡ length f.seen.log) × (f.seen.book ≡ J.book) × IsRising f.seen.log };
+    ghost invariant = { λ f. (f.view ≡ shown f.seen.log) × (f.count ≡ length f.seen.log) × (f.seen.book ≡ J.book)
+        × IsRising f.seen.log };
 }
 
 impl<J: Naming> Front<J> {
@@ -175,7 +176,8 @@ impl<J: Naming> Front<J> {
         }
     }
 
-    /// Takes the other beginning where that one is longer. Of two beginnings of one list the longer begins with the shorter.
+    /// Takes the other beginning where that one is longer. Of two beginnings of one list the longer begins with the
+    /// shorter.
     pub(crate) fn catch_up(&mut self, other: &Front<J>)
         ensures one { (self.new ≡ self.old) ⊎ (self.new ≡ other.now) }
         ensures this { IsPrefix self.old self.new }

@@ -2,7 +2,7 @@
 ghost use Rattle.std.specs.Prelude.{◌≡◌, []};
 ghost use Rattle.process_image.specs.Releases.{shown, view_of};
 
-use il_model::cells::OutImage;
+use il_model::OutImage;
 
 /// An output image with the number of the request that it answers, which is above 0.
 #[derive(Clone, Copy, PartialEq, Eq)]

@@ -2,7 +2,7 @@
 ghost use Rattle.std.specs.Prelude.{◌≡◌, ◌+◌, ◌<◌, ◌≤◌, ◌↔◌, true, length, IfOk, OnErr, Err, Option, Some, None};
 
 use crate::book::{Sample, StageBook, StageError, Ticket, Written};
-use il_model::cells::InImage;
+use il_model::{BITS, InImage, WORDS};
 use std::sync::{Mutex, Wait};
 
 /// Staged inputs. An implementation tells its book, or tells nothing, as one behind a lock.
@@ -21,17 +21,22 @@ pub trait Staging {
 
     /// As `StageBook::sample`.
     fn sample(&mut self) -> Sample
-        ensures { Changed (told self.old) (told self.new) (λ b c. Does b (sample_gave result.inputs.cells result.next) c) };
+        ensures { Changed (told self.old) (told self.new)
+            (λ b c. Does b (sample_gave result.inputs.cells result.next) c) };
 
     /// As `StageBook::write_bits`.
     fn write_bits(&mut self, address: usize, values: &[bool]) -> Result<Ticket, StageError>
-        ensures address { (result ≡ Err StageError.Address) ↔ (512 < address + length values.now) }
-        ensures told { Changed (told self.old) (told self.new) (λ b c. IfOk result (λ t. Does b (wrote (bits_at address values.now) t.number) c) × OnErr result (c ≡ b) × ((result ≡ Err StageError.Full) ↔ ((address + length values.now ≤ 512) × (is_full b ≡ true)))) };
+        ensures address { (result ≡ Err StageError.Address) ↔ (BITS < address + length values.now) }
+        ensures told { Changed (told self.old) (told self.new)
+            (λ b c. IfOk result (λ t. Does b (wrote (bits_at address values.now) t.number) c) × OnErr result (c ≡ b)
+            × ((result ≡ Err StageError.Full) ↔ ((address + length values.now ≤ 512) × (is_full b ≡ true)))) };
 
     /// As `StageBook::write_words`.
     fn write_words(&mut self, address: usize, values: &[i16]) -> Result<Ticket, StageError>
-        ensures address { (result ≡ Err StageError.Address) ↔ (64 < address + length values.now) }
-        ensures told { Changed (told self.old) (told self.new) (λ b c. IfOk result (λ t. Does b (wrote (words_at address values.now) t.number) c) × OnErr result (c ≡ b) × ((result ≡ Err StageError.Full) ↔ ((address + length values.now ≤ 64) × (is_full b ≡ true)))) };
+        ensures address { (result ≡ Err StageError.Address) ↔ (WORDS < address + length values.now) }
+        ensures told { Changed (told self.old) (told self.new)
+            (λ b c. IfOk result (λ t. Does b (wrote (words_at address values.now) t.number) c) × OnErr result (c ≡ b)
+            × ((result ≡ Err StageError.Full) ↔ ((address + length values.now ≤ 64) × (is_full b ≡ true)))) };
 
     /// As `StageBook::mask_word`.
     fn mask_word(
@@ -40,14 +45,21 @@ pub trait Staging {
         and_mask: u16,
         or_mask: u16,
     ) -> Result<Ticket, StageError>
-        ensures address { (result ≡ Err StageError.Address) ↔ (64 ≤ address) }
-        ensures told { Changed (told self.old) (told self.new) (λ b c. IfOk result (λ t. Does b (wrote (mask_at address and_mask or_mask) t.number) c) × OnErr result (c ≡ b) × ((result ≡ Err StageError.Full) ↔ ((address < 64) × (is_full b ≡ true)))) };
+        ensures address { (result ≡ Err StageError.Address) ↔ (WORDS ≤ address) }
+        ensures told { Changed (told self.old) (told self.new)
+            (λ b c. IfOk result (λ t. Does b (wrote (mask_at address and_mask or_mask) t.number) c)
+            × OnErr result (c ≡ b) × ((result ≡ Err StageError.Full) ↔ ((address < 64) × (is_full b ≡ true)))) };
 
     /// As `StageBook::write_read`. Where nothing is told, too, the cells that it shows have this write.
     fn write_read(&mut self, address: usize, values: &[i16]) -> Result<Written, StageError>
-        ensures address { (result ≡ Err StageError.Address) ↔ (64 < address + length values.now) }
-        ensures shown { IfOk result (λ w. (cells : SomeCells) × (w.inputs.cells ≡ after_change cells (words_at address values.now))) }
-        ensures told { Changed (told self.old) (told self.new) (λ b c. IfOk result (λ w. Does b (wrote (words_at address values.now) w.ticket.number) c × Does c (read_gave w.inputs.cells) c) × OnErr result (c ≡ b) × ((result ≡ Err StageError.Full) ↔ ((address + length values.now ≤ 64) × (is_full b ≡ true)))) };
+        ensures address { (result ≡ Err StageError.Address) ↔ (WORDS < address + length values.now) }
+        ensures shown { IfOk result
+            (λ w. (cells : SomeCells) × (w.inputs.cells ≡ after_change cells (words_at address values.now))) }
+        ensures told { Changed (told self.old) (told self.new)
+            (λ b c. IfOk result
+            (λ w. Does b (wrote (words_at address values.now) w.ticket.number) c × Does c (read_gave w.inputs.cells) c)
+            × OnErr result (c ≡ b)
+            × ((result ≡ Err StageError.Full) ↔ ((address + length values.now ≤ 64) × (is_full b ≡ true)))) };
 }
 
 impl Staging for StageBook {
@@ -103,8 +115,8 @@ impl Stage {
     }
 }
 
-/// One thread's handle to a shared book. Each call holds the lock once, for one call of the book. It waits for other threads, and
-/// tells nothing.
+/// One thread's handle to a shared book. Each call holds the lock once, for one call of the book. It waits for other
+/// threads, and tells nothing.
 #[derive(Drop)]
 pub struct StageHandle<'a, R: Wait> {
     stage: &'a Stage,

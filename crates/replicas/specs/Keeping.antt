@@ -1,5 +1,6 @@
 -- What the file of a store may hold, and how a start, a load and a save leave it.
-use Rattle.std.specs.Prelude.{◌≡◌, ℕ, ◌+◌, ◌-◌, ◌^◌, ◌<◌, ◌⊎◌, Bool, true, false, List, ◌++◌, drop, Option, Some, None, MatchBool, nat_lt}
+use Rattle.std.specs.Prelude.{◌≡◌, ℕ, ◌+◌, ◌-◌, ◌^◌, ◌<◌, ◌⊎◌, Bool, true, false, List, ◌++◌, drop, Option, Some, None}
+use Rattle.std.specs.Prelude.{MatchBool, nat_lt}
 use Rattle.byteorder.specs.Endian.{big_bytes, big_number}
 use Rattle.vr_model.specs.declared.event.Stored.{Stored}
 use Rattle.replicas.specs.declared.file_store.Held.{Held}
@@ -46,14 +47,17 @@ abbrev pub Writes : Stored → Stored → Bool → Held → Type 0
 Writes found stored true after = after ≡ One stored
 Writes found stored false after = after ≡ OneOf found stored
 
--- A save writes the view, with as many starts as were loaded. It is refused where there was no start yet, and where no load or save was made since
--- the store was opened or a write failed.
+-- A save writes the view, with as many starts as were loaded. It is refused where there was no start yet, and where no
+-- load or save was made since the store was opened or a write failed.
 abbrev pub Saves : Held → ℕ → Bool → Held → Type 0
-Saves (One found) view made after = MatchBool (nat_lt 0 found.starts) (Writes found (with_view found view) made after) ((made ≡ false) × (after ≡ One found))
+Saves (One found) view made after =
+    MatchBool (nat_lt 0 found.starts) (Writes found (with_view found view) made after)
+    ((made ≡ false) × (after ≡ One found))
 Saves Unknown view made after = (made ≡ false) × (after ≡ Unknown)
 Saves (OneOf a b) view made after = (made ≡ false) × (after ≡ OneOf a b)
 
 -- a start loads, and writes one start more; or its load failed, or its write, or there is no greater number
 abbrev pub Begins : Held → Option Stored → Held → Type 0
 Begins h (Some stored) after = (found : Stored) × MayHold h found × (stored ≡ started found) × (after ≡ One stored)
-Begins h None after = (after ≡ h) ⊎ ((found : Stored) × MayHold h found × ((after ≡ One found) ⊎ (after ≡ OneOf found (started found))))
+Begins h None after = (after ≡ h)
+    ⊎ ((found : Stored) × MayHold h found × ((after ≡ One found) ⊎ (after ≡ OneOf found (started found))))

@@ -8,7 +8,8 @@ use Rattle.vr_model.specs.declared.message.Message as code
 use Rattle.vr_model.specs.Membership.{Membership}
 use Rattle.vr_model.specs.Messages.{Message}
 use Rattle.vr_model.specs.Steps.{Input, Takes, TimesOut, Resends, acts}
-use Rattle.vr_model.specs.Stores.{Observation, Did, LostStep, LostSave, Crashed, CameUp, StayedDown, KnownState, AreObservations, last_known_state, next}
+use Rattle.vr_model.specs.Stores.{Observation, Did, LostStep, LostSave, Crashed, CameUp, StayedDown, KnownState}
+use Rattle.vr_model.specs.Stores.{AreObservations, last_known_state, next}
 use Rattle.vr_model.specs.StandsFor.{Stands, AllStandFrom, Fits}
 use Rattle.vr_core.specs.StandsFor.{IsSavedAs}
 use Rattle.replica.specs.declared.state.Replica.{Replica}
@@ -64,7 +65,8 @@ abbrev pub AllSaid : Membership → KnownState Command → List (Observation Com
 AllSaid m k [] out = out ≡ []
 AllSaid m k (g ∷ gs) out =
     let now : KnownState Command = next m.f m.number m.answer k g in
-    (first : List code.Message) × (rest : List code.Message) × AllStandFrom IsSavedAs m now.replica first (said g) × AllSaid m now gs rest × (out ≡ first ++ rest)
+    (first : List code.Message) × (rest : List code.Message) × AllStandFrom IsSavedAs m now.replica first (said g)
+    × AllSaid m now gs rest × (out ≡ first ++ rest)
 
 module _ (m : Membership) (k : KnownState Command) where
   abbrev pub AreRight : List (Observation Command Answer) → Type 0
@@ -73,20 +75,27 @@ module _ (m : Membership) (k : KnownState Command) where
   abbrev pub known_after : List (Observation Command Answer) → KnownState Command
   known_after gs = last_known_state m.f m.number m.answer k gs
 
-  -- the log that the rule of each message makes begins with all that was executed by then: in every run of a group it does
+  -- the log that the rule of each message makes begins with all that was executed by then: in every run of a group it
+  -- does
   abbrev pub KeepsAll : List (Input Command Answer) → Type 0
-  KeepsAll xs = (before : List (Input Command Answer)) (meant : Message Command Answer) (after : List (Input Command Answer)) (early : List (Observation Command Answer))
-      → xs ≡ before ++ Takes meant ∷ after → AreOf before early → AreRight early → KeepsExecuted m (known_after early).replica (Takes meant)
+  KeepsAll xs = (before : List (Input Command Answer)) (meant : Message Command Answer)
+      (after : List (Input Command Answer)) (early : List (Observation Command Answer))
+      → xs ≡ before ++ Takes meant ∷ after → AreOf before early → AreRight early
+      → KeepsExecuted m (known_after early).replica (Takes meant)
 
   -- and the checkpoint of each NEWSTATE that comes is of the log that its rule makes, or the rule makes nothing of it:
   -- in every run of a group that is so
   abbrev pub FitsAll : List Event → List (Input Command Answer) → Type 0
   FitsAll es xs = (earlier : List Event) (a : code.Message) (later : List Event)
-      (before : List (Input Command Answer)) (meant : Message Command Answer) (after : List (Input Command Answer)) (early : List (Observation Command Answer))
-      → es ≡ earlier ++ event.Message a ∷ later → xs ≡ before ++ Takes meant ∷ after → length earlier ≡ length before → AreOf before early → AreRight early
-      → Fits IsSavedAs m (known_after early).replica (acts m.f m.number m.answer (known_after early).replica (Takes meant)) a.body
+      (before : List (Input Command Answer)) (meant : Message Command Answer) (after : List (Input Command Answer))
+      (early : List (Observation Command Answer))
+      → es ≡ earlier ++ event.Message a ∷ later → xs ≡ before ++ Takes meant ∷ after → length earlier ≡ length before
+      → AreOf before early → AreRight early
+      → Fits IsSavedAs m (known_after early).replica
+      (acts m.f m.number m.answer (known_after early).replica (Takes meant)) a.body
 
-  -- there is an observation of each input, right by the rules from what was known; the replica stands for where they end, and sent what they say
+  -- there is an observation of each input, right by the rules from what was known; the replica stands for where they
+  -- end, and sent what they say
   pub record Observed (xs : List (Input Command Answer)) (end : Replica) (out : List code.Message) : Type 0 where
     pub observations : List (Observation Command Answer)
     pub of_inputs : AreOf xs observations
@@ -94,8 +103,8 @@ module _ (m : Membership) (k : KnownState Command) where
     pub stands : StandsFor end m (known_after observations).replica
     pub sends : AllSaid m k observations out
 
-  -- A restart with this nonce shows as one observation or none, right by the rules from what was known; the replica stands for where that ends, and sent
-  -- what it says. None: its store failed, and nothing happened.
+  -- A restart with this nonce shows as one observation or none, right by the rules from what was known; the replica
+  -- stands for where that ends, and sent what it says. None: its store failed, and nothing happened.
   pub record Restarted (nonce : ℕ) (end : Replica) (out : List code.Message) : Type 0 where
     pub shown : Option (Observation Command Answer)
     pub of_nonce : IfSome shown (IsRestartWith nonce)

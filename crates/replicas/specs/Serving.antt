@@ -1,5 +1,6 @@
 -- What a served replica did, as a list of turns.
-use Rattle.std.specs.Prelude.{ℕ, ◌≡◌, ◌≤◌, ◌↔◌, ◌⊎◌, Bool, List, [], ◌∷◌, ◌++◌, length, map, filter_map, All, Option, Some, None, Ok, Err, MatchBool, IsErrOf}
+use Rattle.std.specs.Prelude.{ℕ, ◌≡◌, ◌≤◌, ◌↔◌, ◌⊎◌, Bool, List, [], ◌∷◌, ◌++◌, length, map, filter_map, All, Option}
+use Rattle.std.specs.Prelude.{Some, None, Ok, Err, MatchBool, IsErrOf}
 use Rattle.il_model.specs.declared.command.Command.{Command}
 use Rattle.il_model.specs.Counted.{Failed}
 use Rattle.vr_model.specs.declared.event.Event.{Event}
@@ -77,27 +78,32 @@ pub record Scene (S : Type 0) : Type 0 where
   pub replica : Replica
   pub store : S
 
-abbrev pub scene : {S : Type 0} → Option (List Tick) → Option (List Input) → Option (List Message) → Replica → S → Scene S
+abbrev pub scene : {S : Type 0} → Option (List Tick) → Option (List Input) → Option (List Message) → Replica → S
+    → Scene S
 scene t i s r u = record { ticks = t; inputs = i; sent = s; replica = r; store = u }
 
 -- the stores of one kind: how a load and a save leave them, and how often they have failed
-module _ {S : Type 0} (load_gives : S → Option Stored → S → Type 0) (save_gives : S → ℕ → Bool → S → Type 0) (faults : S → ℕ) where
-  -- One call of `Replica::step`: the replica went from q to r, and its store from s to t. Whatever record q stood for, its rule was done, or a fault
-  -- of it.
+module _ {S : Type 0} (load_gives : S → Option Stored → S → Type 0) (save_gives : S → ℕ → Bool → S → Type 0)
+    (faults : S → ℕ) where
+  -- One call of `Replica::step`: the replica went from q to r, and its store from s to t. Whatever record q stood for,
+  -- its rule was done, or a fault of it.
   pub record StepsTo (q : Replica) (s : S) (e : Event) (r : Replica) (t : S) (result : StepResult) : Type 0 where
-    pub row : (m : Membership) (was : ReplicaState Command) → StandsFor q m was → Stepped load_gives save_gives IsSavedAs (StandsFor r m) m was s t e result
+    pub row : (m : Membership) (was : ReplicaState Command) → StandsFor q m was
+        → Stepped load_gives save_gives IsSavedAs (StandsFor r m) m was s t e result
     pub down : IsErrOf result fault.Down ↔ IsDeafTo q e
     pub device : IsErrOf result fault.Store → Failed (faults s) (faults t)
     pub counts : faults s ≤ faults t
 
-  -- the replica and its store went from these to those by a step for each of the events, and these are the sends of the steps, in order
+  -- the replica and its store went from these to those by a step for each of the events, and these are the sends of the
+  -- steps, in order
   abbrev pub Ran : Replica → S → List Event → Replica → S → List Message → Type 0
   Ran q s [] r t sends = (r ≡ q) × (t ≡ s) × (sends ≡ [])
   Ran q s (e ∷ es) r t sends =
-      (p : Replica) × (u : S) × (result : StepResult) × (rest : List Message) × StepsTo q s e p u result × Ran p u es r t rest × (sends ≡ sends_in result ++ rest)
+      (p : Replica) × (u : S) × (result : StepResult) × (rest : List Message) × StepsTo q s e p u result
+      × Ran p u es r t rest × (sends ≡ sends_in result ++ rest)
 
-  -- What these turns did: the clock was polled once in each, and gave these ticks; the receives gave these inputs; and what was handed to be sent
-  -- is, in order, what the steps on the turns' events handed out.
+  -- What these turns did: the clock was polled once in each, and gave these ticks; the receives gave these inputs; and
+  -- what was handed to be sent is, in order, what the steps on the turns' events handed out.
   pub record Did (turns : List Turn) (a b : Scene S) : Type 0 where
     pub sends : List Message
     pub polled : Grows a.ticks b.ticks (map tick_of turns)

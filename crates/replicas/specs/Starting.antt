@@ -12,14 +12,16 @@ use Rattle.replica.specs.Standing.{StandsFor}
 abbrev pub StandsDown : Replica → Membership → Type 0
 StandsDown replica m = (r : ReplicaState Command) → StandsFor replica m (down r)
 
--- the first start has no view stored, and finds the replica normal, in view 0 and with an empty log; each later one finds it down, to come up with the
--- number of starts as its nonce
+-- the first start has no view stored, and finds the replica normal, in view 0 and with an empty log; each later one
+-- finds it down, to come up with the number of starts as its nonce
 abbrev pub StartsWith : Membership → Stored → Replica → Option ℕ → Type 0
 StartsWith m stored replica nonce =
-    MatchBool (stored.starts == 1) ((stored.view ≡ 0) × (nonce ≡ None) × StandsFor replica m first_replica) ((nonce ≡ Some stored.starts) × StandsDown replica m)
+    MatchBool (stored.starts == 1) ((stored.view ≡ 0) × (nonce ≡ None) × StandsFor replica m first_replica)
+    ((nonce ≡ Some stored.starts) × StandsDown replica m)
 
 -- the store began one start more; or it failed, and the replica is down for good
-abbrev pub HasStarted : {S : Type 0} → (S → Option Stored → S → Type 0) → Membership → S → S → Replica → Option ℕ → Type 0
+abbrev pub HasStarted : {S : Type 0} → (S → Option Stored → S → Type 0) → Membership → S → S → Replica → Option ℕ
+    → Type 0
 HasStarted begin_gives m s t replica nonce =
     ((stored : Stored) × begin_gives s (Some stored) t × StartsWith m stored replica nonce)
     ⊎ (begin_gives s None t × (nonce ≡ None) × StandsDown replica m)

@@ -68,7 +68,8 @@ pub struct ChannelLink<R: Wait + time::Clock + Drop> {
 }
 
 impl<R: Wait + time::Clock + Drop> ChannelLink<R> {
-    /// The link of a party, which is connected from now on. A receive waits for so long. It fails only where memory runs out.
+    /// The link of a party, which is connected from now on. A receive waits for so long. It fails only where memory
+    /// runs out.
     pub fn new(
         rt: R,
         alloc: Global,

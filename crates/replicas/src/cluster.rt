@@ -87,8 +87,8 @@ where
     C: Clock + Send + Drop + 'static,
     G: Gate + Send + Drop + 'static,
 {
-    /// Starts the replicas of a group, all or none: each counts a start more in its store, and is served for so many turns, or until its link
-    /// is closed. Where memory or a thread is refused, none was served, and no thread is left.
+    /// Starts the replicas of a group, all or none: each counts a start more in its store, and is served for so many
+    /// turns, or until its link is closed. Where memory or a thread is refused, none was served, and no thread is left.
     pub fn start<R: Threads + Wait + Copy + Send + 'static>(
         rt: &R,
         alloc: Global,
@@ -227,8 +227,8 @@ where
         }
     }
 
-    /// Starts a replica from its store, with a start more and its link made anew at both ends. One that is up crashes first. Where it fails, the
-    /// replica is down, and may be started again.
+    /// Starts a replica from its store, with a start more and its link made anew at both ends. One that is up crashes
+    /// first. Where it fails, the replica is down, and may be started again.
     pub fn restart<R: Threads + Wait + Copy + Send + 'static>(
         &mut self,
         rt: &R,
@@ -258,7 +258,8 @@ where
         }
     }
 
-    /// Makes the link of a replica anew, gives the replica a thread that waits for its work, and starts it from its store.
+    /// Makes the link of a replica anew, gives the replica a thread that waits for its work, and starts it from its
+    /// store.
     fn ready<R: Threads + Wait + Copy + Send + 'static>(
         &mut self,
         rt: &R,

@@ -66,7 +66,8 @@ pub trait Relink: Link {
     /// What cuts it. It fails only where memory runs out.
     fn cutter(&self) -> Result<Self::Cutter, AllocError>;
 
-    /// Makes its connections anew, whether or not it was cut; what was on its way is lost. Where it fails, the link is closed.
+    /// Makes its connections anew, whether or not it was cut; what was on its way is lost. Where it fails, the link is
+    /// closed.
     fn renew(&mut self) -> Result<(), Unlinked>;
 }
 
@@ -104,11 +105,12 @@ pub trait Starts: ViewStore {
     // How a start leaves it that gave this, or failed.
     ghost begin_gives: { Self → Option Stored → Self → Type 0 };
 
-    /// One start more, which is kept: the view, and how many there were with this one. Before the first start there is no view. It answers a fault
-    /// only where the store failed in this call, or no greater number is left.
+    /// One start more, which is kept: the view, and how many there were with this one. Before the first start there is
+    /// no view. It answers a fault only where the store failed in this call, or no greater number is left.
     fn begin(&mut self) -> Result<Stored, StoreFault>
         ensures first { IfOk result (λ stored. stored.starts ≡ 1 → stored.view ≡ 0) }
-        ensures gives { MatchResult result (λ stored. begin_gives self.old (Some stored) self.new) (λ _. begin_gives self.old None self.new) }
+        ensures gives { MatchResult result (λ stored. begin_gives self.old (Some stored) self.new)
+            (λ _. begin_gives self.old None self.new) }
         ensures device { OnErr result (Failed (Self.faults self.old) (Self.faults self.new)) }
         ensures counts { Self.faults self.old ≤ Self.faults self.new };
 }

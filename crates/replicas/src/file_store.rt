@@ -43,8 +43,9 @@ impl Held {
     }
 }
 
-/// The view and the starts of a replica, in a file: written beside it, flushed, and renamed. It counts its failures, and the writes that went well.
-/// A replica that starts again is handed the store that it had: another one would not know what the file may hold.
+/// The view and the starts of a replica, in a file: written beside it, flushed, and renamed. It counts its failures,
+/// and the writes that went well. A replica that starts again is handed the store that it had: another one would not
+/// know what the file may hold.
 #[derive(Drop)]
 pub struct FileStore<R: Files + Drop> {
     rt: R,
@@ -138,7 +139,8 @@ impl<R: Files + Drop> FileStore<R> {
 
     /// Writes it over what was found.
     fn keep(&mut self, found: Stored, stored: Stored) -> Result<(), StoreFault>
-        ensures gives { MatchResult result (λ _. Writes found stored true self.new.held) (λ _. Writes found stored false self.new.held) }
+        ensures gives { MatchResult result (λ _. Writes found stored true self.new.held)
+            (λ _. Writes found stored false self.new.held) }
         ensures device { OnErr result (Failed self.old.failures self.new.failures) }
         ensures counts { self.old.failures ≤ self.new.failures }
         ensures wrote { OnOk result (Rose self.old.writes self.new.writes) }

@@ -7,8 +7,9 @@ use std::time;
 use std::time::{Duration, Instant};
 use vr_model::{Body, Message, Party};
 
-/// A replica times out where nothing showed for a while that its view goes on, and at once where its primary came up again, which has lost
-/// the view. It sends again after each pause. It tells nothing. Where the machine's time cannot be read, no time passes.
+/// A replica times out where nothing showed for a while that its view goes on, and at once where its primary came up
+/// again, which has lost the view. It sends again after each pause. It tells nothing. Where the machine's time cannot
+/// be read, no time passes.
 #[derive(Drop)]
 pub struct MachineClock<R: time::Clock + Drop> {
     rt: R,
@@ -48,7 +49,8 @@ fn is_of_change(message: &Message) -> bool {
 }
 
 impl<R: time::Clock + Drop> MachineClock<R> {
-    /// A clock that begins with its first poll. `pause` is to be well below `patience`: what is sent again keeps a silent group patient.
+    /// A clock that begins with its first poll. `pause` is to be well below `patience`: what is sent again keeps a
+    /// silent group patient.
     pub fn new(rt: R, patience: Duration, pause: Duration) -> MachineClock<R> {
         MachineClock {
             rt,

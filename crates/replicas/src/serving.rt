@@ -9,7 +9,8 @@ use replica::{Replica, ViewStore};
 use std::alloc::Global;
 use vr_model::{Event, Message, Sends};
 
-/// Takes so many turns, or fewer where a receive gives Closed. Each takes one event at most, the clock's first, and hands on what
+/// Takes so many turns, or fewer where a receive gives Closed. Each takes one event at most, the clock's first, and
+/// hands on what
 /// `Replica::step` makes of it.
 pub fn serve<L: Link, S: ViewStore, C: Clock, G: Gate>(
     alloc: Global,
@@ -20,7 +21,9 @@ pub fn serve<L: Link, S: ViewStore, C: Clock, G: Gate>(
     gate: &mut G,
     turns: u64,
 )
-    ensures { Served S.load_gives S.save_gives S.faults turns (scene (C.ticks clock.old) (L.inputs link.old) (L.sent link.old) replica.old store.old) (scene (C.ticks clock.new) (L.inputs link.new) (L.sent link.new) replica.new store.new) }
+    ensures { Served S.load_gives S.save_gives S.faults turns
+        (scene (C.ticks clock.old) (L.inputs link.old) (L.sent link.old) replica.old store.old)
+        (scene (C.ticks clock.new) (L.inputs link.new) (L.sent link.new) replica.new store.new) }
 {
     serve_from(1, alloc, replica, link, store, clock, gate, turns);
 }
@@ -36,7 +39,9 @@ pub(crate) fn serve_from<L: Link, S: ViewStore, C: Clock, G: Gate>(
     gate: &mut G,
     turns: u64,
 )
-    ensures { Served S.load_gives S.save_gives S.faults turns (scene (C.ticks clock.old) (L.inputs link.old) (L.sent link.old) replica.old store.old) (scene (C.ticks clock.new) (L.inputs link.new) (L.sent link.new) replica.new store.new) }
+    ensures { Served S.load_gives S.save_gives S.faults turns
+        (scene (C.ticks clock.old) (L.inputs link.old) (L.sent link.old) replica.old store.old)
+        (scene (C.ticks clock.new) (L.inputs link.new) (L.sent link.new) replica.new store.new) }
 {
     let mut call = first;
     for _ in 0..turns {
@@ -56,7 +61,9 @@ fn turn<L: Link, S: ViewStore, C: Clock, G: Gate>(
     gate: &mut G,
     call: &mut u64,
 ) -> bool
-    ensures { Turned S.load_gives S.save_gives S.faults result (scene (C.ticks clock.old) (L.inputs link.old) (L.sent link.old) replica.old store.old) (scene (C.ticks clock.new) (L.inputs link.new) (L.sent link.new) replica.new store.new) }
+    ensures { Turned S.load_gives S.save_gives S.faults result
+        (scene (C.ticks clock.old) (L.inputs link.old) (L.sent link.old) replica.old store.old)
+        (scene (C.ticks clock.new) (L.inputs link.new) (L.sent link.new) replica.new store.new) }
 {
     match clock.poll() {
         Tick::Timeout => act(alloc, replica, link, store, gate, call, Event::Timeout),
@@ -91,7 +98,9 @@ pub(crate) fn act<L: Link, S: ViewStore, G: Gate>(
     call: &mut u64,
     event: Event,
 )
-    ensures did { (result : StepResult) × StepsTo S.load_gives S.save_gives S.faults replica.old store.old event replica.new store.new result × Grows (L.sent link.old) (L.sent link.new) (sends_in result) }
+    ensures did { (result : StepResult)
+        × StepsTo S.load_gives S.save_gives S.faults replica.old store.old event replica.new store.new result
+        × Grows (L.sent link.old) (L.sent link.new) (sends_in result) }
     ensures same { L.inputs link.new ≡ L.inputs link.old }
 {
     gate.before(*call);

@@ -28,7 +28,8 @@ pub(crate) fn start_from<S: Starts>(
     budget: Budget,
     store: &mut S,
 ) -> Result<Started, AllocError>
-    ensures { IfOk result (λ start. HasStarted S.begin_gives (member config.f number image budget.instructions) store.old store.new start.replica start.nonce) }
+    ensures { IfOk result (λ start. HasStarted S.begin_gives
+        (member config.f number image budget.instructions) store.old store.new start.replica start.nonce) }
 {
     match store.begin() {
         Ok(stored) if stored.starts == 1 => Ok(Started {

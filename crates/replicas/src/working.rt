@@ -82,7 +82,8 @@ impl<L: Link, S: Starts, C: Clock, G: Gate> Work<L, S, C, G> {
 /// A thread: it gives back what its replica was given, where there was work for it.
 pub(crate) type WorkHandle<L, S, C, G> = JoinHandle<Option<TellingSeat<L, S, C, G>>>;
 
-/// The thread of a replica: it waits for its work, which comes once every replica has a thread. Then it drops the replica.
+/// The thread of a replica: it waits for its work, which comes once every replica has a thread. Then it drops the
+/// replica.
 fn await_work<R: Wait, L: Link + Drop, S: Starts + Drop, C: Clock + Drop, G: Gate + Drop>(
     rt: &R,
     alloc: Global,

@@ -26,8 +26,9 @@ fn parties(alloc: Global, replicas: u8, clients: u8) -> io::Result<Vec<Party>> {
     Ok(parties)
 }
 
-/// The links of a group, those of the replicas by their numbers and then those of the clients by theirs, each connected to each other: a
-/// connection for each pair, at a port of 127.0.0.1 that the system picks, where nothing listens afterwards. A receive waits for so long.
+/// The links of a group, those of the replicas by their numbers and then those of the clients by theirs, each connected
+/// to each other: a connection for each pair, at a port of 127.0.0.1 that the system picks, where nothing listens
+/// afterwards. A receive waits for so long.
 pub fn links<R>(
     rt: R,
     alloc: Global,

@@ -97,7 +97,8 @@ impl Hub {
         }
     }
 
-    /// Hands the link at this place its end of a connection. False where it's cut, or memory runs out: then the end is closed.
+    /// Hands the link at this place its end of a connection. False where it's cut, or memory runs out: then the end is
+    /// closed.
     pub(crate) fn hand<R: Wait>(&self, rt: &R, place: usize, arrival: Arrival) -> bool {
         let Some(slot) = self.slots.get(place) else {
             return false;

@@ -73,8 +73,8 @@ impl Peer {
         }
     }
 
-    /// Reads until a message came or there is no more for now. One that isn't from the party of this connection to `own`
-    /// is dropped. False where the connection is over.
+    /// Reads until a message came or there is no more for now. One that isn't from the party of this connection to
+    /// `own` is dropped. False where the connection is over.
     pub(crate) fn read(&mut self, alloc: Global, own: Party, came: &mut Vec<Message>) -> bool
         ensures { AreTo own came.old.items → AreTo own came.new.items }
     {

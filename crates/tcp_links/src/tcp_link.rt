@@ -172,7 +172,8 @@ impl<R: Wait + Net<Listener = TcpListener, Stream = TcpStream> + Copy + Drop> Tc
         false
     }
 
-    /// Waits for so long that something happens. Then connections that are ready are known, and what waited was written.
+    /// Waits for so long that something happens. Then connections that are ready are known, and what waited was
+    /// written.
     fn look(&mut self, wait: Duration)
         ensures { self.new.party ≡ self.old.party }
     {

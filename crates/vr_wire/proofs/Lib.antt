@@ -5,6 +5,7 @@ pub mod Ends
 pub mod Fields
 pub mod Formats
 pub mod Fronts
+pub mod InFour
 pub mod Items
 pub mod LogFormats
 pub mod Messages

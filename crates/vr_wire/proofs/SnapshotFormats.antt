@@ -18,13 +18,13 @@ use Rattle.il_model.specs.Snapshots.{SavedBlock, SavedController}
 use Rattle.il_model.specs.Kinds.{block_kinds, kind_code, kind_of_code, input_count}
 use Rattle.il_model.specs.Image.{op_code}
 use Rattle.il_model.specs.Codes.{op_list, op_of}
-use Rattle.vr_wire.specs.Fields.{bit_number, listed, value_bytes, FitsValue}
-use Rattle.vr_wire.specs.Reading.{number_at, fields_4, lawful, passed, read_by, stop_of, listed_at, value_at}
+use Rattle.vr_wire.specs.Fields.{bit_number, listed, counted, value_bytes, FitsValue}
+use Rattle.vr_wire.specs.Reading.{◌>>=◌, number_at, counted_at, fields_4, lawful, passed, read_by, stop_of, listed_at, value_at}
 use Rattle.vr_wire.specs.Snapshots.{phase_code, phase_stop, phase_performed, phase_bytes, result_bytes, deferred_bytes, scan_bytes, areas_bytes, block_bytes, force_bytes, tables_bytes, snapshot_bytes, rises_from, FitsPhase, FitsResult, may_open, IsOpening, FitsDeferred, IsAtRest, IsScan, FitsScan, FitsAreas, IsBlock, FitsBlock, FitsForce, IsTables, FitsTables, IsSnapshot, FitsSnapshot}
 use Rattle.vr_wire.specs.SnapshotReading.{phase_of, Placed, PhaseNumbers, numbers_at, placed_of, placed_at, result_readers, result_at, opening, truth_of, there, deferred_at, is_depth, deferred_list_at, OpenScan, is_at_rest, is_scan, any_scan_at, scan_at, Areas, areas_at, parts_of_at, block_at, force_at, breaks_at, slots_rise, forces_at, Tables, tables_at, snapshot_of, snapshot_at}
 use Rattle.vr_wire.proofs.Values.{some_yes}
 use Rattle.vr_wire.proofs.Fields.{IsBytes, bind_some, some_is, Takes, Takes-then, IsInverse, number8, number16, number32, number64, took_0, took_1, took_2, took_3, took_4, again_1, again_2, again_3, again_4, lawful_inverse, tagged_takes, tagged_again}
-use Rattle.vr_wire.proofs.Formats.{listed_inverse, counted_inverse, passing, cells_inverse, value_inverse, slot_inverse, stop_sound, stop_again}
+use Rattle.vr_wire.proofs.Formats.{listed_inverse, counted_inverse, bytes_inverse, passing, cells_inverse, value_inverse, slot_inverse, stop_sound, stop_again}
 
 -- a list whose items are what two facts say
 pub apart : {X : Type 0} (p q : X → Type 0) (xs : List X) → AllByRecursion (λ x. p x × q x) xs → AllByRecursion p xs × AllByRecursion q xs
@@ -387,18 +387,25 @@ tables_inverse = record {
 
 -- ---- the whole
 
+image_inverse : IsInverse (counted w32) (λ x. length x < 2 ^ 32) (counted_at (number_at w32))
+image_inverse = bytes_inverse w32 number32
+
 snapshot_take : (bytes : List ℕ) (x : SavedController) (rest : List ℕ) → IsBytes bytes → snapshot_at bytes ≡ Some (x, rest) → Takes bytes (snapshot_bytes x) rest × (IsSnapshot x × FitsSnapshot x)
 snapshot_take bytes x rest fits e =
-    let s = bind_some (number_at w64 bytes) (λ (count : ℕ × List ℕ). fields_4 (snapshot_of count.0) (number_at w64) scan_at areas_at tables_at count.1) (x, rest) e in
-    let n = number64.takes bytes s.0.0 s.0.1 fits s.1 in
-    let t = took_4 (snapshot_of s.0.0) number64 scan_inverse areas_inverse tables_inverse s.0.1 x rest n.0.rest_fits s.2 in
+    let i = bind_some (counted_at (number_at w32) bytes) (λ (image : List ℕ × List ℕ). number_at w64 image.1 >>= λ count. fields_4 (snapshot_of image.0 count.0) (number_at w64) scan_at areas_at tables_at count.1) (x, rest) e in
+    let image = image_inverse.takes bytes i.0.0 i.0.1 fits i.1 in
+    let s = bind_some (number_at w64 i.0.1) (λ (count : ℕ × List ℕ). fields_4 (snapshot_of i.0.0 count.0) (number_at w64) scan_at areas_at tables_at count.1) (x, rest) i.2 in
+    let n = number64.takes i.0.1 s.0.0 s.0.1 image.0.rest_fits s.1 in
+    let t = took_4 (snapshot_of i.0.0 s.0.0) number64 scan_inverse areas_inverse tables_inverse s.0.1 x rest n.0.rest_fits s.2 in
     let areas = areas_bytes t.three.input t.three.output t.three.memory in
-    let took = Takes-then bytes (to_be_bytes w64 s.0.0) s.0.1 (to_be_bytes w64 t.one ++ (open_bytes t.two ++ (areas ++ all_tables t.four))) rest n.0 t.took in
-    let made = snapshot_of s.0.0 t.one t.two t.three t.four in
+    let others = to_be_bytes w64 t.one ++ (open_bytes t.two ++ (areas ++ all_tables t.four)) in
+    let behind = Takes-then i.0.1 (to_be_bytes w64 s.0.0) s.0.1 others rest n.0 t.took in
+    let took = Takes-then bytes (counted w32 i.0.0) i.0.1 (to_be_bytes w64 s.0.0 ++ others) rest image.0 behind in
+    let made = snapshot_of i.0.0 s.0.0 t.one t.two t.three t.four in
     subst (λ (y : SavedController). Takes bytes (snapshot_bytes y) rest × (IsSnapshot y × FitsSnapshot y)) {x = made} (sym {b = made} t.is) (
       took,
       (
-        record { scan = t.fits_two.lawful; tables = t.fits_four.lawful },
+        record { image = image.1; scan = t.fits_two.lawful; tables = t.fits_four.lawful },
         record { count = n.1; moment = t.fits_one; scan = t.fits_two.fits; areas = t.fits_three; tables = t.fits_four.fits },
       ),
     )
@@ -415,8 +422,10 @@ tables_of x = record { variables = x.variables; instances = x.instances; breaks 
 snapshot_again : (x : SavedController) (rest : List ℕ) → IsSnapshot x × FitsSnapshot x → snapshot_at (snapshot_bytes x ++ rest) ≡ Some (x, rest)
 snapshot_again x rest fits =
     let parts = to_be_bytes w64 x.moment ++ (open_bytes (scan_of x) ++ (areas_bytes x.input x.output x.memory ++ all_tables (tables_of x))) in
-    let first : number_at w64 (snapshot_bytes x ++ rest) ≡ Some (x.count, parts ++ rest) = ap (number_at w64) (append_assoc (to_be_bytes w64 x.count) parts rest) ∙ number64.again x.count (parts ++ rest) fits.1.count in
-    rw first (again_4 (snapshot_of x.count) number64 scan_inverse areas_inverse tables_inverse x.moment (scan_of x) (areas_of x) (tables_of x) rest fits.1.moment (record { lawful = fits.0.scan; fits = fits.1.scan }) fits.1.areas (record { lawful = fits.0.tables; fits = fits.1.tables }))
+    let behind = to_be_bytes w64 x.count ++ parts in
+    let image : counted_at (number_at w32) (snapshot_bytes x ++ rest) ≡ Some (x.image, behind ++ rest) = ap (counted_at (number_at w32)) (append_assoc (counted w32 x.image) behind rest) ∙ image_inverse.again x.image (behind ++ rest) fits.0.image in
+    let first : number_at w64 (behind ++ rest) ≡ Some (x.count, parts ++ rest) = ap (number_at w64) (append_assoc (to_be_bytes w64 x.count) parts rest) ∙ number64.again x.count (parts ++ rest) fits.1.count in
+    rw (image, first) (again_4 (snapshot_of x.image x.count) number64 scan_inverse areas_inverse tables_inverse x.moment (scan_of x) (areas_of x) (tables_of x) rest fits.1.moment (record { lawful = fits.0.scan; fits = fits.1.scan }) fits.1.areas (record { lawful = fits.0.tables; fits = fits.1.tables }))
 
 pub snapshot_inverse : IsInverse snapshot_bytes (λ x. IsSnapshot x × FitsSnapshot x) snapshot_at
 snapshot_inverse = record { takes = snapshot_take; again = snapshot_again }

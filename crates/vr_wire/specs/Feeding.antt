@@ -12,13 +12,15 @@ abbrev pub frames : Format Message WireFault
 frames = record { frame = frame_of; IsFramed = IsFramed; IsPartial = IsPartial; IsBroken = IsBroken }
 
 -- Ok where no fault was met, a fault where it's that; want of memory is told apart
-abbrev pub Feeding : Result (Unit {0}) WireError → Ending WireFault → List ℕ → Ending WireFault → List Message → List Message → Type 0
+abbrev pub Feeding : Result (Unit {0}) WireError → Ending WireFault → List ℕ → Ending WireFault → List Message
+    → List Message → Type 0
 Feeding (Ok done) before piece after out out' = Took frames before piece after out out' × IsRest after
-Feeding (Err (errors.Fault fault)) before piece after out out' = Took frames before piece after out out' × (after ≡ Fault fault)
+Feeding (Err (errors.Fault fault)) before piece after out out' = Took frames before piece after out out'
+    × (after ≡ Fault fault)
 Feeding (Err errors.Memory) before piece after out out' = Unit {0}
 
--- Where the bytes are a beginning of the frames of these messages, what they split into is a beginning of the messages, in
--- order, and no fault.
+-- Where the bytes are a beginning of the frames of these messages, what they split into is a beginning of the messages,
+-- in order, and no fault.
 abbrev pub OnlyFramed : Type 0
 OnlyFramed =
     (stream more : List ℕ) (sent given : List Message) (ending : Ending WireFault)

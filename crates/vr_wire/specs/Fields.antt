@@ -1,7 +1,9 @@
 -- The fields of messages: the one spelling of values, cells, commands and answers. All numbers are big-endian.
-use Rattle.std.specs.Prelude.{FitsSigned, ◌≡◌, ℕ, zero, suc, ◌+◌, ◌*◌, ◌^◌, ◌<◌, Bool, true, false, ℤ, List, [], ◌∷◌, ◌++◌, length, take, drop, Some}
+use Rattle.std.specs.Prelude.{FitsSigned, ◌≡◌, ℕ, zero, suc, ◌+◌, ◌*◌, ◌^◌, ◌<◌, ◌≤◌, Bool, true, false, ℤ, List, []}
+use Rattle.std.specs.Prelude.{◌∷◌, ◌++◌, length, take, drop, Some}
 use Rattle.std.specs.List.{flat_map, AllByRecursion}
 use Rattle.std.specs.Int.{Width, w8, w16, w32, w64, to_be_bytes, cast_unsigned}
+use Rattle.il_model.specs.declared.limits.TheConstants.{BITS, WORDS, MOST_IMAGE_BYTES}
 use Rattle.il_model.specs.declared.value.Ty.{Ty}
 use Rattle.il_model.specs.declared.value.Ty.TheVariants as types
 use Rattle.il_model.specs.declared.value.Value.{Value}
@@ -18,6 +20,10 @@ use Rattle.il_model.specs.Cells.{safe_image}
 -- how many there are, in a number of that width, and each
 abbrev pub listed : {X : Type 0} → Width → (X → List ℕ) → List X → List ℕ
 listed w text xs = to_be_bytes w (length xs) ++ flat_map text xs
+
+-- bytes behind their count, in a number of that width
+abbrev pub counted : Width → List ℕ → List ℕ
+counted w bytes = to_be_bytes w (length bytes) ++ bytes
 
 -- ---- values
 
@@ -69,6 +75,7 @@ command_tag (commands.Unforce slot) = 6
 command_tag (commands.ReadVar slot) = 7
 command_tag commands.ReadCr = 8
 command_tag commands.Reset = 9
+command_tag (commands.Change image) = 10
 
 abbrev pub command_fields : Command → List ℕ
 command_fields (commands.Scan inputs moment) = cells_bytes inputs.cells ++ to_be_bytes w64 moment
@@ -81,6 +88,7 @@ command_fields (commands.Unforce slot) = to_be_bytes w16 slot.0
 command_fields (commands.ReadVar slot) = to_be_bytes w16 slot.0
 command_fields commands.ReadCr = []
 command_fields commands.Reset = []
+command_fields (commands.Change image) = counted w16 image
 
 abbrev pub command_bytes : Command → List ℕ
 command_bytes command = to_be_bytes w8 (command_tag command) ++ command_fields command
@@ -117,8 +125,8 @@ abbrev pub FitsValue : Value → Type 0
 FitsValue v = typed_value (ty_of v) (number_of v) ≡ Some v
 
 pub record FitsCells (cells : Cells) : Type 0 where
-  pub bits : length cells.bits ≡ 512
-  pub words : length cells.words ≡ 64
+  pub bits : length cells.bits ≡ BITS
+  pub words : length cells.words ≡ WORDS
   pub each : AllByRecursion (FitsSigned w16) cells.words
 
 abbrev pub FitsCommand : Command → Type 0
@@ -128,6 +136,7 @@ FitsCommand (commands.ClearBreak position) = position < 2 ^ 16
 FitsCommand (commands.Force slot value) = (slot.0 < 2 ^ 16) × FitsValue value
 FitsCommand (commands.Unforce slot) = slot.0 < 2 ^ 16
 FitsCommand (commands.ReadVar slot) = slot.0 < 2 ^ 16
+FitsCommand (commands.Change image) = length image ≤ MOST_IMAGE_BYTES
 FitsCommand _ = Unit {0}
 
 abbrev pub FitsAnswer : Answer → Type 0

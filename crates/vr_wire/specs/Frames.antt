@@ -1,5 +1,6 @@
 -- The frames of messages: the one spelling of each message that has one. All numbers are big-endian.
-use Rattle.std.specs.Prelude.{◌≡◌, ℕ, ◌+◌, ◌^◌, ◌<◌, ◌≤◌, ◌⊎◌, Bool, IsTrue, true, false, List, [], ◌++◌, length, take, Option, Some, None}
+use Rattle.std.specs.Prelude.{◌≡◌, ℕ, ◌+◌, ◌^◌, ◌<◌, ◌≤◌, ◌⊎◌, Bool, IsTrue, true, false, List, [], ◌++◌, length, take}
+use Rattle.std.specs.Prelude.{Option, Some, None}
 use Rattle.std.specs.Int.{w8, w32, w64, to_be_bytes, from_be_bytes}
 use Rattle.vr_model.specs.declared.message.Party.{Party}
 use Rattle.vr_model.specs.declared.message.Party.TheVariants.{Replica, Client}
@@ -49,7 +50,8 @@ state_mark (Some c) = []
 
 abbrev pub state_bytes : Option PrimaryState → List ℕ
 state_bytes None = to_be_bytes w8 0
-state_bytes (Some state) = state_mark state.log.checkpoint ++ (to_be_bytes w64 state.commit_number ++ log_bytes state.log)
+state_bytes (Some state) = state_mark state.log.checkpoint
+    ++ (to_be_bytes w64 state.commit_number ++ log_bytes state.log)
 
 abbrev pub body_fields : Body → List ℕ
 body_fields (says.Request m) = request_bytes m
@@ -58,7 +60,8 @@ body_fields (says.PrepareOk v p) = to_be_bytes w64 v ++ to_be_bytes w64 p
 body_fields (says.Commit v k) = to_be_bytes w64 v ++ to_be_bytes w64 k
 body_fields (says.Reply v number answer) = to_be_bytes w64 v ++ (to_be_bytes w64 number ++ answer_bytes answer)
 body_fields (says.StartViewChange v) = to_be_bytes w64 v
-body_fields (says.DoViewChange v last k log) = to_be_bytes w64 v ++ (to_be_bytes w64 last ++ (to_be_bytes w64 k ++ log_bytes log))
+body_fields (says.DoViewChange v last k log) = to_be_bytes w64 v
+    ++ (to_be_bytes w64 last ++ (to_be_bytes w64 k ++ log_bytes log))
 body_fields (says.StartView v k log) = to_be_bytes w64 v ++ (to_be_bytes w64 k ++ log_bytes log)
 body_fields (says.Recovery x w) = to_be_bytes w64 x ++ to_be_bytes w64 w
 body_fields (says.RecoveryResponse v x state) = to_be_bytes w64 v ++ (to_be_bytes w64 x ++ state_bytes state)
@@ -66,7 +69,8 @@ body_fields (says.GetState v p) = to_be_bytes w64 v ++ to_be_bytes w64 p
 body_fields (says.NewState v p k log) = to_be_bytes w64 v ++ (to_be_bytes w64 p ++ (to_be_bytes w64 k ++ log_bytes log))
 
 abbrev pub message_bytes : Message → List ℕ
-message_bytes m = to_be_bytes w8 (body_tag m.body) ++ (to_be_bytes w8 (party_code m.from) ++ (to_be_bytes w8 (party_code m.to) ++ body_fields m.body))
+message_bytes m = to_be_bytes w8 (body_tag m.body)
+    ++ (to_be_bytes w8 (party_code m.from) ++ (to_be_bytes w8 (party_code m.to) ++ body_fields m.body))
 
 -- how long a body is, and the body
 abbrev pub frame_of : Message → List ℕ
@@ -149,7 +153,8 @@ told_length bytes = from_be_bytes w32 (take 4 bytes)
 
 -- less than a frame: four bytes that tell how long the body is haven't come, or the body hasn't
 abbrev pub IsPartial : List ℕ → Type 0
-IsPartial bytes = (length bytes < 4) ⊎ ((0 < told_length bytes) × (told_length bytes ≤ body_limit) × (length bytes < 4 + told_length bytes))
+IsPartial bytes = (length bytes < 4)
+    ⊎ ((0 < told_length bytes) × (told_length bytes ≤ body_limit) × (length bytes < 4 + told_length bytes))
 
 -- no more of a frame has come than its length tells
 abbrev pub IsShort : List ℕ → Type 0
@@ -159,7 +164,8 @@ IsShort bytes = 4 ≤ length bytes → length bytes < 4 + told_length bytes
 abbrev pub IsBadFrame : List ℕ → Type 0
 IsBadFrame bytes =
     (told_length bytes ≡ 0)
-    ⊎ ((told_length bytes ≤ body_limit) × (4 + told_length bytes ≤ length bytes) × ((m : Message) → IsFramed m → take (4 + told_length bytes) bytes ≡ frame_of m → ⊥))
+    ⊎ ((told_length bytes ≤ body_limit) × (4 + told_length bytes ≤ length bytes)
+    × ((m : Message) → IsFramed m → take (4 + told_length bytes) bytes ≡ frame_of m → ⊥))
 
 -- bytes that no stream of frames goes on with, and why
 abbrev pub IsBroken : WireFault → List ℕ → Type 0

@@ -1,5 +1,6 @@
 -- Reading messages from left to right: the inverse of their spelling; and what stands in front of a stream.
-use Rattle.std.specs.Prelude.{ℕ, zero, suc, ◌-◌, ◌==◌, ◌<◌, ◌≤◌, ◌⊎◌, Bool, true, false, List, [], ◌∷◌, length, take, drop, slice_get, Option, Some, None, nat_lt, if◌then◌else◌}
+use Rattle.std.specs.Prelude.{ℕ, zero, suc, ◌-◌, ◌==◌, ◌<◌, ◌≤◌, ◌⊎◌, Bool, true, false, List, [], ◌∷◌, length, take}
+use Rattle.std.specs.Prelude.{drop, slice_get, Option, Some, None, nat_lt, if◌then◌else◌}
 use Rattle.std.specs.Int.{w8, w32, w64}
 use Rattle.std.proofs.Common.{inl, inr}
 use Rattle.std.proofs.lemmas.Bool.{cases_lt}
@@ -18,7 +19,8 @@ use Rattle.vr_wire.specs.declared.fault.WireFault.{WireFault}
 use Rattle.vr_wire.specs.declared.fault.WireFault.TheVariants.{BadFrame, TooLarge}
 use Rattle.vr_wire.specs.declared.log.ClientAnswer.{ClientAnswer}
 use Rattle.vr_wire.specs.Frames.{body_limit}
-use Rattle.vr_wire.specs.Reading.{◌>>=◌, Reader, number_at, fields_0, fields_1, fields_2, fields_3, fields_4, listed_at, lawful, passed, read_by, tagged, closed, command_at, answer_at}
+use Rattle.vr_wire.specs.Reading.{◌>>=◌, Reader, number_at, fields_0, fields_1, fields_2, fields_3, fields_4, listed_at}
+use Rattle.vr_wire.specs.Reading.{lawful, passed, read_by, tagged, closed, command_at, answer_at}
 use Rattle.vr_wire.specs.SnapshotReading.{snapshot_at}
 
 -- ---- requests and entries
@@ -31,7 +33,8 @@ abbrev pub client_of : ℕ → Option ClientNumber
 client_of n = client_by n (cases_lt n client_count)
 
 abbrev pub request_at : Reader Request
-request_at bytes = fields_3 (λ client number command. record { client = client; number = number; command = command }) (lawful client_of (number_at w8)) (number_at w64) command_at bytes
+request_at bytes = fields_3 (λ client number command. record { client = client; number = number; command = command })
+    (lawful client_of (number_at w8)) (number_at w64) command_at bytes
 
 abbrev pub entries_at : Reader (List Request)
 entries_at bytes = listed_at (number_at w32) request_at bytes
@@ -42,7 +45,12 @@ abbrev pub is_client : ℕ → Bool
 is_client n = nat_lt n client_count
 
 abbrev pub client_answer_at : Reader ClientAnswer
-client_answer_at bytes = fields_3 (λ client number answer. record { client = client; executed = record { number = number; answer = answer } }) (lawful (passed is_client) (number_at w8)) (number_at w64) answer_at bytes
+client_answer_at bytes =
+    fields_3 (λ client number answer. record {
+      client = client;
+      executed = record { number = number; answer = answer };
+    }) (lawful (passed is_client) (number_at w8))
+    (number_at w64) answer_at bytes
 
 -- the answer of this client, if it is the next that is told, and the others
 abbrev pub next_of : ℕ → List ClientAnswer → Option Executed × List ClientAnswer
@@ -53,7 +61,8 @@ next_of n (a ∷ others) = if a.client == n then (Some a.executed, others) else 
 unfoldable pub table_from : ℕ → ℕ → List ClientAnswer → Option (List (Option Executed))
 table_from zero n [] = Some []
 table_from zero n (a ∷ others) = None
-table_from (suc count) n answers = table_from count (suc n) (next_of n answers).1 >>= λ table. Some ((next_of n answers).0 ∷ table)
+table_from (suc count) n answers =
+    table_from count (suc n) (next_of n answers).1 >>= λ table. Some ((next_of n answers).0 ∷ table)
 
 abbrev pub table_of : List ClientAnswer → Option (List (Option Executed))
 table_of answers = table_from client_count 0 answers
@@ -65,19 +74,22 @@ abbrev pub is_base : ℕ → Bool
 is_base n = nat_lt 0 n
 
 abbrev pub checkpoint_at : Reader SavedCheckpoint
-checkpoint_at bytes = fields_3 (λ base clients snapshot. record { base = base; clients = clients; snapshot = snapshot }) (lawful (passed is_base) (number_at w64)) clients_at snapshot_at bytes
+checkpoint_at bytes = fields_3 (λ base clients snapshot. record { base = base; clients = clients; snapshot = snapshot })
+    (lawful (passed is_base) (number_at w64)) clients_at snapshot_at bytes
 
 -- ---- logs
 
 -- from the first entry on, or behind a checkpoint
 abbrev pub log_at : Bool → Reader KeptLog
 log_at false bytes = fields_1 (λ entries. record { checkpoint = None; entries = entries }) entries_at bytes
-log_at true bytes = lawful numbered (fields_2 (λ c entries. record { checkpoint = Some c; entries = entries }) checkpoint_at entries_at) bytes
+log_at true bytes = lawful numbered
+    (fields_2 (λ c entries. record { checkpoint = Some c; entries = entries }) checkpoint_at entries_at) bytes
 
 -- ---- what messages say
 
 abbrev pub primary_state_at : Bool → Reader (Option PrimaryState)
-primary_state_at behind bytes = fields_2 (λ k log. Some (record { commit_number = k; log = log })) (number_at w64) (log_at behind) bytes
+primary_state_at behind bytes =
+    fields_2 (λ k log. Some (record { commit_number = k; log = log })) (number_at w64) (log_at behind) bytes
 
 abbrev pub state_readers : List (Reader (Option PrimaryState))
 state_readers = fields_0 None ∷ primary_state_at false ∷ []
@@ -94,13 +106,15 @@ abbrev pub reply_at : Reader Body
 reply_at bytes = fields_3 says.Reply (number_at w64) (number_at w64) answer_at bytes
 
 abbrev pub do_view_change_at : Bool → Reader Body
-do_view_change_at behind bytes = fields_4 says.DoViewChange (number_at w64) (number_at w64) (number_at w64) (log_at behind) bytes
+do_view_change_at behind bytes =
+    fields_4 says.DoViewChange (number_at w64) (number_at w64) (number_at w64) (log_at behind) bytes
 
 abbrev pub start_view_at : Bool → Reader Body
 start_view_at behind bytes = fields_3 says.StartView (number_at w64) (number_at w64) (log_at behind) bytes
 
 abbrev pub recovery_response_at : Bool → Reader Body
-recovery_response_at behind bytes = fields_3 says.RecoveryResponse (number_at w64) (number_at w64) (state_at behind) bytes
+recovery_response_at behind bytes =
+    fields_3 says.RecoveryResponse (number_at w64) (number_at w64) (state_at behind) bytes
 
 abbrev pub is_past : ℕ → Option SavedCheckpoint → Bool
 is_past p None = true
@@ -112,7 +126,9 @@ has_past (says.NewState v p k log) = is_past p log.checkpoint
 has_past _ = true
 
 abbrev pub new_state_at : Bool → Reader Body
-new_state_at behind bytes = lawful (passed has_past) (fields_4 says.NewState (number_at w64) (number_at w64) (number_at w64) (log_at behind)) bytes
+new_state_at behind bytes =
+    lawful (passed has_past)
+    (fields_4 says.NewState (number_at w64) (number_at w64) (number_at w64) (log_at behind)) bytes
 
 abbrev pub numbers_at : Reader (ℕ × ℕ)
 numbers_at bytes = fields_2 (λ first second. (first, second)) (number_at w64) (number_at w64) bytes
@@ -160,7 +176,8 @@ party_at may_be_client bytes = lawful (party_of_code may_be_client) (number_at w
 
 -- a sender and a receiver, and the fields behind them
 abbrev pub parts_at : ℕ → Reader Message
-parts_at tag bytes = fields_3 (λ from to body. record { from = from; to = to; body = body }) (party_at (tag == 1)) (party_at (tag == 5)) (body_at tag) bytes
+parts_at tag bytes = fields_3 (λ from to body. record { from = from; to = to; body = body }) (party_at (tag == 1))
+    (party_at (tag == 5)) (body_at tag) bytes
 
 -- the message whose body is all of the bytes
 unfoldable pub message_at : List ℕ → Option Message

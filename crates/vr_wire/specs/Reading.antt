@@ -1,7 +1,9 @@
 -- Reading fields from left to right: the inverse of their spelling.
-use Rattle.std.specs.Prelude.{◌≡◌, ℕ, zero, suc, ◌/◌, ◌%◌, ◌==◌, Bool, ℤ, List, [], ◌∷◌, length, take, drop, slice_get, Option, Some, None, Result, Ok, Err, nat_lt, if◌then◌else◌}
+use Rattle.std.specs.Prelude.{◌≡◌, ℕ, zero, suc, ◌/◌, ◌%◌, ◌==◌, Bool, ℤ, List, [], ◌∷◌, length, take, drop, slice_get}
+use Rattle.std.specs.Prelude.{Option, Some, None, Result, Ok, Err, nat_lt, nat_le, if◌then◌else◌}
 use Rattle.std.specs.List.{flat_map}
 use Rattle.std.specs.Int.{Width, w8, w16, w64, byte_len, from_be_bytes, cast_signed}
+use Rattle.il_model.specs.declared.limits.TheConstants.{WORDS, MOST_IMAGE_BYTES}
 use Rattle.il_model.specs.declared.value.Ty.{Ty}
 use Rattle.il_model.specs.declared.value.Value.{Value}
 use Rattle.il_model.specs.declared.value.Stop.{Stop}
@@ -40,7 +42,8 @@ abbrev pub Reader : Type 0 → Type 0
 Reader X = List ℕ → Option (X × List ℕ)
 
 abbrev pub number_at : Width → Reader ℕ
-number_at w bytes = if nat_lt (length bytes) (byte_len w) then None else Some (from_be_bytes w (take (byte_len w) bytes), drop (byte_len w) bytes)
+number_at w bytes = if nat_lt (length bytes) (byte_len w) then None
+    else Some (from_be_bytes w (take (byte_len w) bytes), drop (byte_len w) bytes)
 
 -- no field, one or more, one behind the other, and what is made of them
 abbrev pub fields_0 : {X : Type 0} → X → Reader X
@@ -75,6 +78,14 @@ passed test x = if test x then Some x else None
 abbrev pub listed_at : {X : Type 0} → Reader ℕ → Reader X → Reader (List X)
 listed_at count item bytes = count bytes >>= λ n. items_at item n.0 n.1
 
+-- so many bytes
+abbrev pub taken : ℕ → Reader (List ℕ)
+taken n bytes = if nat_lt (length bytes) n then None else Some (take n bytes, drop n bytes)
+
+-- and as many as a number tells
+abbrev pub counted_at : Reader ℕ → Reader (List ℕ)
+counted_at count bytes = count bytes >>= λ n. taken n.0 n.1
+
 -- behind a tag, what the reader with that number reads
 abbrev pub read_by : {X : Type 0} → Option (Reader X) → Reader X
 read_by None bytes = None
@@ -108,7 +119,7 @@ abbrev pub word_at : Reader ℤ
 word_at bytes = fields_1 (cast_signed w16) (number_at w16) bytes
 
 abbrev pub cells_at : Reader Cells
-cells_at bytes = fields_2 (λ bits words. record { bits = bits; words = words }) bits_at (items_at word_at 64) bytes
+cells_at bytes = fields_2 (λ bits words. record { bits = bits; words = words }) bits_at (items_at word_at WORDS) bytes
 
 -- the number of a value of that type
 abbrev pub number_of_at : Ty → Reader ℤ
@@ -127,10 +138,17 @@ slot_at bytes = fields_1 (λ n. record { 0 = n }) (number_at w16) bytes
 -- ---- commands, in the order of their tags
 
 abbrev pub scan_at : Reader Command
-scan_at bytes = fields_2 (λ cells moment. commands.Scan (record { cells = cells }) moment) cells_at (number_at w64) bytes
+scan_at bytes = fields_2 (λ cells moment. commands.Scan (record { cells = cells }) moment) cells_at
+    (number_at w64) bytes
 
 abbrev pub force_at : Reader Command
 force_at bytes = fields_2 commands.Force slot_at value_at bytes
+
+abbrev pub may_be_image : List ℕ → Bool
+may_be_image bytes = nat_le (length bytes) MOST_IMAGE_BYTES
+
+abbrev pub change_at : Reader Command
+change_at bytes = fields_1 commands.Change (lawful (passed may_be_image) (counted_at (number_at w16))) bytes
 
 abbrev pub command_readers : List (Reader Command)
 command_readers =
@@ -143,7 +161,8 @@ command_readers =
     fields_1 commands.Unforce slot_at ∷
     fields_1 commands.ReadVar slot_at ∷
     fields_0 commands.ReadCr ∷
-    fields_0 commands.Reset ∷ []
+    fields_0 commands.Reset ∷
+    change_at ∷ []
 
 abbrev pub command_at : Reader Command
 command_at bytes = tagged command_readers bytes
@@ -154,13 +173,17 @@ abbrev pub stop_of : ℕ → Option Stop
 stop_of n = slice_get (None ∷ Some stops.Overflow ∷ Some stops.ZeroDivisor ∷ Some stops.Budget ∷ []) n >>= λ stop. stop
 
 abbrev pub refusal_of : ℕ → Option Refusal
-refusal_of n = slice_get (None ∷ Some refusals.NotHeld ∷ Some refusals.BadPosition ∷ Some refusals.BadSlot ∷ Some refusals.BadType ∷ Some refusals.NoResult ∷ []) n >>= λ refusal. refusal
+refusal_of n = slice_get
+    (None ∷ Some refusals.NotHeld ∷ Some refusals.BadPosition ∷ Some refusals.BadSlot ∷ Some refusals.BadType
+    ∷ Some refusals.NoResult ∷ Some refusals.BadImage ∷ Some refusals.NotIdle ∷ []) n >>= λ refusal. refusal
 
 abbrev pub outputs_at : Reader Answer
-outputs_at bytes = fields_2 (λ count cells. answers.Outputs count (record { cells = cells })) (number_at w64) cells_at bytes
+outputs_at bytes = fields_2 (λ count cells. answers.Outputs count (record { cells = cells }))
+    (number_at w64) cells_at bytes
 
 abbrev pub stopped_at : Reader Answer
-stopped_at bytes = fields_2 (λ stop position. answers.Stopped stop position safe_image) (lawful stop_of (number_at w8)) (number_at w16) bytes
+stopped_at bytes = fields_2 (λ stop position. answers.Stopped stop position safe_image) (lawful stop_of (number_at w8))
+    (number_at w16) bytes
 
 abbrev pub answer_readers : List (Reader Answer)
 answer_readers =

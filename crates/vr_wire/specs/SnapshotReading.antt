@@ -1,5 +1,6 @@
 -- Reading a snapshot from left to right: the inverse of its spelling.
-use Rattle.std.specs.Prelude.{ℕ, zero, suc, ◌==◌, Bool, true, false, ◌&&◌, nat_le, List, [], ◌∷◌, length, map, slice_get, Option, Some, None, is_none}
+use Rattle.std.specs.Prelude.{ℕ, zero, suc, ◌==◌, Bool, true, false, ◌&&◌, nat_le, List, [], ◌∷◌, length, map}
+use Rattle.std.specs.Prelude.{slice_get, Option, Some, None, is_none}
 use Rattle.std.specs.Int.{w8, w16, w32, w64}
 use Rattle.il_model.specs.declared.value.Value.{Value}
 use Rattle.il_model.specs.declared.cells.Cells.{Cells}
@@ -13,7 +14,8 @@ use Rattle.il_model.specs.Snapshots.{SavedBlock, SavedController}
 use Rattle.il_model.specs.Kinds.{kind_of_code, input_count}
 use Rattle.il_model.specs.Codes.{op_of}
 use Rattle.vr_wire.specs.Snapshots.{may_open, rises_from, slot_code}
-use Rattle.vr_wire.specs.Reading.{◌>>=◌, Reader, number_at, fields_0, fields_1, fields_2, fields_3, fields_4, items_at, listed_at, lawful, passed, tagged, cells_at, value_at, slot_at, stop_of}
+use Rattle.vr_wire.specs.Reading.{◌>>=◌, Reader, number_at, fields_0, fields_1, fields_2, fields_3, fields_4, items_at}
+use Rattle.vr_wire.specs.Reading.{listed_at, counted_at, lawful, passed, tagged, cells_at, value_at, slot_at, stop_of}
 
 -- ---- the open scan
 
@@ -38,7 +40,9 @@ abbrev pub placed_of : PhaseNumbers → Option Placed
 placed_of n = phase_of n.code n.stop n.performed >>= λ phase. Some (record { phase = phase; position = n.position })
 
 abbrev pub numbers_at : Reader PhaseNumbers
-numbers_at bytes = fields_4 (λ code stop position performed. record { code = code; stop = stop; position = position; performed = performed }) (number_at w8) (number_at w8) (number_at w16) (number_at w32) bytes
+numbers_at bytes = fields_4
+    (λ code stop position performed. record { code = code; stop = stop; position = position; performed = performed })
+    (number_at w8) (number_at w8) (number_at w16) (number_at w32) bytes
 
 abbrev pub placed_at : Reader Placed
 placed_at bytes = lawful placed_of numbers_at bytes
@@ -60,7 +64,8 @@ abbrev pub there : Option Value → Option Value
 there cr = cr
 
 abbrev pub deferred_at : Reader Deferred
-deferred_at bytes = fields_3 (λ op negated cr. record { op = op; negated = negated; cr = cr }) (lawful opening (number_at w8)) (lawful truth_of (number_at w8)) (lawful there result_at) bytes
+deferred_at bytes = fields_3 (λ op negated cr. record { op = op; negated = negated; cr = cr })
+    (lawful opening (number_at w8)) (lawful truth_of (number_at w8)) (lawful there result_at) bytes
 
 abbrev pub is_depth : ℕ → Bool
 is_depth n = nat_le n 16
@@ -83,7 +88,13 @@ abbrev pub is_scan : OpenScan → Bool
 is_scan scan = is_at_rest scan.phase scan.position scan.cr scan.deferred
 
 abbrev pub any_scan_at : Reader OpenScan
-any_scan_at bytes = fields_3 (λ placed cr deferred. record { phase = placed.phase; position = placed.position; cr = cr; deferred = deferred }) placed_at result_at deferred_list_at bytes
+any_scan_at bytes = fields_3
+    (λ placed cr deferred. record {
+      phase = placed.phase;
+      position = placed.position;
+      cr = cr;
+      deferred = deferred;
+    }) placed_at result_at deferred_list_at bytes
 
 abbrev pub scan_at : Reader OpenScan
 scan_at bytes = lawful (passed is_scan) any_scan_at bytes
@@ -96,11 +107,14 @@ pub record Areas : Type 0 where
   pub memory : Cells
 
 abbrev pub areas_at : Reader Areas
-areas_at bytes = fields_3 (λ input output memory. record { input = input; output = output; memory = memory }) cells_at cells_at cells_at bytes
+areas_at bytes = fields_3
+    (λ input output memory. record { input = input; output = output; memory = memory }) cells_at cells_at cells_at bytes
 
 -- the inputs and the words of a block of that kind
 abbrev pub parts_of_at : BlockKind → Reader SavedBlock
-parts_of_at kind bytes = fields_2 (λ inputs words. record { kind = kind; inputs = inputs; words = words }) (items_at value_at (input_count kind)) (items_at (number_at w64) 4) bytes
+parts_of_at kind bytes =
+    fields_2 (λ inputs words. record { kind = kind; inputs = inputs; words = words })
+    (items_at value_at (input_count kind)) (items_at (number_at w64) 4) bytes
 
 abbrev pub block_at : Reader SavedBlock
 block_at bytes = lawful kind_of_code (number_at w8) bytes >>= λ kind. parts_of_at kind.0 kind.1
@@ -124,12 +138,20 @@ pub record Tables : Type 0 where
   pub forces : List ForcedSlot
 
 abbrev pub tables_at : Reader Tables
-tables_at bytes = fields_4 (λ variables instances breaks forces. record { variables = variables; instances = instances; breaks = breaks; forces = forces }) (listed_at (number_at w16) value_at) (listed_at (number_at w16) block_at) breaks_at forces_at bytes
+tables_at bytes = fields_4
+    (λ variables instances breaks forces. record {
+      variables = variables;
+      instances = instances;
+      breaks = breaks;
+      forces = forces;
+    }) (listed_at (number_at w16) value_at)
+    (listed_at (number_at w16) block_at) breaks_at forces_at bytes
 
 -- ---- the whole
 
-abbrev pub snapshot_of : ℕ → ℕ → OpenScan → Areas → Tables → SavedController
-snapshot_of count moment scan areas tables = record {
+abbrev pub snapshot_of : List ℕ → ℕ → ℕ → OpenScan → Areas → Tables → SavedController
+snapshot_of image count moment scan areas tables = record {
+  image = image;
   variables = tables.variables;
   instances = tables.instances;
   input = areas.input;
@@ -146,4 +168,5 @@ snapshot_of count moment scan areas tables = record {
 }
 
 abbrev pub snapshot_at : Reader SavedController
-snapshot_at bytes = number_at w64 bytes >>= λ count. fields_4 (snapshot_of count.0) (number_at w64) scan_at areas_at tables_at count.1
+snapshot_at bytes = counted_at (number_at w32) bytes >>= λ image. number_at w64 image.1 >>= λ count. fields_4
+    (snapshot_of image.0 count.0) (number_at w64) scan_at areas_at tables_at count.1

@@ -1,5 +1,6 @@
--- The one spelling of a controller's snapshot. A list is its length, then its items.
-use Rattle.std.specs.Prelude.{◌≡◌, ℕ, ◌+◌, ◌^◌, ◌<◌, ◌≤◌, Bool, true, ◌&&◌, nat_le, List, [], ◌∷◌, ◌++◌, length, map, Option, Some, None, is_some}
+-- The one spelling of a controller's snapshot: first the image of its program. A list is its length, then its items.
+use Rattle.std.specs.Prelude.{◌≡◌, ℕ, ◌+◌, ◌^◌, ◌<◌, ◌≤◌, Bool, true, ◌&&◌, nat_le, List, [], ◌∷◌, ◌++◌, length, map}
+use Rattle.std.specs.Prelude.{Option, Some, None, is_some}
 use Rattle.std.specs.List.{flat_map, AllByRecursion}
 use Rattle.std.specs.Int.{w8, w16, w32, w64, to_be_bytes}
 use Rattle.il_model.specs.declared.value.Value.{Value}
@@ -14,7 +15,7 @@ use Rattle.il_model.specs.Kinds.{kind_code, input_count}
 use Rattle.il_model.specs.Image.{op_code}
 use Rattle.il_model.specs.Codes.{letters_of}
 use Rattle.il_model.specs.Numbers.{stop_number}
-use Rattle.vr_wire.specs.Fields.{listed, value_bytes, bit_number, cells_bytes, FitsValue, FitsCells}
+use Rattle.vr_wire.specs.Fields.{listed, counted, value_bytes, bit_number, cells_bytes, FitsValue, FitsCells}
 
 -- ---- the open scan: its phase, why it stopped, where it is, how many instructions it has performed
 
@@ -34,7 +35,8 @@ phase_performed (phases.Held performed) = performed
 phase_performed (phases.Stopped stop) = 0
 
 abbrev pub phase_bytes : SavedPhase → ℕ → List ℕ
-phase_bytes phase position = to_be_bytes w8 (phase_code phase) ++ (to_be_bytes w8 (phase_stop phase) ++ (to_be_bytes w16 position ++ to_be_bytes w32 (phase_performed phase)))
+phase_bytes phase position = to_be_bytes w8 (phase_code phase)
+    ++ (to_be_bytes w8 (phase_stop phase) ++ (to_be_bytes w16 position ++ to_be_bytes w32 (phase_performed phase)))
 
 -- none, or a value
 abbrev pub result_bytes : Option Value → List ℕ
@@ -45,7 +47,8 @@ abbrev pub deferred_bytes : Deferred → List ℕ
 deferred_bytes d = to_be_bytes w8 (op_code d.op) ++ (to_be_bytes w8 (bit_number d.negated) ++ result_bytes (Some d.cr))
 
 abbrev pub scan_bytes : SavedPhase → ℕ → Option Value → List Deferred → List ℕ
-scan_bytes phase position cr deferred = phase_bytes phase position ++ (result_bytes cr ++ listed w8 deferred_bytes deferred)
+scan_bytes phase position cr deferred = phase_bytes phase position
+    ++ (result_bytes cr ++ listed w8 deferred_bytes deferred)
 
 -- ---- the three areas, and the tables
 
@@ -54,20 +57,22 @@ areas_bytes input output memory = cells_bytes input ++ (cells_bytes output ++ ce
 
 -- how many inputs it has is known by its kind
 abbrev pub block_bytes : SavedBlock → List ℕ
-block_bytes b = to_be_bytes w8 (kind_code b.kind) ++ (flat_map value_bytes b.inputs ++ flat_map (to_be_bytes w64) b.words)
+block_bytes b = to_be_bytes w8 (kind_code b.kind)
+    ++ (flat_map value_bytes b.inputs ++ flat_map (to_be_bytes w64) b.words)
 
 abbrev pub force_bytes : ForcedSlot → List ℕ
 force_bytes f = to_be_bytes w16 f.slot.0 ++ value_bytes f.value
 
 abbrev pub tables_bytes : List Value → List SavedBlock → List ℕ → List ForcedSlot → List ℕ
-tables_bytes variables instances breaks forces = listed w16 value_bytes variables ++ (listed w16 block_bytes instances ++ (listed w16 (to_be_bytes w16) breaks ++ listed w16 force_bytes forces))
+tables_bytes variables instances breaks forces = listed w16 value_bytes variables
+    ++ (listed w16 block_bytes instances ++ (listed w16 (to_be_bytes w16) breaks ++ listed w16 force_bytes forces))
 
 abbrev pub snapshot_bytes : SavedController → List ℕ
 snapshot_bytes s =
-    to_be_bytes w64 s.count ++ (to_be_bytes w64 s.moment ++ (
+    counted w32 s.image ++ (to_be_bytes w64 s.count ++ (to_be_bytes w64 s.moment ++ (
     scan_bytes s.phase s.position s.cr s.deferred ++ (
     areas_bytes s.input s.output s.memory ++
-    tables_bytes s.variables s.instances s.breaks s.forces)))
+    tables_bytes s.variables s.instances s.breaks s.forces))))
 
 -- ---- which snapshots have a spelling
 
@@ -101,7 +106,8 @@ IsBlock b = length b.inputs ≡ input_count b.kind
 abbrev pub slot_code : ForcedSlot → ℕ
 slot_code f = f.slot.0
 
-pub record IsTables (variables : List Value) (instances : List SavedBlock) (breaks : List ℕ) (forces : List ForcedSlot) : Type 0 where
+pub record IsTables (variables : List Value) (instances : List SavedBlock) (breaks : List ℕ)
+    (forces : List ForcedSlot) : Type 0 where
   pub variables_short : length variables < 2 ^ 16
   pub instances_short : length instances < 2 ^ 16
   pub blocks : AllByRecursion IsBlock instances
@@ -111,6 +117,7 @@ pub record IsTables (variables : List Value) (instances : List SavedBlock) (brea
   pub forces_rise : rises_from 0 (map slot_code forces) ≡ true
 
 pub record IsSnapshot (s : SavedController) : Type 0 where
+  pub image : length s.image < 2 ^ 32
   pub scan : IsScan s.phase s.position s.cr s.deferred
   pub tables : IsTables s.variables s.instances s.breaks s.forces
 

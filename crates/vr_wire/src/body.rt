@@ -3,9 +3,12 @@
 ghost use Rattle.std.specs.Int.{w64, to_be_bytes};
 ghost use Rattle.std.specs.Prelude.{◌≡◌, ◌<◌, ◌^◌, ◌++◌, OnOk, false};
 ghost use Rattle.vr_model.specs.declared.message.Body.TheVariants as says;
-ghost use Rattle.vr_wire.specs.Frames.{log_tag, state_checkpoint, state_mark, body_tag, body_fields, state_bytes, IsState, IsBody, FitsState, FitsBody};
+ghost use Rattle.vr_wire.specs.Frames.{log_tag, state_checkpoint, state_mark, body_tag, body_fields, state_bytes};
+ghost use Rattle.vr_wire.specs.Frames.{IsState, IsBody, FitsState, FitsBody};
 ghost use Rattle.vr_wire.specs.Logs.{IsLog};
-ghost use Rattle.vr_wire.specs.MessageReading.{request_at, numbers_at, primary_state_at, state_at, prepare_at, reply_at, do_view_change_at, start_view_at, recovery_response_at, new_state_at, body_at};
+ghost use Rattle.vr_wire.specs.MessageReading.{request_at, numbers_at, primary_state_at, state_at, prepare_at};
+ghost use Rattle.vr_wire.specs.MessageReading.{reply_at, do_view_change_at, start_view_at, recovery_response_at};
+ghost use Rattle.vr_wire.specs.MessageReading.{new_state_at, body_at};
 ghost use Rattle.vr_wire.specs.Reading.{Gives, closed, number_at, fields_1};
 
 use crate::answer::{answer_at, put_answer};
@@ -71,7 +74,8 @@ fn put_prepare(
     op_number: u64,
     commit_number: u64,
 ) -> Result<(), AllocError>
-    ensures text { OnOk result (out.new.items ≡ out.old.items ++ body_fields (says.Prepare view request.now op_number commit_number)) }
+    ensures text { OnOk result
+        (out.new.items ≡ out.old.items ++ body_fields (says.Prepare view request.now op_number commit_number)) }
     ensures fits { OnOk result (FitsBody (says.Prepare view request.now op_number commit_number)) }
 {
     put_u64(out, view)?;
@@ -97,7 +101,8 @@ fn put_numbers_and_log(
     log: &Log,
 ) -> Result<(), AllocError>
     requires { IsLog log.now }
-    ensures text { OnOk result (out.new.items ≡ out.old.items ++ body_fields (says.NewState first second commit_number log.now)) }
+    ensures text { OnOk result
+        (out.new.items ≡ out.old.items ++ body_fields (says.NewState first second commit_number log.now)) }
     ensures fits { OnOk result (FitsBody (says.NewState first second commit_number log.now)) }
 {
     put_u64(out, first)?;
@@ -113,7 +118,8 @@ fn put_start_view(
     log: &Log,
 ) -> Result<(), AllocError>
     requires { IsLog log.now }
-    ensures text { OnOk result (out.new.items ≡ out.old.items ++ body_fields (says.StartView view commit_number log.now)) }
+    ensures text { OnOk result
+        (out.new.items ≡ out.old.items ++ body_fields (says.StartView view commit_number log.now)) }
     ensures fits { OnOk result (FitsBody (says.StartView view commit_number log.now)) }
 {
     put_u64(out, view)?;
@@ -153,7 +159,8 @@ fn put_recovery_response(
     state: &Option<PrimaryState>,
 ) -> Result<(), AllocError>
     requires { IsState state.now }
-    ensures text { OnOk result (out.new.items ≡ out.old.items ++ (to_be_bytes w64 view ++ (to_be_bytes w64 nonce ++ state_bytes state.now))) }
+    ensures text { OnOk result
+        (out.new.items ≡ out.old.items ++ (to_be_bytes w64 view ++ (to_be_bytes w64 nonce ++ state_bytes state.now))) }
     ensures fits { OnOk result ((view < 2 ^ 64) × (nonce < 2 ^ 64) × FitsState state.now) }
 {
     put_u64(out, view)?;
@@ -262,19 +269,19 @@ fn whole_numbers(bytes: &[u8]) -> Result<(u64, u64), ReadError>
     Ok((first, second))
 }
 
-fn whole_request(bytes: &[u8]) -> Result<Body, ReadError>
+fn whole_request(alloc: Global, bytes: &[u8]) -> Result<Body, ReadError>
     ensures { Gives (λ body. body) result (closed (fields_1 says.Request request_at) bytes.now) }
 {
-    let (request, rest) = request_at(bytes)?;
+    let (request, rest) = request_at(alloc, bytes)?;
     ended(rest)?;
     Ok(Body::Request(request))
 }
 
-fn whole_prepare(bytes: &[u8]) -> Result<Body, ReadError>
+fn whole_prepare(alloc: Global, bytes: &[u8]) -> Result<Body, ReadError>
     ensures { Gives (λ body. body) result (closed prepare_at bytes.now) }
 {
     let (view, rest) = u64_at(bytes)?;
-    let (request, rest) = request_at(rest)?;
+    let (request, rest) = request_at(alloc, rest)?;
     let (op_number, commit_number) = whole_numbers(rest)?;
     Ok(Body::Prepare {
         view,
@@ -367,8 +374,8 @@ fn whole_plain_body(alloc: Global, tag: u8, bytes: &[u8]) -> Result<Body, ReadEr
     ensures { Gives (λ body. body) result (closed (body_at tag) bytes.now) }
 {
     match tag {
-        1 => whole_request(bytes),
-        2 => whole_prepare(bytes),
+        1 => whole_request(alloc, bytes),
+        2 => whole_prepare(alloc, bytes),
         3 => {
             let (view, op_number) = whole_numbers(bytes)?;
             Ok(Body::PrepareOk { view, op_number })

@@ -8,7 +8,7 @@ ghost use Rattle.vr_wire.specs.Reading.{Gives, bits_at, word_at, items_at, cells
 
 use crate::fault::ReadError;
 use crate::numbers::{put_u16, u16_at};
-use il_model::Cells;
+use il_model::{BITS, Cells, WORDS};
 use std::alloc::AllocError;
 
 fn bit_number(bit: bool) -> u8
@@ -35,7 +35,7 @@ fn byte_of(bits: &[bool]) -> u8
 }
 
 fn put_bits(out: &mut Vec<u8>, bits: &[bool]) -> Result<(), AllocError>
-    requires { length bits.now ≡ 512 }
+    requires { length bits.now ≡ BITS }
     ensures { OnOk result (out.new.items ≡ out.old.items ++ packed 64 bits.now) }
 {
     let mut rest = bits;
@@ -65,26 +65,26 @@ pub(crate) fn put_cells(out: &mut Vec<u8>, cells: &Cells) -> Result<(), AllocErr
     put_words(out, &cells.words)
 }
 
-fn bits_at(bytes: &[u8]) -> Result<([bool; 512], &[u8]), ReadError>
+fn bits_at(bytes: &[u8]) -> Result<([bool; BITS], &[u8]), ReadError>
     ensures { Gives (λ x. (x.0, x.1.now)) result (bits_at bytes.now) }
 {
     if bytes.len() < 64 {
         return Err(ReadError::Malformed);
     }
     let (front, rest) = bytes.split_at(64);
-    let mut bits = [false; 512];
-    for n in 0..512 {
+    let mut bits = [false; BITS];
+    for n in 0..BITS {
         bits[n] = (front[n / 8] >> (n % 8)) % 2 == 1;
     }
     Ok((bits, rest))
 }
 
-fn words_at(bytes: &[u8]) -> Result<([i16; 64], &[u8]), ReadError>
+fn words_at(bytes: &[u8]) -> Result<([i16; WORDS], &[u8]), ReadError>
     ensures { Gives (λ x. (x.0, x.1.now)) result (items_at word_at 64 bytes.now) }
 {
-    let mut words = [0; 64];
+    let mut words = [0; WORDS];
     let mut rest = bytes;
-    for k in 0..64 {
+    for k in 0..WORDS {
         let (word, behind) = u16_at(rest)?;
         words[k] = word.cast_signed();
         rest = behind;

@@ -1,15 +1,18 @@
 //! Commands, both ways.
 
-ghost use Rattle.std.specs.Prelude.{◌≡◌, ◌++◌, OnOk, slice_get};
-ghost use Rattle.vr_wire.specs.Fields.{command_tag, command_fields, command_bytes, FitsCommand};
-ghost use Rattle.vr_wire.specs.Reading.{Gives, scan_at, force_at, command_at, command_readers, read_by, end_of};
+ghost use Rattle.std.specs.Prelude.{◌≡◌, ◌≤◌, ◌++◌, length, OnOk, slice_get};
+ghost use Rattle.std.specs.Int.{w16};
+ghost use Rattle.vr_wire.specs.Fields.{counted, command_tag, command_fields, command_bytes, FitsCommand};
+ghost use Rattle.vr_wire.specs.Reading.{Gives, number_at, counted_at, scan_at, force_at, change_at, command_at};
+ghost use Rattle.vr_wire.specs.Reading.{command_readers, read_by, end_of};
 
+use crate::bytes::taken;
 use crate::cells::{cells_at, cells_end, put_cells};
 use crate::fault::ReadError;
 use crate::numbers::{put_u8, put_u16, put_u64, u8_at, u16_at, u64_at};
-use crate::value::{put_slot, put_value, slot_at, value_at};
-use il_model::{Command, InImage};
-use std::alloc::AllocError;
+use crate::value::{lawful, put_slot, put_value, slot_at, value_at};
+use il_model::{Command, ImageBytes, InImage, MOST_IMAGE_BYTES};
+use std::alloc::{AllocError, Global};
 
 fn command_tag(command: &Command) -> u8
     ensures { result ≡ command_tag command.now }
@@ -25,7 +28,18 @@ fn command_tag(command: &Command) -> u8
         Command::ReadVar(_) => 7,
         Command::ReadCr => 8,
         Command::Reset => 9,
+        Command::Change(_) => 10,
     }
+}
+
+/// The image of a change, behind its length.
+fn put_image(out: &mut Vec<u8>, image: &ImageBytes) -> Result<(), AllocError>
+    ensures text { OnOk result (out.new.items ≡ out.old.items ++ counted w16 image.now) }
+    ensures fits { length image.now ≤ MOST_IMAGE_BYTES }
+{
+    let bytes = image.as_slice();
+    put_u16(out, bytes.len() as u16)?;
+    out.extend_from_slice(bytes)
 }
 
 fn put_fields(out: &mut Vec<u8>, command: &Command) -> Result<(), AllocError>
@@ -44,6 +58,7 @@ fn put_fields(out: &mut Vec<u8>, command: &Command) -> Result<(), AllocError>
         }
         Command::Unforce(slot) | Command::ReadVar(slot) => put_slot(out, *slot),
         Command::Step | Command::Continue | Command::ReadCr | Command::Reset => Ok(()),
+        Command::Change(image) => put_image(out, image),
     }
 }
 
@@ -72,7 +87,23 @@ fn force_at(bytes: &[u8]) -> Result<(Command, &[u8]), ReadError>
     Ok((Command::Force(slot, value), rest))
 }
 
-fn fields_at(tag: u8, bytes: &[u8]) -> Result<(Command, &[u8]), ReadError>
+/// Bytes behind their count.
+fn counted_at(bytes: &[u8]) -> Result<(&[u8], &[u8]), ReadError>
+    ensures { Gives (λ x. (x.0.now, x.1.now)) result (counted_at (number_at w16) bytes.now) }
+{
+    let (count, rest) = u16_at(bytes)?;
+    taken(usize::from(count), rest)
+}
+
+fn change_at(alloc: Global, bytes: &[u8]) -> Result<(Command, &[u8]), ReadError>
+    ensures { Gives (λ x. (x.0, x.1.now)) result (change_at bytes.now) }
+{
+    let (image, rest) = counted_at(bytes)?;
+    let image = lawful(ImageBytes::new(Vec::from_slice(alloc, image)?))?;
+    Ok((Command::Change(image), rest))
+}
+
+fn fields_at(alloc: Global, tag: u8, bytes: &[u8]) -> Result<(Command, &[u8]), ReadError>
     ensures { Gives (λ x. (x.0, x.1.now)) result (read_by (slice_get command_readers tag) bytes.now) }
 {
     match tag {
@@ -98,15 +129,26 @@ fn fields_at(tag: u8, bytes: &[u8]) -> Result<(Command, &[u8]), ReadError>
         }
         8 => Ok((Command::ReadCr, bytes)),
         9 => Ok((Command::Reset, bytes)),
+        10 => change_at(alloc, bytes),
         _ => Err(ReadError::Malformed),
     }
 }
 
-pub(crate) fn command_at(bytes: &[u8]) -> Result<(Command, &[u8]), ReadError>
+pub(crate) fn command_at(alloc: Global, bytes: &[u8]) -> Result<(Command, &[u8]), ReadError>
     ensures { Gives (λ x. (x.0, x.1.now)) result (command_at bytes.now) }
 {
     let (tag, rest) = u8_at(bytes)?;
-    fields_at(tag, rest)
+    fields_at(alloc, tag, rest)
+}
+
+fn change_end(bytes: &[u8]) -> Result<&[u8], ReadError>
+    ensures { Gives (λ rest. rest.now) result (end_of change_at bytes.now) }
+{
+    let (image, rest) = counted_at(bytes)?;
+    if image.len() > MOST_IMAGE_BYTES {
+        return Err(ReadError::Malformed);
+    }
+    Ok(rest)
 }
 
 fn fields_end(tag: u8, bytes: &[u8]) -> Result<&[u8], ReadError>
@@ -127,6 +169,7 @@ fn fields_end(tag: u8, bytes: &[u8]) -> Result<&[u8], ReadError>
             let (_forced, rest) = force_at(bytes)?;
             Ok(rest)
         }
+        10 => change_end(bytes),
         _ => Err(ReadError::Malformed),
     }
 }

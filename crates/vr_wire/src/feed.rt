@@ -17,7 +17,8 @@ fn frames_of<'a>(
     bytes: &'a [u8],
     out: &mut Vec<Message>,
 ) -> Result<(&'a [u8], Option<WireFault>), AllocError>
-    ensures ok { IfOk result (λ x. Took frames (Rest []) bytes.now (ending_of x.0.now x.1) out.old.items out.new.items) }
+    ensures ok { IfOk result
+        (λ x. Took frames (Rest []) bytes.now (ending_of x.0.now x.1) out.old.items out.new.items) }
     ensures grown { Begins out.old.items out.new.items }
 {
     let mut rest = bytes;
@@ -36,7 +37,8 @@ fn frames_of<'a>(
 
 /// Moves bytes from the front of a piece to what is held, until so many are held. What is left of the piece.
 fn fill<'a>(held: &mut Vec<u8>, size: usize, piece: &'a [u8]) -> Result<&'a [u8], AllocError>
-    ensures held { IfOk result (λ rest. held.new.items ≡ held.old.items ++ take (size - length held.old.items) piece.now) }
+    ensures held { IfOk result
+        (λ rest. held.new.items ≡ held.old.items ++ take (size - length held.old.items) piece.now) }
     ensures rest { IfOk result (λ rest. rest.now ≡ drop (size - length held.old.items) piece.now) }
     ensures err { OnErr result (held.new.items ≡ held.old.items) }
 {
@@ -68,7 +70,9 @@ fn go_on(
     out: &mut Vec<Message>,
 ) -> Result<Option<WireFault>, AllocError>
     requires { IsShort held.old.items }
-    ensures ok { IfOk result (λ fault. Took frames (Rest held.old.items) piece.now (ending_of held.new.items fault) out.old.items out.new.items) }
+    ensures ok { IfOk result
+        (λ fault. Took frames (Rest held.old.items) piece.now
+        (ending_of held.new.items fault) out.old.items out.new.items) }
     ensures err { OnErr result (Begins held.old.items held.new.items × Begins out.old.items out.new.items) }
 {
     let rest = fill_frame(held, piece)?;
@@ -93,7 +97,9 @@ fn taken(
     out: &mut Vec<Message>,
 ) -> Result<Option<WireFault>, AllocError>
     requires { IsShort held.old.items }
-    ensures ok { IfOk result (λ fault. Took frames (Rest held.old.items) piece.now (ending_of held.new.items fault) out.old.items out.new.items) }
+    ensures ok { IfOk result
+        (λ fault. Took frames (Rest held.old.items) piece.now
+        (ending_of held.new.items fault) out.old.items out.new.items) }
     ensures err { OnErr result (Begins held.old.items held.new.items × Begins out.old.items out.new.items) }
 {
     if !held.is_empty() {
@@ -134,8 +140,8 @@ impl Feed {
         }
     }
 
-    /// Takes the next piece of the stream, and adds each message that is whole now. A fault of the stream is answered for good. Want
-    /// of memory changes nothing: the same piece may be fed again.
+    /// Takes the next piece of the stream, and adds each message that is whole now. A fault of the stream is answered
+    /// for good. Want of memory changes nothing: the same piece may be fed again.
     ///
     /// A frame that lies in the piece is read there. Bytes of a frame that is cut are copied once, to what is held.
     pub fn feed(
@@ -167,8 +173,8 @@ impl Feed {
     }
 }
 
-/// That a stream of frames has its messages and its ending in whatever pieces it comes, and no others; that what was framed is found;
-/// and that no frame begins another.
+/// That a stream of frames has its messages and its ending in whatever pieces it comes, and no others; that what was
+/// framed is found; and that no frame begins another.
 pub fn any_pieces()
     ensures { IsOneStream frames }
 {}

@@ -17,13 +17,14 @@
 //!
 //! Only tested: nothing; `frames.rows` of `worked_bytes` cuts each stream at each byte. By its code alone: what bytes
 //! of strangers can ask for. Entries are judged whole before memory is asked for, so those of no message ask for none;
-//! those of a message ask once, at most 68 bytes for each of the body, since a command has its input image in place. A
-//! checkpoint's lists grow while they are read: at most ten bytes for each of theirs, and half a megabyte for the
-//! clients' answers.
+//! those of a message ask once, at most 68 bytes for each of the body, since a command has its input image in place,
+//! and once more for the image of each change. A checkpoint's lists grow while they are read: at most ten bytes for
+//! each of theirs, and half a megabyte for the clients' answers; its image is asked for once.
 #![tactic(auto)]
 
 mod answer;
 mod body;
+mod bytes;
 mod cells;
 mod command;
 mod fault;

@@ -3,7 +3,9 @@
 ghost use Rattle.std.specs.Prelude.{◌≡◌, ℕ, ◌<◌, ◌≤◌, ◌^◌, ◌↔◌, ◌++◌, [], IsTrue, OnOk, length, true};
 ghost use Rattle.std.specs.List.{flat_map, AllByRecursion};
 ghost use Rattle.vr_model.specs.Groups.{client_count};
-ghost use Rattle.vr_wire.specs.Logs.{client_bytes, with_answer, answered_from, clients_bytes, checkpoint_bytes, may_checkpoint_bytes, log_bytes, IsExecuted, IsCheckpoint, MayBeCheckpoint, IsLog, FitsClient, FitsExecuted, FitsCheckpoint, MayFit, FitsLog};
+ghost use Rattle.vr_wire.specs.Logs.{client_bytes, with_answer, answered_from, clients_bytes, checkpoint_bytes};
+ghost use Rattle.vr_wire.specs.Logs.{may_checkpoint_bytes, log_bytes, IsExecuted, IsCheckpoint, MayBeCheckpoint, IsLog};
+ghost use Rattle.vr_wire.specs.Logs.{FitsClient, FitsExecuted, FitsCheckpoint, MayFit, FitsLog};
 ghost use Rattle.vr_wire.specs.MessageReading.{client_answer_at, next_of, table_of, clients_at, checkpoint_at, log_at};
 ghost use Rattle.vr_wire.specs.Reading.{Gives, closed};
 
@@ -28,7 +30,8 @@ pub(crate) struct ClientAnswer {
 }
 
 fn put_client_answer(out: &mut Vec<u8>, client: u8, executed: &Executed) -> Result<(), AllocError>
-    ensures text { OnOk result (out.new.items ≡ out.old.items ++ client_bytes (record { client = client; executed = executed.now })) }
+    ensures text { OnOk result
+        (out.new.items ≡ out.old.items ++ client_bytes (record { client = client; executed = executed.now })) }
     ensures fits { OnOk result (FitsClient (record { client = client; executed = executed.now })) }
 {
     put_u8(out, client)?;
@@ -41,7 +44,8 @@ fn put_may_answer(
     client: u8,
     executed: &Option<Executed>,
 ) -> Result<(), AllocError>
-    ensures text { OnOk result (out.new.items ≡ out.old.items ++ flat_map client_bytes (with_answer client executed.now [])) }
+    ensures text { OnOk result
+        (out.new.items ≡ out.old.items ++ flat_map client_bytes (with_answer client executed.now [])) }
     ensures fits { OnOk result (FitsExecuted executed.now) }
 {
     match executed {

@@ -41,13 +41,13 @@ pub(crate) fn client_of(number: u8) -> Option<ClientNumber>
     ClientNumber::new(number)
 }
 
-pub(crate) fn request_at(bytes: &[u8]) -> Result<(Request, &[u8]), ReadError>
+pub(crate) fn request_at(alloc: Global, bytes: &[u8]) -> Result<(Request, &[u8]), ReadError>
     ensures { Gives (λ x. (x.0, x.1.now)) result (request_at bytes.now) }
 {
     let (code, rest) = u8_at(bytes)?;
     let client = lawful(client_of(code))?;
     let (number, rest) = u64_at(rest)?;
-    let (command, rest) = command_at(rest)?;
+    let (command, rest) = command_at(alloc, rest)?;
     let request = Request {
         client,
         number,
@@ -78,14 +78,14 @@ fn requests_end(count: u32, bytes: &[u8]) -> Result<&[u8], ReadError>
     Ok(rest)
 }
 
-/// So many requests, in a vector that is asked for once, for all of them.
+/// So many requests, in a vector that is asked for once, for all of them; each change asks for its bytes.
 fn requests_at(alloc: Global, count: u32, bytes: &[u8]) -> Result<(Vec<Request>, &[u8]), ReadError>
     ensures { Gives (λ x. (x.0.items, x.1.now)) result (items_at request_at count bytes.now) }
 {
     let mut requests = Vec::with_capacity(alloc, count as usize)?;
     let mut rest = bytes;
     for _ in 0..count {
-        let (request, behind) = request_at(rest)?;
+        let (request, behind) = request_at(alloc, rest)?;
         requests.push(request)?;
         rest = behind;
     }

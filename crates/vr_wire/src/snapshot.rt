@@ -1,22 +1,29 @@
 //! Snapshots of a controller, both ways.
 
 ghost use Rattle.std.specs.Prelude.{◌≡◌, ◌<◌, ◌≤◌, ◌^◌, ◌↔◌, ◌++◌, IsTrue, OnOk, length};
-ghost use Rattle.std.specs.Int.{w8, w64};
+ghost use Rattle.std.specs.Int.{w8, w32, w64};
 ghost use Rattle.std.specs.List.{AllByRecursion};
-ghost use Rattle.vr_wire.specs.Fields.{listed};
-ghost use Rattle.vr_wire.specs.Reading.{Gives, number_at, items_at};
-ghost use Rattle.vr_wire.specs.Snapshots.{phase_code, phase_stop, phase_performed, phase_bytes, result_bytes, deferred_bytes, scan_bytes, areas_bytes, block_bytes, force_bytes, tables_bytes, snapshot_bytes, rises_from, may_open, IsOpening, IsAtRest, IsScan, IsBlock, IsTables, IsSnapshot, FitsPhase, FitsResult, FitsDeferred, FitsScan, FitsAreas, FitsBlock, FitsForce, FitsTables, FitsSnapshot};
-ghost use Rattle.vr_wire.specs.SnapshotReading.{phase_of, placed_at, result_at, opening, truth_of, deferred_at, deferred_list_at, is_at_rest, scan_at, areas_at, block_at, force_at, breaks_at, slots_rise, forces_at, tables_at, snapshot_of, snapshot_at};
+ghost use Rattle.vr_wire.specs.Fields.{listed, counted};
+ghost use Rattle.vr_wire.specs.Reading.{Gives, number_at, items_at, counted_at};
+ghost use Rattle.vr_wire.specs.Snapshots.{phase_code, phase_stop, phase_performed, phase_bytes, result_bytes};
+ghost use Rattle.vr_wire.specs.Snapshots.{deferred_bytes, scan_bytes, areas_bytes, block_bytes, force_bytes};
+ghost use Rattle.vr_wire.specs.Snapshots.{tables_bytes, snapshot_bytes, rises_from, may_open, IsOpening, IsAtRest};
+ghost use Rattle.vr_wire.specs.Snapshots.{IsScan, IsBlock, IsTables, IsSnapshot, FitsPhase, FitsResult, FitsDeferred};
+ghost use Rattle.vr_wire.specs.Snapshots.{FitsScan, FitsAreas, FitsBlock, FitsForce, FitsTables, FitsSnapshot};
+ghost use Rattle.vr_wire.specs.SnapshotReading.{phase_of, placed_at, result_at, opening, truth_of, deferred_at};
+ghost use Rattle.vr_wire.specs.SnapshotReading.{deferred_list_at, is_at_rest, scan_at, areas_at, block_at, force_at};
+ghost use Rattle.vr_wire.specs.SnapshotReading.{breaks_at, slots_rise, forces_at, tables_at, snapshot_of, snapshot_at};
 
 use crate::answer::stop_of;
+use crate::bytes::taken;
 use crate::cells::{cells_at, put_cells};
 use crate::fault::ReadError;
 use crate::field::{Field, are_lawful, items_at, list_at, put_items, put_list};
 use crate::numbers::{put_u8, put_u16, put_u32, put_u64, u8_at, u16_at, u32_at, u64_at};
 use crate::value::{lawful, put_slot, put_value, slot_at, value_at};
-use il_model::codes::{letters_of, op_code, op_of};
 use il_model::{
     BlockKind, Cells, Deferred, ForcedSlot, Op, SavedInstance, SavedPhase, Snapshot, Value,
+    letters_of, op_code, op_of,
 };
 use std::alloc::{AllocError, Global};
 use std::marker::Model;
@@ -279,7 +286,8 @@ struct Areas {
 }
 
 fn areas_at(bytes: &[u8]) -> Result<(Areas, &[u8]), ReadError>
-    ensures { Gives (λ x. (record { input = x.0.input; output = x.0.output; memory = x.0.memory }, x.1.now)) result (areas_at bytes.now) }
+    ensures { Gives (λ x. (record { input = x.0.input; output = x.0.output; memory = x.0.memory }, x.1.now)) result
+        (areas_at bytes.now) }
 {
     let (input, rest) = cells_at(bytes)?;
     let (output, rest) = cells_at(rest)?;
@@ -372,7 +380,8 @@ fn put_tables(
     forces: &[ForcedSlot],
 ) -> Result<(), AllocError>
     requires { IsTables variables.now instances.now breaks.now forces.now }
-    ensures text { OnOk result (out.new.items ≡ out.old.items ++ tables_bytes variables.now instances.now breaks.now forces.now) }
+    ensures text { OnOk result
+        (out.new.items ≡ out.old.items ++ tables_bytes variables.now instances.now breaks.now forces.now) }
     ensures fits { OnOk result (FitsTables variables.now instances.now breaks.now forces.now) }
 {
     put_list(out, variables)?;
@@ -446,7 +455,12 @@ impl Model for Tables {
 
     ghost Value = { read.Tables };
 
-    ghost view = { λ t. record { variables = t.variables.items; instances = t.instances.items; breaks = t.breaks.items; forces = t.forces.items } };
+    ghost view = { λ t. record {
+      variables = t.variables.items;
+      instances = t.instances.items;
+      breaks = t.breaks.items;
+      forces = t.forces.items;
+    } };
 }
 
 fn breaks_at(alloc: Global, bytes: &[u8]) -> Result<(Vec<u16>, &[u8]), ReadError>
@@ -491,7 +505,8 @@ fn tables_at(alloc: Global, bytes: &[u8]) -> Result<(Tables, &[u8]), ReadError>
 pub(crate) fn is_snapshot(s: &Snapshot) -> bool
     ensures { IsTrue result ↔ IsSnapshot s.now }
 {
-    is_scan(s.phase, s.position, s.cr, s.deferred.as_slice())
+    s.image.len() < 4294967296
+        && is_scan(s.phase, s.position, s.cr, s.deferred.as_slice())
         && are_tables(
             s.variables.as_slice(),
             s.instances.as_slice(),
@@ -500,9 +515,22 @@ pub(crate) fn is_snapshot(s: &Snapshot) -> bool
         )
 }
 
+/// An image, behind its length.
+fn put_image(out: &mut Vec<u8>, image: &[u8]) -> Result<(), AllocError>
+    requires { length image.now < 2 ^ 32 }
+    ensures { OnOk result (out.new.items ≡ out.old.items ++ counted w32 image.now) }
+{
+    put_u32(out, image.len() as u32)?;
+    out.extend_from_slice(image)
+}
+
 fn put_content(out: &mut Vec<u8>, s: &Snapshot) -> Result<(), AllocError>
     requires { IsSnapshot s.now }
-    ensures text { OnOk result (out.new.items ≡ out.old.items ++ (scan_bytes s.now.phase s.now.position s.now.cr s.now.deferred ++ (areas_bytes s.now.input s.now.output s.now.memory ++ tables_bytes s.now.variables s.now.instances s.now.breaks s.now.forces))) }
+    ensures text { OnOk result
+        (out.new.items ≡ out.old.items
+        ++ (scan_bytes s.now.phase s.now.position s.now.cr s.now.deferred
+        ++ (areas_bytes s.now.input s.now.output s.now.memory
+        ++ tables_bytes s.now.variables s.now.instances s.now.breaks s.now.forces))) }
     ensures scan { OnOk result (FitsScan s.now.phase s.now.position s.now.cr s.now.deferred) }
     ensures areas { OnOk result (FitsAreas s.now.input s.now.output s.now.memory) }
     ensures tables { OnOk result (FitsTables s.now.variables s.now.instances s.now.breaks s.now.forces) }
@@ -523,15 +551,40 @@ pub(crate) fn put_snapshot(out: &mut Vec<u8>, s: &Snapshot) -> Result<(), AllocE
     ensures text { OnOk result (out.new.items ≡ out.old.items ++ snapshot_bytes s.now) }
     ensures fits { OnOk result (FitsSnapshot s.now) }
 {
+    put_image(out, s.image.as_slice())?;
     put_u64(out, s.count)?;
     put_u64(out, s.moment)?;
     put_content(out, s)
 }
 
-fn snapshot_of(count: u64, moment: u64, scan: OpenScan, areas: Areas, tables: Tables) -> Snapshot
-    ensures { result ≡ snapshot_of count moment scan (record { input = areas.input; output = areas.output; memory = areas.memory }) tables }
+/// Bytes behind their count.
+fn counted_at(bytes: &[u8]) -> Result<(&[u8], &[u8]), ReadError>
+    ensures { Gives (λ x. (x.0.now, x.1.now)) result (counted_at (number_at w32) bytes.now) }
+{
+    let (count, rest) = u32_at(bytes)?;
+    taken(count as usize, rest)
+}
+
+fn image_at(alloc: Global, bytes: &[u8]) -> Result<(Vec<u8>, &[u8]), ReadError>
+    ensures { Gives (λ x. (x.0.items, x.1.now)) result (counted_at (number_at w32) bytes.now) }
+{
+    let (image, rest) = counted_at(bytes)?;
+    Ok((Vec::from_slice(alloc, image)?, rest))
+}
+
+fn snapshot_of(
+    image: Vec<u8>,
+    count: u64,
+    moment: u64,
+    scan: OpenScan,
+    areas: Areas,
+    tables: Tables,
+) -> Snapshot
+    ensures { result ≡ snapshot_of image.items count moment scan
+        (record { input = areas.input; output = areas.output; memory = areas.memory }) tables }
 {
     Snapshot {
+        image,
         variables: tables.variables,
         instances: tables.instances,
         input: areas.input,
@@ -551,10 +604,12 @@ fn snapshot_of(count: u64, moment: u64, scan: OpenScan, areas: Areas, tables: Ta
 pub(crate) fn snapshot_at(alloc: Global, bytes: &[u8]) -> Result<(Snapshot, &[u8]), ReadError>
     ensures { Gives (λ x. (x.0, x.1.now)) result (snapshot_at bytes.now) }
 {
-    let (count, rest) = u64_at(bytes)?;
+    let (image, rest) = image_at(alloc, bytes)?;
+    let (count, rest) = u64_at(rest)?;
     let (moment, rest) = u64_at(rest)?;
     let (scan, rest) = scan_at(alloc, rest)?;
     let (areas, rest) = areas_at(rest)?;
     let (tables, rest) = tables_at(alloc, rest)?;
-    Ok((snapshot_of(count, moment, scan, areas, tables), rest))
+    let snapshot = snapshot_of(image, count, moment, scan, areas, tables);
+    Ok((snapshot, rest))
 }

@@ -27,7 +27,8 @@ pub record Reading : Type 0 where
 
 -- nothing was fed, or a piece was
 abbrev pub Goes : Ending WireFault → List ℕ → Ending WireFault → List Message → List Message → Type 0
-Goes before piece after out out' = ((piece ≡ []) × (after ≡ before) × (out' ≡ out)) ⊎ Took frames before piece after out out'
+Goes before piece after out out' = ((piece ≡ []) × (after ≡ before) × (out' ≡ out))
+    ⊎ Took frames before piece after out out'
 
 -- These bytes were read, behind those that were kept.
 pub record Filled (before after : Reading) (left left' : Option (List ℕ)) : Type 0 where

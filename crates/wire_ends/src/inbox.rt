@@ -77,7 +77,8 @@ impl Inbox {
 
     /// Reads once, and adds the messages that are whole now.
     pub fn read<R: Read>(&mut self, alloc: Global, reader: &mut R, out: &mut Vec<Message>) -> Flow
-        ensures reads { Reads self.old self.new (R.remaining reader.old) (R.remaining reader.new) out.old.items out.new.items }
+        ensures reads { Reads self.old self.new (R.remaining reader.old)
+            (R.remaining reader.new) out.old.items out.new.items }
         ensures broken { IsRest self.old.stream → (result ≡ Over → ⊥) → IsRest self.new.stream }
         ensures memory { result ≡ Kept → (self.new.stream ≡ self.old.stream) × (out.new.items ≡ out.old.items) }
     {

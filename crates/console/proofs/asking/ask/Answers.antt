@@ -1,3 +1,6 @@
+use Rattle.std.proofs.Common.{subst}
+use Rattle.il_model.specs.declared.command.Command.{Command}
+use Rattle.process_image.specs.Client.{SubmitsCommand}
 use Rattle.console.proofs.Waiting.{begins, hears, answers, asks_again}
 use Rattle.console.proofs.asking.ask.Goals as goal
 
@@ -5,7 +8,7 @@ pub loop-init : goal.loop-init
 loop-init g c = record {
   can_next = tt;
   finite = tt;
-  waits = begins _ _ _ _ _ _ c.in-Some.ensures.some c.send.ensures.took c.send.ensures.same;
+  waits = begins _ _ _ _ _ _ (subst (λ (x : Command). SubmitsCommand c.args.client.now x c.in-Some.request c.submit.new.self) c.in-Ok.ensures c.in-Some.ensures.some) c.send.ensures.took c.send.ensures.same;
 }
 
 pub returns-in-Some-3 : goal.returns-in-Some-3

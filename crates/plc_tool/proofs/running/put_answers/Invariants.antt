@@ -6,8 +6,6 @@ use Rattle.plc_tool.proofs.running.put_answers.Given as goal
 
 abbrev pub invariant-loop-named : goal.invariant-loop-named
 invariant-loop-named g l = record {
-  program : l.controller.program ≡ l.initial.controller.program;
-  budget : l.controller.budget ≡ l.initial.controller.budget;
   told : List ℕ;
   put : Puts g.W.CountedWrite told l.initial.out l.out (Ok tt);
   whole : told ++ lines_of (answers_by l.controller (drop l.named-index l.commands)) ≡ lines_of (answers_by l.initial.controller l.commands);

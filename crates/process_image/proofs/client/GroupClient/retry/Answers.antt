@@ -3,6 +3,7 @@ use Rattle.std.proofs.lemmas.List.{map-append}
 use Rattle.il_model.specs.declared.command.Command.{Command}
 use Rattle.il_model.specs.declared.command.Answer.{Answer}
 use Rattle.vr_model.specs.declared.message.Message.{Message}
+use Rattle.vr_model.specs.declared.message.Request as code
 use Rattle.vr_model.specs.Logs.{Request}
 use Rattle.vr_model.specs.Messages as meant
 use Rattle.vr_model.specs.StandsFor.{message_with, request_of}
@@ -22,7 +23,8 @@ loop-replica-preserved c =
     let before = rw (← c.self.view_is) at c.loop-replica.invariant in
     rw (← c.self.view_is)
     (λ f answer. sent_more f c.self.inside.client.number c.loop-replica.replica answer (request_of c.in-Some.request) c.loop-replica.sends.items c.push.new.self.items c.request_to.result
-    (before f answer) c.in_ok-push.ensures.items c.request_to.ensures)
+    (before f answer) c.in_ok-push.ensures.items
+    (subst (λ (m : code.Request). message_with [] c.request_to.result ≡ request_message f answer c.self.inside.client.number c.loop-replica.replica (request_of m)) c.in_ok-copy.ensures c.request_to.ensures))
 
 pub returns : goal.returns
 returns c =

@@ -1,0 +1,24 @@
+//! The command that goes on with the program of a text.
+
+ghost use Rattle.std.specs.Prelude.{IfOk, IfErr};
+ghost use Rattle.plc_tool.specs.Meaning.{IsChangeTo, IsFaultOfChange, OrMemory};
+
+use crate::answering::image_bytes;
+use crate::fault::Fault;
+use il_model::ImageBytes;
+use plc_json::change_text;
+use std::alloc::Global;
+
+/// The command that goes on with the program of a text, as a text of JSON; or the first fault. `Commands` is the fault
+/// of a good text whose image has more than `MOST_IMAGE_BYTES`.
+pub fn change_to(alloc: Global, text: &[u8]) -> Result<Vec<u8>, Fault>
+    // The image in it is that of the typed program that the text says.
+    ensures found { IfOk result (λ v. IsChangeTo text.now v.items) }
+    ensures refused { IfErr result (OrMemory (IsFaultOfChange text.now)) }
+{
+    let image = image_bytes(alloc, text)?;
+    let Some(bytes) = ImageBytes::new(image) else {
+        return Err(Fault::Commands);
+    };
+    Ok(change_text(alloc, &bytes)?)
+}
