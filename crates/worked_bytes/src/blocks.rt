@@ -1,7 +1,7 @@
 //! Function blocks: what calls come to, which words are a state, and the tables of kinds and fields.
 
 use crate::notation::{hexadecimal, lines_of, otherwise, unreadable};
-use function_blocks::block::Block;
+use function_blocks::Block;
 use il_model::{BlockKind, Field, Ty, Value};
 use std::alloc::Global;
 use std::{io, str};
@@ -16,7 +16,7 @@ fn value(field: Option<Field>, text: &str) -> Option<Value> {
         return Some(Value::Time(milliseconds.parse::<i32>().ok()?));
     }
     let number = text.parse::<i64>().ok()?;
-    il_model::value::make(field?.ty(), number)
+    il_model::make(field?.ty(), number)
 }
 
 /// The values of a call's inputs.

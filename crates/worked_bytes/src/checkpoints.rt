@@ -2,10 +2,9 @@
 //! the lines of the log.
 
 use crate::messages::{answer, client, slot, value};
-use crate::notation::{behind, cells_of, number_of, unreadable};
-use il_model::codes::op_of;
+use crate::notation::{behind, bytes_of, cells_of, number_of, unreadable};
 use il_model::{
-    BlockKind, Cells, Deferred, ForcedSlot, SavedInstance, SavedPhase, Snapshot, Stop, Value,
+    BlockKind, Cells, Deferred, ForcedSlot, SavedInstance, SavedPhase, Snapshot, Stop, Value, op_of,
 };
 use std::alloc::Global;
 use std::io;
@@ -37,6 +36,7 @@ fn phase(text: &str) -> Option<SavedPhase> {
 /// What a controller is before its first scan that has nothing.
 fn cold(alloc: Global) -> Snapshot {
     Snapshot {
+        image: Vec::new(alloc),
         variables: Vec::new(alloc),
         instances: Vec::new(alloc),
         input: Cells::clear(),
@@ -132,6 +132,7 @@ pub fn put(alloc: Global, checkpoint: &mut Checkpoint, line: &str) -> io::Result
     match name {
         "checkpoint" => checkpoint.base = number_of(rest, "base=").ok_or(unreadable())?,
         "client" => put_executed(checkpoint, rest).ok_or(unreadable())?,
+        "image" => snapshot.image = bytes_of(alloc, rest)?,
         "scan" => put_scan(snapshot, rest).ok_or(unreadable())?,
         "deferred" => snapshot.deferred.push(deferred(rest).ok_or(unreadable())?)?,
         "input" => snapshot.input = cells_of(rest)?,

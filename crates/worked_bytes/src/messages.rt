@@ -2,8 +2,11 @@
 //! request of its log, or for its answer; before the requests the lines of a checkpoint, if it has one.
 
 use crate::checkpoints;
-use crate::notation::{behind, cells_of, hexadecimal, number_of, unreadable};
-use il_model::{Answer, Command, InImage, Literal, OutImage, Refusal, Slot, Stop, Value, written};
+use crate::notation::{behind, bytes_of, cells_of, hexadecimal, number_of, unreadable};
+use il_model::{
+    Answer, Command, ImageBytes, InImage, Literal, OutImage, Refusal, Slot, Stop, Value,
+    literal_from,
+};
 use std::alloc::Global;
 use std::io;
 use vr_model::{Body, ClientNumber, Log, Message, Party, PrimaryState, Request};
@@ -21,7 +24,7 @@ fn party(text: &str) -> Option<Party> {
 }
 
 pub fn value(text: &str) -> Option<Value> {
-    match written::literal(text.as_bytes())? {
+    match literal_from(text.as_bytes())? {
         Literal::Typed(value) => Some(value),
         Literal::Bare(_) => None,
     }
@@ -33,7 +36,7 @@ pub fn slot(text: &str) -> Option<Slot> {
 
 /// A command: its name, and behind it a position in decimals, a slot in hexadecimal, or the cells and the moment of a
 /// scan.
-fn command(text: &str) -> Option<Command> {
+fn command(alloc: Global, text: &str) -> Option<Command> {
     let (name, rest) = text.split_once(' ').unwrap_or((text, ""));
     Some(match name {
         "scan" => Command::Scan {
@@ -54,18 +57,19 @@ fn command(text: &str) -> Option<Command> {
         "read" => Command::ReadVar(slot(rest)?),
         "cr" => Command::ReadCr,
         "reset" => Command::Reset,
+        "change" => Command::Change(ImageBytes::new(bytes_of(alloc, rest).ok()?)?),
         _ => return None,
     })
 }
 
 /// A request, as `C3 1 step`.
-fn request(text: &str) -> Option<Request> {
+fn request(alloc: Global, text: &str) -> Option<Request> {
     let (who, rest) = text.split_once(' ')?;
     let (number, asked) = rest.split_once(' ')?;
     Some(Request {
         client: client(who)?,
         number: number.parse::<u64>().ok()?,
-        command: command(asked)?,
+        command: command(alloc, asked)?,
     })
 }
 
@@ -85,6 +89,8 @@ fn refusal(text: &str) -> Option<Refusal> {
         "3" => Some(Refusal::BadSlot),
         "4" => Some(Refusal::BadType),
         "5" => Some(Refusal::NoResult),
+        "6" => Some(Refusal::BadImage),
+        "7" => Some(Refusal::NotIdle),
         _ => None,
     }
 }
@@ -123,7 +129,7 @@ fn log(alloc: Global, lines: &[&str]) -> io::Result<Log> {
         if checkpoints::put(alloc, &mut checkpoint, line)? {
             is_behind = true;
         } else {
-            entries.push(request(line).ok_or(unreadable())?)?;
+            entries.push(request(alloc, line).ok_or(unreadable())?)?;
         }
     }
     if !is_behind {
@@ -133,15 +139,15 @@ fn log(alloc: Global, lines: &[&str]) -> io::Result<Log> {
 }
 
 /// What a message of the normal case says.
-fn body(head: &str, line: &str) -> Option<Body> {
+fn body(alloc: Global, head: &str, line: &str) -> Option<Body> {
     let view = number_of(head, "view=");
     let op_number = number_of(head, "op=");
     let commit_number = number_of(head, "commit=");
     Some(match head.split_once(' ')?.0 {
-        "REQUEST" => Body::Request(request(line)?),
+        "REQUEST" => Body::Request(request(alloc, line)?),
         "PREPARE" => Body::Prepare {
             view: view?,
-            request: request(line)?,
+            request: request(alloc, line)?,
             op_number: op_number?,
             commit_number: commit_number?,
         },
@@ -210,7 +216,7 @@ pub fn message(alloc: Global, lines: &[&str]) -> io::Result<Message> {
     let from = behind(head, "from=").and_then(party).ok_or(unreadable())?;
     let to = behind(head, "to=").and_then(party).ok_or(unreadable())?;
     let line = others.first().copied().unwrap_or("");
-    let body = match body(head, line) {
+    let body = match body(alloc, head, line) {
         Some(body) => body,
         None => body_with_log(head, log(alloc, others)?).ok_or(unreadable())?,
     };

@@ -94,7 +94,7 @@ pub fn number_of(text: &str, name: &str) -> Option<u64> {
 /// Puts a cell as a row writes it: `%QX0.0`, which is TRUE, or `%QW0=-2`.
 fn put_cell(cells: &mut Cells, word: &str) -> Option<()> {
     let (place, number) = word.split_once('=').unwrap_or((word, "1"));
-    match il_model::location::location(place.as_bytes())? {
+    match il_model::location_from(place.as_bytes())? {
         Loc::Bit(_, bit) => *cells.bits.get_mut(usize::from(bit))? = true,
         Loc::Word(_, place) => {
             *cells.words.get_mut(usize::from(place))? = number.parse::<i16>().ok()?;

@@ -14,6 +14,8 @@ use vr_model::{Body, ClientNumber, Event, Log, Message, Party, PrimaryState, Req
 enum Carries {
     /// A checkpoint alone, of a controller of this program after so many scans.
     Checkpoint(&'static [u8], u64),
+    /// The same of WIRE, with an image that lacks its last byte.
+    Spoilt(u64),
     /// The scans from this number to that one.
     Scans(u64, u64),
 }
@@ -47,7 +49,7 @@ enum Happens {
     Restart,
 }
 
-use Carries::{Checkpoint, Scans};
+use Carries::{Checkpoint, Scans, Spoilt};
 use Happens::{Crash, Hears, Restart, Submits, Timeout};
 
 /// An event, and how many messages it sends, or its fault. Then: its commit number, and which scans its log still has.
@@ -155,9 +157,18 @@ fn log_after(alloc: Global, program: &[u8], scans: u64) -> Result<Log, Fail> {
     new_node(alloc, 0, 1, program)?.log_after(alloc, scans)
 }
 
+/// A log of this checkpoint alone, with an image that lacks its last byte.
+fn spoilt(alloc: Global, log: &Log) -> Result<Log, Fail> {
+    let mut checkpoint = log.checkpoint().ok_or("no checkpoint")?.copy(alloc)?;
+    let _ = checkpoint.snapshot.image.pop();
+    let spoilt = Log::past(Box::new(alloc, checkpoint)?, Vec::new(alloc));
+    Ok(spoilt.ok_or("no log")?)
+}
+
 fn log(alloc: Global, carries: Carries) -> Result<Log, Fail> {
     match carries {
         Checkpoint(program, scans) => log_after(alloc, program, scans),
+        Spoilt(scans) => spoilt(alloc, &log_after(alloc, WIRE, scans)?),
         Scans(first, last) => {
             let mut entries = Vec::new(alloc);
             for number in first..=last {
@@ -382,6 +393,17 @@ fn a_view_begins_with_a_checkpoint(rt: HostRuntime) -> Result<(), Fail> {
     wants(&rt, rt.alloc(), 2, 0, &rows)
 }
 
+#[test]
+fn a_checkpoint_of_another_program_is_one_after_a_change(rt: HostRuntime) -> Result<(), Fail> {
+    let rows: [Row; 1] = [(
+        Hears(1, Says::StartView(1, Checkpoint(COUNTING, 1))),
+        Ok(0),
+        1,
+        &[],
+    )];
+    wants(&rt, rt.alloc(), 2, 0, &rows)
+}
+
 /// Wants this STARTVIEW to send nothing, and replica 2 still to be in view 0, with nothing executed.
 fn is_dropped(rt: &impl Abort, alloc: Global, start: Says) -> Result<(), Fail> {
     let rows: [Row; 2] = [
@@ -393,8 +415,8 @@ fn is_dropped(rt: &impl Abort, alloc: Global, start: Says) -> Result<(), Fail> {
 
 #[test]
 fn checkpoints_that_stand_for_nothing_are_dropped(rt: HostRuntime) -> Result<(), Fail> {
-    // one of another program, and one above its commit number
-    is_dropped(&rt, rt.alloc(), Says::StartView(1, Checkpoint(COUNTING, 1)))?;
+    // one whose image is none, and one above its commit number
+    is_dropped(&rt, rt.alloc(), Says::StartView(1, Spoilt(1)))?;
     is_dropped(&rt, rt.alloc(), Says::StartView(0, Checkpoint(WIRE, 1)))
 }
 

@@ -9,17 +9,22 @@ use std::process::Abort;
 use std::test::Fail;
 
 /// Wants a controller of these bytes, and these answers of it, one after another.
-fn runs(rt: &impl Abort, controller: &mut Controller, bytes: &[u8], rows: &[Row]) {
+fn runs(
+    rt: &impl Abort,
+    alloc: Global,
+    controller: &mut Controller,
+    bytes: &[u8],
+    rows: &[Row],
+) -> Result<(), Fail> {
     assert_eq!(rt; controller.image().bytes(), bytes);
-    answers(rt, controller, rows);
+    answers(rt, alloc, controller, rows)
 }
 
 /// Wants these of a controller that never ran.
 fn wants(rt: &impl Abort, alloc: Global, bytes: &[u8], rows: &[Row]) -> Result<(), Fail> {
     let budget = Budget::new(10_000).ok_or("no budget")?;
     let mut controller = Controller::new(alloc, image(alloc, bytes)?, budget)?;
-    runs(rt, &mut controller, bytes, rows);
-    Ok(())
+    runs(rt, alloc, &mut controller, bytes, rows)
 }
 
 /// A scan with this `%IX0.0`; all else is FALSE and 0.

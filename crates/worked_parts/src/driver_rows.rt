@@ -48,16 +48,16 @@ fn requests(
     to: &[u8],
     number: u64,
 ) -> Result<Vec<Asked>, AllocError> {
-    let request = Request {
-        client,
-        number,
-        command: Command::Scan {
-            inputs: inputs(),
-            moment: MOMENT,
-        },
-    };
     let mut requests = Vec::new(alloc);
     for replica in to {
+        let request = Request {
+            client,
+            number,
+            command: Command::Scan {
+                inputs: inputs(),
+                moment: MOMENT,
+            },
+        };
         requests.push((Party::Client(client), Party::Replica(*replica), request))?;
     }
     Ok(requests)
@@ -70,7 +70,7 @@ fn asked(alloc: Global, sends: &[Message]) -> Result<Vec<Asked>, Fail> {
         let Body::Request(request) = &message.body else {
             return Err(Fail::from("no request"));
         };
-        asked.push((message.from, message.to, *request))?;
+        asked.push((message.from, message.to, request.copy(alloc)?))?;
     }
     Ok(asked)
 }

@@ -137,10 +137,10 @@ impl Group {
     }
 
     /// Wants each replica to be normal, with the scan executed; its log has this at first, and nothing more.
-    fn is_at_one(&self, rt: &impl Abort, first: Option<Request>) {
+    fn is_at_one(&self, rt: &impl Abort, first: Option<&Request>) {
         for replica in &self.replicas {
             assert_eq!(rt; (replica.is_normal(), replica.commit()), (true, 1));
-            let entries = (replica.entry(0).copied(), replica.entry(1).copied());
+            let entries = (replica.entry(0), replica.entry(1));
             assert_eq!(rt; entries, (first, None));
         }
     }
@@ -163,7 +163,7 @@ fn wants(
     rows: &[Row],
     replies: &[(usize, u8, u64)],
 ) -> Result<(), Fail> {
-    wants_of(rt, alloc, 0, Some(scan()?), rows, replies)?;
+    wants_of(rt, alloc, 0, Some(&scan()?), rows, replies)?;
     wants_of(rt, alloc, 1, None, rows, replies)
 }
 
@@ -173,7 +173,7 @@ fn wants_of(
     rt: &impl Abort,
     alloc: Global,
     every: u16,
-    first: Option<Request>,
+    first: Option<&Request>,
     rows: &[Row],
     replies: &[(usize, u8, u64)],
 ) -> Result<(), Fail> {

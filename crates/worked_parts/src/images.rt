@@ -27,6 +27,10 @@ pub const NAMES: &[u8] =
 pub const COUNTING: &[u8] =
     b"ILPC\0\x01\0\0\0\x01\0\0\0\x01\0\x05\x01C\x05\x01\0\0\0\x02\x15\0\0\0\x1a\0\0\0\x1a\x02\x80\0\x1b\x04\x14\0\x1b\x03\x10\0";
 
+/// `VAR T1 : TON; C : CTU; END_VAR`, `CAL C(CU := %IX0.0, PV := INT#3, CV => %QW0, Q => %QX0.0)`.
+pub const COUNTING_TO_THREE: &[u8] =
+    b"ILPC\0\x01\0\0\0\x02\0\0\0\x01\0\x05\x02T1\x09\x01C\x05\x01\0\0\0\x03\x15\0\0\x01\x1a\0\0\0\x1a\x02\x80\0\x1b\x04\x14\0\x1b\x03\x10\0";
+
 /// `VAR T1 : TON; END_VAR`, `CAL T1(IN := %IX0.0, PT := T#2s, Q => %QX0.0)`.
 pub const TIMING: &[u8] =
     b"ILPC\0\x01\0\0\0\x01\0\0\0\x01\0\x04\x02T1\x09\x03\0\0\x07\xd0\x15\0\0\0\x1a\0\0\0\x1a\x01\x80\0\x1b\x02\x10\0";

@@ -1,7 +1,7 @@
 //! Staged writes and released images: what no contract says of them.
 ghost use Rattle.std.specs.Prelude.{◌≡◌};
 
-use il_model::cells::{Cells, InImage, OutImage};
+use il_model::{Cells, InImage, OutImage};
 use process_image::{
     Naming, NewList, Pen, PublishError, Release, ReleasedReader, ReleasedWriter, Sample, Stage,
     StageBook, StageError, Staging, Ticket, View, released,

@@ -58,8 +58,8 @@ impl ViewStore for Store {
     }
 }
 
-/// What a message says; a log goes by its length: its requests are those of client 0, numbered from 1. What NEWSTATE carries begins
-/// after its op number.
+/// What a message says; a log goes by its length: its requests are those of client 0, numbered from 1. What NEWSTATE
+/// carries begins after its op number.
 #[derive(Clone, Copy, Debug, PartialEq, Eq)]
 pub enum Says {
     Request(u64),
@@ -334,7 +334,8 @@ impl Node<'_> {
     }
 }
 
-/// Wants these of the replica of this number, one after another. It is new, or down with a store that keeps what it is told here.
+/// Wants these of the replica of this number, one after another. It is new, or down with a store that keeps what it is
+/// told here.
 fn wants(
     rt: &impl Abort,
     alloc: Global,

@@ -1,11 +1,13 @@
 //! Controllers that are saved after some commands, and what they answer to others once they are restored.
 
+use crate::images::{COUNTING, COUNTING_TO_THREE, WIRE, image};
 use crate::saved::{
     NOT_HELD, Row, Saved, answers, counted, counting, divided, doubled, doubling, held, idle,
-    one_divided, outputs, parentheses, restored, restored_answers, run_before, scan, snapshot,
-    stopped, timing,
+    one_divided, outputs, parentheses, refused, restored, restored_answers, run_before, scan,
+    snapshot, stopped, timing,
 };
-use il_model::{Answer, Command, Slot, Snapshot, Stop, Value};
+use debugger::{Controller, SnapError};
+use il_model::{Answer, Budget, Command, ImageBytes, Slot, Snapshot, Stop, Value};
 use std::alloc::Global;
 use std::process::Abort;
 use std::test::Fail;
@@ -14,7 +16,7 @@ use std::test::Fail;
 fn comes_back(rt: &impl Abort, alloc: Global, given: Saved, rows: &[Row]) -> Result<(), Fail> {
     let mut one = run_before(rt, alloc, given)?;
     let snapshot = one.save(alloc)?;
-    answers(rt, &mut one, rows);
+    answers(rt, alloc, &mut one, rows)?;
     restored_answers(rt, alloc, given.bytes, given.instructions, &snapshot, rows)
 }
 
@@ -30,17 +32,22 @@ fn comes_back_within(
     restored_answers(rt, alloc, given.bytes, instructions, &snapshot, rows)
 }
 
+/// The ET of TIMING's timer is read.
+fn elapsed(ms: i32) -> Row {
+    let slot = Slot(0x5003);
+    (Command::ReadVar(slot), Answer::Value(Value::Time(ms)))
+}
+
 #[test]
 fn an_idle_controller_is_restored(rt: HostRuntime) -> Result<(), Fail> {
-    let elapsed = Command::ReadVar(Slot(0x5003));
     let rows: [Row; 10] = [
-        (elapsed, Answer::Value(Value::Time(1500))),
+        elapsed(1500),
         (Command::Step, NOT_HELD),
         (Command::ReadCr, NOT_HELD),
         // The breakpoint, the count, the force, and the moment, which doesn't go back.
         (scan(true, 0), Answer::Held(0)),
         (Command::Continue, outputs(3, false, true, 0)),
-        (elapsed, Answer::Value(Value::Time(1500))),
+        elapsed(1500),
         (Command::ClearBreak(0), Answer::Done),
         (scan(true, 3000), outputs(4, true, true, 0)),
         (Command::Reset, Answer::Done),
@@ -102,10 +109,7 @@ fn a_held_scan_keeps_its_moment(rt: HostRuntime) -> Result<(), Fail> {
     ];
     let rows: [Row; 2] = [
         (Command::Continue, outputs(3, false, true, 0)),
-        (
-            Command::ReadVar(Slot(0x5003)),
-            Answer::Value(Value::Time(1800)),
-        ),
+        elapsed(1800),
     ];
     comes_back(&rt, rt.alloc(), timing(&before), &rows)
 }
@@ -158,12 +162,13 @@ fn have_same_instances(a: &Snapshot, b: &Snapshot) -> bool {
         })
 }
 
-/// Whether two snapshots stand at the same place of the same scan.
+/// Whether two snapshots stand at the same place of the same scan of the same program.
 fn stand_the_same(a: &Snapshot, b: &Snapshot) -> bool {
     (a.cr, a.position, a.phase) == (b.cr, b.position, b.phase)
         && (a.count, a.moment) == (b.count, b.moment)
         && a.deferred.as_slice() == b.deferred.as_slice()
         && a.breaks.as_slice() == b.breaks.as_slice()
+        && a.image.as_slice() == b.image.as_slice()
 }
 
 /// Whether two snapshots have the same values, and the same forces.
@@ -180,16 +185,33 @@ fn same(rt: &impl Abort, a: &Snapshot, b: &Snapshot) {
     assert!(rt; have_same_values(a, b));
 }
 
-/// What the controller saves that a snapshot is restored to.
-fn saved_again(alloc: Global, given: Saved, snapshot: &Snapshot) -> Result<Snapshot, Fail> {
-    Ok(restored(alloc, given.bytes, given.instructions, snapshot)?.save(alloc)?)
+/// What the controller saves that a snapshot is restored to, the second in place of an earlier snapshot.
+fn saved_again(
+    alloc: Global,
+    given: Saved,
+    snapshot: &Snapshot,
+    mut earlier: Snapshot,
+) -> Result<(Snapshot, Snapshot), Fail> {
+    let controller = restored(alloc, given.bytes, given.instructions, snapshot)?;
+    controller.save_over(alloc, &mut earlier)?;
+    Ok((controller.save(alloc)?, earlier))
+}
+
+/// The snapshot of a controller that never ran.
+fn cold(alloc: Global, bytes: &[u8]) -> Result<Snapshot, Fail> {
+    let budget = Budget::new(10).ok_or("no budget")?;
+    Ok(Controller::new(alloc, image(alloc, bytes)?, budget)?.save(alloc)?)
 }
 
 /// Wants the copy of a snapshot, and what the restored controller saves, to be the same.
 fn is_saved_again(rt: &impl Abort, alloc: Global, given: Saved) -> Result<(), Fail> {
     let snapshot = snapshot(rt, alloc, given)?;
     same(rt, &snapshot.copy(alloc)?, &snapshot);
-    same(rt, &saved_again(alloc, given, &snapshot)?, &snapshot);
+    for earlier in [cold(alloc, given.bytes)?, cold(alloc, WIRE)?] {
+        let (again, over) = saved_again(alloc, given, &snapshot, earlier)?;
+        same(rt, &again, &snapshot);
+        same(rt, &over, &snapshot);
+    }
     Ok(())
 }
 
@@ -197,4 +219,26 @@ fn is_saved_again(rt: &impl Abort, alloc: Global, given: Saved) -> Result<(), Fa
 fn a_copy_of_a_snapshot_is_equal(rt: HostRuntime) -> Result<(), Fail> {
     is_saved_again(&rt, rt.alloc(), counting(&counted()))?;
     is_saved_again(&rt, rt.alloc(), parentheses(&held()))
+}
+
+/// COUNTING after a count of 1 and a change to a count of 3, which begins with a timer.
+fn changed(alloc: Global) -> Result<[Row; 2], Fail> {
+    let bytes = Vec::from_slice(alloc, COUNTING_TO_THREE)?;
+    let change = Command::Change(ImageBytes::new(bytes).ok_or("too long")?);
+    let [count] = counted();
+    Ok([count, (change, Answer::Done)])
+}
+
+#[test]
+fn a_snapshot_after_a_change_has_the_new_program(rt: HostRuntime) -> Result<(), Fail> {
+    let before = changed(rt.alloc())?;
+    let snapshot = snapshot(&rt, rt.alloc(), counting(&before))?;
+    let with_the_first = refused(rt.alloc(), COUNTING, 10, &snapshot)?;
+    assert_eq!(rt; with_the_first, Some(SnapError::BadShape));
+    let rows: [Row; 3] = [
+        (scan(true, 0), outputs(2, false, false, 1)),
+        (scan(false, 0), outputs(3, false, false, 1)),
+        (scan(true, 0), outputs(4, false, false, 2)),
+    ];
+    restored_answers(&rt, rt.alloc(), COUNTING_TO_THREE, 10, &snapshot, &rows)
 }

@@ -1,7 +1,7 @@
 //! Controllers that ran for some commands, to be saved.
 
 use crate::images::{COUNTING, DOUBLED, ONE_DIVIDED, PARENTHESES, TIMING, image};
-use debugger::{Controller, SnapError};
+use debugger::{Controller, SnapError, prepare};
 use il_model::{Answer, Budget, Command, InImage, OutImage, Refusal, Slot, Snapshot, Stop, Value};
 use std::alloc::Global;
 use std::process::Abort;
@@ -19,17 +19,24 @@ pub struct Saved<'a> {
 }
 
 /// Wants these answers of a controller, one after another.
-pub fn answers(rt: &impl Abort, controller: &mut Controller, rows: &[Row]) {
+pub fn answers(
+    rt: &impl Abort,
+    alloc: Global,
+    controller: &mut Controller,
+    rows: &[Row],
+) -> Result<(), Fail> {
     for (n, (command, answer)) in rows.iter().enumerate() {
-        assert_eq!(rt; controller.apply(command), *answer, "in row {n}");
+        let given = controller.apply_ready(prepare(alloc, command)?);
+        assert_eq!(rt; given, *answer, "in row {n}");
     }
+    Ok(())
 }
 
 /// The controller after its commands.
 pub fn run_before(rt: &impl Abort, alloc: Global, given: Saved) -> Result<Controller, Fail> {
     let budget = Budget::new(given.instructions).ok_or("no budget")?;
     let mut controller = Controller::new(alloc, image(alloc, given.bytes)?, budget)?;
-    answers(rt, &mut controller, given.before);
+    answers(rt, alloc, &mut controller, given.before)?;
     Ok(controller)
 }
 
@@ -83,8 +90,7 @@ pub fn restored_answers(
     rows: &[Row],
 ) -> Result<(), Fail> {
     let mut controller = restored(alloc, bytes, instructions, snapshot)?;
-    answers(rt, &mut controller, rows);
-    Ok(())
+    answers(rt, alloc, &mut controller, rows)
 }
 
 /// A scan at a moment with this `%IX0.0`; all else is FALSE and 0.

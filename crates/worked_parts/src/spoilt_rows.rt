@@ -26,6 +26,7 @@ struct Instance<'a> {
 #[derive(Clone, Copy)]
 enum Change<'a> {
     Nothing,
+    Image(&'a [u8]),
     Variables(&'a [Value]),
     NoInstances,
     Instance(Instance<'a>),
@@ -51,6 +52,7 @@ fn instances(alloc: Global, instance: Instance) -> Result<Vec<SavedInstance>, Al
 fn apply(alloc: Global, snapshot: &mut Snapshot, change: Change) -> Result<(), AllocError> {
     match change {
         Change::Nothing => {}
+        Change::Image(bytes) => snapshot.image = Vec::from_slice(alloc, bytes)?,
         Change::Variables(values) => snapshot.variables = Vec::from_slice(alloc, values)?,
         Change::NoInstances => snapshot.instances = Vec::new(alloc),
         Change::Instance(instance) => snapshot.instances = instances(alloc, instance)?,
@@ -101,21 +103,22 @@ fn refuses(rt: &impl Abort, alloc: Global, given: Saved, rows: &[Row]) -> Result
     Ok(())
 }
 
-/// Wants the snapshot of a LINT refused by the program in which it's a DINT.
-fn refused_as_dint(rt: &impl Abort, alloc: Global) -> Result<(), Fail> {
-    let snapshot = snapshot(rt, alloc, doubling(&[]))?;
-    assert_eq!(rt; refused(alloc, DOUBLED_DINT, 10, &snapshot)?, BAD_SHAPE);
+/// Wants a snapshot refused by another program, also where it begins with that one's image.
+fn refused_by(rt: &impl Abort, alloc: Global, given: Saved, bytes: &[u8]) -> Result<(), Fail> {
+    for change in [Change::Nothing, Change::Image(bytes)] {
+        let snapshot = spoilt(rt, alloc, given, change)?;
+        assert_eq!(rt; refused(alloc, bytes, 10, &snapshot)?, BAD_SHAPE);
+    }
     Ok(())
 }
 
 #[test]
 fn a_snapshot_of_another_program_is_refused(rt: HostRuntime) -> Result<(), Fail> {
-    let snapshot = snapshot(&rt, rt.alloc(), counting(&counted()))?;
     for bytes in [WIRE, NAMES, THREE_STORES] {
-        let refused = refused(rt.alloc(), bytes, 10, &snapshot)?;
-        assert_eq!(rt; refused, BAD_SHAPE);
+        refused_by(&rt, rt.alloc(), counting(&counted()), bytes)?;
     }
-    refused_as_dint(&rt, rt.alloc())
+    // A LINT is no DINT.
+    refused_by(&rt, rt.alloc(), doubling(&[]), DOUBLED_DINT)
 }
 
 /// An image with a budget of 10 that never ran.

@@ -8,8 +8,8 @@ use std::io;
 /// One scan on inputs that are all FALSE and 0.
 const ONE_SCAN: &[u8] = br#"[{"scan": {"ix": [], "iw": [], "moment": 0}}]"#;
 
-/// A text, the bytes of an image, files of commands and of a schedule, how many replicas may fail, and how many instructions
-/// a scan may perform.
+/// A text, the bytes of an image, files of commands and of a schedule, how many replicas may fail, and how many
+/// instructions a scan may perform.
 #[derive(Drop)]
 pub struct Given {
     pub text: Vec<u8>,
@@ -45,7 +45,8 @@ impl Given {
         })
     }
 
-    /// What the first cell of a table's line hands in, in a table of this title: a text where the title is of no other section.
+    /// What the first cell of a table's line hands in, in a table of this title: a text where the title is of no other
+    /// section.
     pub fn in_table(alloc: Global, title: &str, cell: &str) -> io::Result<Given> {
         let mut given = Given::new(alloc, "")?;
         if given.take(alloc, title, cell)? {

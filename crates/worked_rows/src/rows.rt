@@ -58,8 +58,8 @@ fn check_row(alloc: Global, row: &str, found: &mut Found) -> io::Result<()> {
     Ok(found.count(alloc, name, is_as_said && said > 0)?)
 }
 
-/// A table: behind its title a row a line, as `what is handed in | what comes out`, with ` / ` between two lines of either. Lines
-/// that begin with # are remarks.
+/// A table: behind its title a row a line, as `what is handed in | what comes out`, with ` / ` between two lines of
+/// either. Lines that begin with # are remarks.
 fn check_table(alloc: Global, table: &str, found: &mut Found) -> io::Result<()> {
     let (title, lines) = table.split_once('\n').unwrap_or((table, ""));
     for line in lines

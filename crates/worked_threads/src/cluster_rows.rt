@@ -2,8 +2,7 @@
 ghost use Rattle.std.specs.Prelude.{None};
 
 use crate::shelf::{Shelf, WIRE, group_of_three};
-use il_model::cells::InImage;
-use il_model::{Answer, Command};
+use il_model::{Answer, Command, InImage};
 use loader::{Image, load};
 use replicas::{
     ChannelLink, Clock, Cluster, Gate, Input, Link, MachineClock, Relink, Seat, Switchboard, Tick,

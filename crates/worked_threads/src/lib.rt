@@ -7,6 +7,8 @@ mod clients;
 #[cfg(test)]
 mod cluster_rows;
 #[cfg(test)]
+mod console_rows;
+#[cfg(test)]
 mod failing_rows;
 #[cfg(test)]
 mod falling;

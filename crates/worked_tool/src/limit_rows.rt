@@ -6,7 +6,8 @@ use std::alloc::{AllocError, Global};
 use std::process::Abort;
 use std::test::Fail;
 
-/// Parts of a text; `each` stands in the middle so many times, and each time its number of four digits stands behind it, and then `tail`.
+/// Parts of a text; `each` stands in the middle so many times, and each time its number of four digits stands behind
+/// it, and then `tail`.
 #[derive(Clone, Copy)]
 struct Parts<'a> {
     before: &'a [u8],

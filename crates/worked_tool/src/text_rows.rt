@@ -80,7 +80,8 @@ fn programs_need_no_types_to_be_read(rt: HostRuntime) {
     have_programs(&rt, rt.alloc(), &rows);
 }
 
-// Run with each allocation refused in turn, by `rt try --test --fail-alloc N`: want of memory or the program, and nothing else.
+// Run with each allocation refused in turn, by `rt try --test --fail-alloc N`: want of memory or the program, and
+// nothing else.
 #[test]
 fn memory_is_the_only_other_answer(rt: HostRuntime) {
     let text =

@@ -136,7 +136,11 @@ fn words_ask_for_a_form(rt: HostRuntime) -> Result<(), Fail> {
         port: 5021,
         commands: "b.json",
     };
-    let rows: [(&[&str], Words); 10] = [
+    let change = Words::Change {
+        port: 5021,
+        source: "a.il",
+    };
+    let rows: [(&[&str], Words); 11] = [
         (&["plc", "sim", "a.il", "b.json"], sim(1, 64)?),
         (
             &["plc", "sim", "a.il", "b.json", "--every", "0"],
@@ -156,6 +160,7 @@ fn words_ask_for_a_form(rt: HostRuntime) -> Result<(), Fail> {
         (&["plc", "asm", "a.il", "a.image"], asm),
         (&["plc", "list", "a.image"], list),
         (&["plc", "ask", "5021", "b.json"], ask),
+        (&["plc", "ask", "5021", "--change", "a.il"], change),
     ];
     ask_for(&rt, rt.alloc(), &rows);
     Ok(())
@@ -224,7 +229,7 @@ fn help_and_version_are_shown(rt: HostRuntime) -> Result<(), Fail> {
 
 #[test]
 fn other_words_are_bad(rt: HostRuntime) -> Result<(), Fail> {
-    let rows: [Row; 7] = [
+    let rows: [Row; 9] = [
         (&[], "Usage: plc <COMMAND>\n"),
         (&["walk"], "error: unrecognized subcommand 'walk'\n"),
         (
@@ -246,6 +251,14 @@ fn other_words_are_bad(rt: HostRuntime) -> Result<(), Fail> {
         (
             &["run", "a", "b", "--loud"],
             "error: unexpected argument '--loud' found\n",
+        ),
+        (
+            &["ask", "5021"],
+            "error: the following required arguments were not provided:\n  <COMMANDS>\n",
+        ),
+        (
+            &["ask", "5021", "b", "--change", "a"],
+            "error: the argument '[COMMANDS]' cannot be used with '--change <SOURCE>'\n",
         ),
     ];
     are_bad(&rt, rt.alloc(), &["plc"], &rows)

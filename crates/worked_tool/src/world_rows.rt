@@ -22,10 +22,9 @@ struct Schedule {
 }
 
 impl Schedule {
-    /// These events happen, and then these messages come, counted from the first that is sent here; so many are sent in all.
-    fn part(&mut self, events: &[WorldEvent], come: &[u64], sends: u64) -> Result<(), AllocError> {
-        self.events.extend_from_slice(events)?;
-        for place in come {
+    /// These messages come, counted from the first that is sent since the part before; so many are sent in all.
+    fn come(&mut self, places: &[u64], sends: u64) -> Result<(), AllocError> {
+        for place in places {
             let message = self.sent.saturating_add(*place);
             self.events.push(WorldEvent::Deliver { message })?;
         }
@@ -33,44 +32,40 @@ impl Schedule {
         Ok(())
     }
 
+    /// A replica hears nothing of its primary for too long, and these messages come.
+    fn timeout(&mut self, replica: u64, places: &[u64], sends: u64) -> Result<(), AllocError> {
+        self.events.push(WorldEvent::Timeout { replica })?;
+        self.come(places, sends)
+    }
+
+    /// A replica crashes and comes up again, and these messages come.
+    fn crash(&mut self, replica: u64, places: &[u64], sends: u64) -> Result<(), AllocError> {
+        self.events.push(WorldEvent::Crash { replica })?;
+        self.events.push(WorldEvent::Restart { replica, nonce: 1 })?;
+        self.come(places, sends)
+    }
+
     /// What happens before the scan of this number.
     fn before(&mut self, number: u64) -> Result<(), AllocError> {
         match number {
-            // STARTVIEWCHANGE, and that of replica 2; DOVIEWCHANGE; both STARTVIEWs, PREPAREOK, and the last reply once more
-            50 => self.part(
-                &[WorldEvent::Timeout { replica: 1 }],
-                &[1, 3, 4, 5, 6, 7, 8],
-                9,
-            ),
+            // STARTVIEWCHANGE, and that of replica 2; DOVIEWCHANGE; both STARTVIEWs, PREPAREOK, and the last reply once
+            // more
+            50 => self.timeout(1, &[1, 3, 4, 5, 6, 7, 8], 9),
             // both RECOVERYs and both RECOVERYRESPONSEs
-            100 => self.part(
-                &[
-                    WorldEvent::Crash { replica: 2 },
-                    WorldEvent::Restart {
-                        replica: 2,
-                        nonce: 1,
-                    },
-                ],
-                &[0, 1, 2, 3],
-                4,
-            ),
+            100 => self.crash(2, &[0, 1, 2, 3], 4),
             // as before, with replica 0 as the other backup
-            150 => self.part(
-                &[WorldEvent::Timeout { replica: 2 }],
-                &[0, 3, 4, 5, 6, 7, 8],
-                9,
-            ),
+            150 => self.timeout(2, &[0, 3, 4, 5, 6, 7, 8], 9),
             _ => Ok(()),
         }
     }
 
     /// A scan: REQUEST, both PREPAREs, one PREPAREOK and the REPLY come.
     fn scan(&mut self, number: u64) -> Result<(), AllocError> {
-        let submit = WorldEvent::Submit {
+        self.events.push(WorldEvent::Submit {
             client: 0,
             command: command(number),
-        };
-        self.part(&[submit], &[0, 1, 2, 3, 5], 6)
+        })?;
+        self.come(&[0, 1, 2, 3, 5], 6)
     }
 }
 
