@@ -404,6 +404,10 @@ def is_known(name, names):
     return isinstance(name, str) and (names is None or name.startswith('%') or name.split('.')[0].upper() in names)
 
 
+def is_hex(it):
+    return isinstance(it, str) and len(it) % 2 == 0 and len(it) <= 65536 and all(c in '0123456789abcdefABCDEF' for c in it)
+
+
 def is_command(it, names):
     if isinstance(it, str):
         return it in ('step', 'continue', 'cr', 'reset')
@@ -411,7 +415,7 @@ def is_command(it, names):
         return False
     (name, given), = it.items()
     checks = {'scan': is_scan, 'break': is_number, 'clear': is_number, 'force': lambda g: is_pair(g) and isinstance(g[0], str),
-              'unforce': lambda g: isinstance(g, str), 'read': lambda g: is_known(g, names)}
+              'unforce': lambda g: isinstance(g, str), 'read': lambda g: is_known(g, names), 'change': is_hex}
     return name in checks and checks[name](given)
 
 
