@@ -3,7 +3,7 @@
 use Rattle.std.specs.Prelude.{◌≡◌, ◌⊎◌, ℕ, List, [], ◌∷◌, ◌++◌, length, map, Option, Some, None, is_none, Bool, true}
 use Rattle.std.specs.Prelude.{false, not, nat_le}
 use Rattle.std.specs.List.{flat_map, filter}
-use Rattle.il_model.specs.declared.limits.TheConstants.{MOST_VARIABLES, MOST_INSTANCES}
+use Rattle.il_model.specs.declared.limits.TheConstants.{MOST_VARIABLES, MOST_INSTANCES, MOST_INSTRUCTIONS}
 use Rattle.il_model.specs.declared.program.Loc.{Loc}
 use Rattle.il_model.specs.Names.{is_reserved}
 use Rattle.il_model.specs.Literals.{literal_of}
@@ -156,7 +156,7 @@ HasFaultOf p kinds.ReservedName left = SomeName p left (λ before x. is_reserved
     × (is_reserved (capitals t.text) ≡ true)) p.lines
 -- There are as many variables, instances or lines before it as a program may have.
 HasFaultOf p kinds.TooMany left = SomeName p left (λ before x. has_no_room (type_in x.by) before)
-    ⊎ Somewhere (λ before l. (left ≡ begins_at l) × (nat_le 4096 (length before) ≡ true)) p.lines
+    ⊎ Somewhere (λ before l. (left ≡ begins_at l) × (nat_le MOST_INSTRUCTIONS (length before) ≡ true)) p.lines
 
 -- a text has a fault of a kind where so many bytes are left
 abbrev pub HasFault : ProgramText → FaultAt → Type 0

@@ -147,7 +147,11 @@ fn given_arguments(
     Ok(found)
 }
 
-fn arguments_behind(alloc: Global, known: &Declared, written: &Behind) -> Result<Arguments, Failure>
+fn arguments_behind(
+    alloc: Global,
+    known: &Declared,
+    written: &Behind,
+) -> Result<Arguments<Argument>, Failure>
     ensures { Gives (λ v. v) result (behind_arguments known.now (behind written.now)) }
 {
     let given = match written {

@@ -21,6 +21,7 @@ use Rattle.il_model.specs.declared.typing.TypeFault.TheVariants.{BadField}
 use Rattle.il_model.specs.declared.typing.OperandKind.{OperandKind}
 use Rattle.il_model.specs.declared.typing.OperandKind.TheVariants as kinds
 use Rattle.il_model.specs.declared.typing.Held.{Held}
+use Rattle.il_model.specs.declared.limits.TheConstants.{MOST_OPEN_PARENTHESES}
 use Rattle.il_model.specs.Operators.{joined_type}
 use Rattle.il_model.specs.Kinds.{field_type}
 use Rattle.il_model.specs.Names.{same_name}
@@ -192,7 +193,7 @@ is_open sh = nat_lt 0 (length sh.kept)
 abbrev pub applies : Text → ℕ → Shape → Instr → TypeFault → Bool
 applies Q n sh line DuplicateLabel = is_doubled Q n line.label
 applies Q n sh line Unbalanced = if is_open sh then is_some line.label || leaves line.op else is_closing line.op
-applies Q n sh line TooDeep = combines line.op && (line.modifier.opens && not (nat_lt (length sh.kept) 16))
+applies Q n sh line TooDeep = combines line.op && (line.modifier.opens && not (nat_lt (length sh.kept) MOST_OPEN_PARENTHESES))
 applies Q n sh line UnknownLabel = is_jump line.op && not (is_target (operand_kind Q line.operand))
 applies Q n sh line BadField =
     (has_operand line.op && is_no_field (operand_kind Q line.operand))

@@ -7,6 +7,7 @@ use Rattle.il_model.specs.declared.program.Area.{Area}
 use Rattle.il_model.specs.declared.program.Area.TheVariants as areas
 use Rattle.il_model.specs.declared.program.Loc.{Loc}
 use Rattle.il_model.specs.declared.program.Loc.TheVariants.{Bit, Word}
+use Rattle.il_model.specs.declared.limits.TheConstants.{WORDS}
 use Rattle.il_model.specs.Words.{upper}
 use Rattle.il_model.specs.Literal.{integer_of}
 
@@ -24,7 +25,7 @@ bit_of area b n = None
 
 -- a word, by its number
 abbrev pub word_of : Area → Option ℕ → Option Loc
-word_of area (Some k) = if nat_lt k 64 then Some (Word area k) else None
+word_of area (Some k) = if nat_lt k WORDS then Some (Word area k) else None
 word_of area None = None
 
 abbrev pub letter_area : ℕ → Option Area

@@ -14,6 +14,7 @@ use Rattle.il_model.specs.declared.typing.OperandKind.TheVariants as kinds
 use Rattle.il_model.specs.declared.typing.Held.{Held}
 use Rattle.il_model.specs.declared.typing.Effect.{Effect}
 use Rattle.il_model.specs.declared.typing.Effect.TheVariants.{Sets, Opens, Closes}
+use Rattle.il_model.specs.declared.limits.TheConstants.{MOST_OPEN_PARENTHESES}
 use Rattle.il_model.specs.Operators.{joined_type}
 
 abbrev pub same_type : Ty → Ty → Bool
@@ -85,7 +86,7 @@ opened_row (Some c) op negated kind = if is_none (joined_type op c c) then Err T
     else opens_with (record { op = op; negated = negated; ty = c }) kind
 
 abbrev pub open_row : Option Ty → ℕ → Op → Bool → OperandKind → Result Effect TypeFault
-open_row cr depth op negated kind = if nat_lt depth 16 then opened_row cr op negated kind else Err TooDeep
+open_row cr depth op negated kind = if nat_lt depth MOST_OPEN_PARENTHESES then opened_row cr op negated kind else Err TooDeep
 
 abbrev pub sets_to : Option Ty → Result Effect TypeFault
 sets_to (Some t) = Ok (Sets (Some t))
@@ -130,5 +131,5 @@ row cr top depth op m kind = if m.opens then open_row cr depth op m.negated kind
 
 -- an operator is deferred only where there is room, and applied only where there is one
 abbrev pub HasRoom : ℕ → Effect → Type 0
-HasRoom depth (Opens held cr) = depth < 16
+HasRoom depth (Opens held cr) = depth < MOST_OPEN_PARENTHESES
 HasRoom depth e = Unit {0}

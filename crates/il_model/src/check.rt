@@ -12,6 +12,7 @@ ghost use Rattle.std.specs.Prelude.{OnOk, IfErr};
 
 use crate::arguments::{arguments_fault, with_fault};
 use crate::indexed::IndexedProgram;
+use crate::limits::MOST_OPEN_PARENTHESES;
 use crate::resolve::{kind_of, missing_kind};
 use crate::typing::row_of;
 use crate::{Effect, Held, Instr, Name, Program, Source, Ty, TypeFault};
@@ -112,7 +113,7 @@ fn line_row(
 #[derive(Drop)]
 pub struct Types {
     cr: Option<Ty>,
-    kept: ArrayVec<Held, 16>,
+    kept: ArrayVec<Held, MOST_OPEN_PARENTHESES>,
 }
 
 impl Model for Types {

@@ -18,6 +18,7 @@ use crate::value::{Ty, Value, make};
 /// How each image begins.
 pub const MAGIC: [u8; 4] = *b"ILPC";
 
+/// The code of a type.
 pub fn type_code(ty: Ty) -> usize
     ensures { result ≡ type_code ty }
 {
@@ -30,6 +31,7 @@ pub fn type_code(ty: Ty) -> usize
     }
 }
 
+/// The type of a code.
 pub fn type_of(code: u8) -> Option<Ty>
     ensures { result ≡ type_of code }
 {
@@ -43,6 +45,7 @@ pub fn type_of(code: u8) -> Option<Ty>
     }
 }
 
+/// The code of a location, or of none.
 pub fn location_code(location: Option<Loc>) -> usize
     ensures { result ≡ location_code location }
 {
@@ -164,6 +167,7 @@ pub fn initial_of(ty: Ty, location: Option<Loc>, number: i64) -> Option<Value>
     }
 }
 
+/// The code of an operator.
 pub fn op_code(op: Op) -> usize
     ensures { result ≡ op_code op }
 {
@@ -203,6 +207,7 @@ fn flag(test: bool, n: usize) -> usize
     if test { n } else { 0 }
 }
 
+/// The code of a modifier: 1 for N, 2 for C and 4 for an opening parenthesis, summed.
 pub fn modifier_code(m: Modifier) -> usize
     ensures { result ≡ modifier_code m }
 {

@@ -22,7 +22,7 @@ pub enum Command {
     Step,
     /// Goes on with the held scan.
     Continue,
-    /// Lays a value over a location of `%I` or `%Q` from now on.
+    /// Lays a value over a location of `%I` or `%Q`, until it's unforced.
     Force(Slot, Value),
     Unforce(Slot),
     ReadVar(Slot),
@@ -30,7 +30,7 @@ pub enum Command {
     ReadCr,
     /// Starts cold again; forces, breakpoints, the moment and the count of scans stay.
     Reset,
-    /// Goes on with another program, whose image these bytes are.
+    /// Goes on with another program: the one whose image these bytes are, if they are one.
     Change(ImageBytes),
 }
 

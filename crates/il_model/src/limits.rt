@@ -9,6 +9,9 @@ pub const MOST_INSTANCES: usize = 128;
 /// A program has at most so many instructions.
 pub const MOST_INSTRUCTIONS: usize = 4096;
 
+/// At most so many parentheses are open at an instruction.
+pub const MOST_OPEN_PARENTHESES: usize = 16;
+
 /// An area has so many bits.
 pub const BITS: usize = 512;
 

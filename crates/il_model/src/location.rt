@@ -5,6 +5,7 @@ ghost use Rattle.std.specs.List.{prefix_len};
 ghost use Rattle.il_model.specs.Locations.{is_no_dot, dot_at, bit_of, word_of, letter_area, bit_at, word_at, place_at};
 ghost use Rattle.il_model.specs.Locations.{location_of};
 
+use crate::limits::WORDS;
 use crate::literal::integer;
 use crate::program::{Area, Loc};
 use crate::words::capital;
@@ -56,7 +57,7 @@ fn word(area: Area, number: Option<u64>) -> Option<Loc>
     ensures { result ≡ word_of area number }
 {
     match number {
-        Some(k) if k < 64 => Some(Loc::Word(area, k as u16)),
+        Some(k) if (k as usize) < WORDS => Some(Loc::Word(area, k as u16)),
         _ => None,
     }
 }

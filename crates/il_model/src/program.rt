@@ -153,33 +153,32 @@ pub struct Argument {
     pub operand: Operand,
 }
 
-/// The arguments of a call in the order written.
+/// The arguments of a call in the order written: with names (`Argument`), or with their names resolved (`Passed`).
 #[derive(Drop)]
-pub struct Arguments {
-    items: Vec<Argument>,
+pub struct Arguments<A> {
+    items: Vec<A>,
 }
 
-impl Model for Arguments {
+impl<A> Model for Arguments<A> {
     ghost use Rattle.std.specs.Prelude.{List};
-    ghost use Rattle.il_model.specs.declared.program.Argument.{Argument};
 
-    ghost Value = { List Argument };
+    ghost Value = { List A };
 
     ghost view = { λ a. a.items.items };
 }
 
-impl Arguments {
+impl<A> Arguments<A> {
     ghost use Rattle.std.specs.Prelude.{◌≡◌};
 
     /// These arguments.
-    pub fn of(items: Vec<Argument>) -> Arguments
+    pub fn of(items: Vec<A>) -> Arguments<A>
         ensures { result ≡ items.items }
     {
         Arguments { items }
     }
 
     /// The arguments in order.
-    pub fn as_slice(&self) -> &[Argument]
+    pub fn as_slice(&self) -> &[A]
         ensures { result.now ≡ self.now }
     {
         self.items.as_slice()
@@ -193,7 +192,7 @@ pub struct Instr {
     pub op: Op,
     pub modifier: Modifier,
     pub operand: Operand,
-    pub arguments: Arguments,
+    pub arguments: Arguments<Argument>,
 }
 
 /// A program: its declarations and its instructions, in their order; at most `MOST_VARIABLES`, `MOST_INSTANCES` and

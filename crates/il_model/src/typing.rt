@@ -5,6 +5,7 @@ ghost use Rattle.il_model.specs.Settled.{settled_number, first_type};
 ghost use Rattle.il_model.specs.Row.{row, load_row, store_row, set_row, truth_row, call_row, open_row, opened_row};
 ghost use Rattle.il_model.specs.Row.{combine_row, close_row, leave_row, convert_row};
 
+use crate::limits::MOST_OPEN_PARENTHESES;
 use crate::op::{Modifier, Op, joined};
 use crate::value::{Ty, Value, make};
 use thiserror::Error;
@@ -27,7 +28,7 @@ pub enum TypeFault {
     /// A parenthesis is closed that isn't open, or open where a label, a jump, a return or the end stands.
     #[error("unbalanced parenthesis")]
     Unbalanced,
-    /// More than 16 parentheses are open.
+    /// More than `MOST_OPEN_PARENTHESES` parentheses are open.
     #[error("too deep")]
     TooDeep,
     /// A literal or an input is written.
@@ -110,27 +111,13 @@ pub fn row_of(
         Op::St => store_types(cr, modifier, kind),
         Op::S | Op::R => set_types(cr, kind),
         Op::Not => truth_types(cr),
-        Op::Jmp => {
-            if depth != 0 {
-                return Err(TypeFault::Unbalanced);
-            }
-            match kind {
-                OperandKind::Target => leave_types(cr, modifier),
-                _ => Err(TypeFault::UnknownLabel),
-            }
-        }
-        Op::Cal => {
-            if depth != 0 {
-                return Err(TypeFault::Unbalanced);
-            }
-            call_types(cr, modifier, kind)
-        }
-        Op::Ret => {
-            if depth != 0 {
-                return Err(TypeFault::Unbalanced);
-            }
-            leave_types(cr, modifier)
-        }
+        Op::Jmp | Op::Cal | Op::Ret if depth != 0 => Err(TypeFault::Unbalanced),
+        Op::Jmp => match kind {
+            OperandKind::Target => leave_types(cr, modifier),
+            _ => Err(TypeFault::UnknownLabel),
+        },
+        Op::Cal => call_types(cr, modifier, kind),
+        Op::Ret => leave_types(cr, modifier),
         Op::Close => close_types(cr, top),
         Op::IntToDint => convert_types(cr, Ty::Int, Ty::Dint),
         Op::DintToInt => convert_types(cr, Ty::Dint, Ty::Int),
@@ -274,7 +261,7 @@ fn open_types(
 ) -> Result<Effect, TypeFault>
     ensures { result ≡ open_row cr depth op modifier.negated kind }
 {
-    if depth >= 16 {
+    if depth >= MOST_OPEN_PARENTHESES {
         return Err(TypeFault::TooDeep);
     }
     opened_types(cr, op, modifier, kind)

@@ -146,6 +146,7 @@ fn lawful_version(number: u16) -> Result<Version, LoadError>
     }
 }
 
+/// The version and how much of each there is, and the bytes behind.
 #[tactic(auto, unfolding(crate::specs::Reading::header_at))]
 pub fn header_at(bytes: &[u8]) -> Result<(Version, Counts, &[u8]), LoadError>
     ensures { Gives (λ x. (x.0, x.1, x.2.now)) result (header_at bytes.now) }
@@ -402,6 +403,7 @@ fn word_at<'a>(
     }
 }
 
+/// The variables, of which there are `count`, and the bytes behind them.
 pub fn variables_of<'a>(
     alloc: Global,
     version: Version,
@@ -421,6 +423,7 @@ pub fn variables_of<'a>(
     Ok((seen, rest))
 }
 
+/// The instances, likewise.
 pub fn instances_of<'a>(
     alloc: Global,
     total: usize,
@@ -441,6 +444,7 @@ pub fn instances_of<'a>(
     Ok((seen, rest))
 }
 
+/// The labels, likewise.
 pub fn labels_of<'a>(
     alloc: Global,
     total: usize,
@@ -459,6 +463,7 @@ pub fn labels_of<'a>(
     Ok((seen, rest))
 }
 
+/// The constants, likewise.
 pub fn constants_of(
     alloc: Global,
     version: Version,
@@ -505,6 +510,7 @@ fn next_word<'a>(
     )
 }
 
+/// The words, likewise: instructions, and the arguments of calls.
 pub fn words_of<'a>(
     alloc: Global,
     version: Version,

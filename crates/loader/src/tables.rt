@@ -78,6 +78,7 @@ fn bodies_at<'a>(
     })
 }
 
+/// The tables of an image, behind which nothing stands.
 #[tactic(auto, unfolding(crate::specs::Reading::tables_at))]
 pub fn tables_at<'a>(alloc: Global, bytes: &'a [u8]) -> Result<ReadTables<'a>, LoadError>
     ensures { Gives (λ t. t) result (tables_at bytes.entry.now) }
