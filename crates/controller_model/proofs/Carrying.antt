@@ -1,7 +1,7 @@
 -- A change carries over what goes on, and leaves a state that suits the new program.
-use Rattle.std.proofs.Common.{◌≡◌, ℕ, zero, suc, Bool, true, false, cond, List, [], ◌∷◌, ◌++◌, length, map, Option, Some, None, refl, sym, ap, subst, ◌∙◌, arith}
-use Rattle.std.specs.Prelude.{slice_get, unwrap_or, is_none}
-use Rattle.std.specs.Option.{option_map}
+use Rattle.std.proofs.Common.{◌≡◌, ℕ, zero, suc, Bool, true, false, List, [], ◌∷◌, ◌++◌, length, map, Option, Some, None, refl, sym, ap, subst, ◌∙◌, arith}
+use Rattle.std.specs.Prelude.{slice_get, unwrap_or, is_none, position}
+use Rattle.std.specs.Option.{option_map, option_and_then}
 use Rattle.std.proofs.lemmas.Bool.{eq-eqb}
 use Rattle.std.proofs.lemmas.List.{length-map}
 use Rattle.std.proofs.lemmas.Option.{slice_get-map}
@@ -18,6 +18,7 @@ use Rattle.il_model.specs.Kinds.{kind_code}
 use Rattle.il_model.specs.Text.{Text}
 use Rattle.il_model.specs.Fits.{IsVariable, IsInstance, AreItems, IsText}
 use Rattle.il_model.proofs.RowTypes.{and_yes, same_type_is}
+use Rattle.il_model.proofs.Positions.{position_first, position_later}
 use Rattle.controller_model.specs.State.{State, BlockInstance, has_own}
 use Rattle.controller_model.specs.Cold.{cold_instance}
 use Rattle.controller_model.specs.Suits.{KeepFirsts, HasValues, Suits, IsInstanceOf, AreInstances}
@@ -60,24 +61,46 @@ false_by false never = refl
 
 -- ---- what stands beside the one that passes
 
-there_by : {X Y : Type 0} (p : X → Bool) (z : X) (xs : List X) (y : Y) (ys : List Y) (i : ℕ) (b : Bool) → p z ≡ b → (p z ≡ true → zero ≡ suc i) → kept_by p xs ys ≡ slice_get ys i → cond b (Some y) (kept_by p xs ys) ≡ slice_get (y ∷ ys) (suc i)
-there_by p z xs y ys i true e one more = let same = one e in absurd (omega (arith, same))
-there_by p z xs y ys i false e one more = more
+found_at : {X : Type 0} (p : X → Bool) (xs : List X) (i : ℕ) (x : X) → slice_get xs i ≡ Some x → p x ≡ true → ((k : ℕ) (z : X) → slice_get xs k ≡ Some z → p z ≡ true → k ≡ i) → position p xs ≡ Some i
+found_at p [] i x there e one = absurd cc
+found_at p (z ∷ xs) zero x there e one = let is : z ≡ x = cc in position_first p z xs (ap p is ∙ e)
+found_at p (z ∷ xs) (suc i) x there e one =
+    position_later p z xs (false_by (p z) (λ f. let same = one 0 z refl f in absurd (omega (arith, same))))
+    ∙ ap (option_map suc) (found_at p xs i x there e (λ k w at f. let same = one (suc k) w at f in omega (arith, same)))
 
-kept_there : {X Y : Type 0} (p : X → Bool) (xs : List X) (ys : List Y) (i : ℕ) (x : X) → length xs ≡ length ys → slice_get xs i ≡ Some x → p x ≡ true → ((k : ℕ) (z : X) → slice_get xs k ≡ Some z → p z ≡ true → k ≡ i) → kept_by p xs ys ≡ slice_get ys i
-kept_there p [] ys i x len there e one = absurd cc
-kept_there p (z ∷ xs) [] i x len there e one = absurd cc
-kept_there p (z ∷ xs) (y ∷ ys) zero x len there e one = let is : z ≡ x = cc in ap (λ b. cond b (Some y) (kept_by p xs ys)) (ap p is ∙ e)
-kept_there p (z ∷ xs) (y ∷ ys) (suc i) x len there e one =
-    there_by p z xs y ys i (p z) refl (λ f. one 0 z refl f) (kept_there p xs ys i x (omega (arith, len)) there e (λ k w at f. let same = one (suc k) w at f in omega (arith, same)))
+kept_there : {X Y : Type 0} (p : X → Bool) (xs : List X) (ys : List Y) (i : ℕ) (x : X) → slice_get xs i ≡ Some x → p x ≡ true → ((k : ℕ) (z : X) → slice_get xs k ≡ Some z → p z ≡ true → k ≡ i) → kept_by p xs ys ≡ slice_get ys i
+kept_there p xs ys i x there e one = ap (option_and_then (slice_get ys)) (found_at p xs i x there e one)
 
-nothing_by : {X Y : Type 0} (p : X → Bool) (z : X) (xs : List X) (y : Y) (ys : List Y) → p z ≡ false → kept_by p xs ys ≡ None → kept_by p (z ∷ xs) (y ∷ ys) ≡ None
-nothing_by p z xs y ys e more = ap (λ b. cond b (Some y) (kept_by p xs ys)) e ∙ more
+found_nowhere : {X : Type 0} (p : X → Bool) (xs : List X) → ((k : ℕ) (z : X) → slice_get xs k ≡ Some z → p z ≡ false) → position p xs ≡ None
+found_nowhere p [] never = refl
+found_nowhere p (z ∷ xs) never = position_later p z xs (never 0 z refl) ∙ ap (option_map suc) (found_nowhere p xs (λ k w at. never (suc k) w at))
 
 kept_nothing : {X Y : Type 0} (p : X → Bool) (xs : List X) (ys : List Y) → ((k : ℕ) (z : X) → slice_get xs k ≡ Some z → p z ≡ false) → kept_by p xs ys ≡ None
-kept_nothing p [] ys never = refl
-kept_nothing p (z ∷ xs) [] never = refl
-kept_nothing p (z ∷ xs) (y ∷ ys) never = nothing_by p z xs y ys (never 0 z refl) (kept_nothing p xs ys (λ k w at. never (suc k) w at))
+kept_nothing p xs ys never = ap (option_and_then (slice_get ys)) (found_nowhere p xs never)
+
+-- where one is found, one passes
+pub record PassesAt {X : Type 0} (p : X → Bool) (xs : List X) (place : ℕ) : Type 0 where
+  pub item : X
+  pub there : slice_get xs place ≡ Some item
+  pub passes : p item ≡ true
+
+passes_later : {X : Type 0} (p : X → Bool) (z : X) (xs : List X) (k : ℕ) (o : Option ℕ) → position p xs ≡ o → option_map suc o ≡ Some k → ((j : ℕ) → position p xs ≡ Some j → PassesAt p xs j) → PassesAt p (z ∷ xs) k
+passes_later p z xs k None e f more = absurd cc
+passes_later p z xs k (Some j) e f more =
+    let is : suc j ≡ k = cc in
+    let r = more j e in
+    record { item = r.item; there = ap (slice_get (z ∷ xs)) (sym is) ∙ r.there; passes = r.passes }
+
+passes_by : {X : Type 0} (p : X → Bool) (z : X) (xs : List X) (k : ℕ) (b : Bool) → p z ≡ b → position p (z ∷ xs) ≡ Some k → ((j : ℕ) → position p xs ≡ Some j → PassesAt p xs j) → PassesAt p (z ∷ xs) k
+passes_by p z xs k true e h more =
+    let first : Some 0 ≡ Some k = sym (position_first p z xs e) ∙ h in
+    let is : 0 ≡ k = cc in
+    record { item = z; there = ap (slice_get (z ∷ xs)) (sym is); passes = e }
+passes_by p z xs k false e h more = passes_later p z xs k (position p xs) refl (sym (position_later p z xs e) ∙ h) more
+
+passes_at : {X : Type 0} (p : X → Bool) (xs : List X) (k : ℕ) → position p xs ≡ Some k → PassesAt p xs k
+passes_at p [] k h = absurd cc
+passes_at p (z ∷ xs) k h = passes_by p z xs k (p z) refl h (λ j e. passes_at p xs j e)
 
 -- what stands beside something stands beside one that passes
 pub record StandsBeside {X Y : Type 0} (p : X → Bool) (xs : List X) (ys : List Y) (y : Y) : Type 0 where
@@ -87,14 +110,12 @@ pub record StandsBeside {X Y : Type 0} (p : X → Bool) (xs : List X) (ys : List
   pub passes : p item ≡ true
   pub beside : slice_get ys place ≡ Some y
 
-beside_by : {X Y : Type 0} (p : X → Bool) (z : X) (xs : List X) (w : Y) (ys : List Y) (y : Y) (b : Bool) → p z ≡ b → cond b (Some w) (kept_by p xs ys) ≡ Some y → (kept_by p xs ys ≡ Some y → StandsBeside p xs ys y) → StandsBeside p (z ∷ xs) (w ∷ ys) y
-beside_by p z xs w ys y true e h more = record { place = 0; item = z; there = refl; passes = e; beside = h }
-beside_by p z xs w ys y false e h more = let r = more h in record { place = suc r.place; item = r.item; there = r.there; passes = r.passes; beside = r.beside }
+beside_by : {X Y : Type 0} (p : X → Bool) (xs : List X) (ys : List Y) (y : Y) (o : Option ℕ) → position p xs ≡ o → option_and_then (slice_get ys) o ≡ Some y → StandsBeside p xs ys y
+beside_by p xs ys y None e h = absurd cc
+beside_by p xs ys y (Some k) e h = let r = passes_at p xs k e in record { place = k; item = r.item; there = r.there; passes = r.passes; beside = h }
 
 kept_beside : {X Y : Type 0} (p : X → Bool) (xs : List X) (ys : List Y) (y : Y) → kept_by p xs ys ≡ Some y → StandsBeside p xs ys y
-kept_beside p [] ys y h = absurd cc
-kept_beside p (z ∷ xs) [] y h = absurd cc
-kept_beside p (z ∷ xs) (w ∷ ys) y h = beside_by p z xs w ys y (p z) refl h (λ e. kept_beside p xs ys y e)
+kept_beside p xs ys y h = beside_by p xs ys y (position p xs) refl h
 
 -- ---- what the new state has
 
@@ -113,9 +134,9 @@ there_some (z ∷ xs) (y ∷ ys) (suc i) x len there = there_some xs ys i x (ome
 
 -- ---- variables
 
-value_kept : (us : List Variable) (own : List Value) (i : ℕ) (u v : Variable) → AreItems IsVariable [] us → length us ≡ length own → slice_get us i ≡ Some u → GoesOn u v → kept_value us own v ≡ slice_get own i
-value_kept us own i u v are len there is =
-    kept_there (λ w. goes_on w v) us own i u len there (is_goes_on u v is) (λ k w at f. variables_apart us are k i w u at there (let g = goes_on_is w v f in g.name ∙ sym is.name))
+value_kept : (us : List Variable) (own : List Value) (i : ℕ) (u v : Variable) → AreItems IsVariable [] us → slice_get us i ≡ Some u → GoesOn u v → kept_value us own v ≡ slice_get own i
+value_kept us own i u v are there is =
+    kept_there (λ w. goes_on w v) us own i u there (is_goes_on u v is) (λ k w at f. variables_apart us are k i w u at there (let g = goes_on_is w v f in g.name ∙ sym is.name))
 
 value_first : (us : List Variable) (own : List Value) (v : Variable) → ((i : ℕ) (u : Variable) → slice_get us i ≡ Some u → GoesOn u v → ⊥) → carried_value us own v ≡ v.initial
 value_first us own v never = ap (λ o. unwrap_or o v.initial) (kept_nothing (λ w. goes_on w v) us own (λ k w at. false_by (goes_on w v) (λ e. never k w at (goes_on_is w v e))))
@@ -156,9 +177,9 @@ instance_is (c ∷ ds) (y ∷ xs) zero d x are here there =
     let a : c ≡ d = cc in let b : y ≡ x = cc in subst (λ (c : Instance). IsInstanceOf c.kind x) a (subst (λ (y : BlockInstance). IsInstanceOf c.kind y) b are.0)
 instance_is (c ∷ ds) (y ∷ xs) (suc i) d x are here there = instance_is ds xs i d x are.1 here there
 
-instance_kept : (vs : List Variable) (ds : List Instance) (xs : List BlockInstance) (i : ℕ) (d y : Instance) → AreItems (IsInstance vs) [] ds → length ds ≡ length xs → slice_get ds i ≡ Some d → GoesOnAs d y → kept_instance ds xs y ≡ slice_get xs i
-instance_kept vs ds xs i d y are len there is =
-    kept_there (λ e. goes_on_as e y) ds xs i d len there (is_goes_on_as d y is) (λ k e at f. instances_apart vs ds are k i e d at there (let g = goes_on_as_is e y f in g.name ∙ sym is.name))
+instance_kept : (vs : List Variable) (ds : List Instance) (xs : List BlockInstance) (i : ℕ) (d y : Instance) → AreItems (IsInstance vs) [] ds → slice_get ds i ≡ Some d → GoesOnAs d y → kept_instance ds xs y ≡ slice_get xs i
+instance_kept vs ds xs i d y are there is =
+    kept_there (λ e. goes_on_as e y) ds xs i d there (is_goes_on_as d y is) (λ k e at f. instances_apart vs ds are k i e d at there (let g = goes_on_as_is e y f in g.name ∙ sym is.name))
 
 instance_cold : (ds : List Instance) (xs : List BlockInstance) (y : Instance) → ((i : ℕ) (d : Instance) → slice_get ds i ≡ Some d → GoesOnAs d y → ⊥) → carried_instance ds xs y ≡ cold_instance y
 instance_cold ds xs y never = ap (λ o. unwrap_or o (cold_instance y)) (kept_nothing (λ e. goes_on_as e y) ds xs (λ k d at. false_by (goes_on_as d y) (λ e. never k d at (goes_on_as_is d y e))))
@@ -185,10 +206,10 @@ carries_over Q s R is has =
     let many = instances_long Q.instances s.instances has.instances in
     record {
       kept = λ i j u v here there on. mapped (carried_value Q.variables s.own) R.variables j v there
-          ∙ some_inside (kept_value Q.variables s.own v) (slice_get s.own i) v.initial (value_kept Q.variables s.own i u v is.variables long here on) (there_some Q.variables s.own i u long here);
+          ∙ some_inside (kept_value Q.variables s.own v) (slice_get s.own i) v.initial (value_kept Q.variables s.own i u v is.variables here on) (there_some Q.variables s.own i u long here);
       first = λ j v there never. mapped (carried_value Q.variables s.own) R.variables j v there ∙ ap (λ x. Some x) (value_first Q.variables s.own v never);
       kept_instances = λ i j x y here there on. mapped (carried_instance Q.instances s.instances) R.instances j y there
-          ∙ some_inside (kept_instance Q.instances s.instances y) (slice_get s.instances i) (cold_instance y) (instance_kept Q.variables Q.instances s.instances i x y is.instances many here on) (there_some Q.instances s.instances i x many here);
+          ∙ some_inside (kept_instance Q.instances s.instances y) (slice_get s.instances i) (cold_instance y) (instance_kept Q.variables Q.instances s.instances i x y is.instances here on) (there_some Q.instances s.instances i x many here);
       cold_instances = λ j y there never. mapped (carried_instance Q.instances s.instances) R.instances j y there ∙ ap (λ x. Some x) (instance_cold Q.instances s.instances y never);
       input = refl;
       output = refl;

@@ -1,7 +1,8 @@
 -- What a change of the program carries over: values by the names of variables, inputs and states by the names of
 -- instances.
-use Rattle.std.specs.Prelude.{◌≡◌, ℕ, Bool, ◌&&◌, List, [], ◌∷◌, map, Option, Some, None, slice_get, unwrap_or, nat_eq}
-use Rattle.std.specs.Prelude.{if◌then◌else◌}
+use Rattle.std.specs.Prelude.{◌≡◌, ℕ, Bool, ◌&&◌, List, [], map, Option, Some, None, slice_get, position, unwrap_or}
+use Rattle.std.specs.Prelude.{nat_eq}
+use Rattle.std.specs.Option.{option_and_then}
 use Rattle.il_model.specs.declared.value.Value.{Value}
 use Rattle.il_model.specs.declared.program.Variable.{Variable}
 use Rattle.il_model.specs.declared.program.Instance.{Instance}
@@ -39,9 +40,7 @@ goes_on_as x y = same_name x.name y.name && nat_eq (kind_code x.kind) (kind_code
 
 -- what stands beside the first that passes
 abbrev pub kept_by : {X Y : Type 0} → (X → Bool) → List X → List Y → Option Y
-kept_by passes [] ys = None
-kept_by passes (x ∷ xs) [] = None
-kept_by passes (x ∷ xs) (y ∷ ys) = if passes x then Some y else kept_by passes xs ys
+kept_by passes xs ys = option_and_then (slice_get ys) (position passes xs)
 
 -- the value of the variable that goes on as this one
 abbrev pub kept_value : List Variable → List Value → Variable → Option Value
@@ -51,7 +50,7 @@ kept_value us own v = kept_by (λ u. goes_on u v) us own
 abbrev pub kept_instance : List Instance → List BlockInstance → Instance → Option BlockInstance
 kept_instance xs bs y = kept_by (λ x. goes_on_as x y) xs bs
 
--- a kept value, or else the first one
+-- a kept value, or else the variable's first value
 abbrev pub carried_value : List Variable → List Value → Variable → Value
 carried_value us own v = unwrap_or (kept_value us own v) v.initial
 
@@ -71,10 +70,10 @@ carried_state Q s R = record {
   position = 0;
 }
 
--- forces, moment and count stay, and no breakpoint does
+-- forces, moment and count stay; no breakpoint does, and no scan is open
 abbrev pub carried_control : Text → Control → Text → Control
 carried_control Q s R = record {
-  cycle = record s.cycle { state = carried_state Q s.cycle.state R };
+  cycle = record s.cycle { state = carried_state Q s.cycle.state R; performed = 0 };
   breaks = no_breaks R;
   phase = phases.Idle;
 }

@@ -1,4 +1,5 @@
--- The command table of a controller of one program: for each state and each command the answer and the next state.
+-- The command table of a controller of one program: for each state and each command the answer and the next state. A
+-- change of the program is no command to it; the table with a change in it is `outcome` (`debugger/specs/Outcome`).
 use Rattle.std.specs.Prelude.{ℕ, Bool, true, false, List, length, replicate, slice_set, Option, Some, None, nat_lt}
 use Rattle.std.specs.Prelude.{if◌then◌else◌}
 use Rattle.std.specs.Option.{option_and_then}
@@ -87,17 +88,17 @@ forcible loc = if is_forcible (area_of loc) then Some loc else None
 abbrev pub forcible_at : ℕ → Option Loc
 forcible_at slot = option_and_then forcible (any_loc slot)
 
-abbrev pub change_answer : Control → Option Cycle → Answer × Control
-change_answer s None = refusal_answer s refusals.BadType
-change_answer s (Some c) = (answers.Done, record s { cycle = c })
+abbrev pub force_answer : Control → Option Cycle → Answer × Control
+force_answer s None = refusal_answer s refusals.BadType
+force_answer s (Some c) = (answers.Done, record s { cycle = c })
 
 abbrev pub on_force : Control → Value → Option Loc → Answer × Control
 on_force s v None = refusal_answer s refusals.BadSlot
-on_force s v (Some loc) = change_answer s (with_force s.cycle loc v)
+on_force s v (Some loc) = force_answer s (with_force s.cycle loc v)
 
 abbrev pub on_unforce : Control → Option Loc → Answer × Control
 on_unforce s None = refusal_answer s refusals.BadSlot
-on_unforce s (Some loc) = change_answer s (without_force s.cycle loc)
+on_unforce s (Some loc) = force_answer s (without_force s.cycle loc)
 
 -- ---- questions
 
@@ -125,5 +126,5 @@ command_outcome Q budget s (commands.ReadVar slot) =
 command_outcome Q budget s commands.ReadCr = result_read s s.phase
 command_outcome Q budget s commands.Reset =
     (answers.Done, record s { cycle = cold_again Q s.cycle; phase = phases.Idle })
--- a change is no command to a controller of one program: the table of those that change theirs is in `debugger`
+-- no contract reaches this row: each is of a command that is no change, or is by the table with a change in it
 command_outcome Q budget s (commands.Change bytes) = refusal_answer s refusals.NotIdle

@@ -8,13 +8,16 @@ use Rattle.il_model.specs.Text.{Text}
 use Rattle.il_model.specs.Fits.{IsImage}
 use Rattle.il_model.specs.Image.{spelling}
 use Rattle.controller_model.specs.declared.phase.Phase.TheVariants.{Idle}
+use Rattle.controller_model.specs.Cold.{at_rest}
 use Rattle.controller_model.specs.Changes.{CarriesOver}
 use Rattle.controller_model.specs.Commands.{no_breaks}
 use Rattle.debugger.specs.Owned.{Owned, IsController}
 use Rattle.debugger.specs.Outcome.{outcome}
 
 -- It goes on with another program: what goes on by its name keeps its value, or its inputs and its state; forces, the
--- count of scans, the greatest moment and the budget stay; no breakpoint is left, and no scan is open.
+-- count of scans, the greatest moment and the budget stay; no breakpoint is left; no scan is open, so that there is no
+-- current result and no deferred operator, and the position is 0. What is left is a controller of that program, so that
+-- a next change goes by names too.
 pub record GoesOnWith (R : Text) (o n : Owned) : Type 0 where
   pub program : n.program ≡ R
   pub budget : n.budget ≡ o.budget
@@ -24,6 +27,9 @@ pub record GoesOnWith (R : Text) (o n : Owned) : Type 0 where
   pub moment : n.control.cycle.moment ≡ o.control.cycle.moment
   pub breaks : n.control.breaks ≡ no_breaks R
   pub idle : n.control.phase ≡ Idle
+  pub rest : n.control.cycle.state ≡ at_rest n.control.cycle.state
+  pub performed : n.control.cycle.performed ≡ 0
+  pub lawful : IsController n
 
 -- no program has this image
 abbrev pub IsNoImage : List ℕ → Type 0

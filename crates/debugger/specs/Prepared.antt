@@ -9,15 +9,15 @@ use Rattle.il_model.specs.Numbers.{is_change}
 use Rattle.il_model.specs.Text.{Text}
 use Rattle.loader.specs.declared.fault.LoadFault.{LoadFault}
 use Rattle.loader.specs.Judging.{image_of}
-use Rattle.controller_model.specs.Commands.{no_breaks, command_outcome}
+use Rattle.controller_model.specs.Commands.{no_breaks}
 use Rattle.scan_cycle.specs.Kept.{IsCycleOf}
 use Rattle.debugger.specs.declared.ready.Fresh.{Fresh}
 use Rattle.debugger.specs.declared.ready.Kind.{Kind}
 use Rattle.debugger.specs.declared.ready.Kind.TheVariants as kinds
-use Rattle.debugger.specs.Owned.{Owned, with_control}
-use Rattle.debugger.specs.Outcome.{if_idle, changed}
+use Rattle.debugger.specs.Owned.{Owned}
+use Rattle.debugger.specs.Outcome.{if_idle, changed, outcome}
 
--- what is ready: a command that takes none; a change to bytes that are no image; or a change to a program
+-- what is ready: a command that is no change; a change to bytes that are no image; or a change to a program
 pub data Prepared : Type 0 where
   Given : Command → Prepared
   NoImage : Prepared
@@ -28,7 +28,7 @@ prepared_as (kinds.Given command) = Given command
 prepared_as kinds.NoImage = NoImage
 prepared_as (kinds.Change fresh) = To fresh.image
 
--- the scan cycle never ran and is that of the program, and there is no breakpoint
+-- the scan cycle is that of the program, whatever it holds, and there is no breakpoint
 pub record IsFresh (f : Fresh) : Type 0 where
   pub cycle : IsCycleOf f.image f.cycle
   pub breaks : f.breaks ≡ no_breaks f.image
@@ -47,6 +47,6 @@ IsReady command prepared = ⊥
 
 -- what it does
 abbrev pub prepared_outcome : Owned → Prepared → Answer × Owned
-prepared_outcome o (Given command) = with_control o (command_outcome o.program o.budget o.control command)
+prepared_outcome o (Given command) = outcome o command
 prepared_outcome o NoImage = if_idle o (answers.Refused refusals.BadImage, o) o.control.phase
 prepared_outcome o (To R) = if_idle o (answers.Done, changed o R) o.control.phase

@@ -28,9 +28,8 @@
 ghost use Rattle.std.specs.Prelude.{◌≡◌, ℕ, List, Result};
 ghost use Rattle.debugger.specs.declared.snap_error.SnapError.{SnapError};
 ghost use Rattle.il_model.specs.declared.command.Command.{Command};
-ghost use Rattle.debugger.specs.declared.ready.Kind.{Kind};
 ghost use Rattle.debugger.specs.Outcome.{outcome};
-ghost use Rattle.debugger.specs.Prepared.{prepared_as, IsWhole, IsReady, prepared_outcome};
+ghost use Rattle.debugger.specs.Prepared.{Prepared, IsReady, prepared_outcome};
 ghost use Rattle.debugger.specs.Owned.{Owned};
 ghost use Rattle.debugger.specs.Changing.{ChangesByNames};
 ghost use Rattle.debugger.specs.Restored.{RestoresTheSame};
@@ -47,6 +46,7 @@ mod snap_error;
 pub use controller::Controller;
 pub use names::slot;
 pub use ready::{Ready, prepare};
+pub use shape::can_restore;
 pub use snap_error::SnapError;
 
 /// What is saved of a controller is restored, with the same image and budget, to the same controller, unless memory
@@ -59,15 +59,15 @@ pub fn restores_the_same()
 
 /// What is ready does what its command does, whatever is owned.
 pub fn what_is_ready_is_its_command()
-    ensures { (o : Owned) (c : Command) (k : Kind) → IsWhole k → IsReady c (prepared_as k)
-        → outcome o c ≡ prepared_outcome o (prepared_as k) }
+    ensures { (o : Owned) (c : Command) (p : Prepared) → IsReady c p → outcome o c ≡ prepared_outcome o p }
 {}
 
 /// What a change of the program is answered and leaves, said by names. Between two scans the image of a program is
 /// `Done`: a variable without a location before and after, of equal name and type, keeps its value; an instance of
 /// equal name and kind its inputs and its state; all others are as when cold; the areas, forces, the count of scans,
-/// the greatest moment and the budget stay; breakpoints go. Bytes that are the image of no program are refused as
-/// `BadImage`. While a scan is held or stopped either is refused as `NotIdle`.
+/// the greatest moment and the budget stay; breakpoints go, no scan is open, and what is left is a controller of the
+/// new program. Bytes that are the image of no program are refused as `BadImage`. While a scan is held or stopped
+/// either is refused as `NotIdle`.
 pub fn a_change_goes_by_names()
     ensures { (o : Owned) (bytes : List ℕ) → ChangesByNames o bytes }
 {

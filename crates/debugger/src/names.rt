@@ -9,7 +9,9 @@ ghost use Rattle.il_model.specs.Words.{spells};
 ghost use Rattle.controller_model.specs.Slots.{variable_slot, instance_slot, field_slot, dotted_slot, slot_number};
 ghost use Rattle.controller_model.specs.Slots.{slot_of};
 
-use il_model::{CodedOperand, Field, Instance, Slot, Variable, dot, is_spelled, location_from};
+use il_model::{
+    CodedOperand, Field, Instance, MOST_INSTANCES, Slot, Variable, dot, is_spelled, location_from,
+};
 use loader::Image;
 
 fn location_slot(name: &[u8]) -> Option<u16>
@@ -55,7 +57,7 @@ fn field_named(fields: &[Field], name: &[u8]) -> Option<usize>
 }
 
 fn instance_slot(i: usize, instance: &Instance, field: &[u8]) -> Option<u16>
-    requires { i < 128 }
+    requires { i < MOST_INSTANCES }
     ensures { result ≡ instance_slot i field.now instance.now }
 {
     let n = field_named(instance.kind.fields(), field)?;

@@ -10,7 +10,7 @@ use scan_cycle::{Breakpoints, ScanCycle};
 use std::alloc::{AllocError, Global};
 use std::marker::Model;
 
-/// What a change of the program brings: the image, a scan cycle for it that never ran, and no breakpoint.
+/// What a change of the program brings: the image, a scan cycle for it, whatever that holds, and no breakpoint.
 #[derive(Drop)]
 pub(crate) struct Fresh {
     pub image: Image,

@@ -3,11 +3,12 @@
 ghost use Rattle.std.specs.Prelude.{◌≡◌};
 ghost use Rattle.controller_model.specs.Commands.{forcible_at};
 ghost use Rattle.controller_model.specs.Snapshots.{fit_breaks, fits_location, fit_forces, is_at_rest, fits_phase, fits};
+ghost use Rattle.debugger.specs.Restored.{CanRestore};
 
 use crate::controller::forcible_at;
 use il_model::{Budget, ForcedSlot, SavedPhase, Slot, Snapshot, Value, loc_type};
 use loader::Image;
-use scan_cycle::{fits_run, fits_values, has_type};
+use scan_cycle::{fits_run, fits_values, has_type, have_states};
 
 /// Whether a slot is a location of `%I` or `%Q`, and the value of its type.
 fn fits_location(value: Value, slot: Slot) -> bool
@@ -80,4 +81,12 @@ pub fn fits(image: &Image, budget: Budget, snapshot: &Snapshot) -> bool
         && fit_breaks(snapshot.breaks.as_slice(), image.len())
         && fit_forces(snapshot.forces.as_slice())
         && fits_phase(image, budget, snapshot)
+}
+
+/// Whether a snapshot is one of a controller of this image and this budget, as `Controller::restore` judges it: then
+/// only want of memory keeps it from being restored. It takes no memory.
+pub fn can_restore(image: &Image, budget: Budget, snapshot: &Snapshot) -> bool
+    ensures { CanRestore image.now budget.instructions snapshot.now result }
+{
+    fits(image, budget, snapshot) && have_states(snapshot.instances.as_slice())
 }

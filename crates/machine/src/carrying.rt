@@ -1,6 +1,6 @@
 //! What goes on when the program changes.
 
-ghost use Rattle.std.specs.Prelude.{◌≡◌, length, map};
+ghost use Rattle.std.specs.Prelude.{◌≡◌, length, map, position};
 ghost use Rattle.controller_model.specs.Changes.{goes_on, goes_on_as, kept_value, kept_instance, carried_value};
 ghost use Rattle.controller_model.specs.Changes.{carried_instance};
 
@@ -22,21 +22,19 @@ fn goes_on_as(old: &Instance, new: &Instance) -> bool
     old.name.is(&new.name) && old.kind == new.kind
 }
 
+/// The place of the variable that goes on as this one.
+fn place_before(variables: &[Variable], new: &Variable) -> Option<usize>
+    ensures { result ≡ position (λ old. goes_on old new.now) variables.now }
+{
+    variables.iter().position(|old| goes_on(old, new))
+}
+
 /// The value of the variable that goes on as this one.
 fn kept_value(variables: &[Variable], values: &[Value], new: &Variable) -> Option<Value>
     ensures { result ≡ kept_value variables.now values.now new.now }
 {
-    let mut rest = values;
-    for old in variables {
-        let [value, more @ ..] = rest else {
-            return None;
-        };
-        if goes_on(old, new) {
-            return Some(*value);
-        }
-        rest = more;
-    }
-    None
+    let i = place_before(variables, new)?;
+    values.get(i).copied()
 }
 
 fn carried_value(variables: &[Variable], values: &[Value], new: &Variable) -> Value
@@ -63,6 +61,13 @@ pub fn carry_values(
     }
 }
 
+/// The place of the instance that goes on as this one.
+fn instance_before(declared: &[Instance], new: &Instance) -> Option<usize>
+    ensures { result ≡ position (λ old. goes_on_as old new.now) declared.now }
+{
+    declared.iter().position(|old| goes_on_as(old, new))
+}
+
 /// The instance that goes on as this one, with its inputs and its state.
 fn kept_instance(
     declared: &[Instance],
@@ -71,17 +76,9 @@ fn kept_instance(
 ) -> Option<InstanceState>
     ensures { result ≡ kept_instance declared.now instances.now new.now }
 {
-    let mut rest = instances;
-    for old in declared {
-        let [instance, more @ ..] = rest else {
-            return None;
-        };
-        if goes_on_as(old, new) {
-            return Some(instance.copy());
-        }
-        rest = more;
-    }
-    None
+    let i = instance_before(declared, new)?;
+    let instance = instances.get(i)?;
+    Some(instance.copy())
 }
 
 fn carried_instance(

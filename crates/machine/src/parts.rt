@@ -8,7 +8,7 @@ ghost use Rattle.machine.specs.Parts.{all_values, AreLawful, HasFewInputs, Resto
 
 use crate::instance::InstanceState;
 use arrayvec::ArrayVec;
-use il_model::{Deferred, SavedInstance, Value, Variable};
+use il_model::{Deferred, MOST_OPEN_PARENTHESES, SavedInstance, Value, Variable};
 use std::alloc::{AllocError, Global};
 
 /// The values of the variables without a location, in order.
@@ -89,8 +89,8 @@ pub fn restored_instances(
 }
 
 /// The deferred operators of a snapshot.
-pub fn restored_deferred(deferred: &[Deferred]) -> ArrayVec<Deferred, 16>
-    requires { length deferred.now ≤ 16 }
+pub fn restored_deferred(deferred: &[Deferred]) -> ArrayVec<Deferred, MOST_OPEN_PARENTHESES>
+    requires { length deferred.now ≤ MOST_OPEN_PARENTHESES }
     ensures { result.items ≡ deferred.now }
 {
     let mut kept = ArrayVec::new();

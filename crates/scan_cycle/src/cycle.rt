@@ -25,7 +25,7 @@ use std::alloc::{AllocError, Global};
 use std::marker::Model;
 
 /// A machine with what is kept from scan to scan: the number of scans begun, the greatest moment, in milliseconds, the
-/// forces of inputs and outputs, and how many instructions an open scan has performed.
+/// forces of inputs and outputs, and how many instructions a held scan has performed.
 #[derive(Drop)]
 pub struct ScanCycle {
     machine: Machine,
@@ -77,8 +77,8 @@ impl ScanCycle {
         })
     }
 
-    /// What a snapshot of a scan cycle for this image has of it: all but the breakpoints and whether a scan is open. It
-    /// fails only where memory runs out.
+    /// What a snapshot of a scan cycle for this image has of it: all but the image, the breakpoints and whether a scan
+    /// is open. It fails only where memory runs out.
     pub fn parts(&self, alloc: Global, image: &Image) -> Result<Snapshot, AllocError>
         ensures has { IfOk result (λ s. HasCycle image.now s self.now.cycle) }
         ensures lawful { IfOk result (λ s. AreLawful self.now.cycle.state.instances) }
@@ -276,20 +276,22 @@ impl ScanCycle {
         self.performed = 0;
     }
 
-    /// Goes on from the scan cycle of another image, which has no scan open: what goes on by its name keeps its value,
-    /// or its inputs and its state; the areas, forces, moment and count stay. It takes no memory.
+    /// Goes on from the scan cycle of another image, with no scan open: what goes on by its name keeps its value, or
+    /// its inputs and its state; the areas, forces, moment and count stay. It takes no memory.
     pub fn carry_over(&mut self, image: &Image, old: &ScanCycle, old_image: &Image)
         requires new { IsCycleOf image.now self.old }
         requires old { IsCycleOf old_image.now old.now }
-        ensures carried { self.new.cycle
-            ≡ record old.now.cycle { state = carried_state old_image.now old.now.cycle.state image.now } }
+        ensures carried { self.new.cycle ≡ record old.now.cycle {
+          state = carried_state old_image.now old.now.cycle.state image.now;
+          performed = 0;
+        } }
         ensures kept { IsCycleOf image.now self.new }
     {
         self.machine.carry_over(image, &old.machine, old_image);
         self.count = old.count;
         self.moment = old.moment;
         self.forces = old.forces.copy();
-        self.performed = old.performed;
+        self.performed = 0;
     }
 
     /// The value of a location, a variable or a field; none where the slot is none of these.

@@ -14,7 +14,8 @@
 //!
 //! Proved: `begin`, `run_to`, `step`, `step_over`, `force`, `unforce` and `reset` are their definitions
 //! (`controller_model/specs/Scan`), state and answer: before each instruction the end is tested, then the budget, then
-//! the breakpoint. No call but `new`, `parts`, `from_parts` and `none` takes memory.
+//! the breakpoint. `carry_over` goes on from the scan cycle of another image with what a change of the program carries
+//! over (`controller_model/specs/Changes`). No call but `new`, `parts`, `from_parts` and `none` takes memory.
 //!
 //! Only tested: nothing; `cycle_rows` of `worked_parts` holds a scan, carries it on, and forces.
 #![tactic(auto)]
