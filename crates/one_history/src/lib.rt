@@ -116,7 +116,7 @@ pub fn worked_order<C, A>()
 {}
 
 /// Rules that are wrong by one change, each with a schedule whose report shows it: answering before a majority, running
-/// a repeated request again, a STARTVIEW that cuts a normal log, and the longest log.
+/// a repeated request again, a STARTVIEW that cuts a normal log, the longest log, and recovering without a stored view.
 pub fn wrong_rules_show<C, A>()
     ensures { (answer : List C → A) (a b c : C) → WrongRulesShow answer a b c }
 {}

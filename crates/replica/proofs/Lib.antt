@@ -6,3 +6,4 @@ pub mod Recovering
 pub mod Sending
 pub mod Showing
 pub mod StaysUp
+pub mod Unfit

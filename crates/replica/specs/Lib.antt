@@ -2,3 +2,4 @@ pub mod Faults
 pub mod Ruled
 pub mod Standing
 pub mod Stepped
+pub mod Dropped

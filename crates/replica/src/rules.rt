@@ -9,6 +9,8 @@ ghost use Rattle.vr_model.specs.StandsFor.{body_with, party_of, Carries};
 ghost use Rattle.vr_core.specs.StandsFor.{IsSavedAs, own_member};
 ghost use Rattle.vr_core.specs.Follows.{DoesIfKept, receives_from};
 ghost use Rattle.replica.specs.Ruled.{DoesFrom, Ruled};
+ghost use Rattle.vr_core.specs.Dropped.{Drops};
+ghost use Rattle.replica.specs.Dropped.{IsUnfitBody, IsUnfitFrom, IsUnfitEvent};
 
 use std::alloc::{AllocError, Global};
 use vr_core::{Core, Response};
@@ -19,7 +21,8 @@ use vr_viewchange::{on_do_view_change, on_start_view, on_start_view_change, on_t
 
 /// What the rules make of an event of a replica that is up: it drops a restart.
 pub(crate) fn by_rule(core: &mut Core, alloc: Global, event: Event) -> Result<Sends, AllocError>
-    ensures { Ruled core.old event core.new result }
+    ensures rule { Ruled core.old event core.new result }
+    ensures dropped { IsUnfitEvent core.old event → Drops core.old core.new result }
 {
     match event {
         Event::Message(message) => receive(core, alloc, message),
@@ -31,10 +34,11 @@ pub(crate) fn by_rule(core: &mut Core, alloc: Global, event: Event) -> Result<Se
 
 /// A message.
 fn receive(core: &mut Core, alloc: Global, message: Message) -> Result<Sends, AllocError>
-    ensures { (l : List (logs.Request Command)) → Carries IsSavedAs (own_member core.old) message.body l
+    ensures rule { (l : List (logs.Request Command)) → Carries IsSavedAs (own_member core.old) message.body l
         → DoesFrom core.old message.body
         (λ w r. rules.receives w.f w.number w.answer r (party_of message.from)
         (body_with l message.body)) core.new result }
+    ensures dropped { IsUnfitFrom core.old message.from message.body → Drops core.old core.new result }
 {
     match message.from {
         Party::Client(_) => from_client(core, alloc, message.body),
@@ -56,8 +60,9 @@ fn from_client(core: &mut Core, alloc: Global, body: Body) -> Result<Sends, Allo
 /// From a replica: all but requests and replies. It is sorted by protocol first, so that each function here is proved
 /// by the calls of one protocol.
 fn from_replica(core: &mut Core, alloc: Global, sender: u8, body: Body) -> Result<Sends, AllocError>
-    ensures { (l : List (logs.Request Command)) → Carries IsSavedAs (own_member core.old) body l
+    ensures rule { (l : List (logs.Request Command)) → Carries IsSavedAs (own_member core.old) body l
         → DoesFrom core.old body (receives_from sender (body_with l body)) core.new result }
+    ensures dropped { IsUnfitBody core.old sender body → Drops core.old core.new result }
 {
     match body {
         Body::Request(_)
@@ -111,8 +116,9 @@ fn in_view_change(
     body: Body,
 ) -> Result<Sends, AllocError>
     requires part { protocol_of body ≡ ViewChange }
-    ensures { (l : List (logs.Request Command)) → Carries IsSavedAs (own_member core.old) body l
+    ensures rule { (l : List (logs.Request Command)) → Carries IsSavedAs (own_member core.old) body l
         → DoesIfKept core.old (receives_from sender (body_with l body)) core.new result }
+    ensures dropped { IsUnfitBody core.old sender body → Drops core.old core.new result }
 {
     match body {
         Body::StartViewChange { view } => on_start_view_change(core, alloc, sender, view),
@@ -142,8 +148,9 @@ fn in_view_change(
 /// A message of recovery or of state transfer.
 fn in_recovery(core: &mut Core, alloc: Global, sender: u8, body: Body) -> Result<Sends, AllocError>
     requires part { protocol_of body ≡ Recovery }
-    ensures { (l : List (logs.Request Command)) → Carries IsSavedAs (own_member core.old) body l
+    ensures rule { (l : List (logs.Request Command)) → Carries IsSavedAs (own_member core.old) body l
         → DoesFrom core.old body (receives_from sender (body_with l body)) core.new result }
+    ensures dropped { IsUnfitBody core.old sender body → Drops core.old core.new result }
 {
     match body {
         Body::Recovery { nonce, stored_view } => on_recovery(

@@ -11,6 +11,7 @@ ghost use Rattle.vr_core.specs.Down.{Crashes};
 ghost use Rattle.replica.specs.declared.fault.StepFault.TheVariants as fault;
 ghost use Rattle.replica.specs.Standing.{StandsFor, IsDown, IsDeafTo};
 ghost use Rattle.replica.specs.Stepped.{Stepped, Restarted};
+ghost use Rattle.replica.specs.Dropped.{IsUnfitEvent, DropsEvent};
 
 use crate::fault::StepFault;
 use crate::rules::by_rule;
@@ -29,6 +30,9 @@ impl Replica {
     /// checkpoint is past what it has executed, which no run comes to. `Store` is answered only where the store failed
     /// in this call; then the replica is down until a restart, and the store keeps the old view or the new one. `Down`
     /// is answered exactly where the replica is down and the event is no restart.
+    ///
+    /// A message whose checkpoint is later than its commit number, or can't be restored, is dropped; of a
+    /// RECOVERYRESPONSE where it would be kept.
     pub fn step<S: ViewStore>(
         &mut self,
         alloc: Global,
@@ -39,6 +43,7 @@ impl Replica {
             → Stepped S.load_gives S.save_gives IsSavedAs (StandsFor self.new m) m r store.old store.new event result }
         ensures down { IsErrOf result fault.Down ↔ IsDeafTo self.old event }
         ensures device { IsErrOf result fault.Store → Failed (S.faults store.old) (S.faults store.new) }
+        ensures dropped { IsUnfitEvent self.old.core event → DropsEvent self.old self.new store.old store.new result }
         ensures counts { S.faults store.old ≤ S.faults store.new }
     {
         if self.is_down() {
@@ -60,6 +65,7 @@ impl Replica {
             → Stepped S.load_gives S.save_gives IsSavedAs (StandsFor self.new m) m r store.old store.new event result }
         ensures up { IsErrOf result fault.Down → ⊥ }
         ensures device { IsErrOf result fault.Store → Failed (S.faults store.old) (S.faults store.new) }
+        ensures dropped { IsUnfitEvent self.old.core event → DropsEvent self.old self.new store.old store.new result }
         ensures counts { S.faults store.old ≤ S.faults store.new }
     {
         let stored_view = self.core.stored_view;
@@ -97,6 +103,8 @@ impl Replica {
             (StandsFor self.new m) m r store.old store.new event.now result }
         ensures down { IsErrOf result fault.Down ↔ IsDeafTo self.old event.now }
         ensures device { IsErrOf result fault.Store → Failed (S.faults store.old) (S.faults store.new) }
+        ensures dropped { IsUnfitEvent self.old.core event.now
+            → DropsEvent self.old self.new store.old store.new result }
         ensures counts { S.faults store.old ≤ S.faults store.new }
     {
         match event {

@@ -17,7 +17,7 @@ pub trait Member: Drop {
     ghost use Rattle.vr_model.specs.Membership.{Membership};
     ghost use Rattle.schedules.specs.Members.{Taken, IsTaken, Does, by_rules, KeepsExecuted, FitsTaken};
 
-    // A controller of this program and this budget is saved as this after these commands.
+    // A controller that began with this program and has this budget is saved as this after these commands.
     ghost IsSavedAs: { Text → ℕ → List Command → SavedController → Type 0 };
 
     // It stands for this record of the rules, as this member of its group.

@@ -1,12 +1,14 @@
 //! The changes of the program among some entries.
 
-ghost use Rattle.std.specs.Prelude.{◌≡◌, ◌++◌, [], List, IfOk};
+ghost use Rattle.std.specs.Prelude.{◌≡◌, ◌++◌, ◌∷◌, [], List, IfOk};
 ghost use Rattle.il_model.specs.declared.command.Command.{Command};
 ghost use Rattle.vr_model.specs.Logs as logs;
 ghost use Rattle.vr_model.specs.Checkpoints.{requests_of};
+ghost use Rattle.debugger.specs.Prepared.{Prepared, IsReady};
 ghost use Rattle.vr_core.specs.Changes.{AreReady};
 
 use debugger::{Ready, prepare};
+use il_model::Command;
 use std::alloc::{AllocError, Global};
 use std::marker::Model;
 use vr_model::Request;
@@ -40,11 +42,21 @@ impl ReadyChanges {
     }
 
     /// The next one.
-    pub fn next(&mut self) -> Option<Ready>
+    pub(crate) fn next(&mut self) -> Option<Ready>
         ensures { MatchOption result (self.old ≡ []) (λ r. self.old ≡ r ∷ self.new) }
     {
         self.changes.pop()
     }
+}
+
+/// Puts a change behind those that are ready, made ready itself. It fails only where memory runs out. It stands apart
+/// from the search for changes, since what it takes in room is paid for whenever it begins.
+fn put_ready(alloc: Global, changes: &mut Vec<Ready>, change: &Command) -> Result<(), AllocError>
+    ensures { IfOk result (λ _. (ready : Prepared) × IsReady change.now ready
+        × (changes.new.items ≡ changes.old.items ++ ready ∷ [])) }
+{
+    changes.push(prepare(alloc, change)?)?;
+    Ok(())
 }
 
 /// The changes among these entries come before those that are ready. It fails only where memory runs out.
@@ -61,7 +73,7 @@ pub(crate) fn prepare_before(
     while n > 0 {
         n -= 1;
         if entries[n].command.is_change() {
-            changes.push(prepare(alloc, &entries[n].command)?)?;
+            put_ready(alloc, &mut changes, &entries[n].command)?;
         }
     }
     Ok(ReadyChanges { changes })

@@ -5,3 +5,4 @@ mod Table
 mod Ending
 mod CatchingUp
 mod NewState
+pub mod UnfitResponse

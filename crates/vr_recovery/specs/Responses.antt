@@ -12,6 +12,7 @@ use Rattle.vr_model.specs.Replicas.{ReplicaState, put}
 use Rattle.vr_core.specs.declared.state.Core.{Core}
 use Rattle.vr_core.specs.declared.state.Response.{Response}
 use Rattle.vr_core.specs.StandsFor.{StandsFor, ResponseStands}
+use Rattle.vr_core.specs.Dropped.{IsUnfit}
 
 -- the response that is kept of this replica
 abbrev pub kept_of : Core → ℕ → Option Response
@@ -49,3 +50,10 @@ pub record HasState (core : Core) (view : ℕ) : Type 0 where
   pub at : kept_of core (primary core.config.f view) ≡ Some response
   pub of_view : response.view ≡ view
   pub has : response.state ≡ Some state
+
+-- the response would be kept of this sender, and tells of a log whose checkpoint can't be taken up
+pub record IsUnfitResponse (core : Core) (sender : ℕ) (a : Response) : Type 0 where
+  pub state : code.PrimaryState
+  pub tells : a.state ≡ Some state
+  pub comes : stays (kept_of core sender) a ≡ false
+  pub unfit : IsUnfit core state.commit_number state.log

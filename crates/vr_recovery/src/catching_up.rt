@@ -10,12 +10,12 @@ ghost use Rattle.vr_model.specs.Checkpoints.{requests_of};
 ghost use Rattle.vr_model.specs.StandsFor.{IsCarriedPart};
 ghost use Rattle.vr_core.specs.StandsFor.{IsSavedAs, own_member};
 ghost use Rattle.vr_core.specs.Follows.{Tells, DoesIfKept, DoesIfFits, op_number_of, receives_from};
+ghost use Rattle.vr_core.specs.Dropped.{IsUnfit, Drops};
 
 use crate::entries::{catch_up, catch_up_as_primary, go_on};
-use crate::handed::is_reached;
 use crate::taking_up::{adopt_and_take_up, take_up, take_up_as_primary};
 use std::alloc::{AllocError, Global};
-use vr_core::Core;
+use vr_core::{Core, is_reached};
 use vr_model::{Log, Request, Sends};
 
 /// NEWSTATE: the view's log past an op number. A backup of that view appends what lies past its own log; who is behind
@@ -30,10 +30,11 @@ pub fn on_new_state(
     commit_number: u64,
     log: Log,
 ) -> Result<Sends, AllocError>
-    ensures { (l : List (logs.Request Command))
+    ensures rule { (l : List (logs.Request Command))
         → IsCarriedPart IsSavedAs (own_member core.old) op_number commit_number log l
         → DoesIfFits core.old (says.NewState view op_number commit_number log)
         (receives_from sender (NewState view op_number commit_number l)) core.new result }
+    ensures dropped { IsUnfit core.old commit_number log → Drops core.old core.new result }
 {
     if core.is_other(sender) {
         new_state_of_other(core, alloc, view, op_number, commit_number, log)
@@ -51,10 +52,11 @@ fn new_state_of_other(
     commit_number: u64,
     log: Log,
 ) -> Result<Sends, AllocError>
-    ensures { (l : List (logs.Request Command))
+    ensures rule { (l : List (logs.Request Command))
         → IsCarriedPart IsSavedAs (own_member core.old) op_number commit_number log l
         → DoesIfFits core.old (says.NewState view op_number commit_number log)
         (λ w r. rules.on_new_state w.f w.number w.answer r view op_number commit_number l) core.new result }
+    ensures dropped { IsUnfit core.old commit_number log → Drops core.old core.new result }
 {
     if log.checkpoint().is_some() {
         on_checkpoint(core, alloc, view, op_number, commit_number, log)
@@ -109,12 +111,13 @@ fn on_checkpoint(
     log: Log,
 ) -> Result<Sends, AllocError>
     requires { is_some log.checkpoint ≡ true }
-    ensures { (l : List (logs.Request Command))
+    ensures rule { (l : List (logs.Request Command))
         → IsCarriedPart IsSavedAs (own_member core.old) op_number commit_number log l
         → DoesIfFits core.old (says.NewState view op_number commit_number log)
         (λ w r. rules.on_new_state w.f w.number w.answer r view op_number commit_number l) core.new result }
+    ensures dropped { IsUnfit core.old commit_number log → Drops core.old core.new result }
 {
-    if !is_reached(&log, commit_number) {
+    if !is_reached(commit_number, &log) {
         return Ok(Vec::new(alloc));
     }
     let count = log.op_number().saturating_sub(op_number);

@@ -56,9 +56,9 @@ fn acknowledgement(core: &Core) -> Message
     ensures { result ≡ message_from core.now.number (says.PrepareOk core.now.view (op_number_of core.now))
         (primary core.now.config.f core.now.view) }
 {
-    let end = Body::PrepareOk {
+    let prepare_ok = Body::PrepareOk {
         view: core.view,
         op_number: core.op_number(),
     };
-    core.message(core.config.primary(core.view), end)
+    core.message(core.config.primary(core.view), prepare_ok)
 }

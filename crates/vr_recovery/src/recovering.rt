@@ -13,11 +13,11 @@ ghost use Rattle.vr_model.specs.Messages.{RecoveryResponse, RecoveryResponseMess
 ghost use Rattle.vr_core.specs.StandsFor.{ResponseStands, own_member};
 ghost use Rattle.vr_core.specs.Begun.{IsBegun, IsNotBegun};
 ghost use Rattle.vr_core.specs.Follows.{Tells, FollowsIfKept, DoesIfKept, receives_from};
+ghost use Rattle.vr_core.specs.Dropped.{Drops};
 ghost use Rattle.vr_core.specs.Changes.{IsReadyFor};
-ghost use Rattle.vr_recovery.specs.Responses.{HasState, kept_of, stays};
+ghost use Rattle.vr_recovery.specs.Responses.{HasState, IsUnfitResponse, kept_of, stays};
 ghost use Rattle.vr_recovery.specs.Recovering.{Recovers};
 
-use crate::handed::fits;
 use crate::responses::{count, is_told, keep, kept, latest, put, put_back, stays_kept};
 use debugger::{Controller, SnapError};
 use std::alloc::{AllocError, Global};
@@ -34,8 +34,9 @@ pub fn on_recovery_response(
     nonce: u64,
     response: Response,
 ) -> Result<Sends, AllocError>
-    ensures { (a : RecoveryResponse Command) → ResponseStands (own_member core.old) response a
+    ensures rule { (a : RecoveryResponse Command) → ResponseStands (own_member core.old) response a
         → DoesIfKept core.old (receives_from sender (RecoveryResponseMessage nonce a)) core.new result }
+    ensures dropped { IsUnfitResponse core.old sender response → Drops core.old core.new result }
 {
     if core.is_other(sender) {
         response_of_other(core, alloc, sender, nonce, response)
@@ -53,9 +54,10 @@ fn response_of_other(
     response: Response,
 ) -> Result<Sends, AllocError>
     requires { sender < group_size core.old.config.f }
-    ensures { (a : RecoveryResponse Command) → ResponseStands (own_member core.old) response a
+    ensures rule { (a : RecoveryResponse Command) → ResponseStands (own_member core.old) response a
         → DoesIfKept core.old
         (λ w r. rules.on_recovery_response w.f w.number w.answer r sender nonce a) core.new result }
+    ensures dropped { IsUnfitResponse core.old sender response → Drops core.old core.new result }
 {
     if !recovers_with(core, nonce) {
         return Ok(Vec::new(alloc));
@@ -85,12 +87,13 @@ fn response_fits(
         (λ fits. fits ≡ false → (a : RecoveryResponse Command) → ResponseStands (own_member core.now) response.now a
         → ⊥) }
     ensures err { OnErr result (stays (kept_of core.now sender) response.now ≡ false) }
+    ensures unfit { IfOk result (λ fits. fits ≡ true → IsUnfitResponse core.now sender response.now → ⊥) }
 {
     if stays_kept(core, sender, response) {
         return Ok(true);
     }
     match &response.state {
-        Some(state) => fits(core, alloc, &state.log, state.commit_number),
+        Some(state) => core.can_stand(alloc, state.commit_number, &state.log),
         None => Ok(true),
     }
 }

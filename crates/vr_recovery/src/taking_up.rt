@@ -1,12 +1,14 @@
 //! A log with a checkpoint is taken over.
 
-ghost use Rattle.std.specs.Prelude.{◌≡◌, true, List, IfOk, OnErr};
+ghost use Rattle.std.specs.Prelude.{◌≡◌, ◌≤◌, true, List, IfOk, OnErr};
 ghost use Rattle.il_model.specs.declared.command.Command.{Command};
 ghost use Rattle.vr_model.specs.Groups.{primary};
 ghost use Rattle.vr_model.specs.Logs as logs;
 ghost use Rattle.vr_model.specs.Rules as rules;
 ghost use Rattle.vr_core.specs.StandsFor.{StandsForLog};
 ghost use Rattle.vr_core.specs.Follows.{Tells, FollowsIfKept};
+ghost use Rattle.vr_core.specs.Dropped.{IsUnfit, Drops};
+ghost use Rattle.vr_model.specs.Checkpoints.{base_of};
 ghost use Rattle.vr_recovery.specs.CatchingUp.{catches_up};
 
 use crate::holding::{hold, hold_as_primary};
@@ -23,11 +25,13 @@ pub(crate) fn take_up(
     commit_number: u64,
     log: Log,
 ) -> Result<Sends, AllocError>
+    requires { base_of log.checkpoint ≤ commit_number }
     ensures ok { IfOk result
         (λ sends. (l : List (logs.Request Command)) → StandsForLog core.old commit_number log l
         → FollowsIfKept core.old
         (λ w r. rules.holds_log w.f w.number w.answer r l commit_number) core.new sends.items) }
     ensures err { OnErr result (core.new ≡ core.old) }
+    ensures dropped { IsUnfit core.old commit_number log → Drops core.old core.new result }
 {
     let begun = match core.begun(alloc, &log) {
         Ok(begun) => begun,
@@ -48,12 +52,14 @@ pub(crate) fn adopt_and_take_up(
     commit_number: u64,
     log: Log,
 ) -> Result<Sends, AllocError>
+    requires reached { base_of log.checkpoint ≤ commit_number }
     requires behind { Tells core.old (λ w r. rules.behind w.f w.number w.answer r view) true }
     requires backup { primary core.old.config.f view ≡ core.old.number → ⊥ }
     ensures ok { IfOk result
         (λ sends. (l : List (logs.Request Command)) → StandsForLog core.old commit_number log l
         → FollowsIfKept core.old (λ w r. catches_up w r view l commit_number) core.new sends.items) }
     ensures err { OnErr result (core.new ≡ core.old) }
+    ensures dropped { IsUnfit core.old commit_number log → Drops core.old core.new result }
 {
     let begun = match core.begun(alloc, &log) {
         Ok(begun) => begun,
@@ -76,21 +82,23 @@ pub(crate) fn take_up_as_primary(
     commit_number: u64,
     log: Log,
 ) -> Result<Sends, AllocError>
+    requires reached { base_of log.checkpoint ≤ commit_number }
     requires behind { Tells core.old (λ w r. rules.behind w.f w.number w.answer r view) true }
     requires own { primary core.old.config.f view ≡ core.old.number }
     ensures ok { IfOk result
         (λ sends. (l : List (logs.Request Command)) → StandsForLog core.old commit_number log l
         → FollowsIfKept core.old (λ w r. catches_up w r view l commit_number) core.new sends.items) }
     ensures err { OnErr result (core.new ≡ core.old) }
+    ensures dropped { IsUnfit core.old commit_number log → Drops core.old core.new result }
 {
-    if core.commit_number < log.base() {
-        return Err(AllocError);
-    }
     let begun = match core.begun(alloc, &log) {
         Ok(begun) => begun,
         Err(SnapError::Memory) => return Err(AllocError),
         Err(_) => return Ok(Vec::new(alloc)),
     };
+    if core.commit_number < log.base() {
+        return Err(AllocError);
+    }
     let executed = commit_number.min(log.op_number());
     let changes = core.prepare_handed(alloc, &log, executed)?;
     let room = Vec::with_capacity(alloc, log.entries().len() + 1)?;

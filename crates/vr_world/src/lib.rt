@@ -10,8 +10,9 @@
 //! let count = trace.sent.len(); // 3: the REQUEST, and a PREPARE to each backup
 //! ```
 //!
-//! Proved: the promise of one history, down to the answers of the table of commands for the image's program. Whatever
-//! list of events is handed in, the trace is the report of a run of it by new replicas, with no premise on members left
+//! Proved: the promise of one history, down to the answers of the table of commands, at each command's place for the
+//! program in force there: the image's, and from a change that is `Done` on the one that it brought. Whatever list of
+//! events is handed in, the trace is the report of a run of it by new replicas, with no premise on members left
 //! (`IsTraced`), and the report explains the run. Each answer that was released stands at its request's place among the
 //! answers of one controller to all commands of the trace's list (`AllStandAtTheirPlaces`).
 //!

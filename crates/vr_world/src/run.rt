@@ -36,9 +36,9 @@ fn group(
 ///
 /// Whatever is submitted, delivered, lost, repeated, timed out, crashed and restarted, there is one list of the
 /// clients' commands, which grows and is never revised and has each command at most once, such that every answer that
-/// is released is the one that the table of commands gives for the program at that command's place in the list. The
-/// trace has that list, how long it was after each event, the releases, all messages that were sent and the events that
-/// were lost for want of memory.
+/// is released is the one that the table of commands gives at that command's place in the list for the program in force
+/// there: the image's, and from a change that is `Done` on the one that it brought. The trace has that list, how long
+/// it was after each event, the releases, all messages that were sent and the events that were lost for want of memory.
 ///
 /// `BadSchedule` is answered exactly where an event can't take place: the first one, and the lowest reason. Where
 /// memory runs out for what the run itself keeps there is no trace.

@@ -12,14 +12,14 @@ loop-n-init c =
       ready = subst (AreReadyFrom entries c.args.ready (length entries)) (sym c.ready.view_is) (none_from entries c.args.ready (length entries) refl);
     }
 
-pub loop-n-preserved-in_ok-push : goal.loop-n-preserved-in_ok-push
-loop-n-preserved-in_ok-push c =
+pub loop-n-preserved-in-Continue-1 : goal.loop-n-preserved-in-Continue-1
+loop-n-preserved-in-Continue-1 c =
     let above : 0 < c.loop-n.n = omega (arith, c.loop-n-test.true) in
     let within : c.loop-n.n ≤ length c.args.entries.now = c.loop-n.invariant.within in
     record {
       within = omega arith;
-      ready = change_before c.args.entries.now c.args.ready c.loop-n.n _ above within _ c.loop-n.changes.items c.push.new.self.items c.in_ok-prepare.field-0
-          (sym c.is_change.ensures ∙ c.if-is_change.true) c.in_ok-prepare.ensures c.in_ok-push.ensures.items c.loop-n.invariant.ready;
+      ready = change_before c.args.entries.now c.args.ready c.loop-n.n _ above within _ c.loop-n.changes.items c.put_ready.new.changes.items c.in_ok-put_ready.ensures.0
+          (sym c.is_change.ensures ∙ c.if-is_change.true) c.in_ok-put_ready.ensures.1 c.in_ok-put_ready.ensures.2 c.loop-n.invariant.ready;
     }
 
 pub loop-n-preserved : goal.loop-n-preserved

@@ -1,5 +1,6 @@
 use Rattle.std.proofs.Common.{refl}
 use Rattle.replica.proofs.Acting.{hears_not, hears_restart, deaf_to_all, not_to_restart}
+use Rattle.replica.proofs.Unfit.{restart_fits}
 use Rattle.replica.proofs.state.Replica.wake.Goals as goal
 
 pub returns-in-Restart-clause-row : goal.returns-in-Restart-clause-row
@@ -15,3 +16,6 @@ returns-in_default-clause-row g c = λ m r st is.
 
 pub returns-in_default-clause-down : goal.returns-in_default-clause-down
 returns-in_default-clause-down g c = (λ e. deaf_to_all c.args.self.now c.args.event.now c.in_default.not-Restart c.requires, λ deaf. refl)
+
+pub returns-in-Restart-clause-dropped : goal.returns-in-Restart-clause-dropped
+returns-in-Restart-clause-dropped g c = λ unfit. absurd (restart_fits c.args.self.now.core c.args.event.now c.in-Restart.nonce c.in-Restart.is unfit)
