@@ -52,7 +52,7 @@ pub record AsksForScan (line : List ℕ) : Type 0 where
 abbrev pub AsksForNothing : List ℕ → Type 0
 AsksForNothing line = (longest_line < length line) ⊎ (HasNoCommand line ⊎ AsksForScan line)
 
--- what a line came to: its command was submitted, and got this answer; or it was refused
+-- what a line came to: its command was submitted and answered once, by this answer; or it was refused
 pub data Outcome : Type 0 where
   Submitted : (command : Command) (answer : Answer) → Outcome
   Refused : Outcome

@@ -49,8 +49,8 @@ abbrev pub scene : Option (List (Command × Answer)) → Option (List ℕ) → T
 scene answered held program = record { answered = answered; held = held; program = program }
 
 -- Behind what was there of a line a piece of the stream came. Each line that is whole with it had its turn: its command
--- was submitted once, or it was refused, and its answer was written, in order. This is there of the next line, whose
--- names are looked up in the program in force.
+-- was submitted and answered once, or it was refused, and its answer was written, in order. This is there of the next
+-- line, whose names are looked up in the program in force.
 pub record Serves (rest piece rest' : List ℕ) (before after : Scene) : Type 0 where
   pub turns : List Turn
   pub lines : rest ++ piece ≡ lines_of turns ++ rest'

@@ -11,11 +11,10 @@ ghost use Rattle.console.specs.Asking.{way, joined, Hears, IsAnswered};
 use crate::session::Unanswered;
 use il_model::{Answer, Command};
 use process_image::GroupClient;
-use replicas::{Input, Link};
+use replicas::{Input, Link, send_all};
 use std::alloc::Global;
 use std::sync::Wait;
 use std::time::{Clock, Duration, Instant};
-use vr_model::Sends;
 
 /// Submits a command under the client's next number, and receives until it is answered: by the first REPLY with that
 /// number, whatever else comes meanwhile. After each period without it the same request is sent again, to all. It is
@@ -107,15 +106,5 @@ fn is_over(now: Instant, since: Option<Instant>, time: Duration) -> bool {
     match since {
         Some(since) => now.saturating_duration_since(since) >= time,
         None => false,
-    }
-}
-
-/// Hands each message to the link, in order.
-fn send_all<L: Link>(link: &mut L, sends: Sends)
-    ensures took { Grows (L.sent link.old) (L.sent link.new) sends.items }
-    ensures same { L.inputs link.new ≡ L.inputs link.old }
-{
-    for message in sends {
-        link.send(message);
     }
 }

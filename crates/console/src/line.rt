@@ -14,6 +14,12 @@ use std::marker::Model;
 /// So many bytes a line may have, without its end.
 const LONGEST: usize = 131_072;
 
+/// LF, which ends a line.
+pub(crate) const LINE_END: u8 = b'\n';
+
+/// So many bytes of lines are read at once.
+pub(crate) const PIECE: usize = 4096;
+
 /// What came of a line whose end is still to come: its bytes, or that there are too many.
 #[derive(Drop)]
 pub(crate) struct Line {
@@ -23,12 +29,13 @@ pub(crate) struct Line {
 
 impl Model for Line {
     ghost use Rattle.std.specs.Prelude.{◌≤◌, ℕ, List, Option, Some, None, length, if◌then◌else◌};
+    ghost use Rattle.console.specs.declared.line.TheConstants.{LONGEST};
 
     ghost Value = { Option (List ℕ) };
 
     ghost view = { λ l. if l.is_too_long then None else Some l.bytes.items };
 
-    ghost invariant = { λ l. length l.bytes.items ≤ 131072 };
+    ghost invariant = { λ l. length l.bytes.items ≤ LONGEST };
 }
 
 impl Line {
@@ -62,9 +69,9 @@ impl Line {
         self.is_too_long = false;
     }
 
-    #[tactic(auto, using(crate::proofs::Kept::long_asked, crate::proofs::Kept::nothing_asked, crate::proofs::Kept::none_asked, crate::proofs::Kept::some_asked))]
     /// The command that the line asks for, its names looked up in the program. `None` where the line is too long, no
     /// command, or a scan.
+    #[tactic(auto, using(crate::proofs::Kept::long_asked, crate::proofs::Kept::nothing_asked, crate::proofs::Kept::none_asked, crate::proofs::Kept::some_asked))]
     pub(crate) fn command(
         &self,
         alloc: Global,

@@ -3,13 +3,8 @@
 ghost use Rattle.std.specs.Prelude.{◌≡◌, ◌∷◌, [], OnOk, length, map, IfOk};
 ghost use Rattle.console.specs.Sending.{Asked, AskedOne, Passed, item_bytes};
 
+use crate::line::{LINE_END, PIECE};
 use il_model::{CountedRead, CountedWrite, DeviceFault, write_all};
-
-/// So many bytes are read at once.
-const PIECE: usize = 4096;
-
-/// LF, which ends a line.
-const LINE_END: u8 = b'\n';
 
 /// Sends each of these as a line, and prints its answer before the next one is sent. A fault comes where the reader,
 /// the writer or `out` failed, or the reader came to its end before each line was answered; then a beginning of it was

@@ -10,7 +10,7 @@ ghost use Rattle.console.specs.InForce.{brought_by, goes_on_with};
 ghost use Rattle.console.specs.Lines.{kept, line_end, HasNoEnd};
 ghost use Rattle.console.specs.Sessions.{scene, Serves, Stops, StopsAt, Takes, Talks, Writes};
 
-use crate::line::Line;
+use crate::line::{LINE_END, Line, PIECE};
 use il_model::{Answer, Command, CountedRead, CountedWrite, write_all};
 use loader::{Image, LoadError, load};
 use plc_tool::{Fault, put_line};
@@ -18,19 +18,12 @@ use std::alloc::{AllocError, Global};
 use std::sync::Wait;
 use thiserror::Error;
 
-/// So many bytes are read at once.
-const PIECE: usize = 4096;
-
-/// LF, which ends a line.
-const LINE_END: u8 = b'\n';
-
 /// No answer comes any more to a command, which may have been done or not.
 #[derive(Clone, Copy, Debug, PartialEq, Eq, Error)]
 #[error("unanswered")]
 pub struct Unanswered;
 
-/// What submits the commands of a console. It tells which commands it was given and how they were answered, or tells
-/// nothing.
+/// What submits the commands of a console. It tells which commands were answered, and how, or tells nothing.
 pub trait Submits {
     ghost use Rattle.std.specs.Prelude.{◌≡◌, [], ◌∷◌, List, Option, IfOk, OnErr};
     ghost use Rattle.il_model.specs.declared.command.Answer.{Answer};
@@ -251,11 +244,11 @@ fn serve_piece<W: CountedWrite, D: Submits>(
 }
 
 /// Serves a session to its end. Each line that is a command of those in files of commands, but for a scan, is submitted
-/// once, its names looked up in the program in force, and answered by the line of its answer; each other line, as one
-/// over 131072 bytes, by `plc: commands`. The program in force is that of the image, and after a change that is done
-/// the one that it brought, whose image this is then. Lines have their turns in order, one behind the answer of the
-/// other. What the reader has behind its last whole line is no line. Where a session ends by `Device`, for want of
-/// memory or by a command without an answer, a beginning of the answers went out.
+/// and answered once, its names looked up in the program in force, and the line of its answer is written; for each
+/// other line, as one over 131072 bytes, `plc: commands`. The program in force is that of the image, and after a change
+/// that is done the one that it brought, whose image this is then. Lines have their turns in order, one behind the
+/// answer of the other. What the reader has behind its last whole line is no line. Where a session ends by `Device`, for
+/// want of memory or by a command without an answer, a beginning of the answers went out.
 pub fn serve_console<H: Wait, R: CountedRead, W: CountedWrite, D: Submits>(
     rt: &H,
     alloc: Global,

@@ -23,7 +23,7 @@ pub record Images : Type 0 where
 abbrev pub images_of : Option Book → List Release → Images
 images_of told seen = record { told = told; seen = seen }
 
--- The reader was read once, the reply is the table's for what that read showed, and the header is echoed.
+-- What the reader shows never goes back; the reply is the table's for it, and the header is echoed.
 pub record Answers (before : Images) (request reply : Adu) (after : Images) : Type 0 where
   pub seen : IsPrefix before.seen after.seen
   pub rising : IsRising after.seen

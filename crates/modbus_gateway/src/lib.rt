@@ -13,9 +13,9 @@
 //! ```
 //!
 //! Proved: `reply` is the table of functions, with its order of checks, cells and reply. A stream has the same requests
-//! however it is cut (`any_pieces`). `serve_session` writes the replies in order, each by a read of the released images
-//! that is made for it, and ends by Closed only at the reader's end, by a fault of the header only where the stream has
-//! it, by Device only where a device failed.
+//! however it is cut (`any_pieces`). `serve_session` writes the replies in order, each by what its reader shows, behind
+//! all that it saw before, and ends by Closed only at the reader's end, by a fault of the header only where the stream
+//! has it, by Device only where a device failed.
 //!
 //! Only tested: that a reply doesn't wait for the next request, and that the read for it enters anew (`modbus.rows` of
 //! `worked_bytes`, with sessions that fail in the middle); that clients of others are content (`tools/try-clients`).

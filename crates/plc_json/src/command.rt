@@ -37,11 +37,11 @@ pub enum NamedCommand {
     },
 }
 
-/// Why a text gives no commands.
+/// Why a text gives no commands, or no events.
 #[derive(Clone, Copy, Debug, PartialEq, Eq, Error)]
 pub enum JsonFault {
-    /// No JSON, or a value of another shape than a list of commands.
-    #[error("no list of commands")]
+    /// No JSON, or a value of another shape than what was asked for: a list of commands, a schedule, or one command.
+    #[error("no commands, or no events")]
     Shape,
     /// Memory ran out.
     #[error("out of memory")]

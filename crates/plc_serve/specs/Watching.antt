@@ -54,6 +54,16 @@ change true (Some since) now = None
 change false None now = None
 change false (Some since) now = if nat_le patience (now - since) then Some false else None
 
+-- what is told of a replica by that: that it's normal again, or that it's down
+abbrev pub turned : ℕ → Bool → Notice
+turned number true = notices.Normal number
+turned number false = notices.Down number
+
+-- Its line went out where something is to be told, and else nothing did.
+abbrev pub IsTurnTold : {W : Type 0} → CountedWriter W → ℕ → Option Bool → W → W → Type 0
+IsTurnTold w number None old new = new ≡ old
+IsTurnTold w number (Some is_normal) old new = WentOut w (notice_line (turned number is_normal)) old new
+
 -- What is to be told of a scan that was held or stopped, by what was of the scan before it: its line went out where
 -- that's another, and else nothing did.
 abbrev pub IsHaltTold : {W : Type 0} → CountedWriter W → Option Notice → Option Notice → W → W → Type 0

@@ -18,19 +18,12 @@ use crate::watch::Watch;
 use il_model::{Answer, CountedWrite};
 use plc_tool::Fault;
 use process_image::{Naming, Pen, ReleasedWriter, ScanDriver, Staging};
-use replicas::{Input, Link, Relink, Starts};
+use replicas::{Input, Link, Relink, Starts, send_all};
 use std::alloc::{AllocError, Global};
 use std::sync::Wait;
 use std::thread::Threads;
 use std::time::{Clock, Duration};
-use vr_model::{Body, Message, Sends};
-
-/// Hands each message to the link.
-fn send_all<L: Link>(link: &mut L, sends: Sends) {
-    for message in sends {
-        link.send(message);
-    }
-}
+use vr_model::{Body, Message};
 
 /// By what the scan was held or stopped whose answer the message brings, if it was.
 fn halt_in(message: &Message) -> Option<Notice>

@@ -1,6 +1,7 @@
 //! A controller that Modbus clients drive: replicas in threads, whose stores are files of one directory, a driver that
-//! has them scan once a period, and sessions at a port of this machine. It puts together `replicas`, `process_image`,
-//! `modbus_gateway` and the image of a text by `plc_tool`; it knows no command words and names no runtime.
+//! has them scan once a period, sessions at a port of this machine, and an operator's console at another. It puts
+//! together `replicas`, `tcp_links`, `process_image`, `modbus_gateway`, `console` and the image of a text by
+//! `plc_tool`; it knows no command words and names no runtime.
 //!
 //! ```rust
 //! let service = Service::new(rt, "motor.il", "stores", None, settings).ok()?; // None: no report
@@ -13,12 +14,13 @@
 //!
 //! Proved: 0 only for a text without a fault, with the line of its scans written, and on `err` the line of a port,
 //! those of what changed, and nothing else; 1 only with the line of a fault of the text or of a directory that was
-//! used, and nothing started. The driver publishes just what its replies release, and ends well only after exactly so
-//! many releases; the scan behind one is due a period later, or a period after one that came late (`specs/Pacing`).
+//! used, and with `out` and `report` as they were. The driver publishes just what its replies release, and ends well
+//! only after exactly so many releases; the scan behind one is due a period later, or a period after one that came late
+//! (`specs/Pacing`).
 //!
-//! Only tested: how threads, channels, sockets and locks are joined, and what a client sees of it (`serve_rows` and
-//! `failing_rows` of `worked_threads`, `tools/try-serve`, `tools/try-clients`). Nothing says when a scan comes, or that
-//! one does.
+//! Only tested: how threads, channels, sockets and locks are joined, and what a client sees of it (`serve_rows`,
+//! `failing_rows` and `console_rows` of `worked_threads`, `tools/try-serve`, `tools/try-clients`). Nothing says when a
+//! scan comes, or that one does.
 #![tactic(auto)]
 
 mod crashes;

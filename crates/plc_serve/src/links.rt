@@ -5,13 +5,13 @@ ghost use Rattle.std.specs.Prelude.{◌≡◌, IfErr};
 ghost use Rattle.plc_tool.specs.Status.{status_of};
 
 use plc_tool::Fault;
-use replicas::{ChannelLink, Switchboard};
+use replicas::{ChannelLink, Switchboard, party_at};
 use std::alloc::{AllocError, Global};
 use std::net::{Net, TcpListener, TcpStream};
 use std::sync::{Arc, Wait};
 use std::time::{Clock, Duration};
 use tcp_links::{TcpLink, links};
-use vr_model::{ClientNumber, Config, Party};
+use vr_model::{Config, Party};
 
 /// For so many milliseconds a link waits for a message: a clock may be late by that.
 const WAIT: u64 = 50;
@@ -39,22 +39,21 @@ pub(crate) fn links_over_channels<R: Wait + Clock + Copy + Drop>(
     config: Config,
     clients: u8,
     period: u32,
-) -> Result<Vec<ChannelLink<R>>, AllocError> {
-    let board = Arc::new(
-        alloc,
-        Switchboard::new(alloc, config.group_size(), clients)?,
-    )?;
+) -> Result<Vec<ChannelLink<R>>, Fault>
+    ensures { IfErr result (λ e. status_of e ≡ 2) }
+{
+    let size = config.group_size();
+    let board = Arc::new(alloc, Switchboard::new(alloc, size, clients)?)?;
     let mut links = Vec::new(alloc);
-    for number in 0..config.group_size() {
-        let party = Party::Replica(number);
-        let wait = Duration::from_millis(WAIT);
+    for place in 0..u16::from(size) + u16::from(clients) {
+        let Some(party) = party_at(size, place) else {
+            return Err(Fault::Device);
+        };
+        let wait = match party {
+            Party::Replica(_) => Duration::from_millis(WAIT),
+            Party::Client(_) => client_wait(period),
+        };
         links.push(channel_link(rt, alloc, &board, party, wait)?)?;
-    }
-    for number in 0..clients {
-        if let Some(client) = ClientNumber::new(number) {
-            let party = Party::Client(client);
-            links.push(channel_link(rt, alloc, &board, party, client_wait(period))?)?;
-        }
     }
     Ok(links)
 }

@@ -65,9 +65,9 @@ pub struct Settings {
 
 /// Judges the text, then the directory, and serves the controller until it has released so many scans: the status. What
 /// it serves is the controller of the text's program, by replicas that each keep a file of the directory. Once it takes
-/// connections, `err` has the line that tells where, and then a line for each change of a replica, and for a stop. At
-/// the end `report` has its line, and `out` then the line that tells how many scans there were, or `err` that of the
-/// fault.
+/// connections, `err` has the line that tells where, and then a line for each change of a replica, for a hold and for a
+/// stop. At the end `report` has its line, and `out` then the line that tells how many scans there were, or `err` that
+/// of the fault.
 pub fn serve<J, R, S, F: CountedWrite, W: Write, E: CountedWrite>(
     rt: R,
     alloc: Global,
@@ -93,7 +93,7 @@ where
     ensures good { result ≡ 0 → IsGoodText source.now }
     // On `err` there is the line of a port, then those of what changed, and nothing else.
     ensures told { result ≡ 0 → IsServingTold E.CountedWrite err.old err.new }
-    // Nothing is started then.
+    // `out` and `report` are as they were.
     ensures refused { result ≡ 1 → IsTold E.CountedWrite (IsWhyRefused source.now) result err.old err.new
         × ((out.new ≡ out.old) × (report.new ≡ report.old)) }
     // Before it these lines were told, or nothing.
@@ -161,7 +161,8 @@ where
     Ok(out.flush()?)
 }
 
-/// Serves the controller of the image of a text, over links of one kind. Where no client was served, no file is left.
+/// Serves the controller of the image of a text, over links of one kind. Where no client was served, no file of a
+/// replica is left.
 fn control<J, R, S, F: CountedWrite, E: CountedWrite>(
     rt: R,
     alloc: Global,

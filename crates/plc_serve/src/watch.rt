@@ -1,9 +1,11 @@
 //! What an operator is told of the replicas: a line for each change.
 
-ghost use Rattle.std.specs.Prelude.{◌≡◌, IfErr, option_map};
+ghost use Rattle.std.specs.Prelude.{◌≡◌, IfErr, OnOk, option_map};
 ghost use Rattle.std.specs.Duration.{as_nanos};
 ghost use Rattle.plc_tool.specs.Status.{status_of};
-ghost use Rattle.plc_serve.specs.Watching.{AreNoticesTold, change, is_lost, lapsed_since};
+ghost use Rattle.plc_tool.specs.Telling.{WentOut};
+ghost use Rattle.plc_serve.specs.Watching.{AreNoticesTold, IsTurnTold, change, is_lost, lapsed_since, notice_line};
+ghost use Rattle.plc_serve.specs.Watching.{turned};
 
 use crate::health::Health;
 use crate::notice::{Notice, tell};
@@ -113,7 +115,10 @@ impl Watched {
         now: Duration,
         err: &mut E,
     ) -> Result<(), AllocError>
-        ensures { AreNoticesTold E.CountedWrite err.old err.new }
+        ensures told { OnOk result (IsTurnTold E.CountedWrite number
+            (change self.old.seen.is_told_down (option_map as_nanos self.new.seen.since) (as_nanos now))
+            err.old err.new) }
+        ensures notices { AreNoticesTold E.CountedWrite err.old err.new }
     {
         self.seen.see(self.health.is_normal(), now);
         let Some(is_normal) = self.seen.change(now) else {
@@ -150,7 +155,8 @@ fn tell_change<E: CountedWrite>(
     is_normal: bool,
     err: &mut E,
 ) -> Result<(), AllocError>
-    ensures { AreNoticesTold E.CountedWrite err.old err.new }
+    ensures told { OnOk result (WentOut E.CountedWrite (notice_line (turned number is_normal)) err.old err.new) }
+    ensures notices { AreNoticesTold E.CountedWrite err.old err.new }
 {
     if is_normal {
         tell(alloc, Notice::Normal(number), err)

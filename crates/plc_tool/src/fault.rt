@@ -10,8 +10,7 @@ use plc_json::JsonFault;
 use std::alloc::{AllocError, AllocFailed};
 use std::io;
 
-/// A fault of a call. Lines, columns and a fault's number are from 1, an
-/// instruction and a position from 0.
+/// A fault of a call. Lines, columns and a fault's number are from 1, an instruction and a position from 0.
 #[derive(Clone, Copy, Debug, PartialEq, Eq)]
 pub enum Fault {
     /// The text is no source.
@@ -40,7 +39,7 @@ pub enum Fault {
         number: u8,
         position: usize,
     },
-    /// The text is no list of commands.
+    /// The text is no list of commands, or the image of a change is too long.
     Commands,
     /// The text is no schedule, or has a name that is none of the program.
     Schedule,
@@ -49,7 +48,7 @@ pub enum Fault {
         index: usize,
         reason: u8,
     },
-    /// The directory of stores holds the file of a replica.
+    /// The directory of stores holds the file of a replica, or another start has it.
     Store,
     /// A file or a stream failed.
     Device,

@@ -74,8 +74,9 @@ A fault is one line on standard error. Of the program's text, at line L and colu
                              there, or a line that ends too early, 6 a name or the text is too long
   plc: decl N at L:C         1 a name that was declared before, 2 no such type, 3 a name that isn't
                              declared, 4 no location, or one of another type, 5 two names at one
-                             location, 6 a first value that doesn't fit, 7 a word of the language as
-                             a name, 8 too many variables, instances or instructions
+                             location, 6 a first value that doesn't fit, or any on an input or an
+                             instance, 7 a word of the language as a name or a label, 8 too many
+                             variables, instances or instructions
   plc: asm N at I            1 types that differ, 2 no current result, 3 a jump to no label, 4 a
                              label that stands twice, 5 a parenthesis that isn't open, or is still
                              open, 6 more than 16 open, 7 a write to what can't be written, 8 a field
@@ -134,7 +135,8 @@ instance, END_VAR, a line for each instruction. It assembles to the same image.
 
 A fault is one line on standard error; POS is a byte of the image, counted from 0:
   plc: load N                1 the image is cut short, 2 it doesn't begin as one, 3 it's of another
-                             version, 4 it counts more than its limits, 8 bytes stand behind its end
+                             version, or of version 2 without LINT, 4 it counts more than its limits,
+                             8 bytes stand behind its end
   plc: load N at POS         5 a value that may not stand there, 6 a type that doesn't fit, 7 a jump
                              to no label
   plc: device                a file or a stream failed
@@ -189,8 +191,8 @@ nothing has started.
 What changes is told by a line on standard error, and the status stays:
   replica I down             replica I has not been normal for a second
   replica I normal           it's normal again
-  replica I store            its file couldn't be written: it's down, and started anew after 5 s, then
-                             after 10 s, up to each minute, until it's normal again
+  replica I store            its file couldn't be read or written: it's down, and started anew after
+                             5 s, then after 10 s, up to each minute, until it's normal again
   replica I crashed          it was crashed and restarted, as --crash asks for
   held P                     a scan is held before instruction P; outputs stay as they were released last
   stopped WHY P              the program stopped at instruction P: overflow, zerodivisor or budget; all

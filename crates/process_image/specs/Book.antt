@@ -1,10 +1,11 @@
 -- The staged inputs: the last sample, the writes since then, and the next ticket.
-use Rattle.std.specs.Prelude.{ℕ, ℤ, pos, Bool, ◌+◌, ◌==◌, ◌||◌, bit_and, bit_or, List, [], ◌∷◌, ◌++◌, length, fold}
+use Rattle.std.specs.Prelude.{ℕ, ℤ, pos, Bool, ◌+◌, ◌<◌, ◌≤◌, ◌==◌, ◌||◌, bit_and, bit_or, List, [], ◌∷◌, ◌++◌, length, fold}
 use Rattle.std.specs.Prelude.{get_or, slice_set}
 use Rattle.std.specs.List.{splice}
 use Rattle.std.specs.Int.{w16, bit_not, cast_signed, cast_unsigned}
 use Rattle.process_image.specs.declared.book.TheConstants.{MOST_WRITES}
 use Rattle.il_model.specs.declared.cells.Cells.{Cells}
+use Rattle.il_model.specs.declared.limits.TheConstants.{BITS, WORDS}
 use Rattle.il_model.specs.Cells.{clear_cells}
 
 -- one write: bits or words from a place on, or two masks, And and then Or, for the word at a place
@@ -24,6 +25,12 @@ after_change c (bits_at at values) = record c { bits = splice c.bits at (at + le
 after_change c (words_at at values) = record c { words = splice c.words at (at + length values) values }
 after_change c (mask_at at and_mask or_mask) =
     record c { words = slice_set c.words at (masked (get_or c.words at (pos 0)) and_mask or_mask) }
+
+-- a write of cells that are there
+abbrev pub LiesInside : Change → Type 0
+LiesInside (bits_at at values) = at + length values ≤ BITS
+LiesInside (words_at at values) = at + length values ≤ WORDS
+LiesInside (mask_at at and_mask or_mask) = at < WORDS
 
 -- the cells after these writes, in their order
 abbrev pub replayed : Cells → List Change → Cells

@@ -1,6 +1,7 @@
 //! The book of staged writes.
-ghost use Rattle.std.specs.Prelude.{◌≡◌, ◌+◌, ◌<◌, ◌≤◌, ◌↔◌, true, length, IfOk, OnErr, Err, IsTrue};
-ghost use Rattle.process_image.specs.Book.{Book, bits_at, words_at, mask_at, masked, cells_of, is_full, new_book};
+ghost use Rattle.std.specs.Prelude.{◌≡◌, ◌≢◌, ◌+◌, ◌<◌, ◌≤◌, ◌↔◌, true, false, length, IfOk, IfErr, OnErr, Err, IsTrue};
+ghost use Rattle.process_image.specs.Book.{Book, bits_at, words_at, mask_at, masked, cells_of, is_full, new_book, LiesInside};
+ghost use Rattle.process_image.specs.Entries.{change_of};
 ghost use Rattle.process_image.specs.Calls.{Does, read_gave, sample_gave, wrote};
 
 use il_model::{BITS, Cells, InImage, WORDS};
@@ -47,6 +48,31 @@ enum Entry {
     Bits(usize, Vec<bool>),
     Words(usize, Vec<i16>),
     Mask(usize, u16, u16),
+}
+
+impl Entry {
+    ghost use Rattle.std.specs.Prelude.{◌≡◌};
+    ghost use Rattle.process_image.specs.Book.{after_change, LiesInside};
+    ghost use Rattle.process_image.specs.Entries.{change_of};
+
+    /// The cells after this write.
+    fn over(&self, mut cells: Cells) -> Cells
+        requires inside { LiesInside (change_of self.now) }
+        ensures { result ≡ after_change cells (change_of self.now) }
+    {
+        match self {
+            Entry::Bits(at, values) => {
+                cells.bits[*at..*at + values.len()].copy_from_slice(values.as_slice());
+            }
+            Entry::Words(at, values) => {
+                cells.words[*at..*at + values.len()].copy_from_slice(values.as_slice());
+            }
+            Entry::Mask(at, and_mask, or_mask) => {
+                cells.words[*at] = masked(cells.words[*at], *and_mask, *or_mask);
+            }
+        }
+        cells
+    }
 }
 
 /// The last sample and the writes since then. It keeps the cells as they are now beside them.
@@ -118,6 +144,39 @@ impl StageBook {
         self.entries.len() == MOST_WRITES || self.next == u64::MAX
     }
 
+    /// `Address` where `count` cells from `address` on leave an area of `area` cells, else `Full`.
+    fn room_for(&self, address: usize, count: usize, area: usize) -> Result<(), StageError>
+        ensures ok { IfOk result (λ _. (address + count ≤ area) × (is_full self.now ≡ false)) }
+        ensures address { (result ≡ Err StageError.Address) ↔ (area < address + count) }
+        ensures full { (result ≡ Err StageError.Full) ↔ ((address + count ≤ area) × (is_full self.now ≡ true)) }
+        ensures memory { result ≢ Err StageError.Memory }
+    {
+        if address > area || count > area - address {
+            return Err(StageError::Address);
+        }
+        if self.is_full() {
+            return Err(StageError::Full);
+        }
+        Ok(())
+    }
+
+    /// Keeps this write, and gives it the next ticket. `Memory` where a growth was refused: the book is as it was.
+    fn take(&mut self, entry: Entry) -> Result<Ticket, StageError>
+        requires inside { LiesInside (change_of entry) }
+        requires room { is_full self.old ≡ false }
+        ensures ok { IfOk result (λ t. Does self.old (wrote (change_of entry) t.number) self.new) }
+        ensures memory { IfErr result (λ e. (e ≡ StageError.Memory) × (self.new ≡ self.old)) }
+    {
+        let cells = entry.over(self.cells);
+        if self.entries.push(entry).is_err() {
+            return Err(StageError::Memory);
+        }
+        self.cells = cells;
+        let number = self.next;
+        self.next += 1;
+        Ok(Ticket { number })
+    }
+
     /// Writes these bits, the first at `address` of 0 to 511, all or none. `Address` where one lies past the area, else
     /// `Full` at 4096 writes since the last sample or where the tickets are used up, else `Memory` where a growth was
     /// refused.
@@ -128,24 +187,11 @@ impl StageBook {
             ↔ ((address + length values.now ≤ BITS) × (is_full self.old ≡ true)) }
         ensures err { OnErr result (self.new ≡ self.old) }
     {
-        if address > BITS || values.len() > BITS - address {
-            return Err(StageError::Address);
-        }
-        if self.is_full() {
-            return Err(StageError::Full);
-        }
-        let alloc = *self.entries.allocator();
-        let Ok(copy) = values.to_vec(alloc) else {
+        self.room_for(address, values.len(), BITS)?;
+        let Ok(copy) = values.to_vec(*self.entries.allocator()) else {
             return Err(StageError::Memory);
         };
-        if self.entries.push(Entry::Bits(address, copy)).is_err() {
-            return Err(StageError::Memory);
-        }
-        let end = address + values.len();
-        self.cells.bits[address..end].copy_from_slice(values);
-        let number = self.next;
-        self.next += 1;
-        Ok(Ticket { number })
+        self.take(Entry::Bits(address, copy))
     }
 
     /// Writes these words, the first at `address` of 0 to 63, all or none. `Address` where one lies past the area, else
@@ -158,24 +204,11 @@ impl StageBook {
             ↔ ((address + length values.now ≤ WORDS) × (is_full self.old ≡ true)) }
         ensures err { OnErr result (self.new ≡ self.old) }
     {
-        if address > WORDS || values.len() > WORDS - address {
-            return Err(StageError::Address);
-        }
-        if self.is_full() {
-            return Err(StageError::Full);
-        }
-        let alloc = *self.entries.allocator();
-        let Ok(copy) = values.to_vec(alloc) else {
+        self.room_for(address, values.len(), WORDS)?;
+        let Ok(copy) = values.to_vec(*self.entries.allocator()) else {
             return Err(StageError::Memory);
         };
-        if self.entries.push(Entry::Words(address, copy)).is_err() {
-            return Err(StageError::Memory);
-        }
-        let end = address + values.len();
-        self.cells.words[address..end].copy_from_slice(values);
-        let number = self.next;
-        self.next += 1;
-        Ok(Ticket { number })
+        self.take(Entry::Words(address, copy))
     }
 
     /// Lays two masks on the word at `address` of 0 to 63 as it is now: the bits that are set in `and_mask` stay, the
@@ -192,20 +225,8 @@ impl StageBook {
         ensures full { (result ≡ Err StageError.Full) ↔ ((address < WORDS) × (is_full self.old ≡ true)) }
         ensures err { OnErr result (self.new ≡ self.old) }
     {
-        if address >= WORDS {
-            return Err(StageError::Address);
-        }
-        if self.is_full() {
-            return Err(StageError::Full);
-        }
-        let word = masked(self.cells.words[address], and_mask, or_mask);
-        let Ok(()) = self.entries.push(Entry::Mask(address, and_mask, or_mask)) else {
-            return Err(StageError::Memory);
-        };
-        let number = self.next;
-        self.cells.words[address] = word;
-        self.next += 1;
-        Ok(Ticket { number })
+        self.room_for(address, 1, WORDS)?;
+        self.take(Entry::Mask(address, and_mask, or_mask))
     }
 
     /// As `write_words`, and then as `read`: the cells have this write.

@@ -110,9 +110,8 @@ impl<J: Naming, P: Pen<J>> ReleasedWriter<J, P> {
 }
 
 impl<J: Naming> ReleasedReader<J> {
-    /// The last release of some list that the writer published, which begins with all that this reader saw before or
-    /// learnt. Where the writer is gone it is the last that the reader saw or learnt. It takes no memory, and waits for
-    /// nobody.
+    /// The last release of a list that begins with all that this reader saw before or learnt. Where the writer is gone
+    /// it is the last that the reader saw or learnt. It takes no memory, and waits for nobody.
     pub fn read(&mut self) -> View
         ensures shown { result ≡ shown self.new }
         ensures seen { IsPrefix self.old self.new }

@@ -29,14 +29,14 @@ pub trait Staging {
         ensures address { (result ≡ Err StageError.Address) ↔ (BITS < address + length values.now) }
         ensures told { Changed (told self.old) (told self.new)
             (λ b c. IfOk result (λ t. Does b (wrote (bits_at address values.now) t.number) c) × OnErr result (c ≡ b)
-            × ((result ≡ Err StageError.Full) ↔ ((address + length values.now ≤ 512) × (is_full b ≡ true)))) };
+            × ((result ≡ Err StageError.Full) ↔ ((address + length values.now ≤ BITS) × (is_full b ≡ true)))) };
 
     /// As `StageBook::write_words`.
     fn write_words(&mut self, address: usize, values: &[i16]) -> Result<Ticket, StageError>
         ensures address { (result ≡ Err StageError.Address) ↔ (WORDS < address + length values.now) }
         ensures told { Changed (told self.old) (told self.new)
             (λ b c. IfOk result (λ t. Does b (wrote (words_at address values.now) t.number) c) × OnErr result (c ≡ b)
-            × ((result ≡ Err StageError.Full) ↔ ((address + length values.now ≤ 64) × (is_full b ≡ true)))) };
+            × ((result ≡ Err StageError.Full) ↔ ((address + length values.now ≤ WORDS) × (is_full b ≡ true)))) };
 
     /// As `StageBook::mask_word`.
     fn mask_word(
@@ -48,7 +48,7 @@ pub trait Staging {
         ensures address { (result ≡ Err StageError.Address) ↔ (WORDS ≤ address) }
         ensures told { Changed (told self.old) (told self.new)
             (λ b c. IfOk result (λ t. Does b (wrote (mask_at address and_mask or_mask) t.number) c)
-            × OnErr result (c ≡ b) × ((result ≡ Err StageError.Full) ↔ ((address < 64) × (is_full b ≡ true)))) };
+            × OnErr result (c ≡ b) × ((result ≡ Err StageError.Full) ↔ ((address < WORDS) × (is_full b ≡ true)))) };
 
     /// As `StageBook::write_read`. Where nothing is told, too, the cells that it shows have this write.
     fn write_read(&mut self, address: usize, values: &[i16]) -> Result<Written, StageError>
@@ -59,7 +59,7 @@ pub trait Staging {
             (λ b c. IfOk result
             (λ w. Does b (wrote (words_at address values.now) w.ticket.number) c × Does c (read_gave w.inputs.cells) c)
             × OnErr result (c ≡ b)
-            × ((result ≡ Err StageError.Full) ↔ ((address + length values.now ≤ 64) × (is_full b ≡ true)))) };
+            × ((result ≡ Err StageError.Full) ↔ ((address + length values.now ≤ WORDS) × (is_full b ≡ true)))) };
 }
 
 impl Staging for StageBook {

@@ -1,4 +1,5 @@
 pub mod Keeping
 pub mod Observed
+pub mod Parties
 pub mod Serving
 pub mod Starting

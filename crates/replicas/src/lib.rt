@@ -26,6 +26,7 @@ mod ends;
 mod file_store;
 mod laws;
 mod machine_clock;
+mod party;
 mod serving;
 mod starting;
 mod working;
@@ -36,5 +37,6 @@ pub use ends::{Clock, Cutter, Gate, Input, Link, Relink, Starts, Tick, Unlinked}
 pub use file_store::FileStore;
 pub use laws::{observations_join, restart_is_observed, served_is_observed};
 pub use machine_clock::MachineClock;
-pub use serving::serve;
+pub use party::party_at;
+pub use serving::{send_all, serve};
 pub use working::Seat;

@@ -10,8 +10,7 @@ use std::alloc::Global;
 use vr_model::{Event, Message, Sends};
 
 /// Takes so many turns, or fewer where a receive gives Closed. Each takes one event at most, the clock's first, and
-/// hands on what
-/// `Replica::step` makes of it.
+/// hands on what `Replica::step` makes of it.
 pub fn serve<L: Link, S: ViewStore, C: Clock, G: Gate>(
     alloc: Global,
     replica: &mut Replica,
@@ -113,7 +112,7 @@ pub(crate) fn act<L: Link, S: ViewStore, G: Gate>(
 }
 
 /// Hands each message to the link, in order.
-fn send_all<L: Link>(link: &mut L, sends: Sends)
+pub fn send_all<L: Link>(link: &mut L, sends: Sends)
     ensures took { Grows (L.sent link.old) (L.sent link.new) sends.items }
     ensures same { L.inputs link.new ≡ L.inputs link.old }
 {

@@ -3,32 +3,17 @@
 use crate::hub::Hub;
 use crate::tcp_link::{TcpLink, WAKER};
 use mio::{Poll, Token, Waker};
+use replicas::party_at;
 use std::alloc::Global;
 use std::io;
 use std::io::ErrorKind;
 use std::net::{Net, TcpListener, TcpStream};
 use std::sync::{Arc, Wait};
 use std::time::Duration;
-use vr_model::{ClientNumber, Party};
-
-/// So many replicas, then so many clients, of which there are sixteen at most.
-fn parties(alloc: Global, replicas: u8, clients: u8) -> io::Result<Vec<Party>> {
-    let mut parties = Vec::new(alloc);
-    for number in 0..replicas {
-        parties.push(Party::Replica(number))?;
-    }
-    for number in 0..clients {
-        let Some(client) = ClientNumber::new(number) else {
-            return Err(io::Error::from(ErrorKind::InvalidInput));
-        };
-        parties.push(Party::Client(client))?;
-    }
-    Ok(parties)
-}
 
 /// The links of a group, those of the replicas by their numbers and then those of the clients by theirs, each connected
 /// to each other: a connection for each pair, at a port of 127.0.0.1 that the system picks, where nothing listens
-/// afterwards. A receive waits for so long.
+/// afterwards. A receive waits for so long. `InvalidInput` where there are more than sixteen clients.
 pub fn links<R>(
     rt: R,
     alloc: Global,
@@ -41,7 +26,10 @@ where
 {
     let mut hub = Hub::new(alloc);
     let mut polls = Vec::new(alloc);
-    for party in parties(alloc, replicas, clients)? {
+    for place in 0..u16::from(replicas) + u16::from(clients) {
+        let Some(party) = party_at(replicas, place) else {
+            return Err(io::Error::from(ErrorKind::InvalidInput));
+        };
         let poll = Poll::new(&rt)?;
         hub.add(alloc, party, Waker::new(poll.registry(), Token(WAKER))?)?;
         polls.push((party, poll))?;

@@ -2,6 +2,7 @@
 use Rattle.std.specs.Prelude.{ℕ, zero, suc, ◌==◌, Bool, true, false, ◌&&◌, nat_le, List, [], ◌∷◌, length, map}
 use Rattle.std.specs.Prelude.{slice_get, Option, Some, None, is_none}
 use Rattle.std.specs.Int.{w8, w16, w32, w64}
+use Rattle.il_model.specs.declared.limits.TheConstants.{MOST_OPEN_PARENTHESES}
 use Rattle.il_model.specs.declared.value.Value.{Value}
 use Rattle.il_model.specs.declared.cells.Cells.{Cells}
 use Rattle.il_model.specs.declared.op.Op.{Op}
@@ -68,7 +69,7 @@ deferred_at bytes = fields_3 (λ op negated cr. record { op = op; negated = nega
     (lawful opening (number_at w8)) (lawful truth_of (number_at w8)) (lawful there result_at) bytes
 
 abbrev pub is_depth : ℕ → Bool
-is_depth n = nat_le n 16
+is_depth n = nat_le n MOST_OPEN_PARENTHESES
 
 abbrev pub deferred_list_at : Reader (List Deferred)
 deferred_list_at bytes = listed_at (lawful (passed is_depth) (number_at w8)) deferred_at bytes

@@ -3,6 +3,7 @@ use Rattle.std.specs.Prelude.{◌≡◌, ℕ, ◌+◌, ◌^◌, ◌<◌, ◌≤�
 use Rattle.std.specs.Prelude.{Option, Some, None, is_some}
 use Rattle.std.specs.List.{flat_map, AllByRecursion}
 use Rattle.std.specs.Int.{w8, w16, w32, w64, to_be_bytes}
+use Rattle.il_model.specs.declared.limits.TheConstants.{MOST_OPEN_PARENTHESES}
 use Rattle.il_model.specs.declared.value.Value.{Value}
 use Rattle.il_model.specs.declared.cells.Cells.{Cells}
 use Rattle.il_model.specs.declared.op.Op.{Op}
@@ -95,7 +96,7 @@ IsAtRest (phases.Held performed) position cr deferred = Unit {0}
 IsAtRest (phases.Stopped stop) position cr deferred = Unit {0}
 
 pub record IsScan (phase : SavedPhase) (position : ℕ) (cr : Option Value) (deferred : List Deferred) : Type 0 where
-  pub depth : length deferred ≤ 16
+  pub depth : length deferred ≤ MOST_OPEN_PARENTHESES
   pub opening : AllByRecursion IsOpening deferred
   pub at_rest : IsAtRest phase position cr deferred
 

@@ -16,7 +16,7 @@ use crate::fault::ReadError;
 use crate::lawful::is_past;
 use crate::log::{put_log, whole_log};
 use crate::numbers::{ended, put_u8, put_u64, u8_at, u64_at};
-use crate::request::{put_request, request_at};
+use crate::request::{put_request, request_at, request_end};
 use il_model::Answer;
 use std::alloc::{AllocError, Global};
 use vr_model::{Body, Log, PrimaryState, Request};
@@ -269,20 +269,23 @@ fn whole_numbers(bytes: &[u8]) -> Result<(u64, u64), ReadError>
     Ok((first, second))
 }
 
+/// A request that is all of the bytes. It's judged whole before memory is asked for.
 fn whole_request(alloc: Global, bytes: &[u8]) -> Result<Body, ReadError>
     ensures { Gives (λ body. body) result (closed (fields_1 says.Request request_at) bytes.now) }
 {
-    let (request, rest) = request_at(alloc, bytes)?;
-    ended(rest)?;
+    ended(request_end(bytes)?)?;
+    let (request, _end) = request_at(alloc, bytes)?;
     Ok(Body::Request(request))
 }
 
+/// A PREPARE that is all of the bytes. It's judged whole before memory is asked for.
 fn whole_prepare(alloc: Global, bytes: &[u8]) -> Result<Body, ReadError>
     ensures { Gives (λ body. body) result (closed prepare_at bytes.now) }
 {
     let (view, rest) = u64_at(bytes)?;
-    let (request, rest) = request_at(alloc, rest)?;
-    let (op_number, commit_number) = whole_numbers(rest)?;
+    let behind = request_end(rest)?;
+    let (op_number, commit_number) = whole_numbers(behind)?;
+    let (request, _behind) = request_at(alloc, rest)?;
     Ok(Body::Prepare {
         view,
         request,

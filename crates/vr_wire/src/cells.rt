@@ -80,7 +80,7 @@ fn bits_at(bytes: &[u8]) -> Result<([bool; BITS], &[u8]), ReadError>
 }
 
 fn words_at(bytes: &[u8]) -> Result<([i16; WORDS], &[u8]), ReadError>
-    ensures { Gives (λ x. (x.0, x.1.now)) result (items_at word_at 64 bytes.now) }
+    ensures { Gives (λ x. (x.0, x.1.now)) result (items_at word_at WORDS bytes.now) }
 {
     let mut words = [0; WORDS];
     let mut rest = bytes;

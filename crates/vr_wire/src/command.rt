@@ -99,6 +99,9 @@ fn change_at(alloc: Global, bytes: &[u8]) -> Result<(Command, &[u8]), ReadError>
     ensures { Gives (λ x. (x.0, x.1.now)) result (change_at bytes.now) }
 {
     let (image, rest) = counted_at(bytes)?;
+    if image.len() > MOST_IMAGE_BYTES {
+        return Err(ReadError::Malformed);
+    }
     let image = lawful(ImageBytes::new(Vec::from_slice(alloc, image)?))?;
     Ok((Command::Change(image), rest))
 }

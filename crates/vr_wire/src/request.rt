@@ -57,7 +57,7 @@ pub(crate) fn request_at(alloc: Global, bytes: &[u8]) -> Result<(Request, &[u8])
 }
 
 /// Where a request ends that is lawful. Nothing is made of it.
-fn request_end(bytes: &[u8]) -> Result<&[u8], ReadError>
+pub(crate) fn request_end(bytes: &[u8]) -> Result<&[u8], ReadError>
     ensures { Gives (λ rest. rest.now) result (end_of request_at bytes.now) }
 {
     let (code, rest) = u8_at(bytes)?;

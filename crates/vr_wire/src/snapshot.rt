@@ -22,8 +22,8 @@ use crate::field::{Field, are_lawful, items_at, list_at, put_items, put_list};
 use crate::numbers::{put_u8, put_u16, put_u32, put_u64, u8_at, u16_at, u32_at, u64_at};
 use crate::value::{lawful, put_slot, put_value, slot_at, value_at};
 use il_model::{
-    BlockKind, Cells, Deferred, ForcedSlot, Op, SavedInstance, SavedPhase, Snapshot, Value,
-    letters_of, op_code, op_of,
+    BlockKind, Cells, Deferred, ForcedSlot, MOST_OPEN_PARENTHESES, Op, SavedInstance, SavedPhase,
+    Snapshot, Value, letters_of, op_code, op_of,
 };
 use std::alloc::{AllocError, Global};
 use std::marker::Model;
@@ -177,7 +177,7 @@ impl Field for Deferred {
 }
 
 fn put_deferred(out: &mut Vec<u8>, deferred: &[Deferred]) -> Result<(), AllocError>
-    requires { length deferred.now ≤ 16 }
+    requires { length deferred.now ≤ MOST_OPEN_PARENTHESES }
     ensures text { OnOk result (out.new.items ≡ out.old.items ++ listed w8 deferred_bytes deferred.now) }
     ensures fits { OnOk result (AllByRecursion FitsDeferred deferred.now) }
 {
@@ -192,7 +192,7 @@ fn put_scan(
     cr: Option<Value>,
     deferred: &[Deferred],
 ) -> Result<(), AllocError>
-    requires { length deferred.now ≤ 16 }
+    requires { length deferred.now ≤ MOST_OPEN_PARENTHESES }
     ensures text { OnOk result (out.new.items ≡ out.old.items ++ scan_bytes phase position cr deferred.now) }
     ensures fits { OnOk result (FitsScan phase position cr deferred.now) }
 {
@@ -214,7 +214,9 @@ fn is_at_rest(phase: SavedPhase, position: u16, cr: Option<Value>, deferred: &[D
 fn is_scan(phase: SavedPhase, position: u16, cr: Option<Value>, deferred: &[Deferred]) -> bool
     ensures { IsTrue result ↔ IsScan phase position cr deferred.now }
 {
-    deferred.len() <= 16 && are_lawful(deferred) && is_at_rest(phase, position, cr, deferred)
+    deferred.len() <= MOST_OPEN_PARENTHESES
+        && are_lawful(deferred)
+        && is_at_rest(phase, position, cr, deferred)
 }
 
 /// What is open of a scan.
@@ -238,7 +240,7 @@ fn deferred_list_at(alloc: Global, bytes: &[u8]) -> Result<(Vec<Deferred>, &[u8]
     ensures { Gives (λ x. (x.0.items, x.1.now)) result (deferred_list_at bytes.now) }
 {
     let (depth, rest) = u8_at(bytes)?;
-    if depth > 16 {
+    if usize::from(depth) > MOST_OPEN_PARENTHESES {
         return Err(ReadError::Malformed);
     }
     items_at(alloc, usize::from(depth), rest)

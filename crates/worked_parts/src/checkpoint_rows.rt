@@ -421,8 +421,10 @@ fn checkpoints_that_stand_for_nothing_are_dropped(rt: HostRuntime) -> Result<(),
 }
 
 #[test]
-fn a_checkpoint_that_makes_its_receiver_the_primary_is_lost(rt: HostRuntime) -> Result<(), Fail> {
-    let rows: [Row; 2] = [
+fn a_checkpoint_makes_its_receiver_the_primary_once_that_is_executed(
+    rt: HostRuntime,
+) -> Result<(), Fail> {
+    let rows: [Row; 6] = [
         (
             Hears(0, Says::StartView(1, Checkpoint(WIRE, 1))),
             Err(StepFault::Memory),
@@ -430,6 +432,21 @@ fn a_checkpoint_that_makes_its_receiver_the_primary_is_lost(rt: HostRuntime) -> 
             &[],
         ),
         (Hears(0, Says::Prepare(1, 0)), Ok(1), 0, &[1]),
+        (
+            Hears(0, Says::NewState(1, 0, 1, Checkpoint(WIRE, 1))),
+            Err(StepFault::Memory),
+            0,
+            &[1],
+        ),
+        (Hears(0, Says::Prepare(2, 1)), Ok(1), 1, &[1, 2]),
+        (
+            Hears(0, Says::NewState(1, 0, 1, Checkpoint(WIRE, 1))),
+            Ok(1),
+            1,
+            &[],
+        ),
+        // it sends PREPARE to two
+        (Submits(2), Ok(2), 1, &[2]),
     ];
     wants(&rt, rt.alloc(), 1, 0, &rows)
 }

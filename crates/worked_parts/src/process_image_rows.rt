@@ -43,6 +43,8 @@ fn fills_up<S: Staging, R: Abort>(rt: &R, staging: &mut S) {
     for number in 0..4096u64 {
         assert_eq!(rt; write_words(staging, 0, &[7]), Ok(Ticket { number }));
     }
+    // no sample: the book stays full
+    let _ = staging.read();
     let full: [Row; 3] = [
         (0, Write::Words(&[8]), Err(StageError::Full)),
         (0, Write::Bits(&[true]), Err(StageError::Full)),

@@ -16,7 +16,8 @@ pub enum Visit {
     Steps(&'static [Step]),
 }
 
-/// An input is written, and the outputs become these: by function 05 a bit or by 06 a word, its address, its value; `%QX0.0` and `%QW0`.
+/// An input is written, and the outputs become these: by function 05 a bit or by 06 a word, its address, its value;
+/// `%QX0.0` and `%QW0`.
 pub type Step = (u8, u8, u16, (u8, u16));
 
 /// So many of a crowd are answered.
@@ -105,7 +106,8 @@ fn connect<R: Net<Listener = TcpListener, Stream = TcpStream>>(
     TcpStream::connect(rt, ("127.0.0.1", port))
 }
 
-/// Sixteen clients that stay, the first of which is silent after half a request, and one more, which is not answered: how many went so.
+/// Sixteen clients that stay, the first of which is silent after half a request, and one more, which is not answered:
+/// how many went so.
 fn crowd<R: Net<Listener = TcpListener, Stream = TcpStream>>(
     rt: &R,
     alloc: Global,

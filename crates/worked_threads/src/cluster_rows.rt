@@ -283,8 +283,8 @@ where
     false
 }
 
-/// What is seen of a group whose primary crashes and comes back: a step that has not been taken yet makes no replica normal, and a request is
-/// answered before the crash, after it, and once the replica is back.
+/// What is seen of a group whose primary crashes and comes back: a step that has not been taken yet makes no replica
+/// normal, and a request is answered before the crash, after it, and once the replica is back.
 fn seen_of_a_crash<R, L>(
     rt: &R,
     cluster: &mut HoldingCluster<R, L>,

@@ -1,5 +1,5 @@
-//! Worked rows of replicas that are served, in threads of their own, over channels, and of stores and images in files: what no contract says of
-//! them. The crate has tests alone, and no crate uses it.
+//! Worked rows of replicas that are served, in threads of their own, over channels, and of stores and images in files:
+//! what no contract says of them. The crate has tests alone, and no crate uses it.
 #![tactic(auto)]
 
 #[cfg(test)]

@@ -138,7 +138,8 @@ impl Gate for CountingGate {
     }
 }
 
-/// How often was polled, received, heard and sent, how many steps the gate saw in turn, and after how many of them the replica was normal.
+/// How often was polled, received, heard and sent, how many steps the gate saw in turn, and after how many of them the
+/// replica was normal.
 type Counts = (usize, usize, u64, usize, u64, u64);
 
 /// Replica 0 is served for so many turns.
@@ -190,8 +191,8 @@ fn served<R: Abort + Copy + Drop>(
     ))
 }
 
-/// A request, PREPARE to two; resend, the same; nothing; the request again, which is dropped; a timeout, which begins a view change: STARTVIEWCHANGE to
-/// two; then the link is closed.
+/// A request, PREPARE to two; resend, the same; nothing; the request again, which is dropped; a timeout, which begins a
+/// view change: STARTVIEWCHANGE to two; then the link is closed.
 const TICKS: [Tick; 6] = [
     Tick::None,
     Tick::Resend,
