@@ -91,13 +91,14 @@ SHARE = $(DESTDIR)$(PREFIX)/share
 
 install:
 	@$(PROVED)
-	mkdir -p $(BIN) $(SHARE)/man/man1 $(SHARE)/plc/examples $(SHARE)/plc/docs/pictures
+	mkdir -p $(BIN) $(SHARE)/man/man1 $(SHARE)/plc/examples/console $(SHARE)/plc/docs/pictures
 	install -m 755 build/plc $(BIN)/plc
 	tools/man-page build/plc > $(SHARE)/man/man1/plc.1
 	install -m 644 README.md $(SHARE)/plc
 	install -m 644 docs/FAULTS.md $(SHARE)/plc/docs
 	install -m 644 docs/pictures/*.svg $(SHARE)/plc/docs/pictures
 	install -m 644 examples/*.* $(SHARE)/plc/examples
+	install -m 644 examples/console/*.* $(SHARE)/plc/examples/console
 
 test:
 	tools/example-rows --check
