@@ -2,7 +2,7 @@
 //! and a printed line for its contactor. It uses the crates from the reader to the debugger, and no crate uses it.
 #![tactic(auto)]
 
-use debugger::Controller;
+use ctl_debugger::Controller;
 use il_model::{Budget, Command, InImage};
 use std::alloc::Global;
 use std::process::ExitCode;
@@ -30,9 +30,9 @@ const FIELD: [(u64, bool, bool); 5] = [
 /// The controller of a text, cold; none where the text is refused or memory runs out.
 fn controller(alloc: Global, text: &[u8]) -> Option<Controller> {
     let source = il_reader::read(alloc, text).ok()?;
-    let program = declarations::resolve(alloc, source).ok()?;
-    let bytes = assembler::assemble(alloc, &program).ok()?;
-    let image = loader::load(alloc, bytes.as_slice()).ok()?;
+    let program = il_declarations::resolve(alloc, source).ok()?;
+    let bytes = il_assembler::assemble(alloc, &program).ok()?;
+    let image = il_loader::load(alloc, bytes.as_slice()).ok()?;
     Controller::new(alloc, image, Budget::new(10_000)?).ok()
 }
 

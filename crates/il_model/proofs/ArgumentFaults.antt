@@ -17,7 +17,7 @@ use Rattle.il_model.specs.declared.typing.TypeFault.{TypeFault}
 use Rattle.il_model.specs.declared.typing.TypeFault.TheVariants.{TypeMismatch, NoCurrentResult, UnknownLabel, DuplicateLabel, Unbalanced, TooDeep, NotWritable, BadField}
 use Rattle.il_model.specs.declared.typing.OperandKind.{OperandKind}
 use Rattle.il_model.specs.declared.typing.OperandKind.TheVariants as kinds
-use Rattle.il_model.specs.Text.{Text}
+use Rattle.il_model.specs.Program.{Program}
 use Rattle.il_model.specs.Names.{same_name}
 use Rattle.il_model.specs.Kinds.{field_type, any_field}
 use Rattle.il_model.specs.Values.{typed_value}
@@ -89,11 +89,11 @@ chosen_late false o p a b = b
 bad_late : IsLate (Some BadField)
 bad_late = omega arith
 
-field_late : (Q : Text) (a : Argument) (o : Option Field) → IsLate (field_fault Q a o)
+field_late : (Q : Program) (a : Argument) (o : Option Field) → IsLate (field_fault Q a o)
 field_late Q a None = bad_late
 field_late Q a (Some field) = chosen_late (goes_so a.side field) (passing_fault a.side (field_type field) (operand_kind Q a.operand)) (Some BadField) (passing_late a.side (field_type field) (operand_kind Q a.operand)) bad_late
 
-pub argument_late : (Q : Text) (kind : Option BlockKind) (seen : List Argument) (a : Argument) → IsLate (argument_fault Q kind seen a)
+pub argument_late : (Q : Program) (kind : Option BlockKind) (seen : List Argument) (a : Argument) → IsLate (argument_fault Q kind seen a)
 argument_late Q None seen a = bad_late
 argument_late Q (Some k) seen a = chosen_late (is_among seen a) (Some BadField) (field_fault Q a (kind_field k a.field)) bad_late (field_late Q a (kind_field k a.field))
 
@@ -106,7 +106,7 @@ first_late None p a b = b
 first_late (Some f) None a b = a
 first_late (Some f) (Some g) a b = tried_late (nat_lt (fault_rank g) (fault_rank f)) f g a b
 
-arguments_late : (Q : Text) (kind : Option BlockKind) (seen args : List Argument) → IsLate (arguments_fault Q kind seen args)
+arguments_late : (Q : Program) (kind : Option BlockKind) (seen args : List Argument) → IsLate (arguments_fault Q kind seen args)
 arguments_late Q kind seen [] = tt
 arguments_late Q kind seen (a ∷ args) = first_late (argument_fault Q kind seen a) (arguments_fault Q kind (seen ++ a ∷ []) args) (argument_late Q kind seen a) (arguments_late Q kind (seen ++ a ∷ []) args)
 
@@ -174,16 +174,16 @@ among_settled s (b ∷ seen) a =
     ∙ ap (λ (c : Bool). same_name b.field a.field || c) (among_settled s seen a)
 
 -- settling those before an argument doesn't change its fault
-seen_settled : (Q : Text) (kind : Option BlockKind) (s : Bool) (seen : List Argument) (a : Argument) → argument_fault Q kind (map (as_settled s) seen) a ≡ argument_fault Q kind seen a
+seen_settled : (Q : Program) (kind : Option BlockKind) (s : Bool) (seen : List Argument) (a : Argument) → argument_fault Q kind (map (as_settled s) seen) a ≡ argument_fault Q kind seen a
 seen_settled Q None s seen a = refl
 seen_settled Q (Some k) s seen a = ap (λ (b : Bool). cond b (Some BadField) (field_fault Q a (kind_field k a.field))) (among_settled s seen a)
 
-pub is_seen : (Q : Text) (kind : Option BlockKind) (k : BlockKind) (seen : List Argument) (s : Bool) (a : Argument) → kind ≡ Some k → is_among seen a ≡ true → argument_fault Q kind seen (as_settled s a) ≡ Some BadField
+pub is_seen : (Q : Program) (kind : Option BlockKind) (k : BlockKind) (seen : List Argument) (s : Bool) (a : Argument) → kind ≡ Some k → is_among seen a ≡ true → argument_fault Q kind seen (as_settled s a) ≡ Some BadField
 is_seen Q kind k seen s a is among =
     ap (λ (o : Option BlockKind). argument_fault Q o seen (as_settled s a)) is
     ∙ ap (λ (b : Bool). cond b (Some BadField) (field_fault Q (as_settled s a) (kind_field k (as_settled s a).field))) (among_same seen s a ∙ among)
 
-pub is_new : (Q : Text) (kind : Option BlockKind) (k : BlockKind) (seen : List Argument) (s : Bool) (a : Argument) → kind ≡ Some k → is_among seen a ≡ false → argument_fault Q kind seen (as_settled s a) ≡ field_fault Q (as_settled s a) (kind_field k a.field)
+pub is_new : (Q : Program) (kind : Option BlockKind) (k : BlockKind) (seen : List Argument) (s : Bool) (a : Argument) → kind ≡ Some k → is_among seen a ≡ false → argument_fault Q kind seen (as_settled s a) ≡ field_fault Q (as_settled s a) (kind_field k a.field)
 is_new Q kind k seen s a is among =
     ap (λ (o : Option BlockKind). argument_fault Q o seen (as_settled s a)) is
     ∙ ap (λ (b : Bool). cond b (Some BadField) (field_fault Q (as_settled s a) (kind_field k (as_settled s a).field))) (among_same seen s a ∙ among)
@@ -192,10 +192,10 @@ is_new Q kind k seen s a is among =
 -- ---- going over the arguments
 
 -- the fault of those from a place on
-abbrev pub fault_from : Text → Option BlockKind → Bool → List Argument → ℕ → Option TypeFault
+abbrev pub fault_from : Program → Option BlockKind → Bool → List Argument → ℕ → Option TypeFault
 fault_from Q kind s args i = arguments_fault Q kind (map (as_settled s) (take i args)) (map (as_settled s) (drop i args))
 
-fault_here : (Q : Text) (kind : Option BlockKind) (s : Bool) (args : List Argument) (i : ℕ) (a : Argument) → i < length args → a ≡ get_or args i a
+fault_here : (Q : Program) (kind : Option BlockKind) (s : Bool) (args : List Argument) (i : ℕ) (a : Argument) → i < length args → a ≡ get_or args i a
     → fault_from Q kind s args i ≡ first_fault (argument_fault Q kind (take i args) (as_settled s a)) (fault_from Q kind s args (i + 1))
 fault_here Q kind s args i a lt is =
     let here : drop i args ≡ a ∷ drop (i + 1) args = drop_more args i a lt ∙ ap (λ (b : Argument). b ∷ drop (i + 1) args) (sym is) in
@@ -205,7 +205,7 @@ fault_here Q kind s args i a lt is =
     ∙ ap (λ (before : List Argument). first_fault (argument_fault Q kind (map (as_settled s) (take i args)) (as_settled s a)) (arguments_fault Q kind before (map (as_settled s) (drop (i + 1) args)))) (sym seen)
     ∙ ap (λ (o : Option TypeFault). first_fault o (fault_from Q kind s args (i + 1))) (seen_settled Q kind s (take i args) (as_settled s a))
 
-pub one_more : (Q : Text) (kind : Option BlockKind) (s : Bool) (args : List Argument) (i : ℕ) (a : Argument) (found fault total : Option TypeFault) → i < length args → a ≡ get_or args i a → fault ≡ argument_fault Q kind (take i args) (as_settled s a)
+pub one_more : (Q : Program) (kind : Option BlockKind) (s : Bool) (args : List Argument) (i : ℕ) (a : Argument) (found fault total : Option TypeFault) → i < length args → a ≡ get_or args i a → fault ≡ argument_fault Q kind (take i args) (as_settled s a)
     → first_fault found (fault_from Q kind s args i) ≡ total → first_fault (first_fault found fault) (fault_from Q kind s args (i + 1)) ≡ total
 one_more Q kind s args i a found fault total lt is here before =
     first_in_turn found fault (fault_from Q kind s args (i + 1))
@@ -214,7 +214,7 @@ one_more Q kind s args i a found fault total lt is here before =
     ∙ before
 
 -- nothing behind a bad field counts
-pub ends_bad : (Q : Text) (kind : Option BlockKind) (s : Bool) (args : List Argument) (i : ℕ) (a : Argument) (found total : Option TypeFault) → i < length args → a ≡ get_or args i a → argument_fault Q kind (take i args) (as_settled s a) ≡ Some BadField
+pub ends_bad : (Q : Program) (kind : Option BlockKind) (s : Bool) (args : List Argument) (i : ℕ) (a : Argument) (found total : Option TypeFault) → i < length args → a ≡ get_or args i a → argument_fault Q kind (take i args) (as_settled s a) ≡ Some BadField
     → IsLate found → first_fault found (fault_from Q kind s args i) ≡ total → Some BadField ≡ total
 ends_bad Q kind s args i a found total lt is bad late before =
     let rest = fault_from Q kind s args (i + 1) in

@@ -21,7 +21,7 @@ use Rattle.il_model.specs.declared.fetched.Source.{Source}
 use Rattle.il_model.specs.declared.fetched.Source.TheVariants as sources
 use Rattle.il_model.specs.Names.{same_name}
 use Rattle.il_model.specs.Kinds.{kind_fields, field_name, field_number, field_type, is_input}
-use Rattle.il_model.specs.Text.{Text}
+use Rattle.il_model.specs.Program.{Program}
 use Rattle.il_model.specs.Resolved.{source_of, called_kind}
 use Rattle.il_model.specs.Typing.{shape_at, typing_end, top_of, source_row, source_kind, passing_fault, goes_so, argument_fault, arguments_fault, IsTyped}
 use Rattle.il_model.specs.Marks.{word_count, words_in}
@@ -30,12 +30,12 @@ use Rattle.il_model.proofs.Declared.{fields_few, field_so}
 use Rattle.il_model.proofs.TypedLines.{bind_ok, ok_before, typed_line, sourced, fault_none, is_among, IsArgumentOf, argument_typed, no_arguments, first_none}
 
 -- an instruction whose operand stands for something, and whose arguments have no fault
-pub record IsTypedLine (Q : Text) (line : Instr) : Type 0 where
+pub record IsTypedLine (Q : Program) (line : Instr) : Type 0 where
   pub source : Source
   pub sourced : source_of Q line.operand ≡ Some source
   pub arguments : arguments_fault Q (called_kind Q line.operand) [] line.arguments ≡ None
 
-typed_so : (Q : Text) → IsTyped Q → (n : ℕ) (line : Instr) → slice_get Q.code n ≡ Some line → IsTypedLine Q line
+typed_so : (Q : Program) → IsTyped Q → (n : ℕ) (line : Instr) → slice_get Q.code n ≡ Some line → IsTypedLine Q line
 typed_so Q typed n line here =
     let lt : n < length Q.code = slice_get_within Q.code n line here in
     let all = bind_ok (shape_at Q (length Q.code)) (typing_end Q) tt typed in
@@ -50,7 +50,7 @@ all_of P [] each = tt
 all_of P (line ∷ code) each = (each 0 line refl, all_of P code (λ n l e. each (suc n) l e))
 
 -- the instructions of a typed program
-pub typed_lines : (Q : Text) → IsTyped Q → AllByRecursion (IsTypedLine Q) Q.code
+pub typed_lines : (Q : Program) → IsTyped Q → AllByRecursion (IsTypedLine Q) Q.code
 typed_lines Q typed = all_of (IsTypedLine Q) Q.code (typed_so Q typed)
 
 -- ---- how many fields no argument names yet
@@ -115,13 +115,13 @@ abbrev count : (Argument → Bool) → List Argument → ℕ
 count p [] = 0
 count p (a ∷ args) = cond (p a) 1 0 + count p args
 
-argument_so : (Q : Text) (k : BlockKind) (seen : List Argument) (a : Argument) → argument_fault Q (Some k) seen a ≡ None → (is_among seen a ≡ false) × IsArgumentOf Q k a
+argument_so : (Q : Program) (k : BlockKind) (seen : List Argument) (a : Argument) → argument_fault Q (Some k) seen a ≡ None → (is_among seen a ≡ false) × IsArgumentOf Q k a
 argument_so Q k seen a h =
     let t = argument_typed Q (Some k) seen a h in
     let is : k ≡ t.0 = (let e = t.1 in cc) in
     (t.2, subst (λ (x : BlockKind). IsArgumentOf Q x a) (sym is) t.3)
 
-counted_by : (b : Bool) (Q : Text) (k : BlockKind) (q : Field → Bool) (seen : List Argument) (a : Argument) (c : ℕ) → (is_among seen a ≡ false) → (is : IsArgumentOf Q k a) → (b ≡ true → q is.field ≡ true)
+counted_by : (b : Bool) (Q : Program) (k : BlockKind) (q : Field → Bool) (seen : List Argument) (a : Argument) (c : ℕ) → (is_among seen a ≡ false) → (is : IsArgumentOf Q k a) → (b ≡ true → q is.field ≡ true)
     → c ≤ free q (seen ++ a ∷ []) (kind_fields k) → cond b 1 0 + c ≤ free q seen (kind_fields k)
 counted_by true Q k q seen a c new is passes le =
     let name : field_name is.field ≡ a.field = field_named_so k a.field is.number is.field is.numbered is.there in
@@ -133,7 +133,7 @@ counted_by true Q k q seen a c new is passes le =
     omega arith
 counted_by false Q k q seen a c new is passes le = let less = free_less q seen a (kind_fields k) in omega arith
 
-counted : (Q : Text) (k : BlockKind) (p : Argument → Bool) (q : Field → Bool) → ((a : Argument) (is : IsArgumentOf Q k a) → p a ≡ true → q is.field ≡ true)
+counted : (Q : Program) (k : BlockKind) (p : Argument → Bool) (q : Field → Bool) → ((a : Argument) (is : IsArgumentOf Q k a) → p a ≡ true → q is.field ≡ true)
     → (seen args : List Argument) → arguments_fault Q (Some k) seen args ≡ None → count p args ≤ free q seen (kind_fields k)
 counted Q k p q passes seen [] h = omega arith
 counted Q k p q passes seen (a ∷ args) h =
@@ -174,11 +174,11 @@ literal_count-append (o ∷ xs) ys = let more = literal_count-append xs ys in om
 abbrev is_literal : Argument → Bool
 is_literal a = is_some (operand_literal a.operand)
 
-input_by : (Q : Text) (v : Value) (side : Side) (t : Ty) (field : Field) → goes_so side field ≡ true → passing_fault side t (source_kind Q (sources.Constant v)) ≡ None → is_input field ≡ true
+input_by : (Q : Program) (v : Value) (side : Side) (t : Ty) (field : Field) → goes_so side field ≡ true → passing_fault side t (source_kind Q (sources.Constant v)) ≡ None → is_input field ≡ true
 input_by Q v sides.Input t field goes passes = goes
 input_by Q v sides.Output t field goes passes = absurd cc
 
-input_of : (Q : Text) (o : Operand) (side : Side) (t : Ty) (field : Field) (src : Source) → is_some (operand_literal o) ≡ true → source_of Q o ≡ Some src → goes_so side field ≡ true → passing_fault side t (source_kind Q src) ≡ None → is_input field ≡ true
+input_of : (Q : Program) (o : Operand) (side : Side) (t : Ty) (field : Field) (src : Source) → is_some (operand_literal o) ≡ true → source_of Q o ≡ Some src → goes_so side field ≡ true → passing_fault side t (source_kind Q src) ≡ None → is_input field ≡ true
 input_of Q operands.Absent side t field src e s goes passes = absurd cc
 input_of Q (operands.Literal v) side t field src e s goes passes =
     let is : src ≡ sources.Constant v = cc in
@@ -191,7 +191,7 @@ input_of Q (operands.Field name x) side t field src e s goes passes = absurd cc
 input_of Q (operands.Instance name) side t field src e s goes passes = absurd cc
 
 -- a literal goes into an input
-literal_input : (Q : Text) (k : BlockKind) (a : Argument) (is : IsArgumentOf Q k a) → is_literal a ≡ true → is_input is.field ≡ true
+literal_input : (Q : Program) (k : BlockKind) (a : Argument) (is : IsArgumentOf Q k a) → is_literal a ≡ true → is_input is.field ≡ true
 literal_input Q k a is e = input_of Q a.operand a.side (field_type is.field) is.field is.source e is.sourced is.goes is.passes
 
 count_all : (args : List Argument) → count (λ a. true) args ≡ length args
@@ -208,7 +208,7 @@ record IsShort (line : Instr) : Type 0 where
   words : word_count line ≤ 9
   literals : literal_count (operands_in line) ≤ 5
 
-no_literal : (Q : Text) (o : Operand) (k : BlockKind) → called_kind Q o ≡ Some k → operand_literal o ≡ None
+no_literal : (Q : Program) (o : Operand) (k : BlockKind) → called_kind Q o ≡ Some k → operand_literal o ≡ None
 no_literal Q operands.Absent k e = refl
 no_literal Q (operands.Literal v) k e = absurd cc
 no_literal Q (operands.Bare z) k e = refl
@@ -226,7 +226,7 @@ none_at_all : (o : Option Value) → o ≡ None → cond (is_some o) 1 0 ≤ 0
 none_at_all None e = omega arith
 none_at_all (Some v) e = absurd cc
 
-short_by : (kind : Option BlockKind) (Q : Text) (line : Instr) → called_kind Q line.operand ≡ kind → arguments_fault Q kind [] line.arguments ≡ None → IsShort line
+short_by : (kind : Option BlockKind) (Q : Program) (line : Instr) → called_kind Q line.operand ≡ kind → arguments_fault Q kind [] line.arguments ≡ None → IsShort line
 short_by None Q line e h =
     let none : line.arguments ≡ [] = no_arguments Q [] line.arguments h in
     let one = one_at_most (is_some (operand_literal line.operand)) in
@@ -238,13 +238,13 @@ short_by (Some k) Q line e h =
     let none = none_at_all (operand_literal line.operand) (no_literal Q line.operand k e) in
     record { words = omega (arith, all, count_all line.arguments, free_any (kind_fields k), fields_few k); literals = omega (arith, literals, count_literals line.arguments, inputs_few k, none) }
 
-short_line : (Q : Text) (line : Instr) → IsTypedLine Q line → IsShort line
+short_line : (Q : Program) (line : Instr) → IsTypedLine Q line → IsShort line
 short_line Q line is = short_by (called_kind Q line.operand) Q line refl is.arguments
 
 -- ---- a whole program
 
 -- a word for each instruction, and one for each of at most eight arguments
-pub words_few : (Q : Text) (code : List Instr) → AllByRecursion (IsTypedLine Q) code → words_in code ≤ 9 * length code
+pub words_few : (Q : Program) (code : List Instr) → AllByRecursion (IsTypedLine Q) code → words_in code ≤ 9 * length code
 words_few Q [] are = omega arith
 words_few Q (line ∷ code) are =
     let one = (short_line Q line are.0).words in
@@ -252,7 +252,7 @@ words_few Q (line ∷ code) are =
     omega arith
 
 -- at most one literal for each of at most five inputs
-pub literals_few : (Q : Text) (code : List Instr) → AllByRecursion (IsTypedLine Q) code → literal_count (operands_of code) ≤ 5 * length code
+pub literals_few : (Q : Program) (code : List Instr) → AllByRecursion (IsTypedLine Q) code → literal_count (operands_of code) ≤ 5 * length code
 literals_few Q [] are = omega arith
 literals_few Q (line ∷ code) are =
     let one = (short_line Q line are.0).literals in

@@ -21,7 +21,7 @@ use Rattle.il_model.specs.declared.program.Side.TheVariants as sides
 use Rattle.il_model.specs.declared.program.Operand.{Operand}
 use Rattle.il_model.specs.declared.program.Operand.TheVariants as operands
 use Rattle.il_model.specs.declared.program.Instr.{Instr}
-use Rattle.il_model.specs.Text.{Text, Declarations, declared_by}
+use Rattle.il_model.specs.Program.{Program, Declarations, declared_by}
 use Rattle.il_model.specs.Values.{ty_of, number_of, is_within, typed_value}
 use Rattle.il_model.specs.Kinds.{any_field, field_type}
 use Rattle.il_model.specs.Typing.{Shape, shape_at, typing_end, IsTyped}
@@ -194,10 +194,10 @@ mapped_some : (f : Instr → Instr) (o : Option Instr) (line : Instr) → option
 mapped_some f None line e = absurd cc
 mapped_some f (Some p) line e = (p, refl, cc)
 
-typed_shape : (Q : Text) → IsTyped Q → (sh : Shape) × (shape_at Q (length Q.code) ≡ Ok sh)
+typed_shape : (Q : Program) → IsTyped Q → (sh : Shape) × (shape_at Q (length Q.code) ≡ Ok sh)
 typed_shape Q typed = let b = bind_ok (shape_at Q (length Q.code)) (typing_end Q) tt typed in (b.0, b.1)
 
-settled_lines : (P Q : Text) → IsDeclared P → IsTypedProgramOf P Q → (n : ℕ) (line : Instr) → slice_get Q.code n ≡ Some line → IsLawful (declared_by P) line
+settled_lines : (P Q : Program) → IsDeclared P → IsTypedProgramOf P Q → (n : ℕ) (line : Instr) → slice_get Q.code n ≡ Some line → IsLawful (declared_by P) line
 settled_lines P Q is t n line e =
     let lt : n < length Q.code = slice_get_within Q.code n line e in
     let whole = typed_shape Q t.typed in
@@ -207,10 +207,10 @@ settled_lines P Q is t n line e =
     let bare : has_bare (settled_line sh.0.cr m.0) ≡ false = ap has_bare m.2 ∙ t.plain n line e in
     subst (IsLawful (declared_by P)) m.2 (line_fits (declared_by P) sh.0.cr m.0 one bare)
 
-same_declared : (P Q : Text) → Q.variables ≡ P.variables → Q.instances ≡ P.instances → declared_by P ≡ declared_by Q
+same_declared : (P Q : Program) → Q.variables ≡ P.variables → Q.instances ≡ P.instances → declared_by P ≡ declared_by Q
 same_declared P Q vs xs = cc
 
-declared_fits : (P Q : Text) → IsDeclared P → IsTypedProgramOf P Q → IsImage Q
+declared_fits : (P Q : Program) → IsDeclared P → IsTypedProgramOf P Q → IsImage Q
 declared_fits P Q is t =
     let vs : Q.variables ≡ P.variables = t.same.variables in
     let xs : Q.instances ≡ P.instances = t.same.instances in
@@ -226,5 +226,5 @@ declared_fits P Q is t =
     t.typed
 
 -- a declared program has an image once its bare numbers have types
-pub declared_image : (P Q : Text) → IsDeclared P → typed_program_of P ≡ Ok Q → IsImage Q
+pub declared_image : (P Q : Program) → IsDeclared P → typed_program_of P ≡ Ok Q → IsImage Q
 declared_image P Q is e = declared_fits P Q is (typed_program P Q e)

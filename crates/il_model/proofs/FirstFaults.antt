@@ -24,7 +24,7 @@ use Rattle.il_model.specs.declared.typing.OperandKind.TheVariants as kinds
 use Rattle.il_model.specs.declared.typing.Held.{Held}
 use Rattle.il_model.specs.declared.typing.Effect.{Effect}
 use Rattle.il_model.specs.declared.typing.Effect.TheVariants.{Sets}
-use Rattle.il_model.specs.Text.{Text}
+use Rattle.il_model.specs.Program.{Program}
 use Rattle.il_model.specs.Names.{same_name}
 use Rattle.il_model.specs.Kinds.{field_type}
 use Rattle.il_model.specs.Operators.{joined_type}
@@ -380,10 +380,10 @@ refused_told : (r : Result Effect TypeFault) → fault_of (without_effect r) ≡
 refused_told (Ok e) = refl
 refused_told (Err f) = mismatch_last f
 
-abbrev kind_from : Text → Option Source → OperandKind → OperandKind
+abbrev kind_from : Program → Option Source → OperandKind → OperandKind
 kind_from Q o missing = elim o [ Some src ↦ source_kind Q src | None ↦ missing ]
 
-source_told : (Q : Text) (cr : Option Ty) (held : Option Held) (depth : ℕ) (line : Instr) (o : Option Source)
+source_told : (Q : Program) (cr : Option Ty) (held : Option Held) (depth : ℕ) (line : Instr) (o : Option Source)
     → fault_of (source_row Q cr held depth line o) ≡ first_fault (fault_of (row cr held depth line.op line.modifier (kind_from Q o (missing_kind line.operand)))) (first_found (lacks (is_none o)))
 source_told Q cr held depth line (Some src) = no_more (fault_of (row cr held depth line.op line.modifier (source_kind Q src)))
 source_told Q cr held depth line None = refused_told (row cr held depth line.op line.modifier (missing_kind line.operand))
@@ -418,7 +418,7 @@ or_given : (b : Bool) (f : TypeFault) (o : Option TypeFault) → Some f ≡ cond
 or_given true f o = refl
 or_given false f o = refl
 
-field_told : (Q : Text) (given : Bool) (a : Argument) (o : Option Field)
+field_told : (Q : Program) (given : Bool) (a : Argument) (o : Option Field)
     → cond given (Some BadField) (field_fault Q a o) ≡ first_found (passing_has given (option_and_then (if_goes_so a.side) o) a.side (operand_kind Q a.operand))
 field_told Q true a o =
     let field = option_and_then (if_goes_so a.side) o in
@@ -427,7 +427,7 @@ field_told Q true a o =
 field_told Q false a None = refl
 field_told Q false a (Some field) = goes_told (goes_so a.side field) a.side field (operand_kind Q a.operand)
 
-argument_told : (Q : Text) (kind : Option BlockKind) (seen : List Argument) (a : Argument) → argument_fault Q kind seen a ≡ first_found (passing_has (is_among seen a) (argument_field kind a) a.side (operand_kind Q a.operand))
+argument_told : (Q : Program) (kind : Option BlockKind) (seen : List Argument) (a : Argument) → argument_fault Q kind seen a ≡ first_found (passing_has (is_among seen a) (argument_field kind a) a.side (operand_kind Q a.operand))
 argument_told Q None seen a = refl
 argument_told Q (Some k) seen a = field_told Q (is_among seen a) a (kind_field k a.field)
 
@@ -436,7 +436,7 @@ abbrev given_again : List Argument → List Argument → Bool
 given_again seen [] = false
 given_again seen (a ∷ more) = is_among seen a || given_again (seen ++ a ∷ []) more
 
-abbrev arguments_have : Text → Option BlockKind → Bool → List Argument → TypeFault → Bool
+abbrev arguments_have : Program → Option BlockKind → Bool → List Argument → TypeFault → Bool
 arguments_have Q kind again args BadField = list_any (is_field_bad Q kind) args || again
 arguments_have Q kind again args NotWritable = list_any (is_unwritable Q) args
 arguments_have Q kind again args TypeMismatch = list_any (is_mismatched Q kind) args
@@ -448,14 +448,14 @@ swapped false true true d = refl
 swapped false true false d = refl
 swapped false false c d = refl
 
-one_more : (Q : Text) (kind : Option BlockKind) (given again : Bool) (a : Argument) (more : List Argument) (f : TypeFault)
+one_more : (Q : Program) (kind : Option BlockKind) (given again : Bool) (a : Argument) (more : List Argument) (f : TypeFault)
     → (passing_has given (argument_field kind a) a.side (operand_kind Q a.operand) f || arguments_have Q kind again more f) ≡ arguments_have Q kind (given || again) (a ∷ more) f
 one_more Q kind given again a more BadField = swapped (is_field_bad Q kind a) given (list_any (is_field_bad Q kind) more) again
 one_more Q kind given again a more NotWritable = refl
 one_more Q kind given again a more TypeMismatch = refl
 one_more Q kind given again a more _ = refl
 
-arguments_told : (Q : Text) (kind : Option BlockKind) (seen args : List Argument) → arguments_fault Q kind seen args ≡ first_found (arguments_have Q kind (given_again seen args) args)
+arguments_told : (Q : Program) (kind : Option BlockKind) (seen args : List Argument) → arguments_fault Q kind seen args ≡ first_found (arguments_have Q kind (given_again seen args) args)
 arguments_told Q kind seen [] = refl
 arguments_told Q kind seen (a ∷ more) =
     let here = passing_has (is_among seen a) (argument_field kind a) a.side (operand_kind Q a.operand) in
@@ -497,7 +497,7 @@ twins args = given_twice [] args ∙ ap (λ (x : Bool). x || has_twins args) (no
 
 -- ---- labels
 
-abbrev label_has : Text → ℕ → Bool → Option (List ℕ) → TypeFault → Bool
+abbrev label_has : Program → ℕ → Bool → Option (List ℕ) → TypeFault → Bool
 label_has Q n within label DuplicateLabel = is_doubled Q n label
 label_has Q n within label Unbalanced = is_some label && within
 label_has Q n within label f = false
@@ -511,7 +511,7 @@ label_at_told : (o : Option ℕ) (n depth : ℕ) → fault_of (label_at o n dept
 label_at_told None n depth = refl
 label_at_told (Some first) n depth = label_by (nat_eq first n) (nat_lt 0 depth)
 
-label_told : (Q : Text) (n depth : ℕ) (label : Option (List ℕ)) → fault_of (label_row Q n depth label) ≡ first_found (label_has Q n (nat_lt 0 depth) label)
+label_told : (Q : Program) (n depth : ℕ) (label : Option (List ℕ)) → fault_of (label_row Q n depth label) ≡ first_found (label_has Q n (nat_lt 0 depth) label)
 label_told Q n depth None = refl
 label_told Q n depth (Some name) = label_at_told (target_of Q name) n depth
 
@@ -523,12 +523,12 @@ with_told (Err f) None = refl
 with_told (Ok e) (Some f) = refl
 with_told (Err g) (Some f) = refl
 
-abbrev line_has : Text → Option Ty → Option Held → ℕ → Instr → TypeFault → Bool
+abbrev line_has : Program → Option Ty → Option Held → ℕ → Instr → TypeFault → Bool
 line_has Q cr held depth line f =
     (row_has (nat_lt 0 depth) (nat_lt depth 16) cr held line.op line.modifier (operand_kind Q line.operand) f || lacks (is_none (source_of Q line.operand)) f)
     || arguments_have Q (called_kind Q line.operand) (has_twins line.arguments) line.arguments f
 
-line_told : (Q : Text) (cr : Option Ty) (held : Option Held) (depth : ℕ) (line : Instr) → fault_of (line_row_of Q cr held depth line) ≡ first_found (line_has Q cr held depth line)
+line_told : (Q : Program) (cr : Option Ty) (held : Option Held) (depth : ℕ) (line : Instr) → fault_of (line_row_of Q cr held depth line) ≡ first_found (line_has Q cr held depth line)
 line_told Q cr held depth line =
     let kind = operand_kind Q line.operand in
     let by_row = row_has (nat_lt 0 depth) (nat_lt depth 16) cr held line.op line.modifier kind in
@@ -553,7 +553,7 @@ of_label_by true within f e = subst IsOfLabel (some_is DuplicateLabel f e) tt
 of_label_by false true f e = subst IsOfLabel (some_is Unbalanced f e) tt
 of_label_by false false f e = absurd cc
 
-of_label : (Q : Text) (n depth : ℕ) (label : Option (List ℕ)) (f : TypeFault) → label_row Q n depth label ≡ Err f → IsOfLabel f
+of_label : (Q : Program) (n depth : ℕ) (label : Option (List ℕ)) (f : TypeFault) → label_row Q n depth label ≡ Err f → IsOfLabel f
 of_label Q n depth label f e = of_label_by (is_doubled Q n label) (is_some label && nat_lt 0 depth) f (sym (label_told Q n depth label) ∙ ap fault_of e)
 
 label_first : (f g : TypeFault) → IsOfLabel f → (g ≡ DuplicateLabel → ⊥) → nat_lt (fault_rank g) (fault_rank f) ≡ false
@@ -576,7 +576,7 @@ then_told (Err f) (Ok e) k h = refl
 then_told (Err f) (Err g) k h = sym (ap (λ (b : Bool). Some (cond b g f)) (h f g refl refl))
 
 -- no other fault is that of a doubled label
-line_other : (Q : Text) (cr : Option Ty) (held : Option Held) (depth : ℕ) (line : Instr) (g : TypeFault) → line_row_of Q cr held depth line ≡ Err g → g ≡ DuplicateLabel → ⊥
+line_other : (Q : Program) (cr : Option Ty) (held : Option Held) (depth : ℕ) (line : Instr) (g : TypeFault) → line_row_of Q cr held depth line ≡ Err g → g ≡ DuplicateLabel → ⊥
 line_other Q cr held depth line g e is =
     yes_no (line_has Q cr held depth line DuplicateLabel) (ap (line_has Q cr held depth line) (sym is) ∙ there_in (line_has Q cr held depth line) faults g (sym (line_told Q cr held depth line) ∙ ap fault_of e)) refl
 
@@ -606,7 +606,7 @@ middle : (a b : Bool) → ((a || false) || b) ≡ (a || b)
 middle true b = refl
 middle false b = refl
 
-same_applies : (Q : Text) (n : ℕ) (sh : Shape) (line : Instr) (f : TypeFault)
+same_applies : (Q : Program) (n : ℕ) (sh : Shape) (line : Instr) (f : TypeFault)
     → (label_has Q n (nat_lt 0 (length sh.kept)) line.label f || line_has Q sh.cr (top_of sh.kept) (length sh.kept) line f) ≡ applies Q n sh line f
 same_applies Q n sh line DuplicateLabel = or_none (is_doubled Q n line.label)
 same_applies Q n sh line Unbalanced =
@@ -622,7 +622,7 @@ same_applies Q n sh line NotWritable = middle (writes line.op && not (may_be_wri
 same_applies Q n sh line NoCurrentResult = alone (needs_result line.op line.modifier.conditional && is_none sh.cr)
 same_applies Q n sh line TypeMismatch = refl
 
-after_told : (Q : Text) (n : ℕ) (sh : Shape) (line : Instr) → fault_of (after_line Q n sh line) ≡ first_found (applies Q n sh line)
+after_told : (Q : Program) (n : ℕ) (sh : Shape) (line : Instr) → fault_of (after_line Q n sh line) ≡ first_found (applies Q n sh line)
 after_told Q n sh line =
     let depth = length sh.kept in
     let by_label = label_has Q n (nat_lt 0 depth) line.label in
@@ -634,5 +634,5 @@ after_told Q n sh line =
     ∙ sym (first_either by_label by_line)
     ∙ same_in (λ f. by_label f || by_line f) (applies Q n sh line) (same_applies Q n sh line) faults
 
-pub tells_the_first : (Q : Text) (n : ℕ) (sh : Shape) (line : Instr) → TellsFirst (applies Q n sh line) (after_line Q n sh line)
+pub tells_the_first : (Q : Program) (n : ℕ) (sh : Shape) (line : Instr) → TellsFirst (applies Q n sh line) (after_line Q n sh line)
 tells_the_first Q n sh line = tells (applies Q n sh line) (after_line Q n sh line) (after_told Q n sh line)

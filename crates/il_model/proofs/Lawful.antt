@@ -37,7 +37,7 @@ use Rattle.il_model.specs.Values.{ty_of, number_of, typed_value}
 use Rattle.il_model.specs.Operators.{same_truth, same_number}
 use Rattle.il_model.specs.Names.{same_name, is_lawful_name}
 use Rattle.il_model.specs.Kinds.{field_name}
-use Rattle.il_model.specs.Text.{Text, Declarations, declared_by}
+use Rattle.il_model.specs.Program.{Program, Declarations, declared_by}
 use Rattle.il_model.specs.Resolved.{has_label, target_of, instance_in, field_of, source_of, called_kind}
 use Rattle.il_model.specs.Typing.{shape_at, typing_end, label_at, label_row, arguments_fault, IsTyped}
 use Rattle.il_model.specs.Marks.{Mark, with_mark, word_count, words_in, address_of, marks_from}
@@ -489,14 +489,14 @@ constant_by (Some k) ds cs v few e h =
     stands_again ds cs (operands.Literal v) (coded.Constant k) (record { coded = ap (numbered coded.Constant) e; own = omega arith; named = ap (option_map operands.Literal) (constant_there cs v k e) })
 
 -- what an image has room for
-record HasRoom (Q : Text) : Type 0 where
+record HasRoom (Q : Program) : Type 0 where
   variables : length Q.variables ≤ 512
   instances : length Q.instances ≤ 128
   constants : length (constants_of Q) ≤ 20480
   words : words_in Q.code ≤ 36864
 
 -- a value or a place that stands for something
-value_again : (Q : Text) (o : Operand) (src : Source) → HasRoom Q → has_form forms.Value false o ≡ true → IsOperand (declared_by Q) o → source_of Q o ≡ Some src → IsKnown (constants_of Q) o
+value_again : (Q : Program) (o : Operand) (src : Source) → HasRoom Q → has_form forms.Value false o ≡ true → IsOperand (declared_by Q) o → source_of Q o ≡ Some src → IsKnown (constants_of Q) o
     → IsRead (declared_by Q) (constants_of Q) o (operand_code Q (constants_of Q) o)
 value_again Q operands.Absent src room form ok there known = absurd cc
 value_again Q (operands.Literal v) src room form ok there known = constant_by (position (same_value v) (constants_of Q)) (declared_by Q) (constants_of Q) v room.constants refl (known v refl)
@@ -511,17 +511,17 @@ value_again Q (operands.Field name field) src room form ok there known =
 value_again Q (operands.Instance name) src room form ok there known = absurd cc
 
 -- an operand that reads back from its number behind an operator
-record IsAgain (Q : Text) (op : Op) (o : Operand) (code : ℕ) : Type 0 where
+record IsAgain (Q : Program) (op : Op) (o : Operand) (code : ℕ) : Type 0 where
   read : numbered_operand (declared_by Q) (marks_from 0 Q.code) (constants_of Q) op code ≡ Some o
   small : code < 2 ^ 16
 
-value_op : (Q : Text) (op : Op) (o : Operand) (n : ℕ) → is_jump op ≡ false → is_call op ≡ false → IsRead (declared_by Q) (constants_of Q) o n → IsAgain Q op o n
+value_op : (Q : Program) (op : Op) (o : Operand) (n : ℕ) → is_jump op ≡ false → is_call op ≡ false → IsRead (declared_by Q) (constants_of Q) o n → IsAgain Q op o n
 value_op Q op o n jump call is = record { read = rw (jump, call) is.read; small = is.small }
 
-absent_again : (Q : Text) → IsRead (declared_by Q) (constants_of Q) operands.Absent 65535
+absent_again : (Q : Program) → IsRead (declared_by Q) (constants_of Q) operands.Absent 65535
 absent_again Q = record { read = refl; small = omega arith }
 
-label_again : (Q : Text) (op : Op) (name : List ℕ) (src : Source) → HasRoom Q → is_jump op ≡ true → source_of Q (operands.Label name) ≡ Some src → IsAgain Q op (operands.Label name) (operand_code Q (constants_of Q) (operands.Label name))
+label_again : (Q : Program) (op : Op) (name : List ℕ) (src : Source) → HasRoom Q → is_jump op ≡ true → source_of Q (operands.Label name) ≡ Some src → IsAgain Q op (operands.Label name) (operand_code Q (constants_of Q) (operands.Label name))
 label_again Q op name src room jump there =
     let target = map_some (target_of Q name) sources.Target src there in
     let k : ℕ = target.0 in
@@ -533,7 +533,7 @@ label_again Q op name src room jump there =
     let one : numbered_operand (declared_by Q) (marks_from 0 Q.code) (constants_of Q) op (address_of Q.code k) ≡ Some (operands.Label name) = rw (jump, at) refl in
     record { read = ap (numbered_operand (declared_by Q) (marks_from 0 Q.code) (constants_of Q) op) code ∙ one; small = omega (arith, code) }
 
-called_again : (Q : Text) (op : Op) (name : List ℕ) (src : Source) → HasRoom Q → is_jump op ≡ false → is_call op ≡ true → source_of Q (operands.Instance name) ≡ Some src → IsAgain Q op (operands.Instance name) (operand_code Q (constants_of Q) (operands.Instance name))
+called_again : (Q : Program) (op : Op) (name : List ℕ) (src : Source) → HasRoom Q → is_jump op ≡ false → is_call op ≡ true → source_of Q (operands.Instance name) ≡ Some src → IsAgain Q op (operands.Instance name) (operand_code Q (constants_of Q) (operands.Instance name))
 called_again Q op name src room jump call there =
     let number = map_some (instance_in Q.instances name) sources.Instance src there in
     let i : ℕ = number.0 in
@@ -546,7 +546,7 @@ called_again Q op name src room jump call there =
 
 -- ---- words
 
-operand_by : (Q : Text) (op : Op) (m : Modifier) (o : Operand) (src : Source) → HasRoom Q → formed_by (usage_of op) m o ≡ true → IsOperand (declared_by Q) o → source_of Q o ≡ Some src → IsKnown (constants_of Q) o
+operand_by : (Q : Program) (op : Op) (m : Modifier) (o : Operand) (src : Source) → HasRoom Q → formed_by (usage_of op) m o ≡ true → IsOperand (declared_by Q) o → source_of Q o ≡ Some src → IsKnown (constants_of Q) o
     → IsAgain Q op o (operand_code Q (constants_of Q) o)
 operand_by Q op m operands.Absent src room form ok there known = value_op Q op operands.Absent 65535 (jumps op m operands.Absent form) (calls op m operands.Absent form) (absent_again Q)
 operand_by Q op m (operands.Literal v) src room form ok there known =
@@ -562,7 +562,7 @@ operand_by Q op m (operands.Label name) src room form ok there known = label_aga
 operand_by Q op m (operands.Instance name) src room form ok there known = called_again Q op name src room (jumps op m (operands.Instance name) form) (calls op m (operands.Instance name) form) there
 
 -- an argument without a fault reads back
-argument_fits : (Q : Text) (k : BlockKind) (a : Argument) → HasRoom Q → IsPassed (declared_by Q) a → IsArgumentOf Q k a → IsKnown (constants_of Q) a.operand → IsPassing Q (Some k) a
+argument_fits : (Q : Program) (k : BlockKind) (a : Argument) → HasRoom Q → IsPassed (declared_by Q) a → IsArgumentOf Q k a → IsKnown (constants_of Q) a.operand → IsPassing Q (Some k) a
 argument_fits Q k a room ok is known =
     let r = value_again Q a.operand is.source room ok.form ok.operand is.sourced known in
     let f = field_so k a.field is.number is.numbered in
@@ -575,20 +575,20 @@ argument_fits Q k a room ok is known =
       operand_small = r.small;
     }
 
-arguments_fit : (Q : Text) (k : BlockKind) (args : List Argument) → HasRoom Q → AllByRecursion (IsPassed (declared_by Q)) args → AllByRecursion (IsArgumentOf Q k) args
+arguments_fit : (Q : Program) (k : BlockKind) (args : List Argument) → HasRoom Q → AllByRecursion (IsPassed (declared_by Q)) args → AllByRecursion (IsArgumentOf Q k) args
     → AllByRecursion (IsKnown (constants_of Q)) (map (λ (a : Argument). a.operand) args) → AllByRecursion (IsPassing Q (Some k)) args
 arguments_fit Q k [] room ok are known = tt
 arguments_fit Q k (a ∷ args) room ok are known = (argument_fits Q k a room ok.0 are.0 known.0, arguments_fit Q k args room ok.1 are.1 known.1)
 
-no_passing : (Q : Text) (kind : Option BlockKind) (args : List Argument) → args ≡ [] → AllByRecursion (IsPassing Q kind) args
+no_passing : (Q : Program) (kind : Option BlockKind) (args : List Argument) → args ≡ [] → AllByRecursion (IsPassing Q kind) args
 no_passing Q kind args none = subst (AllByRecursion (IsPassing Q kind)) (sym none) tt
 
-passing_by : (kind : Option BlockKind) (Q : Text) (args : List Argument) → HasRoom Q → arguments_fault Q kind [] args ≡ None → AllByRecursion (IsPassed (declared_by Q)) args
+passing_by : (kind : Option BlockKind) (Q : Program) (args : List Argument) → HasRoom Q → arguments_fault Q kind [] args ≡ None → AllByRecursion (IsPassed (declared_by Q)) args
     → AllByRecursion (IsKnown (constants_of Q)) (map (λ (a : Argument). a.operand) args) → AllByRecursion (IsPassing Q kind) args
 passing_by None Q args room h ok known = no_passing Q None args (no_arguments Q [] args h)
 passing_by (Some k) Q args room h ok known = arguments_fit Q k args room ok (arguments_typed Q k [] args h) known
 
-called_is : (Q : Text) (o : Operand) (k : BlockKind) → called_kind Q o ≡ Some k → is_instance o ≡ true
+called_is : (Q : Program) (o : Operand) (k : BlockKind) → called_kind Q o ≡ Some k → is_instance o ≡ true
 called_is Q operands.Absent k e = absurd cc
 called_is Q (operands.Literal v) k e = absurd cc
 called_is Q (operands.Bare z) k e = absurd cc
@@ -599,12 +599,12 @@ called_is Q (operands.Field name field) k e = absurd cc
 called_is Q (operands.Instance name) k e = refl
 
 -- only a call has arguments
-called_by : (kind : Option BlockKind) (Q : Text) (line : Instr) → called_kind Q line.operand ≡ kind → arguments_fault Q kind [] line.arguments ≡ None → formed_by (usage_of line.op) line.modifier line.operand ≡ true
+called_by : (kind : Option BlockKind) (Q : Program) (line : Instr) → called_kind Q line.operand ≡ kind → arguments_fault Q kind [] line.arguments ≡ None → formed_by (usage_of line.op) line.modifier line.operand ≡ true
     → (is_call line.op || nat_eq (length line.arguments) 0) ≡ true
 called_by None Q line e h form = or_right (is_call line.op) (nat_eq (length line.arguments) 0) (ap (λ (args : List Argument). nat_eq (length args) 0) (no_arguments Q [] line.arguments h))
 called_by (Some k) Q line e h form = or_left (is_call line.op) (nat_eq (length line.arguments) 0) (calls line.op line.modifier line.operand form ∙ called_is Q line.operand k e)
 
-word_fits : (Q : Text) (line : Instr) → HasRoom Q → IsLawful (declared_by Q) line → IsTypedLine Q line → AllByRecursion (IsKnown (constants_of Q)) (operands_in line) → IsWord Q line
+word_fits : (Q : Program) (line : Instr) → HasRoom Q → IsLawful (declared_by Q) line → IsTypedLine Q line → AllByRecursion (IsKnown (constants_of Q)) (operands_in line) → IsWord Q line
 word_fits Q line room is typed known =
     let o = operand_by Q line.op line.modifier line.operand typed.source room is.form is.operand typed.sourced known.0 in
     let code = operand_code Q (constants_of Q) line.operand in
@@ -622,7 +622,7 @@ word_fits Q line room is typed known =
       called = called_by (called_kind Q line.operand) Q line refl typed.arguments is.form;
     }
 
-words_fit : (Q : Text) (seen code : List Instr) → HasRoom Q → AreLawful (declared_by Q) code → AllByRecursion (IsTypedLine Q) code → AllByRecursion (IsKnown (constants_of Q)) (operands_of code) → AreItems (λ seen. IsWord Q) seen code
+words_fit : (Q : Program) (seen code : List Instr) → HasRoom Q → AreLawful (declared_by Q) code → AllByRecursion (IsTypedLine Q) code → AllByRecursion (IsKnown (constants_of Q)) (operands_of code) → AreItems (λ seen. IsWord Q) seen code
 words_fit Q seen [] room lawful typed known = tt
 words_fit Q seen (line ∷ code) room lawful typed known =
     let k = all_front (IsKnown (constants_of Q)) (operands_in line) (operands_of code) known in
@@ -652,7 +652,7 @@ first_by None n depth h = absurd cc
 first_by (Some first) n depth h = ap (λ (k : ℕ). Some k) (first_one (eqb first n) first n depth refl h)
 
 -- a label of a typed program stands where it is found
-label_stands : (Q : Text) (n : ℕ) (line : Instr) (name : List ℕ) → IsTyped Q → n < length Q.code → slice_get Q.code n ≡ Some line → line.label ≡ Some name → target_of Q name ≡ Some n
+label_stands : (Q : Program) (n : ℕ) (line : Instr) (name : List ℕ) → IsTyped Q → n < length Q.code → slice_get Q.code n ≡ Some line → line.label ≡ Some name → target_of Q name ≡ Some n
 label_stands Q n line name typed lt here is =
     let all = bind_ok (shape_at Q (length Q.code)) (typing_end Q) tt typed in
     let sh = ok_before Q (length Q.code) all.0 all.1 n (omega arith) in
@@ -689,7 +689,7 @@ and_both : (a b : Bool) → a ≡ true → b ≡ true → (a && b) ≡ true
 and_both true b e h = h
 and_both false b e h = absurd cc
 
-mark_fits : (Q : Text) (seen : List Mark) (before : List Instr) (line : Instr) (code : List Instr) (name : List ℕ) → words_in Q.code ≤ 36864 → IsTyped Q → Q.code ≡ before ++ line ∷ code → AreKnown seen before → line.label ≡ Some name → IsLabel (Some name) → IsMark seen (record { name = name; at = words_in before })
+mark_fits : (Q : Program) (seen : List Mark) (before : List Instr) (line : Instr) (code : List Instr) (name : List ℕ) → words_in Q.code ≤ 36864 → IsTyped Q → Q.code ≡ before ++ line ∷ code → AreKnown seen before → line.label ≡ Some name → IsLabel (Some name) → IsMark seen (record { name = name; at = words_in before })
 mark_fits Q seen before line code name few typed all known is ok =
     let here : slice_get Q.code (length before) ≡ Some line = ap (λ (c : List Instr). slice_get c (length before)) all ∙ line_at before line code in
     let lt : length before < length Q.code = omega (arith, ap length all, length-append before (line ∷ code)) in
@@ -729,7 +729,7 @@ known_next seen before line name at x known is (inr e) = found_last (has_label x
 known_same : (seen : List Mark) (before : List Instr) (line : Instr) → AreKnown seen before → AreKnown seen (before ++ line ∷ [])
 known_same seen before line known = record { each = λ x e. found_in_front (has_label x) before (line ∷ []) (known.each x e) }
 
-marks_by : (o : Option (List ℕ)) (Q : Text) (seen : List Mark) (before : List Instr) (line : Instr) (code : List Instr) → words_in Q.code ≤ 36864 → IsTyped Q → Q.code ≡ before ++ line ∷ code → AreKnown seen before → line.label ≡ o → IsLabel o
+marks_by : (o : Option (List ℕ)) (Q : Program) (seen : List Mark) (before : List Instr) (line : Instr) (code : List Instr) → words_in Q.code ≤ 36864 → IsTyped Q → Q.code ≡ before ++ line ∷ code → AreKnown seen before → line.label ≡ o → IsLabel o
     → ((seen : List Mark) → AreKnown seen (before ++ line ∷ []) → AreItems IsMark seen (marks_from (words_in before + word_count line) code)) → AreItems IsMark seen (with_mark (words_in before) o (marks_from (words_in before + word_count line) code))
 marks_by None Q seen before line code few typed all known is ok ih = ih seen (known_same seen before line known)
 marks_by (Some name) Q seen before line code few typed all known is ok ih =
@@ -738,7 +738,7 @@ marks_by (Some name) Q seen before line code few typed all known is ok ih =
       ih (seen ++ m ∷ []) (record { each = λ x e. known_next seen before line name (words_in before) x known is (split_by (position (λ (m : Mark). same_name m.name x) seen) (same_name name x) (λ (m : Mark). same_name m.name x) seen m refl refl e) }),
     )
 
-marks_fit : (Q : Text) (seen : List Mark) (before code : List Instr) → words_in Q.code ≤ 36864 → IsTyped Q → Q.code ≡ before ++ code → AreKnown seen before → AreLawful (declared_by Q) code → AreItems IsMark seen (marks_from (words_in before) code)
+marks_fit : (Q : Program) (seen : List Mark) (before code : List Instr) → words_in Q.code ≤ 36864 → IsTyped Q → Q.code ≡ before ++ code → AreKnown seen before → AreLawful (declared_by Q) code → AreItems IsMark seen (marks_from (words_in before) code)
 marks_fit Q seen before [] few typed all known lawful = tt
 marks_fit Q seen before (line ∷ code) few typed all known lawful =
     let next : Q.code ≡ (before ++ line ∷ []) ++ code = all ∙ sym (append_assoc before (line ∷ []) code) in
@@ -759,7 +759,7 @@ none_known x e = cc
 
 -- ---- the whole
 
-pub lawful_image : (Q : Text) → AreItems IsVariable [] Q.variables → length Q.variables ≤ 512 → AreItems (IsInstance Q.variables) [] Q.instances → length Q.instances ≤ 128 → length Q.code ≤ 4096
+pub lawful_image : (Q : Program) → AreItems IsVariable [] Q.variables → length Q.variables ≤ 512 → AreItems (IsInstance Q.variables) [] Q.instances → length Q.instances ≤ 128 → length Q.code ≤ 4096
     → AreLawful (declared_by Q) Q.code → IsTyped Q → IsImage Q
 lawful_image Q variables few instances instances-few short lawful typed =
     let lines = typed_lines Q typed in

@@ -24,5 +24,4 @@ pub mod LocationLaws
 pub mod WrittenLocations
 pub mod HeldNumbers
 pub mod ConstantKeys
-pub mod Streams
 pub mod Versions

@@ -30,7 +30,7 @@ use Rattle.il_model.specs.Values.{typed_value, number_of}
 use Rattle.il_model.specs.Operators.{is_zero}
 use Rattle.il_model.specs.Names.{same_name, is_lawful_name}
 use Rattle.il_model.specs.Kinds.{kind_fields, field_name}
-use Rattle.il_model.specs.Text.{Declarations}
+use Rattle.il_model.specs.Program.{Declarations}
 use Rattle.il_model.specs.Resolved.{instance_in}
 use Rattle.il_model.specs.Areas.{area_of}
 use Rattle.il_model.specs.Typing.{loc_type, is_writable_area}

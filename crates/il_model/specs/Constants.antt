@@ -9,7 +9,7 @@ use Rattle.il_model.specs.declared.program.Argument.{Argument}
 use Rattle.il_model.specs.declared.program.Operand.{Operand}
 use Rattle.il_model.specs.declared.program.Operand.TheVariants as operands
 use Rattle.il_model.specs.Operators.{same_truth, same_number}
-use Rattle.il_model.specs.Text.{Text}
+use Rattle.il_model.specs.Program.{Program}
 
 -- of one type, with one number
 abbrev pub same_value : Value → Value → Bool
@@ -41,7 +41,7 @@ operands_in line = line.operand ∷ map (λ (a : Argument). a.operand) line.argu
 abbrev pub operands_of : List Instr → List Operand
 operands_of code = flat_map operands_in code
 
-abbrev pub constants_of : Text → List Value
+abbrev pub constants_of : Program → List Value
 constants_of Q = constants_from same_value [] (operands_of Q.code)
 
 -- how many of a table's constants are used behind a word that uses the k-th, where no lower one is left out

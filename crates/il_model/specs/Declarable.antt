@@ -10,7 +10,7 @@ use Rattle.il_model.specs.declared.program.Operand.TheVariants as operands
 use Rattle.il_model.specs.declared.program.Instr.{Instr}
 use Rattle.il_model.specs.declared.limits.TheConstants.{MOST_VARIABLES, MOST_INSTANCES, MOST_INSTRUCTIONS}
 use Rattle.il_model.specs.Values.{is_within}
-use Rattle.il_model.specs.Text.{Text, Declarations, declared_by}
+use Rattle.il_model.specs.Program.{Program, Declarations, declared_by}
 use Rattle.il_model.specs.Codes.{usage_of, allowed_by, formed_by, has_form, is_pointless}
 use Rattle.il_model.specs.Lawful.{IsOperandOf, IsLabel}
 use Rattle.il_model.specs.Fits.{IsVariable, IsInstance, AreItems}
@@ -37,7 +37,7 @@ pub record IsInstruction (ds : Declarations) (line : Instr) : Type 0 where
   pub arguments : AllByRecursion (IsArgument ds) line.arguments
   pub placed : is_pointless line ≡ false
 
-pub record IsDeclared (P : Text) : Type 0 where
+pub record IsDeclared (P : Program) : Type 0 where
   pub variables : AreItems IsVariable [] P.variables
   pub variables_few : length P.variables ≤ MOST_VARIABLES
   pub instances : AreItems (IsInstance P.variables) [] P.instances

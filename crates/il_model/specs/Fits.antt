@@ -14,7 +14,7 @@ use Rattle.il_model.specs.declared.program.Operand.{Operand}
 use Rattle.il_model.specs.declared.program.Instr.{Instr}
 use Rattle.il_model.specs.declared.limits.TheConstants.{MOST_VARIABLES, MOST_INSTANCES, MOST_INSTRUCTIONS}
 use Rattle.il_model.specs.Values.{ty_of, number_of}
-use Rattle.il_model.specs.Text.{Text, Declarations, declared_by}
+use Rattle.il_model.specs.Program.{Program, Declarations, declared_by}
 use Rattle.il_model.specs.Kinds.{field_number}
 use Rattle.il_model.specs.Resolved.{called_kind}
 use Rattle.il_model.specs.Typing.{IsTyped}
@@ -61,7 +61,7 @@ pub record IsCoded (ds : Declarations) (marks : List Mark) (constants : List Val
   pub operand_small : code < 2 ^ 16
 
 -- an argument of a call to a block of that kind
-pub record IsPassing (Q : Text) (kind : Option BlockKind) (a : Argument) : Type 0 where
+pub record IsPassing (Q : Program) (kind : Option BlockKind) (a : Argument) : Type 0 where
   pub number : ℕ
   pub field : option_and_then (λ k. field_number k a.field) kind ≡ Some number
   pub name : argument_name kind number ≡ a.field
@@ -70,7 +70,7 @@ pub record IsPassing (Q : Text) (kind : Option BlockKind) (a : Argument) : Type 
       (operand_code Q (constants_of Q) a.operand) ≡ Some a.operand
   pub operand_small : operand_code Q (constants_of Q) a.operand < 2 ^ 16
 
-pub record IsWord (Q : Text) (line : Instr) : Type 0 where
+pub record IsWord (Q : Program) (line : Instr) : Type 0 where
   pub coded : IsCoded (declared_by Q) (marks_from 0 Q.code) (constants_of Q) line.op line.modifier line.operand
       (operand_code Q (constants_of Q) line.operand)
   pub labelled : is_pointless line ≡ false
@@ -83,7 +83,7 @@ abbrev pub AreItems : {X : Type 0} → (List X → X → Type 0) → List X → 
 AreItems IsItem seen [] = Unit {0}
 AreItems IsItem seen (x ∷ xs) = IsItem seen x × AreItems IsItem (seen ++ x ∷ []) xs
 
-pub record IsText (Q : Text) : Type 0 where
+pub record IsProgram (Q : Program) : Type 0 where
   pub variables : AreItems IsVariable [] Q.variables
   pub variables_few : length Q.variables ≤ MOST_VARIABLES
   pub instances : AreItems (IsInstance Q.variables) [] Q.instances
@@ -95,7 +95,7 @@ pub record IsText (Q : Text) : Type 0 where
   pub words : AreItems (λ seen. IsWord Q) [] Q.code
   pub words_few : words_in Q.code ≤ 36864
 
-pub record IsImage (Q : Text) : Type 0 where
-  pub text : IsText Q
+pub record IsImage (Q : Program) : Type 0 where
+  pub text : IsProgram Q
   pub short : length Q.code ≤ MOST_INSTRUCTIONS
   pub typed : IsTyped Q

@@ -31,7 +31,7 @@ use Rattle.il_model.specs.Values.{ty_of, number_of}
 use Rattle.il_model.specs.Names.{same_name}
 use Rattle.std.specs.List.{position}
 use Rattle.il_model.specs.CodedOperands.{code_of}
-use Rattle.il_model.specs.Text.{Text, Declarations, declared_by}
+use Rattle.il_model.specs.Program.{Program, Declarations, declared_by}
 use Rattle.il_model.specs.Kinds.{kind_code, field_number}
 use Rattle.il_model.specs.Resolved.{target_of, instance_in, field_in, called_kind}
 use Rattle.il_model.specs.Marks.{Mark, marks_from, words_in, address_of}
@@ -86,7 +86,7 @@ abbrev pub version_with : List Variable → List Value → List Instr → Versio
 version_with variables constants code = if list_any is_long_variable variables
     || (list_any is_long_value constants || list_any is_long_line code) then versions.Two else versions.One
 
-abbrev pub version_of : Text → Version
+abbrev pub version_of : Program → Version
 version_of Q = version_with Q.variables (constants_of Q) Q.code
 
 -- a number as an image of this version has it
@@ -171,7 +171,7 @@ number_or_unused None = code_of coded.Unused
 number_or_unused (Some n) = n
 
 -- a label is the address where it stands, an instance that is called its number, and every other operand its code
-abbrev pub operand_code : Text → List Value → Operand → ℕ
+abbrev pub operand_code : Program → List Value → Operand → ℕ
 operand_code Q constants (operands.Label name) = number_or_unused (option_map (address_of Q.code) (target_of Q name))
 operand_code Q constants (operands.Instance name) = number_or_unused (instance_in Q.instances name)
 operand_code Q constants operand = code_of (coded_operand (declared_by Q) constants operand)
@@ -180,7 +180,7 @@ operand_code Q constants operand = code_of (coded_operand (declared_by Q) consta
 abbrev pub coded_word : ℕ → ℕ → ℕ → List ℕ
 coded_word op letters operand = to_be_bytes w8 op ++ (to_be_bytes w8 letters ++ to_be_bytes w16 operand)
 
-abbrev pub word_bytes : Text → List Value → Instr → List ℕ
+abbrev pub word_bytes : Program → List Value → Instr → List ℕ
 word_bytes Q constants line =
     coded_word (op_code line.op) (modifier_code line.modifier) (operand_code Q constants line.operand)
 
@@ -194,13 +194,13 @@ field_number_code None = 255
 field_number_code (Some n) = n
 
 -- an argument: its field by the number in the kind of the instance that is called
-abbrev pub argument_bytes : Text → List Value → Option BlockKind → Argument → List ℕ
+abbrev pub argument_bytes : Program → List Value → Option BlockKind → Argument → List ℕ
 argument_bytes Q constants kind a =
     coded_word (side_code a.side) (field_number_code (option_and_then (λ k. field_number k a.field) kind))
     (operand_code Q constants a.operand)
 
 -- an instruction's word and those of its arguments in the order written
-abbrev pub instruction_bytes : Text → List Value → Instr → List ℕ
+abbrev pub instruction_bytes : Program → List Value → Instr → List ℕ
 instruction_bytes Q constants line = word_bytes Q constants line
     ++ flat_map (argument_bytes Q constants (called_kind Q line.operand)) line.arguments
 
@@ -223,7 +223,7 @@ abbrev pub header_bytes : Version → ℕ → ℕ → ℕ → ℕ → ℕ → Li
 header_bytes version variables instances labels constants words = magic
     ++ (to_be_bytes w16 (version_number version) ++ counts_bytes variables instances labels constants words)
 
-abbrev pub spelled_with : Version → Text → List Mark → List Value → List ℕ
+abbrev pub spelled_with : Version → Program → List Mark → List Value → List ℕ
 spelled_with version Q labels constants =
     header_bytes version (length Q.variables) (length Q.instances) (length labels) (length constants) (words_in Q.code)
     ++ (flat_map (variable_bytes version) Q.variables
@@ -231,5 +231,5 @@ spelled_with version Q labels constants =
     ++ (flat_map mark_bytes labels
     ++ (flat_map (constant_bytes version) constants ++ flat_map (instruction_bytes Q constants) Q.code))))
 
-abbrev pub spelling : Text → List ℕ
+abbrev pub spelling : Program → List ℕ
 spelling Q = spelled_with (version_of Q) Q (marks_from 0 Q.code) (constants_of Q)

@@ -26,7 +26,7 @@ use Rattle.il_model.specs.Operators.{joined_type}
 use Rattle.il_model.specs.Kinds.{field_type}
 use Rattle.il_model.specs.Names.{same_name}
 use Rattle.il_model.specs.Codes.{is_jump, is_call}
-use Rattle.il_model.specs.Text.{Text}
+use Rattle.il_model.specs.Program.{Program}
 use Rattle.il_model.specs.Resolved.{source_of, target_of, called_kind}
 use Rattle.il_model.specs.Row.{same_type, is_bool, negatable}
 use Rattle.il_model.specs.Typing.{Shape, top_of, operand_kind, goes_so, kind_field, fault_rank}
@@ -156,7 +156,7 @@ if_goes_so side field = if goes_so side field then Some field else None
 abbrev pub argument_field : Option BlockKind → Argument → Option Field
 argument_field kind a = option_and_then (if_goes_so a.side) (option_and_then (λ k. kind_field k a.field) kind)
 
-abbrev pub is_field_bad : Text → Option BlockKind → Argument → Bool
+abbrev pub is_field_bad : Program → Option BlockKind → Argument → Bool
 is_field_bad Q kind a = is_none (argument_field kind a) || is_no_field (operand_kind Q a.operand)
 
 abbrev pub is_output_side : Side → Bool
@@ -164,14 +164,14 @@ is_output_side sides.Input = false
 is_output_side sides.Output = true
 
 -- what an output is stored to is written
-abbrev pub is_unwritable : Text → Argument → Bool
+abbrev pub is_unwritable : Program → Argument → Bool
 is_unwritable Q a = is_output_side a.side && not (may_be_written (operand_kind Q a.operand))
 
 abbrev pub is_of_field : Option Field → OperandKind → Bool
 is_of_field (Some field) kind = operand_is (same_type (field_type field)) kind
 is_of_field None kind = false
 
-abbrev pub is_mismatched : Text → Option BlockKind → Argument → Bool
+abbrev pub is_mismatched : Program → Option BlockKind → Argument → Bool
 is_mismatched Q kind a = not (is_of_field (argument_field kind a) (operand_kind Q a.operand))
 
 -- two arguments have one field
@@ -182,7 +182,7 @@ has_twins (a ∷ more) = list_any (λ (b : Argument). same_name a.field b.field)
 -- ---- the faults of an instruction
 
 -- its label stands first at another instruction
-abbrev pub is_doubled : Text → ℕ → Option (List ℕ) → Bool
+abbrev pub is_doubled : Program → ℕ → Option (List ℕ) → Bool
 is_doubled Q n None = false
 is_doubled Q n (Some name) = elim (target_of Q name) [ Some first ↦ not (nat_eq first n) | None ↦ true ]
 
@@ -190,7 +190,7 @@ abbrev pub is_open : Shape → Bool
 is_open sh = nat_lt 0 (length sh.kept)
 
 -- whether an instruction has a fault, where a program comes to it with these types
-abbrev pub applies : Text → ℕ → Shape → Instr → TypeFault → Bool
+abbrev pub applies : Program → ℕ → Shape → Instr → TypeFault → Bool
 applies Q n sh line DuplicateLabel = is_doubled Q n line.label
 applies Q n sh line Unbalanced = if is_open sh then is_some line.label || leaves line.op else is_closing line.op
 applies Q n sh line TooDeep = combines line.op && (line.modifier.opens && not (nat_lt (length sh.kept) MOST_OPEN_PARENTHESES))

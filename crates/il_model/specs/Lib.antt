@@ -2,7 +2,7 @@ pub mod Values
 pub mod Operators
 pub mod Names
 pub mod Areas
-pub mod Text
+pub mod Program
 pub mod Resolved
 pub mod Row
 pub mod Typing
@@ -29,6 +29,4 @@ pub mod Durations
 pub mod Literals
 pub mod Locations
 pub mod Declarable
-pub mod Counted
 pub mod Snapshots
-pub mod Stream

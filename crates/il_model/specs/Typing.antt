@@ -33,7 +33,7 @@ use Rattle.il_model.specs.declared.typing.OperandKind.TheVariants as kinds
 use Rattle.il_model.specs.declared.typing.Held.{Held}
 use Rattle.il_model.specs.declared.typing.Effect.{Effect}
 use Rattle.il_model.specs.declared.typing.Effect.TheVariants.{Sets, Opens, Closes}
-use Rattle.il_model.specs.Text.{Text}
+use Rattle.il_model.specs.Program.{Program}
 use Rattle.il_model.specs.Values.{ty_of}
 use Rattle.il_model.specs.Areas.{area_of}
 use Rattle.il_model.specs.Kinds.{kind_fields, field_number, field_type, is_input}
@@ -66,10 +66,10 @@ loc_type (Bit a n) = if nat_lt n BITS then Some types.Bool else None
 loc_type (Word a n) = if nat_lt n WORDS then Some types.Int else None
 
 -- the field of an instance by its number
-abbrev pub field_at : Text → ℕ → ℕ → Option Field
+abbrev pub field_at : Program → ℕ → ℕ → Option Field
 field_at Q i n = option_and_then (λ (x : Instance). slice_get (kind_fields x.kind) n) (slice_get Q.instances i)
 
-abbrev pub place_type : Text → Place → Option Ty
+abbrev pub place_type : Program → Place → Option Ty
 place_type Q (Own i) = option_map (λ v. v.ty) (slice_get Q.variables i)
 place_type Q (At loc) = loc_type loc
 place_type Q (places.Field i n) = option_map field_type (field_at Q i n)
@@ -83,7 +83,7 @@ is_input_field None = false
 is_input_field (Some field) = is_input field
 
 -- neither an input location nor an output of a block
-abbrev pub is_writable : Text → Place → Bool
+abbrev pub is_writable : Program → Place → Bool
 is_writable Q (Own i) = true
 is_writable Q (At loc) = is_writable_area (area_of loc)
 is_writable Q (places.Field i n) = is_input_field (field_at Q i n)
@@ -92,7 +92,7 @@ abbrev pub typed_kind : Option Ty → Bool → OperandKind
 typed_kind (Some t) w = kinds.Typed t w
 typed_kind None w = kinds.Misfit
 
-abbrev pub source_kind : Text → Source → OperandKind
+abbrev pub source_kind : Program → Source → OperandKind
 source_kind Q sources.Absent = kinds.Absent
 source_kind Q (sources.Constant v) = kinds.Typed (ty_of v) false
 source_kind Q (sources.Of p) = typed_kind (place_type Q p) (is_writable Q p)
@@ -113,7 +113,7 @@ abbrev pub without_effect : Result Effect TypeFault → Result Effect TypeFault
 without_effect (Err f) = Err f
 without_effect (Ok e) = Err TypeMismatch
 
-abbrev pub source_row : Text → Option Ty → Option Held → ℕ → Instr → Option Source → Result Effect TypeFault
+abbrev pub source_row : Program → Option Ty → Option Held → ℕ → Instr → Option Source → Result Effect TypeFault
 source_row Q cr top depth line (Some src) = row cr top depth line.op line.modifier (source_kind Q src)
 source_row Q cr top depth line None =
     without_effect (row cr top depth line.op line.modifier (missing_kind line.operand))
@@ -139,7 +139,7 @@ first_fault None o = o
 first_fault (Some f) None = Some f
 first_fault (Some f) (Some g) = Some (tried_first f g)
 
-abbrev pub operand_kind : Text → Operand → OperandKind
+abbrev pub operand_kind : Program → Operand → OperandKind
 operand_kind Q operand = elim (source_of Q operand) [ Some src ↦ source_kind Q src | None ↦ missing_kind operand ]
 
 abbrev pub unless_same : Ty → Ty → Option TypeFault
@@ -157,7 +157,7 @@ abbrev pub goes_so : Side → Field → Bool
 goes_so sides.Input field = is_input field
 goes_so sides.Output field = not (is_input field)
 
-abbrev pub field_fault : Text → Argument → Option Field → Option TypeFault
+abbrev pub field_fault : Program → Argument → Option Field → Option TypeFault
 field_fault Q a None = Some BadField
 field_fault Q a (Some field) = if goes_so a.side field
     then passing_fault a.side (field_type field) (operand_kind Q a.operand) else Some BadField
@@ -166,12 +166,12 @@ abbrev pub kind_field : BlockKind → List ℕ → Option Field
 kind_field kind name = option_and_then (slice_get (kind_fields kind)) (field_number kind name)
 
 -- a field stands once among the arguments of a call; seen are those before it
-abbrev pub argument_fault : Text → Option BlockKind → List Argument → Argument → Option TypeFault
+abbrev pub argument_fault : Program → Option BlockKind → List Argument → Argument → Option TypeFault
 argument_fault Q None seen a = Some BadField
 argument_fault Q (Some kind) seen a = if list_any (λ (b : Argument). same_name b.field a.field) seen then Some BadField
     else field_fault Q a (kind_field kind a.field)
 
-abbrev pub arguments_fault : Text → Option BlockKind → List Argument → List Argument → Option TypeFault
+abbrev pub arguments_fault : Program → Option BlockKind → List Argument → List Argument → Option TypeFault
 arguments_fault Q kind seen [] = None
 arguments_fault Q kind seen (a ∷ more) =
     first_fault (argument_fault Q kind seen a) (arguments_fault Q kind (seen ++ a ∷ []) more)
@@ -183,12 +183,12 @@ with_fault (Ok e) (Some f) = Err f
 with_fault (Err g) (Some f) = Err (tried_first g f)
 
 -- what an instruction does to the types, or its first fault; where it is no call an argument is a bad field
-abbrev pub line_row_of : Text → Option Ty → Option Held → ℕ → Instr → Result Effect TypeFault
+abbrev pub line_row_of : Program → Option Ty → Option Held → ℕ → Instr → Result Effect TypeFault
 line_row_of Q cr top depth line =
     with_fault (source_row Q cr top depth line (source_of Q line.operand))
     (arguments_fault Q (called_kind Q line.operand) [] line.arguments)
 
-abbrev pub line_row : Text → Shape → Instr → Result Effect TypeFault
+abbrev pub line_row : Program → Shape → Instr → Result Effect TypeFault
 line_row Q sh line = line_row_of Q sh.cr (top_of sh.kept) (length sh.kept) line
 
 -- a label stands once, and not while a parenthesis is open
@@ -197,7 +197,7 @@ label_at None n depth = Err DuplicateLabel
 label_at (Some first) n depth = if nat_eq first n then (if nat_lt 0 depth then Err Unbalanced else Ok tt)
     else Err DuplicateLabel
 
-abbrev pub label_row : Text → ℕ → ℕ → Option (List ℕ) → Result (Unit {0}) TypeFault
+abbrev pub label_row : Program → ℕ → ℕ → Option (List ℕ) → Result (Unit {0}) TypeFault
 label_row Q n depth None = Ok tt
 label_row Q n depth (Some name) = label_at (target_of Q name) n depth
 
@@ -207,10 +207,10 @@ shape_after sh (Opens held cr) = record { cr = cr; kept = held ∷ sh.kept }
 shape_after sh (Closes t) = record { cr = Some t; kept = drop 1 sh.kept }
 
 -- at a label there is no current result
-abbrev pub shape_on_arrival : Text → ℕ → Shape → Shape
+abbrev pub shape_on_arrival : Program → ℕ → Shape → Shape
 shape_on_arrival Q n sh = if is_labelled Q n then record sh { cr = None } else sh
 
-abbrev pub after_line : Text → ℕ → Shape → Instr → Result Shape TypeFault
+abbrev pub after_line : Program → ℕ → Shape → Instr → Result Shape TypeFault
 after_line Q n sh line =
     label_row Q n (length sh.kept) line.label >>= λ _. line_row Q sh line >>= λ e. Ok
     (shape_on_arrival Q (n + 1) (shape_after sh e))
@@ -219,21 +219,21 @@ abbrev pub with_number : {X : Type 0} → ℕ → Result X TypeFault → Result 
 with_number n (Ok x) = Ok x
 with_number n (Err f) = Err (f, n)
 
-abbrev pub after_at : Text → ℕ → Shape → Option Instr → Result Shape (TypeFault × ℕ)
+abbrev pub after_at : Program → ℕ → Shape → Option Instr → Result Shape (TypeFault × ℕ)
 after_at Q n sh (Some line) = with_number n (after_line Q n sh line)
 after_at Q n sh None = Ok sh
 
 -- the types on arrival at a position, or the first fault before it with the instruction's number
-abbrev pub shape_at : Text → ℕ → Result Shape (TypeFault × ℕ)
+abbrev pub shape_at : Program → ℕ → Result Shape (TypeFault × ℕ)
 shape_at Q zero = Ok (shape_on_arrival Q 0 (record { cr = None; kept = [] }))
 shape_at Q (suc n) = shape_at Q n >>= λ sh. after_at Q n sh (slice_get Q.code n)
 
 -- no parenthesis is open at the end
-abbrev pub typing_end : Text → Shape → Result (Unit {0}) (TypeFault × ℕ)
+abbrev pub typing_end : Program → Shape → Result (Unit {0}) (TypeFault × ℕ)
 typing_end Q sh = if nat_lt 0 (length sh.kept) then Err (Unbalanced, length Q.code) else Ok tt
 
-abbrev pub judgement_of : Text → Result (Unit {0}) (TypeFault × ℕ)
+abbrev pub judgement_of : Program → Result (Unit {0}) (TypeFault × ℕ)
 judgement_of Q = shape_at Q (length Q.code) >>= typing_end Q
 
-abbrev pub IsTyped : Text → Type 0
+abbrev pub IsTyped : Program → Type 0
 IsTyped Q = judgement_of Q ≡ Ok tt

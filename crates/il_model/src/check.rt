@@ -6,7 +6,7 @@ ghost use Rattle.il_model.specs.Typing.{shape_after, shape_on_arrival, top_of, S
 ghost use Rattle.il_model.specs.Resolved.{is_labelled};
 ghost use Rattle.il_model.specs.Row.{HasRoom};
 ghost use Rattle.il_model.specs.declared.program.Instr.{Instr};
-ghost use Rattle.il_model.specs.Text.{Text};
+ghost use Rattle.il_model.specs.Program.{Program};
 ghost use Rattle.il_model.specs.InstructionFaults.{applies, TellsFirst};
 ghost use Rattle.std.specs.Prelude.{OnOk, IfErr};
 
@@ -244,6 +244,6 @@ pub fn check(program: &IndexedProgram) -> Result<(), (TypeFault, usize)>
 /// Of the faults that an instruction has the one of least rank is told, in whatever program it stands, at whatever
 /// place, and with whatever types the program comes to it. For proofs; it does nothing.
 pub fn the_first_fault_is_told()
-    ensures { (Q : Text) (n : ℕ) (sh : Shape) (line : Instr)
+    ensures { (Q : Program) (n : ℕ) (sh : Shape) (line : Instr)
         → TellsFirst (applies Q n sh line) (after_line Q n sh line) }
 {}

@@ -74,10 +74,10 @@ pub struct IndexedProgram<'a> {
 }
 
 impl<'a> Model for IndexedProgram<'a> {
-    ghost use Rattle.il_model.specs.Text.{Text};
+    ghost use Rattle.il_model.specs.Program.{Program};
     ghost use Rattle.il_model.specs.NameTables.{AreNameTables};
 
-    ghost Value = { Text };
+    ghost Value = { Program };
 
     ghost view = { λ i. i.program.now };
 

@@ -14,8 +14,7 @@
 //! a literal. `check_types` answers exactly whether a program is typed, else the fault of the least instruction, and
 //! which that is is a law (`the_first_fault_is_told`). A program has at most one typed program (`settling`).
 //!
-//! Only tested: nothing; rows of `worked_rows` show it at work. By its code alone: that nothing but a failure of the
-//! reader or writer inside raises the count of a `Counted`.
+//! Only tested: nothing; rows of `tests_rows` show it at work.
 #![tactic(auto)]
 
 mod arguments;
@@ -26,7 +25,6 @@ mod coded_operand;
 mod codes;
 mod command;
 mod constant_table;
-mod counted;
 mod duration;
 mod faulty;
 mod fetched;
@@ -83,11 +81,6 @@ pub use command::Answer;
 pub use command::Command;
 pub use command::Refusal;
 pub use constant_table::Constants;
-pub use counted::Counted;
-pub use counted::CountedRead;
-pub use counted::CountedWrite;
-pub use counted::DeviceFault;
-pub use counted::write_all;
 pub use faulty::faulty_word;
 pub use fetched::Deferred;
 pub use fetched::Fetched;

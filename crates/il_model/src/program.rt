@@ -207,9 +207,9 @@ pub struct Program {
 impl Model for Program {
     ghost use Rattle.std.specs.Prelude.{◌≤◌, length};
     ghost use Rattle.il_model.specs.declared.limits.TheConstants.{MOST_VARIABLES, MOST_INSTANCES, MOST_INSTRUCTIONS};
-    ghost use Rattle.il_model.specs.Text.{Text};
+    ghost use Rattle.il_model.specs.Program.{Program};
 
-    ghost Value = { Text };
+    ghost Value = { Program };
 
     ghost view = { λ p. record { variables = p.variables.items; instances = p.instances.items; code = p.code.items } };
 

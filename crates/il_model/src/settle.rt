@@ -3,7 +3,7 @@
 
 ghost use Rattle.std.specs.Prelude.{◌≡◌, ◌<◌, length, OnOk, OnErr, IfOk, IfErr, Ok, Err};
 ghost use Rattle.il_model.specs.Constants.{operand_literal};
-ghost use Rattle.il_model.specs.Text.{Text};
+ghost use Rattle.il_model.specs.Program.{Program};
 ghost use Rattle.il_model.specs.Resolved.{source_of};
 ghost use Rattle.il_model.specs.Typing.{source_row, line_row_of};
 ghost use Rattle.il_model.specs.Settled.{settled_operand, settled_line, if_typed, typed_program_of, HasNoBare};
@@ -112,8 +112,8 @@ impl Types {
 
 /// What holds of a program and its typed program. For proofs; it does nothing.
 pub fn settling(program: &Program)
-    ensures typed { (Q : Text) → typed_program_of program.now ≡ Ok Q → IsTypedProgramOf program.now Q }
-    ensures only { (Q : Text) → IsTypedProgramOf program.now Q → typed_program_of program.now ≡ Ok Q }
+    ensures typed { (Q : Program) → typed_program_of program.now ≡ Ok Q → IsTypedProgramOf program.now Q }
+    ensures only { (Q : Program) → IsTypedProgramOf program.now Q → typed_program_of program.now ≡ Ok Q }
     ensures plain { HasNoBare program.now → typed_program_of program.now ≡ if_typed program.now }
 {
     let _code = &program.code;

@@ -11,7 +11,7 @@
 //! at 1:1, any other has its fault at the first token with which no text begins. Each text has one source or one fault,
 //! and never both (`a_text_is_read_or_refused`).
 //!
-//! Only tested: nothing; `texts.rows` and `first_path.rows` of `worked_rows` have texts with their faults.
+//! Only tested: nothing; `texts.rows` and `first_path.rows` of `tests_rows` have texts with their faults.
 #![tactic(auto)]
 
 mod blocks;

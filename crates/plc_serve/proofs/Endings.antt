@@ -3,8 +3,8 @@ use Rattle.std.proofs.Common.{◌≡◌, inl, inr, ℕ, List, [], Result, Ok, Er
 use Rattle.std.specs.Prelude.{IfErr, IfOk, IsErrAnd, IsOk, OnErr, OnOk}
 use Rattle.std.specs.Io.KnownBytes.{Appends}
 use Rattle.std.proofs.KnownBytes.{Appends-trans}
-use Rattle.il_model.specs.declared.counted.CountedWrite.{Ghosts as CountedWriter}
-use Rattle.il_model.specs.declared.counted.DeviceFault.{DeviceFault}
+use Rattle.io_model.specs.declared.counted.CountedWrite.{Ghosts as CountedWriter}
+use Rattle.io_model.specs.declared.counted.DeviceFault.{DeviceFault}
 use Rattle.plc_tool.specs.declared.fault.Fault.{Fault}
 use Rattle.plc_tool.specs.Status.{status_of}
 use Rattle.plc_tool.specs.Telling.{Ends, IsTold, Sends, WentOut, fault_line}

@@ -1,7 +1,7 @@
 -- Lines of notices, told one behind the other.
 use Rattle.std.proofs.Common.{◌≡◌, ℕ, List, [], ◌∷◌, ◌++◌, Result, Ok, Err, inl, inr, refl, subst}
-use Rattle.il_model.specs.declared.counted.DeviceFault.{DeviceFault}
-use Rattle.il_model.specs.declared.counted.CountedWrite.{Ghosts as CountedWriter}
+use Rattle.io_model.specs.declared.counted.DeviceFault.{DeviceFault}
+use Rattle.io_model.specs.declared.counted.CountedWrite.{Ghosts as CountedWriter}
 use Rattle.plc_tool.specs.Telling.{Sends, WentOut}
 use Rattle.plc_serve.specs.declared.notice.Notice.{Notice}
 use Rattle.plc_serve.specs.Watching.{AreNoticesTold, WentOutInOrder, notice_line}

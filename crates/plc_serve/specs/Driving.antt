@@ -8,8 +8,8 @@ use Rattle.vr_model.specs.Logs.{Request}
 use Rattle.vr_model.specs.Messages.{Body, Reply}
 use Rattle.vr_model.specs.StandsFor.{body_with}
 use Rattle.vr_model.specs.World.{ClientState}
-use Rattle.process_image.specs.Driver.{release_by}
-use Rattle.process_image.specs.declared.release.Release.{Release}
+use Rattle.io_image.specs.Driver.{release_by}
+use Rattle.io_image.specs.declared.release.Release.{Release}
 use Rattle.plc_serve.specs.declared.driving.Scanned.{Scanned}
 use Rattle.plc_serve.specs.declared.notice.Notice.{Notice}
 use Rattle.plc_serve.specs.declared.notice.Notice.TheVariants as notices

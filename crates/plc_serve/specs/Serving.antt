@@ -2,14 +2,14 @@
 use Rattle.std.specs.Prelude.{◌≡◌, ◌⊎◌, ℕ, List, ◌++◌, codes}
 use Rattle.std.specs.Fmt.{decimal}
 use Rattle.std.specs.Io.KnownBytes.{Appends}
-use Rattle.il_model.specs.declared.counted.CountedWrite.{Ghosts as CountedWriter}
+use Rattle.io_model.specs.declared.counted.CountedWrite.{Ghosts as CountedWriter}
 use Rattle.plc_tool.specs.declared.fault.Fault.{Fault}
 use Rattle.plc_tool.specs.declared.fault.Fault.TheVariants as faults
 use Rattle.plc_tool.specs.declared.fault.Fault.TheVariants.{Store}
 use Rattle.plc_tool.specs.Meaning.{IsTextFault}
 use Rattle.plc_tool.specs.Telling.{IsTold, WentOut}
-use Rattle.replicas.specs.declared.cluster.ClusterError.{ClusterError}
-use Rattle.replicas.specs.declared.cluster.ClusterError.TheVariants as starts
+use Rattle.vr_threads.specs.declared.cluster.ClusterError.{ClusterError}
+use Rattle.vr_threads.specs.declared.cluster.ClusterError.TheVariants as starts
 use Rattle.plc_serve.specs.Watching.{AreNoticesTold}
 
 -- the line that tells how many scans there were

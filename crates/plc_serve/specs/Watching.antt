@@ -2,7 +2,7 @@
 use Rattle.std.specs.Prelude.{◌≡◌, ℕ, ◌-◌, nat_le, Bool, true, false, if◌then◌else◌, List, [], ◌∷◌, ◌++◌, codes, Option}
 use Rattle.std.specs.Prelude.{Some, None}
 use Rattle.std.specs.Fmt.{decimal}
-use Rattle.il_model.specs.declared.counted.CountedWrite.{Ghosts as CountedWriter}
+use Rattle.io_model.specs.declared.counted.CountedWrite.{Ghosts as CountedWriter}
 use Rattle.plc_tool.specs.Lines.{stop_name}
 use Rattle.plc_tool.specs.Telling.{WentOut}
 use Rattle.plc_serve.specs.declared.notice.Notice.{Notice}

@@ -2,18 +2,19 @@
 //! beside the driver.
 
 ghost use Rattle.std.specs.Prelude.{◌≡◌, IfErr, IfOk, None};
-ghost use Rattle.console.specs.Asking.{way, IsAnswered};
+ghost use Rattle.plc_console.specs.Asking.{way, IsAnswered};
 ghost use Rattle.plc_tool.specs.Status.{status_of};
 
 use crate::door::Door;
 use crate::places::Places;
 use crate::sessions::admit;
-use console::{Submits, Unanswered, ask, serve_console};
-use il_model::{Answer, Command, Counted};
-use loader::Image;
+use plc_console::{Submits, Unanswered, ask, serve_console};
+use il_model::{Answer, Command};
+use io_model::Counted;
+use il_loader::Image;
 use plc_tool::Fault;
-use process_image::GroupClient;
-use replicas::{Cutter, Link, Relink};
+use io_image::GroupClient;
+use vr_threads::{Cutter, Link, Relink};
 use std::alloc::Global;
 use std::net::TcpStream;
 use std::sync::{Arc, Wait};

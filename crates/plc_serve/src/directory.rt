@@ -5,7 +5,7 @@ ghost use Rattle.plc_tool.specs.Status.{status_of};
 ghost use Rattle.plc_tool.specs.declared.fault.Fault.TheVariants.{Store};
 
 use plc_tool::Fault;
-use replicas::FileStore;
+use vr_threads::FileStore;
 use std::alloc::{AllocError, Global};
 use std::fs;
 use std::io::ErrorKind;

@@ -8,9 +8,9 @@ ghost use Rattle.plc_serve.specs.Watching.{AreNoticesTold};
 
 use crate::health::{Health, HealthGate, HealthStore};
 use crate::watch::Watch;
-use il_model::CountedWrite;
+use io_model::CountedWrite;
 use plc_tool::Fault;
-use replicas::{Cluster, ClusterError, FileStore, MachineClock, Relink, Seat, Starts};
+use vr_threads::{Cluster, ClusterError, FileStore, MachineClock, Relink, Seat, Starts};
 use std::alloc::{AllocError, Global};
 use std::rt::Files;
 use std::sync::{Arc, Wait};

@@ -1,7 +1,7 @@
 //! What the threads of the replicas show to the driver's.
 
-use replica::{StoreFault, ViewStore};
-use replicas::{Gate, Starts};
+use vr_replica::{StoreFault, ViewStore};
+use vr_threads::{Gate, Starts};
 use std::alloc::{AllocError, Global};
 use std::sync::Arc;
 use std::sync::atomic::{AtomicBool, Ordering};

@@ -1,6 +1,6 @@
 //! A controller that Modbus clients drive: replicas in threads, whose stores are files of one directory, a driver that
 //! has them scan once a period, sessions at a port of this machine, and an operator's console at another. It puts
-//! together `replicas`, `tcp_links`, `process_image`, `modbus_gateway`, `console` and the image of a text by
+//! together `replicas`, `net_links`, `io_image`, `modbus_server`, `console` and the image of a text by
 //! `plc_tool`; it knows no command words and names no runtime.
 //!
 //! ```rust
@@ -19,7 +19,7 @@
 //! (`specs/Pacing`).
 //!
 //! Only tested: how threads, channels, sockets and locks are joined, and what a client sees of it (`serve_rows`,
-//! `failing_rows` and `console_rows` of `worked_threads`, `tools/try-serve`, `tools/try-clients`). Nothing says when a
+//! `failing_rows` and `console_rows` of `tests_threads`, `tools/try-serve`, `tools/try-clients`). Nothing says when a
 //! scan comes, or that one does.
 #![tactic(auto)]
 

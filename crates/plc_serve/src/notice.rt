@@ -6,7 +6,8 @@ ghost use Rattle.plc_tool.specs.Lines.{line_text};
 ghost use Rattle.plc_tool.specs.Telling.{WentOut};
 ghost use Rattle.plc_serve.specs.Watching.{AreNoticesTold, notice_line};
 
-use il_model::{Answer, CountedWrite, OutImage, Stop};
+use il_model::{Answer, OutImage, Stop};
+use io_model::CountedWrite;
 use plc_tool::{AnswerLine, put};
 use std::alloc::{AllocError, Global};
 

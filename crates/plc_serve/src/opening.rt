@@ -6,10 +6,10 @@ ghost use Rattle.plc_serve.specs.Serving.{IsPortTold};
 
 use crate::desk::{NewConsole, OpenConsole};
 use crate::sessions::{OpenServer, Server};
-use il_model::CountedWrite;
+use io_model::CountedWrite;
 use plc_tool::Fault;
-use process_image::{Naming, Stage};
-use replicas::Relink;
+use io_image::{Naming, Stage};
+use vr_threads::Relink;
 use std::alloc::Global;
 use std::sync::Wait;
 use std::thread::Threads;

@@ -6,7 +6,7 @@ ghost use Rattle.std.specs.String.{string_bytes};
 ghost use Rattle.plc_tool.specs.Status.{status_of};
 ghost use Rattle.plc_serve.specs.Serving.{report_line};
 
-use il_model::{CountedWrite, write_all};
+use io_model::{CountedWrite, write_all};
 use plc_tool::{Fault, NewFile};
 use std::alloc::{AllocError, Global};
 use std::io;

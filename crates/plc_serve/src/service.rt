@@ -7,7 +7,7 @@ ghost use Rattle.plc_tool.specs.Status.{status_of};
 use crate::group::stores;
 use crate::serving::Settings;
 use plc_tool::Fault;
-use replicas::FileStore;
+use vr_threads::FileStore;
 use std::alloc::Global;
 use std::fs;
 use std::rt::Files;

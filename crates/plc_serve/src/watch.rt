@@ -10,7 +10,7 @@ ghost use Rattle.plc_serve.specs.Watching.{turned};
 use crate::health::Health;
 use crate::notice::{Notice, tell};
 use crate::reviving::Revival;
-use il_model::CountedWrite;
+use io_model::CountedWrite;
 use plc_tool::Fault;
 use std::alloc::{AllocError, Global};
 use std::sync::Arc;

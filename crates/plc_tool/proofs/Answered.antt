@@ -1,10 +1,10 @@
 -- What a run puts is the answers of the text.
 use Rattle.std.proofs.Common.{◌≡◌, ◌⊎◌, inl, ℕ, List, Result, Ok, Err, ap}
 use Rattle.std.specs.Prelude.{OnOk, IfErr}
-use Rattle.il_model.specs.Text.{Text}
+use Rattle.il_model.specs.Program.{Program}
 use Rattle.il_model.specs.Typing.{IsTyped}
-use Rattle.il_model.specs.declared.counted.CountedWrite.{Ghosts as CountedWriter}
-use Rattle.debugger.specs.Owned.{Owned, cold_owned}
+use Rattle.io_model.specs.declared.counted.CountedWrite.{Ghosts as CountedWriter}
+use Rattle.ctl_debugger.specs.Owned.{Owned, cold_owned}
 use Rattle.plc_json.specs.declared.command.NamedCommand.{NamedCommand}
 use Rattle.plc_tool.specs.declared.fault.Fault.{Fault}
 use Rattle.plc_tool.specs.Lines.{lines_of}
@@ -12,7 +12,7 @@ use Rattle.plc_tool.specs.Meaning.{IsTypedProgramOfText, IsAnswered, IsTextFault
 use Rattle.plc_tool.specs.Named.{answers_by}
 use Rattle.plc_tool.specs.Putting.{Puts, IsRun, IsRunCutShort, IsWhyStopped}
 
-pub are_answers : (text : List ℕ) (budget : ℕ) (commands : List NamedCommand) (Q : Text) (c : Owned) → IsTypedProgramOfText text Q → IsTyped Q → c ≡ cold_owned Q budget → IsAnswered text budget commands (answers_by c commands)
+pub are_answers : (text : List ℕ) (budget : ℕ) (commands : List NamedCommand) (Q : Program) (c : Owned) → IsTypedProgramOfText text Q → IsTyped Q → c ≡ cold_owned Q budget → IsAnswered text budget commands (answers_by c commands)
 are_answers text budget commands Q c is typed cold = record {
   program = Q;
   is = is;

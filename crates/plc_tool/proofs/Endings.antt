@@ -1,8 +1,8 @@
 -- What a call's end tells, by what it did.
 use Rattle.std.proofs.Common.{◌≡◌, ◌⊎◌, inl, inr, ℕ, List, Result, Ok, Err, subst, sym, ap, ◌∙◌, arith, refl}
 use Rattle.std.specs.Prelude.{IfErr, OnOk}
-use Rattle.il_model.specs.Counted.{Failed}
-use Rattle.il_model.specs.declared.counted.CountedWrite.{Ghosts as CountedWriter}
+use Rattle.io_model.specs.Counted.{Failed}
+use Rattle.io_model.specs.declared.counted.CountedWrite.{Ghosts as CountedWriter}
 use Rattle.plc_json.specs.declared.command.JsonFault.{JsonFault}
 use Rattle.plc_json.specs.declared.command.JsonFault.TheVariants.{Shape, Memory}
 use Rattle.plc_json.specs.declared.event.NamedEvent.{NamedEvent}

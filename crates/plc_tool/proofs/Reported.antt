@@ -1,27 +1,27 @@
 -- What a report owes, once its line was put.
 use Rattle.std.proofs.Common.{◌≡◌, ◌⊎◌, inl, ℕ, List, [], Result, Ok, Err}
 use Rattle.std.specs.Prelude.{OnOk, IfErr}
-use Rattle.il_model.specs.Text.{Text}
-use Rattle.il_model.specs.declared.counted.CountedWrite.{Ghosts as CountedWriter}
+use Rattle.il_model.specs.Program.{Program}
+use Rattle.io_model.specs.declared.counted.CountedWrite.{Ghosts as CountedWriter}
 use Rattle.plc_json.specs.declared.event.NamedEvent.{NamedEvent}
 use Rattle.vr_core.specs.StandsFor.{member, IsSavedAs}
-use Rattle.schedules.specs.declared.event.WorldEvent.{WorldEvent}
-use Rattle.schedules.specs.declared.trace.Trace.{Trace}
-use Rattle.schedules.specs.Traces.{IsTraced}
+use Rattle.vr_schedules.specs.declared.event.WorldEvent.{WorldEvent}
+use Rattle.vr_schedules.specs.declared.trace.Trace.{Trace}
+use Rattle.vr_schedules.specs.Traces.{IsTraced}
 use Rattle.plc_tool.specs.declared.fault.Fault.{Fault}
 use Rattle.plc_tool.specs.Meaning.{IsTypedProgramOfText, OrMemory}
 use Rattle.plc_tool.specs.Putting.{Puts, IsWhyStopped}
 use Rattle.plc_tool.specs.Simulated.{AreKnown, IsSimulated, IsReportCutShort, IsToldOf, report_line}
 
 module _ {W : Type 0} (w : CountedWriter W) (trace : Trace) (old new : W) where
-  pub is_simulated : (text : List ℕ) (f budget : ℕ) (Q : Text) (named : List NamedEvent) (events : List WorldEvent) → IsTypedProgramOfText text Q → AreKnown Q named events
+  pub is_simulated : (text : List ℕ) (f budget : ℕ) (Q : Program) (named : List NamedEvent) (events : List WorldEvent) → IsTypedProgramOfText text Q → AreKnown Q named events
       → IsTraced IsSavedAs (member f 0 Q budget) events trace → trace.lost.items ≡ [] → (r : Result (Unit {0}) Fault) → Puts w (report_line trace) old new r
       → OnOk r (IsSimulated text f budget named (w.held old) (w.held new))
   is_simulated text f budget Q named events is known traced none (Ok x) h =
       record { program = Q; is = is; events = events; known = known; trace = trace; traced = traced; none_lost = none; written = h.sent }
   is_simulated text f budget Q named events is known traced none (Err e) h = tt
 
-  pub is_cut_short : (text : List ℕ) (f budget : ℕ) (Q : Text) (named : List NamedEvent) (events : List WorldEvent) → IsTypedProgramOfText text Q → AreKnown Q named events
+  pub is_cut_short : (text : List ℕ) (f budget : ℕ) (Q : Program) (named : List NamedEvent) (events : List WorldEvent) → IsTypedProgramOfText text Q → AreKnown Q named events
       → IsTraced IsSavedAs (member f 0 Q budget) events trace → trace.lost.items ≡ [] → (r : Result (Unit {0}) Fault) → Puts w (report_line trace) old new r
       → IfErr r (λ e. IsWhyStopped e (w.faults old) (w.faults new) × IsReportCutShort text f budget named (w.held old) (w.held new) ⊎ OrMemory (IsToldOf text f budget named) e × new ≡ old)
   is_cut_short text f budget Q named events is known traced none (Ok x) h = tt

@@ -1,8 +1,8 @@
 -- The lines of the answers that are told, and of those that are still to come.
 use Rattle.std.proofs.Common.{◌≡◌, ◌+◌, ◌<◌, ℕ, suc, List, ◌∷◌, ◌++◌, drop, length, get_or, ap, sym, ◌∙◌, add-one, append_assoc, drop-cons}
 use Rattle.il_model.specs.declared.command.Answer.{Answer}
-use Rattle.debugger.specs.Owned.{Owned}
-use Rattle.debugger.specs.Outcome.{outcome}
+use Rattle.ctl_debugger.specs.Owned.{Owned}
+use Rattle.ctl_debugger.specs.Outcome.{outcome}
 use Rattle.plc_json.specs.declared.command.NamedCommand.{NamedCommand}
 use Rattle.plc_tool.specs.Lines.{line_text, lines_of}
 use Rattle.plc_tool.specs.Named.{meant, answers_by}

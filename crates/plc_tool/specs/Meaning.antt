@@ -4,29 +4,29 @@ use Rattle.std.specs.Fmt.{decimal}
 use Rattle.std.specs.Io.KnownBytes.{Appends}
 use Rattle.il_model.specs.declared.command.Answer.{Answer}
 use Rattle.il_model.specs.declared.limits.TheConstants.{MOST_IMAGE_BYTES}
-use Rattle.il_model.specs.Text.{Text}
+use Rattle.il_model.specs.Program.{Program}
 use Rattle.il_model.specs.declared.typing.TypeFault.{TypeFault}
 use Rattle.il_model.specs.Typing.{IsTyped}
 use Rattle.il_model.specs.Settled.{IsTypedProgramOf}
 use Rattle.il_model.specs.Marks.{words_in}
 use Rattle.il_model.specs.Image.{spelling}
 use Rattle.il_model.specs.Fits.{IsImage}
-use Rattle.il_model.specs.Counted.{Failed}
-use Rattle.il_model.specs.declared.counted.CountedWrite.{Ghosts as CountedWriter}
-use Rattle.debugger.specs.Owned.{cold_owned}
+use Rattle.io_model.specs.Counted.{Failed}
+use Rattle.io_model.specs.declared.counted.CountedWrite.{Ghosts as CountedWriter}
+use Rattle.ctl_debugger.specs.Owned.{cold_owned}
 use Rattle.il_reader.specs.Texts.{SourceText, Reads}
 use Rattle.il_reader.specs.FirstFault.{IsFaultOf}
 use Rattle.il_reader.specs.declared.fault.Fault as read_faults
 use Rattle.il_reader.specs.declared.fault.ReadError.TheVariants as read_errors
-use Rattle.declarations.specs.Declaring as Declaring
-use Rattle.declarations.specs.FirstFault.{HasNoFault, IsRefused as IsRefusedSource}
-use Rattle.declarations.specs.declared.fault.Fault as declaration_faults
-use Rattle.declarations.specs.declared.fault.DeclError.TheVariants as declaration_errors
-use Rattle.assembler.specs.FirstFault.{IsFirstFault as IsFirstTypeFault}
-use Rattle.assembler.specs.declared.fault.AsmError.TheVariants as assembly_errors
-use Rattle.loader.specs.declared.fault.LoadFault.{LoadFault}
-use Rattle.loader.specs.Judging.{image_of}
-use Rattle.lister.specs.Listing.{listing}
+use Rattle.il_declarations.specs.Declaring as Declaring
+use Rattle.il_declarations.specs.FirstFault.{HasNoFault, IsRefused as IsRefusedSource}
+use Rattle.il_declarations.specs.declared.fault.Fault as declaration_faults
+use Rattle.il_declarations.specs.declared.fault.DeclError.TheVariants as declaration_errors
+use Rattle.il_assembler.specs.FirstFault.{IsFirstFault as IsFirstTypeFault}
+use Rattle.il_assembler.specs.declared.fault.AsmError.TheVariants as assembly_errors
+use Rattle.il_loader.specs.declared.fault.LoadFault.{LoadFault}
+use Rattle.il_loader.specs.Judging.{image_of}
+use Rattle.il_lister.specs.Listing.{listing}
 use Rattle.plc_json.specs.declared.command.NamedCommand.{NamedCommand}
 use Rattle.plc_json.specs.Single.{IsChange}
 use Rattle.plc_tool.specs.Named.{answers_by}
@@ -36,21 +36,21 @@ use Rattle.plc_tool.specs.declared.fault.Fault.TheVariants as faults
 use Rattle.plc_tool.specs.Status.{status_of}
 
 -- the text declares this program, and has no fault
-pub record IsProgramOf (text : List ℕ) (program : Text) : Type 0 where
+pub record IsProgramOf (text : List ℕ) (program : Program) : Type 0 where
   pub source : SourceText
   pub read : Reads text source
   pub declared : Declaring.IsProgramOf source.says program
   pub faultless : HasNoFault source.says
 
 -- the text says a program whose typed program, with a type for each bare number, is this one
-pub record IsTypedProgramOfText (text : List ℕ) (typed : Text) : Type 0 where
-  pub program : Text
+pub record IsTypedProgramOfText (text : List ℕ) (typed : Program) : Type 0 where
+  pub program : Program
   pub is : IsProgramOf text program
   pub settled : IsTypedProgramOf program typed
 
 -- the bytes are the image of the program that the text says
 pub record IsImageOfText (text bytes : List ℕ) : Type 0 where
-  pub program : Text
+  pub program : Program
   pub is : IsTypedProgramOfText text program
   pub image : IsImage program
   pub spelled : bytes ≡ spelling program
@@ -62,12 +62,12 @@ pub record IsChangeTo (text line : List ℕ) : Type 0 where
   pub changes : IsChange image line
 
 -- the line that tells how many words the program's image has, those of arguments too
-abbrev pub words_line : Text → List ℕ
+abbrev pub words_line : Program → List ℕ
 words_line Q = (codes "words " ++ decimal (words_in Q.code)) ++ codes "\n"
 
 -- the image of the program that the text says was written, and on another writer that line
 pub record IsAssembled (text : List ℕ) (image image_after out out_after : Option (List ℕ)) : Type 0 where
-  pub program : Text
+  pub program : Program
   pub is : IsTypedProgramOfText text program
   pub has_image : IsImage program
   pub image_written : Appends image image_after (spelling program)
@@ -82,32 +82,32 @@ pub record IsCutOff {W : Type 0} (w : CountedWriter W) (text : List ℕ) (old ne
 -- the line cut off.
 pub record IsAssemblyCutShort {V W : Type 0} (v : CountedWriter V) (w : CountedWriter W) (text : List ℕ)
     (image image_after : V) (out out_after : W) : Type 0 where
-  pub program : Text
+  pub program : Program
   pub is : IsTypedProgramOfText text program
   pub written : (IsCutOff v (spelling program) image image_after × (out_after ≡ out))
       ⊎ (Appends (v.held image) (v.held image_after) (spelling program) × IsCutOff w (words_line program) out out_after)
 
 -- the listing of the image that the bytes are was written
 pub record IsListed (bytes : List ℕ) (old new : Option (List ℕ)) : Type 0 where
-  pub program : Text
+  pub program : Program
   pub image : IsImage program
   pub spelled : bytes ≡ spelling program
   pub written : Appends old new (listing program)
 
 -- the writer failed in the call, behind a beginning of the listing of the image that the bytes are
 pub record IsCutShort {W : Type 0} (w : CountedWriter W) (bytes : List ℕ) (old new : W) : Type 0 where
-  pub program : Text
+  pub program : Program
   pub image : IsImage program
   pub spelled : bytes ≡ spelling program
   pub cut : IsCutOff w (listing program) old new
 
 -- What a controller that starts from the program answers to commands with names, at so many instructions a scan.
-abbrev pub answers_to : Text → ℕ → List NamedCommand → List Answer
+abbrev pub answers_to : Program → ℕ → List NamedCommand → List Answer
 answers_to Q budget commands = answers_by (cold_owned Q budget) commands
 
 -- what is answered is what the definitions give for the text's typed program
 pub record IsAnswered (text : List ℕ) (budget : ℕ) (commands : List NamedCommand) (answers : List Answer) : Type 0 where
-  pub program : Text
+  pub program : Program
   pub is : IsTypedProgramOfText text program
   pub typed : IsTyped program
   pub answers_are : answers ≡ answers_to program budget commands
@@ -129,7 +129,7 @@ pub record IsDeclarationFault (text : List ℕ) (told : Fault) : Type 0 where
   pub is : told ≡ of_declaration (declaration_errors.Fault fault)
 
 -- the program has no typed program, and this is told of the first fault of the least instruction that has one
-pub record IsUntyped (program : Text) (told : Fault) : Type 0 where
+pub record IsUntyped (program : Program) (told : Fault) : Type 0 where
   pub fault : TypeFault
   pub instruction : ℕ
   pub first : IsFirstTypeFault program instruction fault
@@ -137,7 +137,7 @@ pub record IsUntyped (program : Text) (told : Fault) : Type 0 where
 
 -- it says a program, and this is told of that one's first fault
 pub record IsTypingFault (text : List ℕ) (told : Fault) : Type 0 where
-  pub program : Text
+  pub program : Program
   pub is : IsProgramOf text program
   pub untyped : IsUntyped program told
 
@@ -177,7 +177,7 @@ pub record IsRefused (IsFault : Fault → Type 0) : Type 0 where
 
 -- no layer refuses the text: it has a typed program
 abbrev pub IsGoodText : List ℕ → Type 0
-IsGoodText text = (typed : Text) × IsTypedProgramOfText text typed
+IsGoodText text = (typed : Program) × IsTypedProgramOfText text typed
 
 -- the fault that is told where another file has one: that of the text, and of a good text that one; or that memory ran
 -- out

@@ -6,11 +6,11 @@ use Rattle.il_model.specs.declared.command.Answer.{Answer}
 use Rattle.il_model.specs.declared.command.Command.{Command}
 use Rattle.il_model.specs.declared.command.Command.TheVariants.{Force, Unforce, ReadVar}
 use Rattle.il_model.specs.declared.program.Place.{Place}
-use Rattle.il_model.specs.Text.{Text}
-use Rattle.controller_model.specs.Slots.{slot_place, slot_of}
-use Rattle.controller_model.specs.Commands.{forcible_at}
-use Rattle.debugger.specs.Owned.{Owned}
-use Rattle.debugger.specs.Outcome.{outcome}
+use Rattle.il_model.specs.Program.{Program}
+use Rattle.ctl_model.specs.Slots.{slot_place, slot_of}
+use Rattle.ctl_model.specs.Commands.{forcible_at}
+use Rattle.ctl_debugger.specs.Owned.{Owned}
+use Rattle.ctl_debugger.specs.Outcome.{outcome}
 use Rattle.plc_json.specs.declared.command.NamedCommand.{NamedCommand}
 use Rattle.plc_json.specs.declared.command.NamedCommand.TheVariants as named
 
@@ -24,10 +24,10 @@ pub record IsNoSlot (slot : Slot) : Type 0 where
   pub not_read : (lie : List Place) → slot_place lie slot.0 ≡ None
 
 -- the slot of a name, and that which is none where it is no slot's
-abbrev pub slot_meant : Text → List ℕ → Slot
+abbrev pub slot_meant : Program → List ℕ → Slot
 slot_meant Q name = unwrap_or (slot_of Q name) no_slot
 
-abbrev pub meant : Text → NamedCommand → Command
+abbrev pub meant : Program → NamedCommand → Command
 meant Q (named.Plain command) = command
 meant Q (named.Force name value) = Force (slot_meant Q (string_bytes name)) value
 meant Q (named.Unforce name) = Unforce (slot_meant Q (string_bytes name))

@@ -1,8 +1,8 @@
 -- What the lines of a call do to a counted writer.
 use Rattle.std.specs.Prelude.{◌≡◌, ◌≤◌, ◌⊎◌, ℕ, List, take, Option, Result, MatchResult, IfErr}
 use Rattle.std.specs.Io.KnownBytes.{Appends}
-use Rattle.il_model.specs.declared.counted.CountedWrite.{Ghosts as CountedWriter}
-use Rattle.il_model.specs.Counted.{Failed}
+use Rattle.io_model.specs.declared.counted.CountedWrite.{Ghosts as CountedWriter}
+use Rattle.io_model.specs.Counted.{Failed}
 use Rattle.il_model.specs.declared.command.Answer.{Answer}
 use Rattle.plc_json.specs.declared.command.NamedCommand.{NamedCommand}
 use Rattle.plc_tool.specs.Lines.{lines_of}

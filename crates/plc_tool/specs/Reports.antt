@@ -3,8 +3,8 @@ use Rattle.std.specs.Prelude.{ℕ, zero, suc, List, [], ◌++◌, codes, length}
 use Rattle.std.specs.List.{flat_map, enumerate_from}
 use Rattle.std.specs.Fmt.{decimal}
 use Rattle.vr_model.specs.declared.message.Request.{Request}
-use Rattle.schedules.specs.declared.trace.Release.{Release}
-use Rattle.schedules.specs.declared.trace.Trace.{Trace}
+use Rattle.vr_schedules.specs.declared.trace.Release.{Release}
+use Rattle.vr_schedules.specs.declared.trace.Trace.{Trace}
 use Rattle.plc_tool.specs.Lines.{answer_text}
 
 -- what stands before item n: a comma, but nothing before the first

@@ -3,18 +3,18 @@ use Rattle.std.specs.Prelude.{◌≡◌, ◌⊎◌, ℕ, List, [], ◌++◌, map
 use Rattle.std.specs.Prelude.{if◌then◌else◌, Contains}
 use Rattle.std.specs.String.{string_bytes}
 use Rattle.std.specs.Io.KnownBytes.{Appends}
-use Rattle.il_model.specs.Text.{Text}
+use Rattle.il_model.specs.Program.{Program}
 use Rattle.il_model.specs.declared.command.Command.{Command}
 use Rattle.il_model.specs.declared.command.Command.TheVariants.{Force, Unforce, ReadVar}
-use Rattle.controller_model.specs.Slots.{slot_of}
+use Rattle.ctl_model.specs.Slots.{slot_of}
 use Rattle.il_model.specs.declared.command.Answer.{Answer}
 use Rattle.vr_model.specs.Membership.{Membership}
 use Rattle.vr_core.specs.StandsFor.{member, IsSavedAs}
-use Rattle.schedules.specs.declared.event.WorldEvent.{WorldEvent}
-use Rattle.schedules.specs.declared.event.WorldEvent.TheVariants as events
-use Rattle.schedules.specs.declared.store.Kept.TheVariants.{Old, New}
-use Rattle.schedules.specs.declared.trace.Trace.{Trace}
-use Rattle.schedules.specs.Traces.{IsTraced, IsRefused}
+use Rattle.vr_schedules.specs.declared.event.WorldEvent.{WorldEvent}
+use Rattle.vr_schedules.specs.declared.event.WorldEvent.TheVariants as events
+use Rattle.vr_schedules.specs.declared.store.Kept.TheVariants.{Old, New}
+use Rattle.vr_schedules.specs.declared.trace.Trace.{Trace}
+use Rattle.vr_schedules.specs.Traces.{IsTraced, IsRefused}
 use Rattle.plc_json.specs.declared.command.NamedCommand.{NamedCommand}
 use Rattle.plc_json.specs.declared.command.NamedCommand.TheVariants as named
 use Rattle.plc_json.specs.declared.event.NamedEvent.{NamedEvent}
@@ -26,14 +26,14 @@ use Rattle.plc_tool.specs.declared.fault.Fault.{Fault}
 use Rattle.plc_tool.specs.declared.fault.Fault.TheVariants as faults
 
 -- the command that a named one is, where its name is one of a slot of the program
-abbrev pub command_known : Text → NamedCommand → Option Command
+abbrev pub command_known : Program → NamedCommand → Option Command
 command_known Q (named.Plain command) = Some command
 command_known Q (named.Force name value) = option_map (λ slot. Force slot value) (slot_of Q (string_bytes name))
 command_known Q (named.Unforce name) = option_map Unforce (slot_of Q (string_bytes name))
 command_known Q (named.Read name) = option_map ReadVar (slot_of Q (string_bytes name))
 
 -- the event of the world that a named one is, where its name is one of a slot
-abbrev pub event_known : Text → NamedEvent → Option WorldEvent
+abbrev pub event_known : Program → NamedEvent → Option WorldEvent
 event_known Q (asked.Submit client command) = option_map (events.Submit client) (command_known Q command)
 event_known Q (asked.Retry client) = Some (events.Retry client)
 event_known Q (asked.ClientRestart client) = Some (events.ClientRestart client)
@@ -45,17 +45,17 @@ event_known Q (asked.Restart replica nonce) = Some (events.Restart replica nonce
 event_known Q (asked.StoreFail replica keeps_new) = Some (events.StoreFail replica (if keeps_new then New else Old))
 
 -- these are the events of the world that named ones are
-abbrev pub AreKnown : Text → List NamedEvent → List WorldEvent → Type 0
+abbrev pub AreKnown : Program → List NamedEvent → List WorldEvent → Type 0
 AreKnown Q named events = map (event_known Q) named ≡ map Some events
 
 -- a name in one of the events is no slot's of the program
-pub record HasUnknownName (Q : Text) (named : List NamedEvent) : Type 0 where
+pub record HasUnknownName (Q : Program) (named : List NamedEvent) : Type 0 where
   pub event : NamedEvent
   pub stands : Contains named event
   pub unknown : event_known Q event ≡ None
 
 -- why events aren't known: memory ran out, or one of them has an unknown name
-abbrev pub IsWhyUnknown : Text → List NamedEvent → Fault → Type 0
+abbrev pub IsWhyUnknown : Program → List NamedEvent → Fault → Type 0
 IsWhyUnknown Q named told = (told ≡ faults.Memory) ⊎ ((told ≡ faults.Schedule) × HasUnknownName Q named)
 
 -- what is told is the first event of a run that can't take place, and the lowest reason
@@ -77,7 +77,7 @@ report_line trace = report_text trace ++ codes "\n"
 -- budget, in which nothing was lost.
 pub record IsSimulated (text : List ℕ) (f budget : ℕ) (named : List NamedEvent)
     (old new : Option (List ℕ)) : Type 0 where
-  pub program : Text
+  pub program : Program
   pub is : IsTypedProgramOfText text program
   pub events : List WorldEvent
   pub known : AreKnown program named events
@@ -89,7 +89,7 @@ pub record IsSimulated (text : List ℕ) (f budget : ℕ) (named : List NamedEve
 -- a beginning of that report was written, before the writer failed in the call or memory ran out
 pub record IsReportCutShort (text : List ℕ) (f budget : ℕ) (named : List NamedEvent)
     (old new : Option (List ℕ)) : Type 0 where
-  pub program : Text
+  pub program : Program
   pub is : IsTypedProgramOfText text program
   pub events : List WorldEvent
   pub known : AreKnown program named events
@@ -99,7 +99,7 @@ pub record IsReportCutShort (text : List ℕ) (f budget : ℕ) (named : List Nam
   pub written : (n : ℕ) × Appends old new (take n (report_line trace))
 
 -- an event of the run of these events by the program can't take place
-pub record CantTakePlace (Q : Text) (f budget : ℕ) (named : List NamedEvent) (told : Fault) : Type 0 where
+pub record CantTakePlace (Q : Program) (f budget : ℕ) (named : List NamedEvent) (told : Fault) : Type 0 where
   pub events : List WorldEvent
   pub known : AreKnown Q named events
   pub refused : IsRefusedAs (member f 0 Q budget) events told
@@ -107,7 +107,7 @@ pub record CantTakePlace (Q : Text) (f budget : ℕ) (named : List NamedEvent) (
 -- A schedule of these events is refused for the program of a text, and this is told: a name in them is unknown, or one
 -- can't take place.
 pub record IsScheduleRefused (text : List ℕ) (f budget : ℕ) (named : List NamedEvent) (told : Fault) : Type 0 where
-  pub program : Text
+  pub program : Program
   pub is : IsTypedProgramOfText text program
   pub why : ((told ≡ faults.Schedule) × HasUnknownName program named) ⊎ CantTakePlace program f budget named told
 

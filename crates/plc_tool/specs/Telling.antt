@@ -3,9 +3,9 @@ use Rattle.std.specs.Prelude.{◌≡◌, ◌≤◌, ◌⊎◌, ℕ, List, ◌++�
 use Rattle.std.specs.String.{string_bytes}
 use Rattle.std.specs.Fmt.{decimal}
 use Rattle.std.specs.Io.KnownBytes.{Appends}
-use Rattle.il_model.specs.declared.counted.CountedWrite.{Ghosts as CountedWriter}
-use Rattle.il_model.specs.declared.counted.DeviceFault.{DeviceFault}
-use Rattle.il_model.specs.Counted.{Failed}
+use Rattle.io_model.specs.declared.counted.CountedWrite.{Ghosts as CountedWriter}
+use Rattle.io_model.specs.declared.counted.DeviceFault.{DeviceFault}
+use Rattle.io_model.specs.Counted.{Failed}
 use Rattle.plc_words.specs.declared.error.WordsError.{WordsError}
 use Rattle.plc_words.specs.declared.error.WordsError.TheVariants as words
 use Rattle.plc_tool.specs.declared.fault.Fault.{Fault}

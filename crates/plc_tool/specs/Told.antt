@@ -3,16 +3,16 @@ use Rattle.il_reader.specs.declared.fault.ReadError.{ReadError}
 use Rattle.il_reader.specs.declared.fault.ReadError.TheVariants as reads
 use Rattle.il_reader.specs.Faults.{kind_number}
 use Rattle.il_model.specs.Typing.{fault_number}
-use Rattle.declarations.specs.Faults as Kinds
-use Rattle.declarations.specs.declared.fault.DeclError.{DeclError}
-use Rattle.declarations.specs.declared.fault.DeclError.TheVariants as declarations
-use Rattle.assembler.specs.declared.fault.AsmError.{AsmError}
-use Rattle.assembler.specs.declared.fault.AsmError.TheVariants as assemblies
-use Rattle.loader.specs.declared.fault.LoadError.{LoadError}
-use Rattle.loader.specs.declared.fault.LoadError.TheVariants as loads
-use Rattle.loader.specs.declared.fault.LoadFault.{LoadFault}
-use Rattle.loader.specs.declared.fault.LoadFault.TheVariants.{Truncated, BadMagic, BadVersion, BadCount, BadWord}
-use Rattle.loader.specs.declared.fault.LoadFault.TheVariants.{BadType, BadTarget, Trailing}
+use Rattle.il_declarations.specs.Faults as Kinds
+use Rattle.il_declarations.specs.declared.fault.DeclError.{DeclError}
+use Rattle.il_declarations.specs.declared.fault.DeclError.TheVariants as declarations
+use Rattle.il_assembler.specs.declared.fault.AsmError.{AsmError}
+use Rattle.il_assembler.specs.declared.fault.AsmError.TheVariants as assemblies
+use Rattle.il_loader.specs.declared.fault.LoadError.{LoadError}
+use Rattle.il_loader.specs.declared.fault.LoadError.TheVariants as loads
+use Rattle.il_loader.specs.declared.fault.LoadFault.{LoadFault}
+use Rattle.il_loader.specs.declared.fault.LoadFault.TheVariants.{Truncated, BadMagic, BadVersion, BadCount, BadWord}
+use Rattle.il_loader.specs.declared.fault.LoadFault.TheVariants.{BadType, BadTarget, Trailing}
 use Rattle.plc_tool.specs.declared.fault.Fault.{Fault}
 use Rattle.plc_tool.specs.declared.fault.Fault.TheVariants as faults
 

@@ -4,18 +4,18 @@
 ghost use Rattle.std.specs.Prelude.{◌≡◌, IfOk, IfErr};
 ghost use Rattle.il_model.specs.Declarable.{IsDeclared};
 ghost use Rattle.il_model.specs.Settled.{IsTypedProgramOf};
-ghost use Rattle.assembler.specs.Assembled.{IsSpelled};
+ghost use Rattle.il_assembler.specs.Assembled.{IsSpelled};
 ghost use Rattle.plc_tool.specs.Meaning.{IsProgramOf, IsTypedProgramOfText, IsImageOfText, IsAnswered, IsProgramFault};
 ghost use Rattle.plc_tool.specs.Meaning.{IsUntyped, IsTextFault, OrMemory};
 
 use crate::fault::Fault;
 use crate::naming::answers_of;
-use assembler::assemble;
-use debugger::Controller;
-use declarations::resolve;
+use il_assembler::assemble;
+use ctl_debugger::Controller;
+use il_declarations::resolve;
 use il_model::{Answer, Budget, Program};
 use il_reader::read;
-use loader::{Image, LoadError, load};
+use il_loader::{Image, LoadError, load};
 use plc_json::NamedCommand;
 use std::alloc::Global;
 

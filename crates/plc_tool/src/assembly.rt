@@ -1,20 +1,20 @@
 //! The image of a text, written.
 
 ghost use Rattle.std.specs.Prelude.{◌≡◌, ◌⊎◌, ◌<◌, ◌≤◌, ◌^◌, IfOk, IfErr, OnOk, length, string_bytes};
-ghost use Rattle.il_model.specs.Text.{Text};
+ghost use Rattle.il_model.specs.Program.{Program};
 ghost use Rattle.il_model.specs.Marks.{words_in};
 ghost use Rattle.il_model.specs.Image.{spelling};
 ghost use Rattle.plc_tool.specs.Meaning.{IsAssembled, IsAssemblyCutShort, IsTextFault, OrMemory, words_line};
 
 use crate::answering::image_bytes;
 use crate::fault::Fault;
-use il_model::{CountedWrite, write_all};
+use io_model::{CountedWrite, write_all};
 use std::alloc::{AllocError, Global};
 
 /// How many words an image has, those of arguments too, as its header says.
 fn word_count(image: &[u8]) -> u16
     requires { 16 ≤ length image.now }
-    ensures { (Q : Text) → words_in Q.code < 2 ^ 16 → image.now ≡ spelling Q → result ≡ words_in Q.code }
+    ensures { (Q : Program) → words_in Q.code < 2 ^ 16 → image.now ≡ spelling Q → result ≡ words_in Q.code }
 {
     u16::from_be_bytes([image[14], image[15]])
 }
@@ -22,7 +22,7 @@ fn word_count(image: &[u8]) -> u16
 /// The line that tells how many words an image has.
 fn words_line(alloc: Global, image: &[u8]) -> Result<String, AllocError>
     requires { 16 ≤ length image.now }
-    ensures { IfOk result (λ line. (Q : Text)
+    ensures { IfOk result (λ line. (Q : Program)
         → words_in Q.code < 2 ^ 16 → image.now ≡ spelling Q → string_bytes line ≡ words_line Q) }
 {
     let words = word_count(image);

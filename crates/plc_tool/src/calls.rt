@@ -1,7 +1,7 @@
 //! The calls of the program, over byte slices and writers, each answering the status.
 
 ghost use Rattle.std.specs.Prelude.{◌≡◌, ◌≤◌, ◌⊎◌, List, IfErr, IsErr, IsOk, OnOk};
-ghost use Rattle.il_model.specs.Counted.{Failed};
+ghost use Rattle.io_model.specs.Counted.{Failed};
 ghost use Rattle.plc_tool.specs.Meaning.{IsAssembled, IsAssemblyCutShort, IsListed, IsCutShort, IsTextFault};
 ghost use Rattle.plc_tool.specs.Meaning.{IsImageFault, IsRefused, IsFirstFault};
 ghost use Rattle.plc_json.specs.declared.command.NamedCommand.{NamedCommand};
@@ -21,7 +21,8 @@ use crate::listing::put_listing;
 use crate::running::put_run;
 use crate::simulating::put_report;
 use crate::telling::tell;
-use il_model::{Budget, CountedWrite};
+use il_model::Budget;
+use io_model::CountedWrite;
 use plc_json::{JsonFault, NamedCommand, NamedEvent};
 use std::alloc::Global;
 use vr_model::Config;

@@ -4,11 +4,11 @@ ghost use Rattle.std.specs.Prelude.{◌≡◌, IfOk, IfErr};
 ghost use Rattle.plc_tool.specs.Simulated.{command_known, event_known, AreKnown, IsWhyUnknown};
 
 use crate::fault::Fault;
-use debugger::slot;
+use ctl_debugger::slot;
 use il_model::Command;
-use loader::Image;
+use il_loader::Image;
 use plc_json::{NamedCommand, NamedEvent};
-use schedules::{Kept, WorldEvent};
+use vr_schedules::{Kept, WorldEvent};
 use std::alloc::{AllocError, Global};
 
 /// The command that a named one is, or `None` where its name is no slot's.

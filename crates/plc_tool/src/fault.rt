@@ -5,7 +5,7 @@ ghost use Rattle.std.specs.IoError.{error_kind};
 ghost use Rattle.plc_tool.specs.Status.{status_of, fault_of, stream_fault};
 ghost use Rattle.plc_tool.specs.declared.fault.Fault.TheVariants.{Device, Memory};
 
-use il_model::DeviceFault;
+use io_model::DeviceFault;
 use plc_json::JsonFault;
 use std::alloc::{AllocError, AllocFailed};
 use std::io;

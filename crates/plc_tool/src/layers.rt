@@ -5,11 +5,11 @@ ghost use Rattle.plc_tool.specs.declared.fault.Fault.TheVariants.{Device};
 ghost use Rattle.plc_tool.specs.Told.{of_read, of_declaration, of_assembly, of_load};
 
 use crate::fault::Fault;
-use assembler::AsmError;
-use declarations::DeclError;
+use il_assembler::AsmError;
+use il_declarations::DeclError;
 use il_reader::ReadError;
-use lister::ListFault;
-use loader::{LoadError, LoadFault};
+use il_lister::ListFault;
+use il_loader::{LoadError, LoadFault};
 
 impl From<ReadError> for Fault {
     ghost from_gives = { λ error fault. fault ≡ of_read error };

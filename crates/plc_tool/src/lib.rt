@@ -2,7 +2,8 @@
 //! streams. It may use every layer below and knows no runtime; the only file that it opens is a `NewFile`.
 //!
 //! ```rust
-//! use il_model::{Budget, Counted};
+//! use il_model::Budget;
+//! use io_model::Counted;
 //!
 //! let (mut out, mut err) = (Vec::new(alloc), Vec::new(alloc));
 //! let commands = br#"[{"scan":{"ix":[0],"iw":[],"moment":0}}]"#;
@@ -21,8 +22,8 @@
 //! fault that is told, and nothing else was written; 2 only with a beginning of it, and a device is told only where a
 //! writer failed. Each text has one typed program or one fault, and never both (`a_text_means_one_thing`).
 //!
-//! Only tested: `NewFile`, which makes the file of an image at its first write (`image_rows` of `worked_threads`). Rows
-//! of `worked_rows` have every printed line; `worked_tool` has streams that fail.
+//! Only tested: `NewFile`, which makes the file of an image at its first write (`image_rows` of `tests_threads`). Rows
+//! of `tests_rows` have every printed line; `tests_tool` has streams that fail.
 #![tactic(auto)]
 
 mod answering;

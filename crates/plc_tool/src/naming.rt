@@ -1,13 +1,13 @@
 //! What named commands mean to the controller of a program.
 
 ghost use Rattle.std.specs.Prelude.{◌≡◌, None, IfOk, OnErr};
-ghost use Rattle.controller_model.specs.Slots.{slot_of};
-ghost use Rattle.debugger.specs.Outcome.{outcome};
+ghost use Rattle.ctl_model.specs.Slots.{slot_of};
+ghost use Rattle.ctl_debugger.specs.Outcome.{outcome};
 ghost use Rattle.plc_tool.specs.Named.{IsNoSlot, slot_meant, meant, answers_by};
 
-use debugger::{Controller, prepare, slot};
+use ctl_debugger::{Controller, prepare, slot};
 use il_model::{Answer, Command, Slot};
-use loader::Image;
+use il_loader::Image;
 use plc_json::NamedCommand;
 use std::alloc::{AllocError, Global};
 

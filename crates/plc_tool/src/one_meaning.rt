@@ -2,15 +2,15 @@
 //! proved to meet them.
 
 ghost use Rattle.std.specs.Prelude.{◌≡◌, ◌⊎◌, ℕ, List};
-ghost use Rattle.il_model.specs.Text.{Text};
+ghost use Rattle.il_model.specs.Program.{Program};
 ghost use Rattle.plc_tool.specs.declared.fault.Fault.{Fault};
 ghost use Rattle.plc_tool.specs.Meaning.{IsTypedProgramOfText, IsTextFault, IsGoodText};
 
 /// A text says one typed program, or it has one fault, and never both. So what is answered of it is one thing, unless
 /// memory runs out.
 pub fn a_text_means_one_thing()
-    ensures program { (text : List ℕ) (P Q : Text) → IsTypedProgramOfText text P → IsTypedProgramOfText text Q → P ≡ Q }
+    ensures program { (text : List ℕ) (P Q : Program) → IsTypedProgramOfText text P → IsTypedProgramOfText text Q → P ≡ Q }
     ensures fault { (text : List ℕ) (f g : Fault) → IsTextFault text f → IsTextFault text g → f ≡ g }
     ensures one_of_both { (text : List ℕ) → IsGoodText text ⊎ ((f : Fault) × IsTextFault text f) }
-    ensures never_both { (text : List ℕ) (P : Text) (f : Fault) → IsTypedProgramOfText text P → IsTextFault text f → ⊥ }
+    ensures never_both { (text : List ℕ) (P : Program) (f : Fault) → IsTypedProgramOfText text P → IsTextFault text f → ⊥ }
 {}

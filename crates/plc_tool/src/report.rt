@@ -6,7 +6,7 @@ ghost use Rattle.plc_tool.specs.Reports.{comma, length_text, entry_text, release
 ghost use Rattle.plc_tool.specs.Reports.{releases_text, released_text, ordered_text, report_text};
 
 use crate::line::AnswerLine;
-use schedules::{Release, Trace};
+use vr_schedules::{Release, Trace};
 use std::fmt;
 use vr_model::Request;
 

@@ -10,8 +10,9 @@ use crate::answering::image;
 use crate::fault::Fault;
 use crate::line::put_line;
 use crate::naming::answer;
-use debugger::Controller;
-use il_model::{Budget, CountedWrite};
+use ctl_debugger::Controller;
+use il_model::Budget;
+use io_model::CountedWrite;
 use plc_json::NamedCommand;
 use std::alloc::Global;
 

@@ -2,7 +2,7 @@
 
 ghost use Rattle.std.specs.Prelude.{◌≡◌, ◌⊎◌, [], IfOk, IfErr, OnOk, string_bytes};
 ghost use Rattle.vr_core.specs.StandsFor.{member, IsSavedAs};
-ghost use Rattle.schedules.specs.Traces.{IsTraced};
+ghost use Rattle.vr_schedules.specs.Traces.{IsTraced};
 ghost use Rattle.plc_tool.specs.Meaning.{OrMemory};
 ghost use Rattle.plc_tool.specs.Putting.{Puts, IsWhyStopped};
 ghost use Rattle.plc_tool.specs.Simulated.{IsSimulated, IsReportCutShort, IsWhyNoReport, IsToldOf, report_line};
@@ -11,10 +11,11 @@ use crate::answering::image;
 use crate::events::all_known;
 use crate::fault::Fault;
 use crate::report::ReportLine;
-use il_model::{Budget, CountedWrite, write_all};
-use loader::Image;
+use il_model::Budget;
+use io_model::{CountedWrite, write_all};
+use il_loader::Image;
 use plc_json::NamedEvent;
-use schedules::{Trace, WorldError, WorldEvent};
+use vr_schedules::{Trace, WorldError, WorldEvent};
 use std::alloc::{AllocError, Global};
 use vr_model::Config;
 use vr_world::run_world;

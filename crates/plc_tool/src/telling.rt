@@ -6,7 +6,7 @@ ghost use Rattle.plc_tool.specs.Status.{status_of};
 ghost use Rattle.plc_tool.specs.Telling.{Sends, WentOut, IsToldOfWords, numbered, pair_text, placed_text, fault_line};
 
 use crate::fault::Fault;
-use il_model::{CountedWrite, DeviceFault, write_all};
+use io_model::{CountedWrite, DeviceFault, write_all};
 use itoa::Buffer;
 use plc_words::WordsError;
 use std::io;

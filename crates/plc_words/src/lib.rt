@@ -11,7 +11,7 @@
 //! crate's statements; no clause here says which words give which form.
 //!
 //! Only tested: the forms with their options and defaults, words that are refused, and the usage lines (`word_rows` of
-//! `worked_tool`). Neither: the texts of help, which say by hand what `docs/FAULTS.md` says.
+//! `tests_tool`). Neither: the texts of help, which say by hand what `docs/FAULTS.md` says.
 #![tactic(auto)]
 
 mod error;

@@ -4,7 +4,7 @@ use Rattle.std.proofs.lemmas.List.{drop_all, drop-take, drop-map, length-take, l
 use Rattle.std.specs.Prelude.{IfOk, OnErr}
 use Rattle.std.proofs.lemmas.Bool.{cases_eq}
 use Rattle.il_model.specs.declared.command.Command.{Command}
-use Rattle.debugger.specs.Prepared.{Prepared}
+use Rattle.ctl_debugger.specs.Prepared.{Prepared}
 use Rattle.vr_model.specs.declared.message.Request as code
 use Rattle.vr_model.specs.Logs.{Request}
 use Rattle.vr_model.specs.Checkpoints.{KeptLog, base_of, request_of, requests_of}

@@ -1,7 +1,7 @@
 -- What is ready for a log that is handed in, seen by each member and record.
 use Rattle.std.proofs.Common.{ℕ, max, List, sym, subst}
 use Rattle.il_model.specs.declared.command.Command.{Command}
-use Rattle.debugger.specs.Prepared.{Prepared}
+use Rattle.ctl_debugger.specs.Prepared.{Prepared}
 use Rattle.vr_model.specs.Logs.{Request}
 use Rattle.vr_model.specs.Membership.{Membership}
 use Rattle.vr_model.specs.Replicas.{ReplicaState}

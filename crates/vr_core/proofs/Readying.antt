@@ -6,9 +6,9 @@ use Rattle.std.proofs.lemmas.Option.{slice_get-get_or, get_or_from_slice_get}
 use Rattle.il_model.specs.declared.command.Command.{Command}
 use Rattle.il_model.specs.declared.command.Answer.{Answer}
 use Rattle.il_model.specs.Numbers.{is_change}
-use Rattle.debugger.specs.Owned.{Owned}
-use Rattle.debugger.specs.Outcome.{outcome}
-use Rattle.debugger.specs.Prepared.{Prepared, IsReady}
+use Rattle.ctl_debugger.specs.Owned.{Owned}
+use Rattle.ctl_debugger.specs.Outcome.{outcome}
+use Rattle.ctl_debugger.specs.Prepared.{Prepared, IsReady}
 use Rattle.vr_model.specs.declared.message.Request as code
 use Rattle.vr_model.specs.Logs.{Request}
 use Rattle.vr_model.specs.Choices.{commands}

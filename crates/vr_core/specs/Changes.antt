@@ -5,9 +5,9 @@ use Rattle.std.specs.Prelude.{slice_get, option_to_list}
 use Rattle.il_model.specs.declared.command.Command.{Command}
 use Rattle.il_model.specs.declared.command.Answer.{Answer}
 use Rattle.il_model.specs.Numbers.{is_change}
-use Rattle.debugger.specs.Owned.{Owned}
-use Rattle.debugger.specs.Outcome.{outcome}
-use Rattle.debugger.specs.Prepared.{Prepared, IsReady}
+use Rattle.ctl_debugger.specs.Owned.{Owned}
+use Rattle.ctl_debugger.specs.Outcome.{outcome}
+use Rattle.ctl_debugger.specs.Prepared.{Prepared, IsReady}
 use Rattle.vr_model.specs.declared.message.Message as sent
 use Rattle.vr_model.specs.Logs.{Request}
 use Rattle.vr_model.specs.Membership.{Membership}

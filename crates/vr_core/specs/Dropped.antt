@@ -5,15 +5,15 @@ use Rattle.std.specs.declared.alloc.Global.{Global}
 use Rattle.std.specs.declared.vec.Vec.{Vec}
 use Rattle.il_model.specs.Fits.{IsImage}
 use Rattle.il_model.specs.Snapshots.{SavedController}
-use Rattle.il_model.specs.Text.{Text}
-use Rattle.debugger.specs.Restored.{CanRestore}
+use Rattle.il_model.specs.Program.{Program}
+use Rattle.ctl_debugger.specs.Restored.{CanRestore}
 use Rattle.vr_model.specs.declared.message.Message as sent
 use Rattle.vr_model.specs.Checkpoints.{SavedCheckpoint, KeptLog}
 use Rattle.vr_core.specs.declared.state.Core.{Core}
 
 -- no program has a controller with the core's budget that is saved as this
 abbrev pub IsSpoilt : Core → SavedController → Type 0
-IsSpoilt core s = (Q : Text) → IsImage Q → CanRestore Q core.budget.instructions s true → ⊥
+IsSpoilt core s = (Q : Program) → IsImage Q → CanRestore Q core.budget.instructions s true → ⊥
 
 -- a log that comes with this commit number has a checkpoint that is later than that, or that can't be restored
 pub record IsUnfit (core : Core) (commit_number : ℕ) (log : KeptLog) : Type 0 where

@@ -4,10 +4,10 @@ ghost use Rattle.std.specs.Prelude.{◌≡◌, ◌++◌, ◌∷◌, [], List, If
 ghost use Rattle.il_model.specs.declared.command.Command.{Command};
 ghost use Rattle.vr_model.specs.Logs as logs;
 ghost use Rattle.vr_model.specs.Checkpoints.{requests_of};
-ghost use Rattle.debugger.specs.Prepared.{Prepared, IsReady};
+ghost use Rattle.ctl_debugger.specs.Prepared.{Prepared, IsReady};
 ghost use Rattle.vr_core.specs.Changes.{AreReady};
 
-use debugger::{Ready, prepare};
+use ctl_debugger::{Ready, prepare};
 use il_model::Command;
 use std::alloc::{AllocError, Global};
 use std::marker::Model;
@@ -22,7 +22,7 @@ pub struct ReadyChanges {
 
 impl Model for ReadyChanges {
     ghost use Rattle.std.specs.Prelude.{List, reverse};
-    ghost use Rattle.debugger.specs.Prepared.{Prepared};
+    ghost use Rattle.ctl_debugger.specs.Prepared.{Prepared};
 
     ghost Value = { List Prepared };
 

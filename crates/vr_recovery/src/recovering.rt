@@ -19,7 +19,7 @@ ghost use Rattle.vr_recovery.specs.Responses.{HasState, IsUnfitResponse, kept_of
 ghost use Rattle.vr_recovery.specs.Recovering.{Recovers};
 
 use crate::responses::{count, is_told, keep, kept, latest, put, put_back, stays_kept};
-use debugger::{Controller, SnapError};
+use ctl_debugger::{Controller, SnapError};
 use std::alloc::{AllocError, Global};
 use vr_core::{Core, ReadyChanges, Response, Status};
 use vr_model::{PrimaryState, Sends};

@@ -12,7 +12,7 @@ ghost use Rattle.vr_model.specs.Checkpoints.{base_of};
 ghost use Rattle.vr_recovery.specs.CatchingUp.{catches_up};
 
 use crate::holding::{hold, hold_as_primary};
-use debugger::SnapError;
+use ctl_debugger::SnapError;
 use std::alloc::{AllocError, Global};
 use vr_core::Core;
 use vr_model::{Log, Sends};

@@ -18,7 +18,7 @@ use Rattle.vr_model.specs.StandsFor.{IsCarried}
 use Rattle.vr_core.specs.declared.state.Core.{Core}
 use Rattle.vr_model.specs.Membership.{Membership}
 use Rattle.vr_core.specs.StandsFor.{StandsFor, StandsForLog, IsSavedAs, own_member}
-use Rattle.debugger.specs.Prepared.{Prepared}
+use Rattle.ctl_debugger.specs.Prepared.{Prepared}
 use Rattle.vr_core.specs.Changes.{AreReady, between, IsReadyFor, BecomesIfReady, FollowsIfReady}
 use Rattle.vr_core.proofs.WholeLogs.{is_own, begins, whole_length}
 use Rattle.vr_core.proofs.Sent.{sent_more, sent_none, sent_to}

@@ -6,8 +6,8 @@ use Rattle.std.proofs.lemmas.Bool.{cases_lt}
 use Rattle.std.proofs.lemmas.List.{append-nil, nil_from_length, take_at, take-append-drop}
 use Rattle.std.proofs.lemmas.List.Concat.{flat_map-cons}
 use Rattle.std.proofs.lemmas.Grind.{flat_map-append}
-use Rattle.il_model.specs.Stream.{Ending, Rest, Took, ending_of}
-use Rattle.il_model.proofs.Streams.{IsReadable}
+use Rattle.io_model.specs.Stream.{Ending, Rest, Took, ending_of}
+use Rattle.io_model.proofs.Streams.{IsReadable}
 use Rattle.vr_model.specs.declared.message.Message.{Message}
 use Rattle.vr_wire.specs.declared.fault.WireFault.{WireFault}
 use Rattle.vr_wire.specs.Frames.{frame_of, message_bytes, told_length, IsFramed, IsPartial, IsBroken, IsShort}

@@ -1,7 +1,7 @@
 -- The frames of messages as a format of frames, and what a feed does with a piece of a stream.
 use Rattle.std.specs.Prelude.{◌≡◌, ℕ, ◌+◌, ◌≤◌, ◌⊎◌, List, [], ◌++◌, length, Result, Ok, Err}
 use Rattle.std.specs.List.{flat_map, AllByRecursion}
-use Rattle.il_model.specs.Stream.{Format, Ending, Fault, IsRest, Splits, Took}
+use Rattle.io_model.specs.Stream.{Format, Ending, Fault, IsRest, Splits, Took}
 use Rattle.vr_model.specs.declared.message.Message.{Message}
 use Rattle.vr_wire.specs.declared.fault.WireFault.{WireFault}
 use Rattle.vr_wire.specs.declared.fault.WireError.{WireError}

@@ -1,7 +1,7 @@
 //! The messages of a stream of frames, in whatever pieces it comes.
 
 ghost use Rattle.std.specs.Prelude.{◌≡◌, ◌-◌, ◌++◌, [], List, length, take, drop, IfOk, OnErr, Err};
-ghost use Rattle.il_model.specs.Stream.{Rest, IsOneStream, Took, ending_of};
+ghost use Rattle.io_model.specs.Stream.{Rest, IsOneStream, Took, ending_of};
 ghost use Rattle.vr_wire.specs.Frames.{IsShort};
 ghost use Rattle.vr_wire.specs.Feeding.{frames, Begins, Fills, Feeding, OnlyFramed};
 
@@ -119,7 +119,7 @@ pub struct Feed {
 
 impl Model for Feed {
     ghost use Rattle.vr_wire.specs.declared.fault.WireFault.{WireFault};
-    ghost use Rattle.il_model.specs.Stream.{Ending, ending_of};
+    ghost use Rattle.io_model.specs.Stream.{Ending, ending_of};
     ghost use Rattle.vr_wire.specs.Frames.{IsShort};
 
     ghost Value = { Ending WireFault };

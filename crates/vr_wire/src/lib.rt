@@ -15,7 +15,7 @@
 //! further message is a line in each of its tables, a reader in `specs/MessageReading`, and a clause in each table of
 //! `proofs/Messages`; a further command likewise in `Fields` and `Reading`.
 //!
-//! Only tested: nothing; `frames.rows` of `worked_bytes` cuts each stream at each byte. By its code alone: what bytes
+//! Only tested: nothing; `frames.rows` of `tests_bytes` cuts each stream at each byte. By its code alone: what bytes
 //! of strangers can ask for. Entries are judged whole before memory is asked for, so those of no message ask for none;
 //! those of a message ask once, at most 68 bytes for each of the body, since a command has its input image in place,
 //! and once more for the image of each change. A checkpoint's lists grow while they are read: at most ten bytes for

@@ -4,21 +4,21 @@ use Rattle.std.specs.Prelude.{IfOk, MatchResult}
 use Rattle.std.specs.List.{slice_get}
 use Rattle.std.proofs.lemmas.List.{length-map}
 use Rattle.il_model.specs.declared.command.Command.{Command}
-use Rattle.il_model.specs.Text.{Text}
-use Rattle.debugger.specs.Owned.{Owned, cold_owned}
-use Rattle.debugger.specs.Outcome.{outcome, answers_from}
+use Rattle.il_model.specs.Program.{Program}
+use Rattle.ctl_debugger.specs.Owned.{Owned, cold_owned}
+use Rattle.ctl_debugger.specs.Outcome.{outcome, answers_from}
 use Rattle.vr_model.specs.Logs.{Request}
 use Rattle.vr_model.specs.Choices.{commands}
 use Rattle.vr_model.specs.Checkpoints.{request_of, requests_of}
 use Rattle.vr_model.specs.Report.{Each, IsReleased, report}
 use Rattle.vr_core.specs.Answers.{last_of, answer_to}
 use Rattle.vr_core.specs.StandsFor.{member, IsSavedAs}
-use Rattle.schedules.specs.declared.event.WorldEvent.{WorldEvent}
-use Rattle.schedules.specs.declared.fault.WorldError.{WorldError}
-use Rattle.schedules.specs.declared.trace.Release as told
-use Rattle.schedules.specs.declared.trace.Trace.{Trace}
-use Rattle.schedules.specs.Standing.{release_of}
-use Rattle.schedules.specs.Traces.{IsTraced}
+use Rattle.vr_schedules.specs.declared.event.WorldEvent.{WorldEvent}
+use Rattle.vr_schedules.specs.declared.fault.WorldError.{WorldError}
+use Rattle.vr_schedules.specs.declared.trace.Release as told
+use Rattle.vr_schedules.specs.declared.trace.Trace.{Trace}
+use Rattle.vr_schedules.specs.Standing.{release_of}
+use Rattle.vr_schedules.specs.Traces.{IsTraced}
 use Rattle.vr_world.specs.Released.{StandsAtItsPlace, AllStandAtTheirPlaces}
 
 answer_from : (o : Owned) (cs : List Command) (j : ℕ) → j < length cs → slice_get (answers_from o cs) j ≡ Some (last_of (answers_from o (take (suc j) cs)))
@@ -58,7 +58,7 @@ each_made f P [] h (suc k) x e = absurd cc
 each_made f P (y ∷ ys) h zero x e = let same : y ≡ x = cc in subst (λ z. P (f z)) same h.0
 each_made f P (y ∷ ys) h (suc k) x e = each_made f P ys h.1 k x e
 
-module _ (f : ℕ) (Q : Text) (budget : ℕ) (events : List WorldEvent) where
+module _ (f : ℕ) (Q : Program) (budget : ℕ) (events : List WorldEvent) where
   released_at : (trace : Trace) (release : told.Release) (lengths : List ℕ) → IsReleased (answer_to Q budget) (requests_of trace.order.items) lengths (release_of release) → StandsAtItsPlace Q budget trace release
   released_at trace release lengths h =
       let order = requests_of trace.order.items in

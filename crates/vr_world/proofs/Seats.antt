@@ -14,10 +14,10 @@ use Rattle.vr_model.specs.World as world
 use Rattle.vr_model.specs.Steps.{Takes, TimesOut, Resends, Matters, acts}
 use Rattle.vr_model.specs.StandsFor.{AllStandFrom}
 use Rattle.vr_core.specs.StandsFor.{IsSavedAs}
-use Rattle.schedules.specs.Members.{Taken, Acts, ComesUp, IsTaken, FitsTaken, Does, by_rules, KeepsExecuted, failing_of, failing_left, MayEnd, is_lost}
-use Rattle.replica.specs.declared.fault.StepFault.{StepFault}
-use Rattle.replica.specs.declared.fault.StepFault.TheVariants as fault
-use Rattle.replica.specs.Stepped as step
+use Rattle.vr_schedules.specs.Members.{Taken, Acts, ComesUp, IsTaken, FitsTaken, Does, by_rules, KeepsExecuted, failing_of, failing_left, MayEnd, is_lost}
+use Rattle.vr_replica.specs.declared.fault.StepFault.{StepFault}
+use Rattle.vr_replica.specs.declared.fault.StepFault.TheVariants as fault
+use Rattle.vr_replica.specs.Stepped as step
 use Rattle.vr_world.specs.declared.shelf.Shelf.{Shelf}
 use Rattle.vr_world.specs.Shelves.{shelf_loads, shelf_saves}
 

@@ -1,7 +1,7 @@
 -- How a store in memory goes on.
 use Rattle.std.specs.Prelude.{◌≡◌, ℕ, Bool, true, false, Option, Some, None, if◌then◌else◌}
 use Rattle.vr_model.specs.declared.event.Stored.{Stored}
-use Rattle.schedules.specs.Members.{failing_of}
+use Rattle.vr_schedules.specs.Members.{failing_of}
 use Rattle.vr_world.specs.declared.shelf.Shelf.{Shelf}
 
 -- a load gives the view that it keeps, and never fails

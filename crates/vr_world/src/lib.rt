@@ -2,7 +2,7 @@
 //! `schedules` and the public calls of `replica`, and knows no rule of replication.
 //!
 //! ```rust
-//! use schedules::WorldEvent;
+//! use vr_schedules::WorldEvent;
 //! use vr_world::run_world;
 //!
 //! let events = [WorldEvent::Submit { client: 0, command }, WorldEvent::Deliver { message: 0 }];
@@ -16,7 +16,7 @@
 //! (`IsTraced`), and the report explains the run. Each answer that was released stands at its request's place among the
 //! answers of one controller to all commands of the trace's list (`AllStandAtTheirPlaces`).
 //!
-//! Only tested: nothing; a run of 200 scans with two view changes, a crash and a recovery stands in `worked_tool`
+//! Only tested: nothing; a run of 200 scans with two view changes, a crash and a recovery stands in `tests_tool`
 //! (`world_rows`), for checkpoints never, after every command and after every 64.
 #![tactic(auto)]
 

@@ -2,15 +2,15 @@
 
 ghost use Rattle.std.specs.Prelude.{IfOk, MatchResult};
 ghost use Rattle.vr_core.specs.StandsFor.{member, IsSavedAs};
-ghost use Rattle.replica.specs.Standing.{StandsFor};
-ghost use Rattle.schedules.specs.Traces.{AreNew, IsTraced, Fails};
+ghost use Rattle.vr_replica.specs.Standing.{StandsFor};
+ghost use Rattle.vr_schedules.specs.Traces.{AreNew, IsTraced, Fails};
 ghost use Rattle.vr_world.specs.Released.{AllStandAtTheirPlaces};
 
 use crate::seat::Seat;
 use il_model::Budget;
-use loader::Image;
-use replica::Replica;
-use schedules::{Trace, WorldError, WorldEvent, run_schedule};
+use il_loader::Image;
+use vr_replica::Replica;
+use vr_schedules::{Trace, WorldError, WorldEvent, run_schedule};
 use std::alloc::{AllocError, Global};
 use vr_model::Config;
 

@@ -1,8 +1,8 @@
 //! A replica as a member of a world.
 
 use crate::shelf::Shelf;
-use replica::{Replica, StepFault};
-use schedules::{Member, MemoryStore};
+use vr_replica::{Replica, StepFault};
+use vr_schedules::{Member, MemoryStore};
 use std::alloc::{AllocError, Global};
 use vr_model::{Event, Request, Sends};
 
@@ -14,7 +14,7 @@ pub(crate) struct Seat {
 
 impl Member for Seat {
     ghost use Rattle.vr_core.specs.StandsFor as core;
-    ghost use Rattle.replica.specs.Standing as replica;
+    ghost use Rattle.vr_replica.specs.Standing as replica;
 
     ghost IsSavedAs = { core.IsSavedAs };
 

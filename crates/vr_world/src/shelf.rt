@@ -1,7 +1,7 @@
 //! A store in memory, as the store of a replica.
 
-use replica::{StoreFault, ViewStore};
-use schedules::{Kept, MemoryStore};
+use vr_replica::{StoreFault, ViewStore};
+use vr_schedules::{Kept, MemoryStore};
 use vr_model::Stored;
 
 /// A store in memory for one step, and how often it failed in it.

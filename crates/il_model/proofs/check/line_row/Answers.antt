@@ -3,7 +3,7 @@ use Rattle.std.specs.Prelude.{map, Option, Result}
 use Rattle.il_model.specs.declared.kind.BlockKind.{BlockKind}
 use Rattle.il_model.specs.declared.typing.Effect.{Effect}
 use Rattle.il_model.specs.declared.typing.TypeFault.{TypeFault}
-use Rattle.il_model.specs.Text.{Text}
+use Rattle.il_model.specs.Program.{Program}
 use Rattle.il_model.specs.Resolved.{source_of, called_kind}
 use Rattle.il_model.specs.Typing.{source_row, arguments_fault, with_fault}
 use Rattle.il_model.specs.Settled.{as_settled}
@@ -16,7 +16,7 @@ returns c =
     let line = c.args.line.now in
     let row =
     c.source_row-row.ensures
-    ∙ ap (λ (P : Text). source_row P c.args.cr c.args.top c.args.depth line c.source_of.result) c.program.ensures
+    ∙ ap (λ (P : Program). source_row P c.args.cr c.args.top c.args.depth line c.source_of.result) c.program.ensures
     ∙ ap (source_row Q c.args.cr c.args.top c.args.depth line) c.source_of.ensures in
     let fault =
     c.arguments_fault.ensures

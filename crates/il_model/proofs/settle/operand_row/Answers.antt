@@ -1,7 +1,7 @@
 use Rattle.std.proofs.Common.{sym, ap, ◌∙◌, false}
 use Rattle.il_model.specs.declared.value.Ty.{Ty}
 use Rattle.il_model.specs.declared.typing.OperandKind.TheVariants as kinds
-use Rattle.il_model.specs.Text.{Text}
+use Rattle.il_model.specs.Program.{Program}
 use Rattle.il_model.specs.Row.{row}
 use Rattle.il_model.specs.Typing.{source_row}
 use Rattle.il_model.proofs.SettledPrograms.{literal_row, other_row}
@@ -16,6 +16,6 @@ returns-in-Some c =
 pub returns-in-None : goal.returns-in-None
 returns-in-None c =
     c.source_row.ensures
-    ∙ ap (λ (Q : Text). source_row Q c.args.cr c.args.top c.args.depth c.args.line.now c.source_of.result) c.program.ensures
+    ∙ ap (λ (Q : Program). source_row Q c.args.cr c.args.top c.args.depth c.args.line.now c.source_of.result) c.program.ensures
     ∙ ap (source_row c.args.program.now c.args.cr c.args.top c.args.depth c.args.line.now) c.source_of.ensures
     ∙ sym (other_row c.args.program.now c.args.cr c.args.top c.args.depth c.args.line.now (sym c.requires ∙ c.in-None.is))

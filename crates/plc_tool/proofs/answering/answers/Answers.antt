@@ -1,5 +1,5 @@
 use Rattle.std.proofs.Common.{ap, ◌∙◌}
-use Rattle.debugger.specs.Owned.{Owned}
+use Rattle.ctl_debugger.specs.Owned.{Owned}
 use Rattle.plc_tool.specs.Named.{answers_by}
 use Rattle.plc_tool.proofs.answering.answers.Goals as goal
 

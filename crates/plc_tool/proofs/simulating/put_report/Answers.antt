@@ -1,5 +1,5 @@
 use Rattle.std.proofs.Common.{subst}
-use Rattle.schedules.specs.Traces.{IsTraced}
+use Rattle.vr_schedules.specs.Traces.{IsTraced}
 use Rattle.vr_core.specs.StandsFor.{member, IsSavedAs}
 use Rattle.plc_tool.proofs.Reported.{is_simulated, is_cut_short}
 use Rattle.plc_tool.proofs.simulating.put_report.Goals as goal

@@ -1,5 +1,5 @@
 use Rattle.std.proofs.Common.{refl, subst}
-use Rattle.il_model.specs.Text.{Text}
+use Rattle.il_model.specs.Program.{Program}
 use Rattle.vr_model.specs.World.{first_replica}
 use Rattle.vr_core.specs.StandsFor.{StandsFor, member}
 use Rattle.vr_recovery.proofs.Restarting.{begins_anew}
@@ -9,5 +9,5 @@ pub returns : goal.returns
 returns c =
     let core = c.args.core.now in
     begins_anew core c.in_ok-begun.begun _ c.args.stored_view c.args.nonce
-    (subst (λ (Q : Text). StandsFor c.in_ok-begun.begun (member core.config.f core.number Q core.budget.instructions) first_replica) c.in_ok-image.ensures c.in_ok-begun.ensures)
+    (subst (λ (Q : Program). StandsFor c.in_ok-begun.begun (member core.config.f core.number Q core.budget.instructions) first_replica) c.in_ok-image.ensures c.in_ok-begun.ensures)
     refl c.in_ok-responses.ensures.items

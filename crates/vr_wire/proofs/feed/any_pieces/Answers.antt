@@ -1,5 +1,5 @@
 use Rattle.vr_wire.specs.Feeding.{frames}
-use Rattle.il_model.proofs.Streams.{one_stream}
+use Rattle.io_model.proofs.Streams.{one_stream}
 use Rattle.vr_wire.proofs.Pieces.{readable}
 use Rattle.vr_wire.proofs.feed.any_pieces.Goals as goal
 

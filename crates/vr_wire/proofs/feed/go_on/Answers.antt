@@ -1,5 +1,5 @@
 use Rattle.std.proofs.Common.{ℕ, ◌++◌, ◌∷◌, [], List, refl, subst}
-use Rattle.il_model.specs.Stream.{Rest, Took, ending_of}
+use Rattle.io_model.specs.Stream.{Rest, Took, ending_of}
 use Rattle.vr_model.specs.declared.message.Message.{Message}
 use Rattle.vr_wire.specs.Frames.{IsPartial, IsBroken}
 use Rattle.vr_wire.specs.Shown.{IsWhole}

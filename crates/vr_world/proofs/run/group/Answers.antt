@@ -1,7 +1,7 @@
 use Rattle.std.proofs.Common.{subst}
 use Rattle.vr_model.specs.World.{first_replica}
 use Rattle.vr_core.specs.StandsFor.{member}
-use Rattle.replica.specs.Standing.{StandsFor}
+use Rattle.vr_replica.specs.Standing.{StandsFor}
 use Rattle.vr_world.specs.declared.seat.Seat.{Seat}
 use Rattle.vr_world.proofs.Groups.{one_more_member}
 use Rattle.vr_world.proofs.run.group.Goals as goal

@@ -1,5 +1,5 @@
 use Rattle.vr_core.specs.StandsFor.{member}
-use Rattle.replica.specs.Standing.{StandsFor}
+use Rattle.vr_replica.specs.Standing.{StandsFor}
 use Rattle.vr_world.specs.declared.seat.Seat.{Seat}
 use Rattle.vr_world.proofs.Groups.{AreNewBelow}
 use Rattle.vr_world.proofs.run.group.Given as goal

@@ -1,5 +1,5 @@
 use Rattle.std.proofs.Common.{refl, inl}
-use Rattle.debugger.specs.declared.snap_error.SnapError.TheVariants.{BadShape}
+use Rattle.ctl_debugger.specs.declared.snap_error.SnapError.TheVariants.{BadShape}
 use Rattle.vr_core.proofs.Restoring.{begun_none, not_begun}
 use Rattle.vr_core.proofs.state.Core.begun_already.Goals as goal
 

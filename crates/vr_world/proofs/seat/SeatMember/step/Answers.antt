@@ -1,4 +1,4 @@
-use Rattle.replica.specs.Standing.{StandsFor}
+use Rattle.vr_replica.specs.Standing.{StandsFor}
 use Rattle.vr_world.specs.declared.shelf.Shelf.{Shelf}
 use Rattle.vr_world.proofs.Seats.{went, was_lost, sent_nothing}
 use Rattle.vr_world.proofs.seat.SeatMember.step.Goals as goal

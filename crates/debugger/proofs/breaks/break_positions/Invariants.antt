@@ -1,6 +1,0 @@
-use Rattle.std.proofs.Common.{◌≡◌, ◌++◌, drop}
-use Rattle.debugger.proofs.Flags.{flagged}
-use Rattle.debugger.proofs.breaks.break_positions.Given as goal
-
-abbrev pub invariant-loop-position : goal.invariant-loop-position
-invariant-loop-position l = l.positions.items ++ flagged l.position (drop l.position l.flags) ≡ flagged 0 l.flags

@@ -1,6 +1,0 @@
-use Rattle.std.proofs.Common.{rules}
-use Rattle.debugger.proofs.Answered.{answered}
-use Rattle.debugger.proofs.controller.Controller.apply.Goals as goal
-
-pub returns-clause-runs : goal.returns-clause-runs
-returns-clause-runs c = answered _ c.args.self.now c.args.command.now _ c.self.view_is c.lawful.ensures.typed c.self.invariant.cycle.suits c.whole_inputs.ensures (search rules)

@@ -1,5 +1,0 @@
-use Rattle.debugger.proofs.SavedAgain.{restored_same}
-use Rattle.debugger.proofs.restores_the_same.Goals as goal
-
-pub returns : goal.returns
-returns c = restored_same c.snapshots_tell_instances.ensures

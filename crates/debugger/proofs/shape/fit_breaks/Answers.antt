@@ -1,5 +1,0 @@
-use Rattle.controller_model.proofs.Rising.{breaks_fit}
-use Rattle.debugger.proofs.shape.fit_breaks.Goals as goal
-
-pub loop-position-init : goal.loop-position-init
-loop-position-init c = breaks_fit c.args.end c.args.positions.now

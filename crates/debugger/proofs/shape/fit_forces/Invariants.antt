@@ -1,7 +1,0 @@
-use Rattle.std.proofs.Common.{◌≡◌, drop}
-use Rattle.controller_model.proofs.Rising.{forces_from}
-use Rattle.controller_model.specs.Snapshots.{fit_forces}
-use Rattle.debugger.proofs.shape.fit_forces.Given as goal
-
-abbrev pub invariant-loop-forced : goal.invariant-loop-forced
-invariant-loop-forced l = forces_from l.least (drop l.forced-index l.forces) ≡ fit_forces l.forces

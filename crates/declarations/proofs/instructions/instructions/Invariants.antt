@@ -1,7 +1,0 @@
-use Rattle.std.proofs.Common.{◌≡◌, [], drop, map}
-use Rattle.il_reader.specs.Grammar.{line}
-use Rattle.declarations.specs.Walk.{instruct, each}
-use Rattle.declarations.proofs.instructions.instructions.Given as goal
-
-abbrev pub invariant-loop-written : goal.invariant-loop-written
-invariant-loop-written l = each (instruct l.known) l.code.items (drop l.written-index (map line l.lines)) ≡ each (instruct l.known) [] (map line l.lines)

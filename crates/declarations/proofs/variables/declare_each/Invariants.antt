@@ -1,7 +1,0 @@
-use Rattle.std.proofs.Common.{◌≡◌, drop, map}
-use Rattle.il_reader.specs.Grammar.{declaration}
-use Rattle.declarations.specs.Walk.{declare, each}
-use Rattle.declarations.proofs.variables.declare_each.Given as goal
-
-abbrev pub invariant-loop-d : goal.invariant-loop-d
-invariant-loop-d l = each declare l.known (drop l.d-index (map declaration l.block)) ≡ each declare l.fn.known (map declaration l.block)

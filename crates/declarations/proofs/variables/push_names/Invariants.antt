@@ -1,7 +1,0 @@
-use Rattle.std.proofs.Common.{◌≡◌, drop, map}
-use Rattle.il_reader.specs.Tokens.{token}
-use Rattle.declarations.specs.Walk.{declare_name, each}
-use Rattle.declarations.proofs.variables.push_names.Given as goal
-
-abbrev pub invariant-loop-name : goal.invariant-loop-name
-invariant-loop-name l = each (declare_name l.plan) l.known (drop l.name-index (map token l.names)) ≡ each (declare_name l.plan) l.fn.known (map token l.names)

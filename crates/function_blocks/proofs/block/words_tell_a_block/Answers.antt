@@ -1,5 +1,0 @@
-use Rattle.function_blocks.proofs.Known.{block_same}
-use Rattle.function_blocks.proofs.block.words_tell_a_block.Goals as goal
-
-pub returns : goal.returns
-returns c = block_same

@@ -1,8 +1,0 @@
-use Rattle.std.proofs.Common.{rules}
-use Rattle.function_blocks.specs.Counters.{counter_words}
-use Rattle.function_blocks.proofs.SavedWords.{read_back}
-use Rattle.function_blocks.proofs.Counters.{counter_in, counter_back}
-use Rattle.function_blocks.proofs.counter.CounterStateBlockState.of_words.Goals as goal
-
-pub returns-clause-known : goal.returns-clause-known
-returns-clause-known c = λ s fits same. read_back counter_in counter_words _ s _ (search rules) same (counter_back s fits)

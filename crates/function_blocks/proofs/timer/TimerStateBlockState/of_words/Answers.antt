@@ -1,8 +1,0 @@
-use Rattle.std.proofs.Common.{rules}
-use Rattle.function_blocks.specs.Timers.{timer_words}
-use Rattle.function_blocks.proofs.SavedWords.{read_back}
-use Rattle.function_blocks.proofs.Timers.{timer_in, timer_back}
-use Rattle.function_blocks.proofs.timer.TimerStateBlockState.of_words.Goals as goal
-
-pub returns-clause-known : goal.returns-clause-known
-returns-clause-known c = λ s fits same. read_back timer_in timer_words _ s _ (search rules) same (timer_back s fits)

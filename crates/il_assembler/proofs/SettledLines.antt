@@ -1,0 +1,97 @@
+-- The instructions of a program and of its typed program, side by side.
+use Rattle.std.proofs.Common.{◌≡◌, ℕ, zero, suc, ◌+◌, ◌≤◌, List, [], ◌∷◌, length, Option, Some, Ok, refl, sym, ap, ◌∙◌, arith}
+use Rattle.std.specs.Prelude.{slice_get, Bool, ◌||◌}
+use Rattle.std.specs.List.{AllByRecursion, list_any}
+use Rattle.std.specs.Option.{option_map}
+use Rattle.std.proofs.lemmas.List.{length-map}
+use Rattle.std.proofs.lemmas.Option.{slice_get_within}
+use Rattle.il_model.specs.declared.value.Ty.{Ty}
+use Rattle.il_model.specs.declared.program.Instr.{Instr}
+use Rattle.il_model.specs.Program.{Program}
+use Rattle.il_model.specs.Typing.{shape_at, typing_end}
+use Rattle.il_model.specs.Marks.{with_mark, marks_from, word_count, words_in, address_of}
+use Rattle.il_model.specs.Image.{is_long_line}
+use Rattle.il_model.specs.Settled.{settled_argument, settled_line, typed_program_of, IsTypedProgramOf}
+use Rattle.il_model.proofs.SettledPrograms.{some_is, typed_program}
+use Rattle.il_model.proofs.TypedLines.{bind_ok, ok_before}
+use Rattle.il_model.proofs.Calls.{IsTypedLine, typed_lines, words_few}
+use Rattle.il_assembler.specs.Encoded.{HasFewArguments}
+
+-- each of the second is one of the first with its bare numbers typed
+abbrev pub AreSettledLines : List Instr → List Instr → Type 0
+AreSettledLines [] [] = Unit {0}
+AreSettledLines (p ∷ ps) (q ∷ qs) = ((cr : Option Ty) × (q ≡ settled_line cr p)) × AreSettledLines ps qs
+AreSettledLines ps qs = ⊥
+
+abbrev IsSettledAt : List Instr → List Instr → Type 0
+IsSettledAt ps qs = (n : ℕ) (p : Instr) → slice_get ps n ≡ Some p → (cr : Option Ty) × (slice_get qs n ≡ Some (settled_line cr p))
+
+lines_by : (ps qs : List Instr) → length qs ≡ length ps → IsSettledAt ps qs → AreSettledLines ps qs
+lines_by [] [] len at = tt
+lines_by [] (q ∷ qs) len at = absurd (omega (arith, len))
+lines_by (p ∷ ps) [] len at = absurd (omega (arith, len))
+lines_by (p ∷ ps) (q ∷ qs) len at = let here = at zero p refl in ((here.0, some_is q (settled_line here.0 p) here.1), lines_by ps qs (omega (arith, len)) (λ n x e. at (suc n) x e))
+
+settled_at : (P Q : Program) → IsTypedProgramOf P Q → IsSettledAt P.code Q.code
+settled_at P Q is n p here =
+    let all = bind_ok (shape_at Q (length Q.code)) (typing_end Q) tt is.typed in
+    let sh = ok_before Q (length Q.code) all.0 all.1 n (omega (arith, slice_get_within P.code n p here, is.same.count)) in
+    (sh.0.cr, is.placed n sh.0 sh.1 ∙ ap (option_map (settled_line sh.0.cr)) here)
+
+pub settled_lines : (P Q : Program) → typed_program_of P ≡ Ok Q → AreSettledLines P.code Q.code
+settled_lines P Q e = let is = typed_program P Q e in lines_by P.code Q.code is.same.count (settled_at P Q is)
+
+-- ---- the same labels at the same addresses
+
+same_count : (cr : Option Ty) (p q : Instr) → q ≡ settled_line cr p → word_count p ≡ word_count q
+same_count cr p q e = sym (ap word_count e ∙ ap (λ (k : ℕ). 1 + k) (length-map p.arguments settled_argument))
+
+pub same_words : (ps qs : List Instr) → AreSettledLines ps qs → words_in ps ≡ words_in qs
+same_words [] [] are = refl
+same_words [] (q ∷ qs) are = absurd are
+same_words (p ∷ ps) [] are = absurd are
+same_words (p ∷ ps) (q ∷ qs) are =
+    ap (λ (k : ℕ). k + words_in ps) (same_count are.0.0 p q are.0.1) ∙ ap (λ (k : ℕ). word_count q + k) (same_words ps qs are.1)
+
+pub same_address : (ps qs : List Instr) (n : ℕ) → AreSettledLines ps qs → address_of ps n ≡ address_of qs n
+same_address [] [] n are = refl
+same_address [] (q ∷ qs) n are = absurd are
+same_address (p ∷ ps) [] n are = absurd are
+same_address (p ∷ ps) (q ∷ qs) zero are = refl
+same_address (p ∷ ps) (q ∷ qs) (suc n) are =
+    ap (λ (k : ℕ). k + address_of ps n) (same_count are.0.0 p q are.0.1) ∙ ap (λ (k : ℕ). word_count q + k) (same_address ps qs n are.1)
+
+pub same_marks : (n : ℕ) (ps qs : List Instr) → AreSettledLines ps qs → marks_from n ps ≡ marks_from n qs
+same_marks n [] [] are = refl
+same_marks n [] (q ∷ qs) are = absurd are
+same_marks n (p ∷ ps) [] are = absurd are
+same_marks n (p ∷ ps) (q ∷ qs) are =
+    ap (λ (k : ℕ). with_mark n p.label (marks_from (n + k) ps)) (same_count are.0.0 p q are.0.1)
+    ∙ ap (with_mark n p.label) (same_marks (n + word_count q) ps qs are.1)
+    ∙ ap (λ (line : Instr). with_mark n line.label (marks_from (n + word_count q) qs)) (sym are.0.1)
+
+-- ---- the same operators
+
+pub same_long : (ps qs : List Instr) → AreSettledLines ps qs → list_any is_long_line ps ≡ list_any is_long_line qs
+same_long [] [] are = refl
+same_long [] (q ∷ qs) are = absurd are
+same_long (p ∷ ps) [] are = absurd are
+same_long (p ∷ ps) (q ∷ qs) are =
+    ap (λ (b : Bool). b || list_any is_long_line ps) (sym (ap is_long_line are.0.1)) ∙ ap (λ (b : Bool). is_long_line q || b) (same_long ps qs are.1)
+
+-- ---- few arguments
+
+few_line : (Q : Program) (q : Instr) → IsTypedLine Q q → word_count q ≤ 9
+few_line Q q is = let few = words_few Q (q ∷ []) (is, tt) in omega arith
+
+few_lines : (Q : Program) (ps qs : List Instr) → AreSettledLines ps qs → AllByRecursion (IsTypedLine Q) qs → AllByRecursion HasFewArguments ps
+few_lines Q [] [] are all = tt
+few_lines Q [] (q ∷ qs) are all = absurd are
+few_lines Q (p ∷ ps) [] are all = absurd are
+few_lines Q (p ∷ ps) (q ∷ qs) are all =
+    let few : length p.arguments ≤ 8 = omega (arith, few_line Q q all.0, same_count are.0.0 p q are.0.1) in
+    (few, few_lines Q ps qs are.1 all.1)
+
+-- a typed program's instructions have few arguments, and so have those of the program
+pub few_arguments : (P Q : Program) → typed_program_of P ≡ Ok Q → AllByRecursion HasFewArguments P.code
+few_arguments P Q e = few_lines Q P.code Q.code (settled_lines P Q e) (typed_lines Q (typed_program P Q e).typed)

@@ -1,0 +1,42 @@
+-- What an assembler gives for a program.
+use Rattle.std.specs.Prelude.{◌≡◌, ℕ, List, Result, Ok, Err}
+use Rattle.il_model.specs.declared.typing.TypeFault.{TypeFault}
+use Rattle.il_model.specs.Program.{Program}
+use Rattle.il_model.specs.Typing.{fault_number}
+use Rattle.il_model.specs.Settled.{IsTypedProgramOf}
+use Rattle.il_model.specs.Image.{spelling}
+use Rattle.il_model.specs.Fits.{IsImage}
+use Rattle.il_assembler.specs.declared.fault.AsmError.{AsmError}
+use Rattle.il_assembler.specs.declared.fault.AsmError.TheVariants as errors
+use Rattle.il_assembler.specs.FirstFault.{IsFirstFault}
+
+-- the bytes are the one spelling of the program's typed program
+abbrev pub IsSpelled : Program → List ℕ → Type 0
+IsSpelled P bytes = (Q : Program) × IsTypedProgramOf P Q × (bytes ≡ spelling Q)
+
+-- the bytes spell a program that has an image, and so are loaded again
+abbrev pub IsImageBytes : List ℕ → Type 0
+IsImageBytes bytes = (Q : Program) × IsImage Q × (bytes ≡ spelling Q)
+
+-- what a call answered, its bytes seen by view, is this, unless memory ran out
+abbrev pub Answers : {X : Type 0} → (X → List ℕ) → Result X AsmError → Result (List ℕ) (TypeFault × ℕ) → Type 0
+Answers view (Ok x) r = r ≡ Ok (view x)
+Answers view (Err (errors.Fault f n)) r = r ≡ Err (f, n)
+Answers view (Err errors.Memory) r = Unit {0}
+
+-- what a typed program spells is given, unless memory runs out
+abbrev pub IsGiven : {X : Type 0} → Program → (X → List ℕ) → Result X AsmError → Type 0
+IsGiven P view r = (Q : Program) → IsTypedProgramOf P Q → Answers view r (Ok (spelling Q))
+
+-- a fault that is told is the first of the program
+abbrev pub TellsFirst : {X : Type 0} → Program → Result X AsmError → Type 0
+TellsFirst P (Err (errors.Fault f n)) = IsFirstFault P n f
+TellsFirst P r = Unit {0}
+
+-- the first fault of the program is told, unless memory runs out
+abbrev pub IsTold : {X : Type 0} → Program → (X → List ℕ) → Result X AsmError → Type 0
+IsTold P view r = (n : ℕ) (f : TypeFault) → IsFirstFault P n f → Answers view r (Err (f, n))
+
+abbrev pub error_number : AsmError → ℕ
+error_number (errors.Fault fault instruction) = fault_number fault
+error_number errors.Memory = 9

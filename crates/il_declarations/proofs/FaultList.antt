@@ -1,0 +1,89 @@
+-- The faults of a text as one list, in the order of the text.
+use Rattle.std.specs.Prelude.{◌≡◌, ◌⊎◌, ℕ, List, [], ◌∷◌, ◌++◌, length, Option, Some, None, is_none, Bool, not, nat_le, if◌then◌else◌}
+use Rattle.std.specs.List.{flat_map}
+use Rattle.il_model.specs.declared.program.Loc.{Loc}
+use Rattle.il_model.specs.Names.{is_reserved}
+use Rattle.il_model.specs.Literals.{literal_of}
+use Rattle.il_model.specs.Locations.{location_of}
+use Rattle.il_reader.specs.Tokens.{Token}
+use Rattle.il_reader.specs.Grammar.{OperandText, Constant, Direct, Named, Field, BehindText, Nothing, Given, Target, Opened, Called, OperationText, LineText, Labelled, Plain, NamesText, Located, More, DeclarationText, ProgramText}
+use Rattle.il_declarations.specs.declared.variables.DeclaredType.{DeclaredType}
+use Rattle.il_declarations.specs.declared.fault.DeclKind.{DeclKind}
+use Rattle.il_declarations.specs.declared.fault.DeclKind.TheVariants as kinds
+use Rattle.il_declarations.specs.declared.fault.FaultAt.{FaultAt}
+use Rattle.il_declarations.specs.Resolution.{capitals}
+use Rattle.il_declarations.specs.Declaring.{DeclaredName, names_in, declarations_of, names_of, type_in, location_in, is_declared, names_variable, names_instance, arguments_behind}
+use Rattle.il_declarations.specs.TextFaults.{has_no_room, is_no_place, is_overlapping, is_bad_start}
+
+-- ---- the faults of declarations
+
+abbrev pub when : Bool → DeclKind → ℕ → List FaultAt
+when b kind left = if b then record { kind = kind; left = left } ∷ [] else []
+
+-- what each thing gives, beside those before it
+unfoldable pub beside : {X Y : Type 0} → (List X → X → List Y) → List X → List X → List Y
+beside f before [] = []
+beside f before (x ∷ xs) = f before x ++ beside f (before ++ x ∷ []) xs
+
+abbrev pub name_faults : List DeclaredName → DeclaredName → List FaultAt
+name_faults before x =
+    when (is_declared before (capitals x.name.text)) kinds.Duplicate x.name.left
+    ++ (when (is_reserved (capitals x.name.text)) kinds.ReservedName x.name.left
+    ++ when (has_no_room (type_in x.by) before) kinds.TooMany x.name.left)
+
+abbrev pub place_faults : List DeclaredName → Option DeclaredType → Token → Option Loc → List FaultAt
+place_faults before type t o = when (is_no_place type o) kinds.BadLocation t.left ++ when (is_overlapping before o) kinds.Overlap t.left
+
+abbrev pub location_faults : List DeclaredName → Option DeclaredType → NamesText → List FaultAt
+location_faults before type (Located at) = place_faults before type at (location_of at.text)
+location_faults before type (More ts) = []
+
+abbrev pub start_faults : Option Loc → Option Token → Option DeclaredType → List FaultAt
+start_faults loc None type = []
+start_faults loc (Some t) type = when (is_bad_start loc t type) kinds.BadInitial t.left
+
+-- the faults of a declaration, with these names before it
+abbrev pub declaration_faults : List DeclaredName → DeclarationText → List FaultAt
+declaration_faults before d =
+    beside name_faults before (names_in d)
+    ++ (location_faults before (type_in d) d.names
+    ++ (when (is_none (type_in d)) kinds.UnknownType d.ty.left
+    ++ start_faults (location_in d.names) d.initial (type_in d)))
+
+abbrev pub faults_of_declarations : List DeclarationText → List FaultAt
+faults_of_declarations ds = beside (λ before d. declaration_faults (flat_map names_in before) d) [] ds
+
+-- ---- the faults of instructions
+
+abbrev pub operand_faults : List DeclaredName → OperandText → List FaultAt
+operand_faults names (Constant t) = when (is_none (literal_of t.text)) kinds.UnknownName t.left
+operand_faults names (Direct t) = when (is_none (location_of t.text)) kinds.BadLocation t.left
+operand_faults names (Named t) = when (not (names_variable names (capitals t.text))) kinds.UnknownName t.left
+operand_faults names (Field t f) = when (not (names_instance names (capitals t.text))) kinds.UnknownName t.left
+
+abbrev pub behind_faults : List DeclaredName → BehindText → List FaultAt
+behind_faults names Nothing = []
+behind_faults names (Given x) = operand_faults names x
+behind_faults names (Target t) = []
+behind_faults names (Opened None) = []
+behind_faults names (Opened (Some x)) = operand_faults names x
+behind_faults names (Called c) = when (not (names_instance names (capitals c.instance.text))) kinds.UnknownName c.instance.left
+
+abbrev pub operation_faults : List DeclaredName → Option OperationText → List FaultAt
+operation_faults names None = []
+operation_faults names (Some o) = behind_faults names o.behind ++ flat_map (λ a. operand_faults names a.operand) (arguments_behind o.behind)
+
+abbrev pub line_faults : List DeclaredName → List LineText → LineText → List FaultAt
+line_faults names before (Labelled t o) = when (is_reserved (capitals t.text)) kinds.ReservedName t.left ++ (when (nat_le 4096 (length before)) kinds.TooMany t.left ++ operation_faults names o)
+line_faults names before (Plain o) = when (nat_le 4096 (length before)) kinds.TooMany o.operator.left ++ operation_faults names (Some o)
+
+-- ---- the whole
+
+-- all faults of a text
+abbrev pub faults_of : ProgramText → List FaultAt
+faults_of p = faults_of_declarations (declarations_of p) ++ beside (line_faults (names_of p)) [] p.lines
+
+-- one of the things of a list
+abbrev pub Among : {X : Type 0} → X → List X → Type 0
+Among x [] = ⊥
+Among x (y ∷ ys) = (y ≡ x) ⊎ Among x ys

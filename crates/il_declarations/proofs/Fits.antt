@@ -1,0 +1,740 @@
+-- What a text declares has lawful forms: names, locations, initial values, operators with their letters, operands and arguments.
+use Rattle.std.proofs.Common.{◌≡◌, ℕ, suc, ◌<◌, ◌≤◌, Bool, true, false, cond, leb, ltb, List, [], ◌∷◌, ◌++◌, length, Option, Some, None, Result, Ok, Err, refl, sym, ap, subst, ◌∙◌, arith, ◌&&◌, ◌||◌, not, append_assoc}
+use Rattle.std.specs.Prelude.{ℤ, pos, is_some}
+use Rattle.std.specs.List.{AllByRecursion, list_all, position}
+use Rattle.std.specs.Option.{option_map}
+use Rattle.std.specs.Cmp.Lexicographic.{nat_list_eq_equiv}
+use Rattle.std.proofs.lemmas.List.{length-append, append-nil}
+use Rattle.std.proofs.lemmas.Bool.{lt-ltb, le-ltb, leb-false}
+use Rattle.il_model.specs.Limits.{program_of}
+use Rattle.il_model.specs.declared.value.Ty.{Ty}
+use Rattle.il_model.specs.declared.value.Ty.TheVariants as types
+use Rattle.il_model.specs.declared.value.Value.{Value}
+use Rattle.il_model.specs.declared.value.Value.TheVariants as values
+use Rattle.il_model.specs.declared.literal.Literal.{Literal}
+use Rattle.il_model.specs.declared.literal.Literal.TheVariants.{Bare, Typed}
+use Rattle.il_model.specs.declared.op.Op.{Op}
+use Rattle.il_model.specs.declared.op.Op.TheVariants as ops
+use Rattle.il_model.specs.declared.op.Modifier.{Modifier}
+use Rattle.il_model.specs.declared.words.Mnemonic.{Mnemonic}
+use Rattle.il_model.specs.declared.program.Loc.{Loc}
+use Rattle.il_model.specs.declared.program.Variable.{Variable}
+use Rattle.il_model.specs.declared.program.Instance.{Instance}
+use Rattle.il_model.specs.declared.program.Argument.{Argument}
+use Rattle.il_model.specs.declared.kind.BlockKind.{BlockKind}
+use Rattle.il_model.specs.declared.program.Operand.{Operand}
+use Rattle.il_model.specs.declared.program.Operand.TheVariants as operands
+use Rattle.il_model.specs.declared.program.Instr.{Instr}
+use Rattle.il_model.specs.declared.codes.Usage.{Usage}
+use Rattle.il_model.specs.declared.codes.OperandForm as usage
+use Rattle.il_model.specs.declared.codes.OperandForm.TheVariants as usages
+use Rattle.il_model.specs.Program.{Program, Declarations}
+use Rattle.il_model.specs.Values.{ty_of, number_of, typed_value, zero_of}
+use Rattle.il_model.specs.Literals.{literal_of}
+use Rattle.il_model.specs.Names.{same_name, is_reserved, is_lawful_name}
+use Rattle.il_model.specs.Resolved.{instance_in}
+use Rattle.il_model.specs.Words.{spells, look, mnemonic_of, mnemonic_table}
+use Rattle.il_model.specs.CodedOperands.{loc_code, IsCell}
+use Rattle.il_model.specs.Image.{type_code}
+use Rattle.il_model.specs.Areas.{area_of}
+use Rattle.il_model.specs.Typing.{is_writable_area}
+use Rattle.il_model.specs.Codes as codes_of
+use Rattle.il_model.specs.Codes.{is_new_name, is_taken, length_of, may_start_with, initial_of, usage_of, has_form, allowed_by, formed_by, is_empty}
+use Rattle.il_model.specs.Fits.{IsVariable, IsInstance, AreItems}
+use Rattle.il_model.specs.Lawful.{IsLabel}
+use Rattle.il_model.specs.Declarable.{IsOperand, as_value, IsArgument, IsInstruction, IsDeclared}
+use Rattle.il_model.proofs.LiteralLaws.{IsInRange, literal_good, start_again}
+use Rattle.il_model.proofs.Positions.{position_first, position_later, position_past}
+use Rattle.il_reader.specs.declared.contents.Operator.{Operator}
+use Rattle.il_reader.specs.declared.operations.Form.{Form}
+use Rattle.il_reader.specs.declared.operations.Form.TheVariants as forms
+use Rattle.il_reader.specs.declared.lexeme.Sign.TheVariants as signs
+use Rattle.il_reader.specs.Tokens.{Token}
+use Rattle.il_reader.specs.Front.{is_sign}
+use Rattle.il_reader.specs.Grammar.{OperandText, Constant, Direct, Named, Field, ArgumentText, arguments_of, BehindText, Nothing, Given, Target, Opened, Called, OperationText, LineText, Labelled, Plain, NamesText, Located, More, DeclarationText, ProgramText, form_of, closing, operator_of, operator_from}
+use Rattle.il_reader.specs.Spelling.{accepts, accepting, operator_before}
+use Rattle.il_reader.specs.Words.{IsWordText, IsWordName, AreWordNames, IsWordDeclaration, IsOperation, IsOptionalOperation, IsOperator, AreWords}
+use Rattle.il_declarations.specs.declared.fault.DeclKind.TheVariants as kinds
+use Rattle.il_declarations.specs.declared.fault.FaultAt.{FaultAt}
+use Rattle.il_declarations.specs.declared.variables.Plan.{Plan}
+use Rattle.il_declarations.specs.declared.variables.DeclaredType.{DeclaredType}
+use Rattle.il_declarations.specs.declared.variables.DeclaredType.TheVariants.{Elementary, Block}
+use Rattle.il_model.specs.Locations as written
+use Rattle.il_declarations.specs.Resolution.{capitals, declared_type, suits, variable, same_type, fitting, is_input, written_value, opens, with_opening}
+use Rattle.il_declarations.specs.Walk.{◌>>=◌, each, refused, nothing, has_name, has_instance, is_full, new_name, free_loc, free_location, found_type, known_type, fitted, elementary_value, first_value, planned_value, with_declared, declare_name, declare_located, declare_listed, declare_by, declare, declare_block, direct, constant, argument_of, pushed_argument, behind_arguments, behind_of, instruction_of, room, label_of, instruct_labelled, instruct_plain, instruct}
+use Rattle.il_declarations.specs.Resolution as resolution
+use Rattle.il_declarations.specs.Walk as walk
+use Rattle.il_declarations.proofs.Capitals.{capitals_lawful, capitals_length}
+use Rattle.il_model.proofs.CodedOperands.{loc_small, located_again}
+use Rattle.il_model.proofs.WrittenLocations.{location_cell}
+
+abbrev done : {A : Type 0} → A → Result A FaultAt
+done x = Ok x
+
+ok_is : {A : Type 0} (x y : A) → done x ≡ done y → x ≡ y
+ok_is x y e = cc
+
+-- the value of a step that did not fail
+bind_ok : {A B : Type 0} (r : Result A FaultAt) (f : A → Result B FaultAt) (y : B) → (r >>= f) ≡ Ok y → (x : A) × (r ≡ Ok x) × (f x ≡ Ok y)
+bind_ok (Ok x) f y e = (x, refl, e)
+bind_ok (Err d) f y e = absurd cc
+
+-- what each step keeps, all keep
+each_keeps : {X Y : Type 0} (P : Y → Type 0) (Q : X → Type 0) (step : Y → X → Result Y FaultAt) → ((y : Y) (x : X) (z : Y) → P y → Q x → step y x ≡ Ok z → P z)
+    → (y : Y) (xs : List X) (z : Y) → P y → AllByRecursion Q xs → each step y xs ≡ Ok z → P z
+unfolding each
+each_keeps P Q step keeps y [] z p q e = subst P (ok_is y z e) p
+each_keeps P Q step keeps y (x ∷ xs) z p q e =
+    let m = bind_ok (step y x) (λ w. each step w xs) z e in
+    each_keeps P Q step keeps m.0 xs z (keeps y x m.0 p q.0 m.1) q.1 m.2
+
+items_push : {X : Type 0} (I : List X → X → Type 0) (seen xs : List X) (x : X) → AreItems I seen xs → I (seen ++ xs) x → AreItems I seen (xs ++ x ∷ [])
+items_push {X} I seen [] x all here = (subst (λ (s : List X). I s x) (append-nil seen) here, tt)
+items_push {X} I seen (y ∷ ys) x all here = (all.0, items_push I (seen ++ y ∷ []) ys x all.1 (subst (λ (s : List X). I s x) (sym (append_assoc seen (y ∷ []) ys)) here))
+
+-- ---- variables and instances
+
+pub record Fine (known : Declarations) : Type 0 where
+  pub variables : AreItems IsVariable [] known.variables
+  pub variables_few : length known.variables ≤ 512
+  pub instances : AreItems (IsInstance known.variables) [] known.instances
+  pub instances_few : length known.instances ≤ 128
+
+-- what a name is that was not refused
+record IsNew (type : Option DeclaredType) (known : Declarations) (t : Token) (name : List ℕ) : Type 0 where
+  is : capitals t.text ≡ name
+  no_variable : has_name known (capitals t.text) ≡ false
+  no_instance : has_instance known (capitals t.text) ≡ false
+  free : is_reserved (capitals t.text) ≡ false
+  room : is_full type known ≡ false
+
+new_is : (type : Option DeclaredType) (known : Declarations) (t : Token) (name : List ℕ) → new_name type known t ≡ Ok name → IsNew type known t name
+unfolding new_name
+new_is type known t name e = chosen (has_name known (capitals t.text)) (has_instance known (capitals t.text)) (is_reserved (capitals t.text)) (is_full type known) refl refl refl refl e
+  where
+    chosen : (a i b c : Bool) → has_name known (capitals t.text) ≡ a → has_instance known (capitals t.text) ≡ i → is_reserved (capitals t.text) ≡ b → is_full type known ≡ c
+        → cond (a || i) (refused kinds.Duplicate t) (cond b (refused kinds.ReservedName t) (cond c (refused kinds.TooMany t) (Ok (capitals t.text)))) ≡ Ok name → IsNew type known t name
+    chosen true i b c f j g h e = absurd cc
+    chosen false true b c f j g h e = absurd cc
+    chosen false false true c f j g h e = absurd cc
+    chosen false false false true f j g h e = absurd cc
+    chosen false false false false f j g h e = record { is = ok_is (capitals t.text) name e; no_variable = f; no_instance = j; free = g; room = h }
+
+more_variables : (type : Ty) (known : Declarations) → is_full (Some (Elementary type)) known ≡ false → length known.variables < 512
+more_variables type known e = leb-false 512 (length known.variables) e
+
+more_instances : (kind : BlockKind) (known : Declarations) → is_full (Some (Block kind)) known ≡ false → length known.instances < 128
+more_instances kind known e = leb-false 128 (length known.instances) e
+
+type_again : (type : Ty) → codes_of.type_of (type_code type) ≡ Some type
+type_again types.Bool = refl
+type_again types.Int = refl
+type_again types.Dint = refl
+type_again types.Time = refl
+type_again types.Lint = refl
+
+-- a value that is made again of its own number at that place
+abbrev IsStart : Ty → Option Loc → Value → Type 0
+IsStart type loc v = initial_of type loc (number_of v) ≡ Some v
+
+record IsFreePlace (type : DeclaredType) (known : Declarations) (loc : Loc) : Type 0 where
+  place : IsCell loc
+  suits : suits (Some type) loc ≡ true
+  free : is_taken known.variables (loc_code loc) ≡ false
+
+long_enough : (t : Token) → IsWordText t.text → length_of (length (capitals t.text)) ≡ Some (length (capitals t.text))
+long_enough t word = let l = capitals_length t.text word in rw (lt-ltb 0 (length (capitals t.text)) l.0, lt-ltb (length (capitals t.text)) 33 l.1) refl
+
+-- a lawful name at a place that none has, with a first value
+variable_fits : (known : Declarations) (t : Token) (name : List ℕ) (type : Ty) (o : Option Loc) (v : Value) → IsWordText t.text → IsNew (Some (Elementary type)) known t name
+    → ((loc : Loc) → o ≡ Some loc → IsFreePlace (Elementary type) known loc) → IsStart type o v → IsVariable known.variables (variable name type o v)
+variable_fits known t name type o v word new place start =
+    subst (λ (n : List ℕ). IsVariable known.variables (variable n type o v)) new.is (by_place o place start)
+  where
+    lawful : is_lawful_name (capitals t.text) ≡ true
+    lawful = capitals_lawful t.text word new.free
+
+    fresh : is_new_name known.variables (capitals t.text) ≡ true
+    fresh = rw (lawful, new.no_variable) refl
+
+    by_place : (o : Option Loc) → ((loc : Loc) → o ≡ Some loc → IsFreePlace (Elementary type) known loc) → IsStart type o v → IsVariable known.variables (variable (capitals t.text) type o v)
+    by_place None place start = record { length = long_enough t word; name = fresh; type = type_again type; location = refl; location_small = omega arith; initial = start }
+    by_place (Some loc) place start =
+        let p = place loc refl in
+        record { length = long_enough t word; name = fresh; type = type_again type; location = located_again known.variables type loc p.place p.suits p.free; location_small = omega (arith, loc_small loc p.place); initial = start }
+
+abbrev instance : List ℕ → BlockKind → Instance
+instance name kind = record { name = name; kind = kind }
+
+-- a lawful name that no variable and no instance has
+instance_fits : (type : Option DeclaredType) (known : Declarations) (t : Token) (name : List ℕ) (kind : BlockKind) → IsWordText t.text → IsNew type known t name → IsInstance known.variables known.instances (instance name kind)
+instance_fits type known t name kind word new =
+    let lawful = capitals_lawful t.text word new.free in
+    subst (λ (n : List ℕ). IsInstance known.variables known.instances (instance n kind)) new.is (record { length = long_enough t word; name = rw (lawful, new.no_variable, new.no_instance) refl })
+
+-- what is found nowhere isn't the first, nor behind it
+not_found : {X : Type 0} (p : X → Bool) (x : X) (xs : List X) → is_some (position p (x ∷ xs)) ≡ false → (p x ≡ false) × (is_some (position p xs) ≡ false)
+not_found p x xs e = by_test (p x) refl
+  where
+    none_later : (o : Option ℕ) → is_some (option_map suc o) ≡ false → is_some o ≡ false
+    none_later None h = refl
+    none_later (Some k) h = absurd cc
+
+    by_test : (b : Bool) → p x ≡ b → (p x ≡ false) × (is_some (position p xs) ≡ false)
+    by_test true f = let found : true ≡ false = ap is_some (sym (position_first p x xs f)) ∙ e in absurd cc
+    by_test false f = (f, none_later (position p xs) (ap is_some (sym (position_later p x xs f)) ∙ e))
+
+-- an instance stays new beside one variable more, which has another name
+instance_stays : (vs : List Variable) (v : Variable) (seen : List Instance) (x : Instance) → same_name x.name v.name ≡ false → IsInstance vs seen x → IsInstance (vs ++ v ∷ []) seen x
+instance_stays vs v seen x differs is =
+    let other : same_name v.name x.name ≡ false = nat_list_eq_equiv.symm v.name x.name ∙ differs in
+    record { length = is.length; name = ap (λ (o : Option ℕ). (is_lawful_name x.name && not (is_some o)) && not (is_some (instance_in seen x.name))) (position_past (λ (w : Variable). same_name w.name x.name) vs v other) ∙ is.name }
+
+instances_stay : (vs : List Variable) (v : Variable) (seen xs : List Instance) → is_some (instance_in xs v.name) ≡ false → AreItems (IsInstance vs) seen xs → AreItems (IsInstance (vs ++ v ∷ [])) seen xs
+instances_stay vs v seen [] none all = tt
+instances_stay vs v seen (x ∷ xs) none all =
+    let apart = not_found (λ (w : Instance). same_name w.name v.name) x xs none in
+    (instance_stays vs v seen x apart.0 all.0, instances_stay vs v (seen ++ x ∷ []) xs apart.1 all.1)
+
+abbrev nowhere : Option Loc
+nowhere = None
+
+abbrev somewhere : Loc → Option Loc
+somewhere loc = Some loc
+
+same_loc : (x y : Loc) → somewhere x ≡ somewhere y → x ≡ y
+same_loc x y e = cc
+
+no_place : (loc : Loc) → nowhere ≡ somewhere loc → ⊥
+no_place loc e = absurd cc
+
+-- ---- initial values
+
+or_true : (b : Bool) → (b || true) ≡ true
+or_true true = refl
+or_true false = refl
+
+not_false : (b : Bool) → not b ≡ false → b ≡ true
+not_false true e = refl
+not_false false e = absurd cc
+
+zero_made : (type : Ty) → typed_value type (pos 0) ≡ Some (zero_of type)
+zero_made types.Bool = refl
+zero_made types.Int = refl
+zero_made types.Dint = refl
+zero_made types.Time = refl
+zero_made types.Lint = refl
+
+zero_may : (type : Ty) (loc : Option Loc) → may_start_with loc (zero_of type) ≡ true
+zero_may type None = refl
+zero_may types.Bool (Some loc) = or_true (is_writable_area (area_of loc))
+zero_may types.Int (Some loc) = or_true (is_writable_area (area_of loc))
+zero_may types.Dint (Some loc) = or_true (is_writable_area (area_of loc))
+zero_may types.Time (Some loc) = or_true (is_writable_area (area_of loc))
+zero_may types.Lint (Some loc) = or_true (is_writable_area (area_of loc))
+
+abbrev one_value : Value → Option Value
+one_value v = Some v
+
+value_is : (x y : Value) → one_value x ≡ one_value y → x ≡ y
+value_is x y e = cc
+
+fitting_made : (type : Ty) (o : Option Literal) (v : Value) → fitting type o ≡ Some v → (z : ℤ) × (typed_value type z ≡ Some v)
+fitting_made type None v e = absurd cc
+fitting_made type (Some (Bare z)) v e = (z, e)
+fitting_made type (Some (Typed w)) v e = chosen (same_type (ty_of w) type) e
+  where
+    chosen : (b : Bool) → cond b (typed_value type (number_of w)) None ≡ Some v → (z : ℤ) × (typed_value type z ≡ Some v)
+    chosen true h = (number_of w, h)
+    chosen false h = absurd cc
+
+may_written : (loc : Option Loc) (v : Value) → is_input loc ≡ false → may_start_with loc v ≡ true
+may_written None v e = refl
+may_written (Some loc) v e = rw (not_false (is_writable_area (area_of loc)) e) refl
+
+written_start : (type : Ty) (loc : Option Loc) (t : Token) (v : Value) → written_value type loc t ≡ Some v → IsStart type loc v
+written_start type loc t v e = chosen (is_input loc) refl e
+  where
+    chosen : (b : Bool) → is_input loc ≡ b → cond b None (fitting type (literal_of t.text)) ≡ Some v → IsStart type loc v
+    chosen true f h = absurd cc
+    chosen false f h = let m = fitting_made type (literal_of t.text) v h in start_again type loc m.0 v m.1 (may_written loc v f)
+
+fitted_is : (t : Token) (o : Option Value) (v : Value) → fitted t o ≡ Ok v → o ≡ Some v
+fitted_is t None v e = absurd cc
+fitted_is t (Some x) v e = ap one_value (ok_is x v e)
+
+elementary_start : (type : Ty) (loc : Option Loc) (o : Option Token) (v : Value) → elementary_value type loc o ≡ Ok v → IsStart type loc v
+elementary_start type loc None v e = subst (IsStart type loc) (ok_is (zero_of type) v e) (start_again type loc (pos 0) (zero_of type) (zero_made type) (zero_may type loc))
+elementary_start type loc (Some t) v e = written_start type loc t v (fitted_is t (written_value type loc t) v e)
+
+-- what a variable may start with; an instance starts with nothing
+abbrev Starts : DeclaredType → Option Loc → Value → Type 0
+Starts (Elementary type) loc v = IsStart type loc v
+Starts (Block kind) loc v = Unit {0}
+
+first_start : (type : DeclaredType) (loc : Option Loc) (o : Option Token) (v : Value) → first_value type loc o ≡ Ok v → Starts type loc v
+first_start (Elementary type) loc o v e = elementary_start type loc o v e
+first_start (Block kind) loc o v e = tt
+
+-- the value that was planned is the first value
+planned_is : (type : Ty) (o : Option Token) (v : Value) → elementary_value type None o ≡ Ok v → planned_value (Some (Elementary type)) o ≡ v
+planned_is type None v e = ok_is (zero_of type) v e
+planned_is type (Some t) v e = rw (fitted_is t (written_value type None t) v e) refl
+
+planned_start : (type : DeclaredType) (o : Option Token) (v : Value) → first_value type None o ≡ Ok v → Starts type None (planned_value (Some type) o)
+planned_start (Elementary type) o v e = subst (IsStart type None) (sym (planned_is type o v e)) (elementary_start type None o v e)
+planned_start (Block kind) o v e = tt
+
+-- ---- declarations
+
+abbrev plan : Option DeclaredType → Value → Plan
+plan type v = record { ty = type; initial = v }
+
+declared_fine : (type : DeclaredType) (v : Value) (known : Declarations) (t : Token) (name : List ℕ) (loc : Option Loc) → Fine known → IsWordText t.text → IsNew (Some type) known t name
+    → ((l : Loc) → loc ≡ Some l → IsFreePlace type known l) → Starts type loc v → Fine (with_declared (plan (Some type) v) known name loc (Some type))
+declared_fine (Elementary type) v known t name loc fine word new place start =
+    let more = more_variables type known new.room in
+    let none : is_some (instance_in known.instances name) ≡ false = subst (λ (n : List ℕ). is_some (instance_in known.instances n) ≡ false) new.is new.no_instance in
+    record {
+      variables = items_push IsVariable [] known.variables (variable name type loc v) fine.variables (variable_fits known t name type loc v word new place start);
+      variables_few = omega (arith, more, length-append known.variables (variable name type loc v ∷ []));
+      instances = instances_stay known.variables (variable name type loc v) [] known.instances none fine.instances;
+      instances_few = fine.instances_few;
+    }
+declared_fine (Block kind) v known t name loc fine word new place start =
+    let more = more_instances kind known new.room in
+    record {
+      variables = fine.variables;
+      variables_few = fine.variables_few;
+      instances = items_push (IsInstance known.variables) [] known.instances (instance name kind) fine.instances (instance_fits (Some (Block kind)) known t name kind word new);
+      instances_few = omega (arith, more, length-append known.instances (instance name kind ∷ []));
+    }
+
+name_keeps : (type : DeclaredType) (v : Value) (known : Declarations) (t : Token) (z : Declarations) → Starts type None v → Fine known → IsWordText t.text → declare_name (plan (Some type) v) known t ≡ Ok z → Fine z
+unfolding declare_name
+name_keeps type v known t z start fine word e =
+    let m = bind_ok (new_name (Some type) known t) (λ name. Ok (with_declared (plan (Some type) v) known name None (Some type))) z e in
+    subst Fine (ok_is (with_declared (plan (Some type) v) known m.0 None (Some type)) z m.2)
+    (declared_fine type v known t m.0 None fine word (new_is (Some type) known t m.0 m.1) (λ loc none. absurd (no_place loc none)) start)
+
+type_is : (t : Token) (type : DeclaredType) → known_type t ≡ Ok type → declared_type t.text ≡ Some type
+type_is t type e = found (declared_type t.text) e
+  where
+    found : (o : Option DeclaredType) → found_type t o ≡ Ok type → o ≡ Some type
+    found None h = absurd cc
+    found (Some x) h = ap (λ (y : DeclaredType). Some y) (ok_is x type h)
+
+place_is : (type : DeclaredType) (known : Declarations) (t : Token) (loc : Loc) → free_location (Some type) known t ≡ Ok loc → IsFreePlace type known loc
+place_is type known t loc e = by_location (written.location_of t.text) refl e
+  where
+    by_location : (o : Option Loc) → written.location_of t.text ≡ o → free_loc (Some type) known t o ≡ Ok loc → IsFreePlace type known loc
+    by_location None f h = absurd cc
+    by_location (Some x) f h = chosen (suits (Some type) x) (is_taken known.variables (loc_code x)) refl refl h
+      where
+        chosen : (a b : Bool) → suits (Some type) x ≡ a → is_taken known.variables (loc_code x) ≡ b → cond a (cond b (refused kinds.Overlap t) (Ok x)) (refused kinds.BadLocation t) ≡ Ok loc → IsFreePlace type known loc
+        chosen false b g k h = absurd cc
+        chosen true true g k h = absurd cc
+        chosen true false g k h = subst (IsFreePlace type known) (ok_is x loc h) (record { place = location_cell t.text x f; suits = g; free = k })
+
+becomes : (z known : Declarations) → done known ≡ done z → Fine known → Fine z
+becomes z known e fine = subst Fine (ok_is known z e) fine
+
+abbrev located : Declarations → List ℕ → Loc → DeclaredType → Value → Declarations
+located known name loc type v = with_declared (plan (Some type) v) known name (Some loc) (Some type)
+
+located_fine : (known : Declarations) (d : DeclarationText) (at : Token) (name : List ℕ) (loc : Loc) (type : DeclaredType) (v : Value) → Fine known → IsWordText d.name.text → new_name (declared_type d.ty.text) known d.name ≡ Ok name
+    → free_location (declared_type d.ty.text) known at ≡ Ok loc → known_type d.ty ≡ Ok type → first_value type (Some loc) d.initial ≡ Ok v → Fine (located known name loc type v)
+located_fine known d at name loc type v fine word named free typed first =
+    let known-type = type_is d.ty type typed in
+    let new = new_is (Some type) known d.name name (subst (λ (o : Option DeclaredType). new_name o known d.name ≡ Ok name) known-type named) in
+    let place = place_is type known at loc (subst (λ (o : Option DeclaredType). free_location o known at ≡ Ok loc) known-type free) in
+    declared_fine type v known d.name name (Some loc) fine word new (λ l is. subst (IsFreePlace type known) (same_loc loc l is) place) (first_start type (Some loc) d.initial v first)
+
+located_keeps : (known : Declarations) (d : DeclarationText) (at : Token) (z : Declarations) → Fine known → IsWordText d.name.text → declare_located known d at ≡ Ok z → Fine z
+unfolding declare_located
+located_keeps known d at z fine word e =
+    let a = bind_ok (new_name (declared_type d.ty.text) known d.name) (λ name. free_location (declared_type d.ty.text) known at >>= λ loc. known_type d.ty >>= λ type. first_value type (Some loc) d.initial >>= λ v. Ok (located known name loc type v)) z e in
+    let b = bind_ok (free_location (declared_type d.ty.text) known at) (λ loc. known_type d.ty >>= λ type. first_value type (Some loc) d.initial >>= λ v. Ok (located known a.0 loc type v)) z a.2 in
+    let c = bind_ok (known_type d.ty) (λ type. first_value type (Some b.0) d.initial >>= λ v. Ok (located known a.0 b.0 type v)) z b.2 in
+    let f = bind_ok (first_value c.0 (Some b.0) d.initial) (λ v. Ok (located known a.0 b.0 c.0 v)) z c.2 in
+    becomes z (located known a.0 b.0 c.0 f.0) f.2 (located_fine known d at a.0 b.0 c.0 f.0 fine word a.1 b.1 c.1 f.1)
+
+listed_keeps : (known : Declarations) (d : DeclarationText) (more : List Token) (z : Declarations) → Fine known → IsWordText d.name.text → AllByRecursion IsWordName more → declare_listed known d more ≡ Ok z → Fine z
+unfolding declare_listed
+listed_keeps known d more z fine word words e =
+    let typed_value : Option DeclaredType → Plan = λ o. plan o (planned_value o d.initial) in
+    let a = bind_ok (declare_name (typed_value (declared_type d.ty.text)) known d.name) (λ first. each (declare_name (typed_value (declared_type d.ty.text))) first more >>= λ named. known_type d.ty >>= λ type. first_value type None d.initial >>= λ v. Ok named) z e in
+    let b = bind_ok (each (declare_name (typed_value (declared_type d.ty.text))) a.0 more) (λ named. known_type d.ty >>= λ type. first_value type None d.initial >>= λ v. Ok named) z a.2 in
+    let c = bind_ok (known_type d.ty) (λ type. first_value type None d.initial >>= λ v. Ok b.0) z b.2 in
+    let f = bind_ok (first_value c.0 None d.initial) (λ v. Ok b.0) z c.2 in
+    let type = type_is d.ty c.0 c.1 in
+    let v = planned_value (Some c.0) d.initial in
+    let start : Starts c.0 None v = planned_start c.0 d.initial f.0 f.1 in
+    let first : Fine a.0 = name_keeps c.0 v known d.name a.0 start fine word (subst (λ (o : Option DeclaredType). declare_name (typed_value o) known d.name ≡ Ok a.0) type a.1) in
+    let rest : Fine b.0 = each_keeps Fine IsWordName (declare_name (typed_value (Some c.0))) (λ y t w p q h. name_keeps c.0 v y t w start p q h) a.0 more b.0 first words (subst (λ (o : Option DeclaredType). each (declare_name (typed_value o)) a.0 more ≡ Ok b.0) type b.1) in
+    subst Fine (ok_is b.0 z f.2) rest
+
+by_names : (known : Declarations) (d : DeclarationText) (x : NamesText) (z : Declarations) → Fine known → IsWordText d.name.text → AreWordNames x → declare_by known d x ≡ Ok z → Fine z
+by_names known d (Located at) z fine word words e = located_keeps known d at z fine word e
+by_names known d (More more) z fine word words e = listed_keeps known d more z fine word words e
+
+declare_keeps : (known : Declarations) (d : DeclarationText) (z : Declarations) → Fine known → IsWordDeclaration d → declare known d ≡ Ok z → Fine z
+declare_keeps known d z fine words e = by_names known d d.names z fine words.name words.names e
+
+block_keeps : (known : Declarations) (ds : List DeclarationText) (z : Declarations) → Fine known → AllByRecursion IsWordDeclaration ds → declare_block known ds ≡ Ok z → Fine z
+block_keeps known ds z fine words e = each_keeps Fine IsWordDeclaration declare declare_keeps known ds z fine words e
+
+pub blocks_fine : (bs : List (List DeclarationText)) (z : Declarations) → AllByRecursion (AllByRecursion IsWordDeclaration) bs → each declare_block nothing bs ≡ Ok z → Fine z
+blocks_fine bs z words e = each_keeps Fine (AllByRecursion IsWordDeclaration) declare_block block_keeps nothing bs z (record { variables = tt; variables_few = omega arith; instances = tt; instances_few = omega arith }) words e
+
+-- ---- operators
+
+abbrev value_operand : Operand
+value_operand = operands.Literal (values.Bool false)
+
+-- an operator of this form, with its letters, with and without a parenthesis
+abbrev takes : Form → Op → Modifier → Bool
+takes forms.Operand op m = allowed_by (usage_of op) (with_opening false m) && formed_by (usage_of op) (with_opening false m) value_operand
+takes forms.Nothing op m = allowed_by (usage_of op) (with_opening false m) && formed_by (usage_of op) (with_opening false m) operands.Absent
+takes forms.Label op m = allowed_by (usage_of op) (with_opening false m) && formed_by (usage_of op) (with_opening false m) (operands.Label [])
+takes forms.Either op m = (allowed_by (usage_of op) (with_opening false m) && formed_by (usage_of op) (with_opening false m) value_operand) && (allowed_by (usage_of op) (with_opening true m) && (formed_by (usage_of op) (with_opening true m) value_operand && formed_by (usage_of op) (with_opening true m) operands.Absent))
+takes forms.Call op m = allowed_by (usage_of op) (with_opening false m) && formed_by (usage_of op) (with_opening false m) (operands.Instance [])
+
+abbrev fits : Op → Modifier → Bool
+fits op m = not (is_empty op) && takes (form_of op) op m
+
+abbrev row_fits : List ℕ × Op × Modifier → Bool
+row_fits e = fits e.1 e.2
+
+abbrev some_mnemonic : Mnemonic → Option Mnemonic
+some_mnemonic m = Some m
+
+some_is : (x y : Mnemonic) → some_mnemonic x ≡ some_mnemonic y → x ≡ y
+some_is x y e = cc
+
+abbrev some_operator : Operator → Option Operator
+some_operator x = Some x
+
+operator_is : (x y : Operator) → some_operator x ≡ some_operator y → x ≡ y
+operator_is x y e = cc
+
+look_fits : (es : List (List ℕ × Op × Modifier)) (w : List ℕ) (m : Mnemonic) → list_all row_fits es ≡ true → look es w ≡ Some m → fits m.op m.modifier ≡ true
+unfolding look
+look_fits [] w m all e = absurd cc
+look_fits (r ∷ es) w m all e = chosen (spells r.0 w) (row_fits r) refl (look_fits es w m) e all
+  where
+    chosen : (s f : Bool) → row_fits r ≡ f → (list_all row_fits es ≡ true → look es w ≡ Some m → fits m.op m.modifier ≡ true)
+        → cond s (Some (record { op = r.1; modifier = r.2 })) (look es w) ≡ Some m → (f && list_all row_fits es) ≡ true → fits m.op m.modifier ≡ true
+    chosen s false is more h g = absurd cc
+    chosen true true is more h g = subst (λ (x : Mnemonic). fits x.op x.modifier ≡ true) (some_is (record { op = r.1; modifier = r.2 }) m h) is
+    chosen false true is more h g = more g h
+
+mnemonic_fits : (w : List ℕ) (m : Mnemonic) → mnemonic_of w ≡ Some m → fits m.op m.modifier ≡ true
+unfolding mnemonic_of
+mnemonic_fits w m e = look_fits mnemonic_table w m refl e
+
+operator_fits : (t : Token) (x : Operator) → operator_of t ≡ Some x → fits x.mnemonic.op x.mnemonic.modifier ≡ true
+unfolding operator_of
+operator_fits t x e = chosen (is_sign signs.Name t || is_sign signs.Ampersand t) (is_sign signs.Close t) e
+  where
+    by_mnemonic : (o : Option Mnemonic) → mnemonic_of t.text ≡ o → operator_from t.left o ≡ Some x → fits x.mnemonic.op x.mnemonic.modifier ≡ true
+    by_mnemonic None f h = absurd cc
+    by_mnemonic (Some m) f h = subst (λ (y : Operator). fits y.mnemonic.op y.mnemonic.modifier ≡ true) (operator_is (record { mnemonic = m; left = t.left }) x h) (mnemonic_fits t.text m f)
+
+    chosen : (b c : Bool) → cond b (operator_from t.left (mnemonic_of t.text)) (cond c (Some (record { mnemonic = closing; left = t.left })) None) ≡ Some x → fits x.mnemonic.op x.mnemonic.modifier ≡ true
+    chosen true c h = by_mnemonic (mnemonic_of t.text) refl h
+    chosen false true h = subst (λ (y : Operator). fits y.mnemonic.op y.mnemonic.modifier ≡ true) (operator_is (record { mnemonic = closing; left = t.left }) x h) refl
+    chosen false false h = absurd cc
+
+-- an operator that takes what stands behind it
+record IsTaken (b : BehindText) (x : Operator) : Type 0 where
+  takes : accepts (form_of x.mnemonic.op) b ≡ true
+  fits : fits x.mnemonic.op x.mnemonic.modifier ≡ true
+
+taken : (b : BehindText) (t : Token) (x : Operator) → operator_before b t ≡ Some x → IsTaken b x
+taken b t x e = found (operator_of t) refl e
+  where
+    found : (o : Option Operator) → operator_of t ≡ o → accepting b o ≡ Some x → IsTaken b x
+    found None f h = absurd cc
+    found (Some y) f h = chosen (accepts (form_of y.mnemonic.op) b) refl h
+      where
+        chosen : (a : Bool) → accepts (form_of y.mnemonic.op) b ≡ a → cond a (Some y) None ≡ Some x → IsTaken b x
+        chosen true g k = subst (IsTaken b) (operator_is y x k) (record { takes = g; fits = operator_fits t y f })
+        chosen false g k = absurd cc
+
+-- ---- operands
+
+and_both : (a b : Bool) → (a && b) ≡ true → (a ≡ true) × (b ≡ true)
+and_both true b e = (refl, e)
+and_both false b e = absurd cc
+
+not_true : (b : Bool) → not b ≡ true → b ≡ false
+not_true true e = absurd cc
+not_true false e = refl
+
+-- a value, a bare number, a variable, a location or a field
+abbrev is_value : Operand → Bool
+is_value (operands.Literal v) = true
+is_value (operands.Bare z) = true
+is_value (operands.Variable name) = true
+is_value (operands.Direct loc) = true
+is_value (operands.Field name field) = true
+is_value operand = false
+
+value_form : (o : Bool) (x : Operand) → is_value x ≡ true → has_form usages.Value o (as_value x) ≡ true
+value_form true (operands.Literal v) e = refl
+value_form false (operands.Literal v) e = refl
+value_form true (operands.Bare z) e = refl
+value_form false (operands.Bare z) e = refl
+value_form true (operands.Variable name) e = refl
+value_form false (operands.Variable name) e = refl
+value_form true (operands.Direct loc) e = refl
+value_form false (operands.Direct loc) e = refl
+value_form true (operands.Field name field) e = refl
+value_form false (operands.Field name field) e = refl
+value_form o operands.Absent e = absurd cc
+value_form o (operands.Label name) e = absurd cc
+value_form o (operands.Instance name) e = absurd cc
+
+any_value : (f : usage.OperandForm) (o : Bool) (x : Operand) → is_value x ≡ true → has_form f o value_operand ≡ true → has_form f o (as_value x) ≡ true
+any_value usages.Absent true x v e = absurd cc
+any_value usages.Absent false x v e = absurd cc
+any_value usages.Value o x v e = value_form o x v
+any_value usages.Label true x v e = absurd cc
+any_value usages.Label false x v e = absurd cc
+any_value usages.Instance true x v e = absurd cc
+any_value usages.Instance false x v e = absurd cc
+
+any_label : (f : usage.OperandForm) (o : Bool) (name : List ℕ) → has_form f o (operands.Label []) ≡ true → has_form f o (operands.Label name) ≡ true
+any_label usages.Absent true name e = absurd cc
+any_label usages.Absent false name e = absurd cc
+any_label usages.Value true name e = absurd cc
+any_label usages.Value false name e = absurd cc
+any_label usages.Label true name e = refl
+any_label usages.Label false name e = refl
+any_label usages.Instance true name e = absurd cc
+any_label usages.Instance false name e = absurd cc
+
+any_instance : (f : usage.OperandForm) (o : Bool) (name : List ℕ) → has_form f o (operands.Instance []) ≡ true → has_form f o (operands.Instance name) ≡ true
+any_instance usages.Absent true name e = absurd cc
+any_instance usages.Absent false name e = absurd cc
+any_instance usages.Value true name e = absurd cc
+any_instance usages.Value false name e = absurd cc
+any_instance usages.Label true name e = absurd cc
+any_instance usages.Label false name e = absurd cc
+any_instance usages.Instance true name e = refl
+any_instance usages.Instance false name e = refl
+
+value_formed : (u : Usage) (m : Modifier) (x : Operand) → is_value x ≡ true → formed_by u m value_operand ≡ true → formed_by u m (as_value x) ≡ true
+value_formed u m x v e = any_value u.form m.opens x v e
+
+label_formed : (u : Usage) (m : Modifier) (name : List ℕ) → formed_by u m (operands.Label []) ≡ true → formed_by u m (operands.Label name) ≡ true
+label_formed u m name e = any_label u.form m.opens name e
+
+instance_formed : (u : Usage) (m : Modifier) (name : List ℕ) → formed_by u m (operands.Instance []) ≡ true → formed_by u m (operands.Instance name) ≡ true
+instance_formed u m name e = any_instance u.form m.opens name e
+
+record IsGiven (ds : Declarations) (x : Operand) : Type 0 where
+  value : is_value x ≡ true
+  lawful : IsOperand ds x
+
+given_is : (ds : Declarations) (y : OperandText) (x : Operand) → walk.operand_of ds y ≡ Ok x → IsGiven ds x
+given_is ds (Constant t) x e = by_literal (literal_of t.text) (literal_good t.text) e
+  where
+    by_literal : (o : Option Literal) → IsInRange o → constant t o ≡ Ok x → IsGiven ds x
+    by_literal None r h = absurd cc
+    by_literal (Some (Bare z)) r h = subst (IsGiven ds) (ok_is (operands.Bare z) x h) (record { value = refl; lawful = r })
+    by_literal (Some (Typed v)) r h = subst (IsGiven ds) (ok_is (operands.Literal v) x h) (record { value = refl; lawful = r })
+given_is ds (Direct t) x e = by_location (written.location_of t.text) refl e
+  where
+    by_location : (o : Option Loc) → written.location_of t.text ≡ o → direct t o ≡ Ok x → IsGiven ds x
+    by_location None f h = absurd cc
+    by_location (Some loc) f h =
+        let p = location_cell t.text loc f in
+        subst (IsGiven ds) (ok_is (operands.Direct loc) x h) (record { value = refl; lawful = p })
+given_is ds (Named t) x e = chosen (has_name ds (capitals t.text)) refl e
+  where
+    chosen : (b : Bool) → has_name ds (capitals t.text) ≡ b → cond b (Ok (operands.Variable (capitals t.text))) (refused kinds.UnknownName t) ≡ Ok x → IsGiven ds x
+    chosen true f h = subst (IsGiven ds) (ok_is (operands.Variable (capitals t.text)) x h) (record { value = refl; lawful = f })
+    chosen false f h = absurd cc
+given_is ds (Field t f) x e = chosen (has_instance ds (capitals t.text)) refl e
+  where
+    chosen : (b : Bool) → has_instance ds (capitals t.text) ≡ b → cond b (Ok (operands.Field (capitals t.text) (capitals f.text))) (refused kinds.UnknownName t) ≡ Ok x → IsGiven ds x
+    chosen true g h = subst (IsGiven ds) (ok_is (operands.Field (capitals t.text) (capitals f.text)) x h) (record { value = refl; lawful = g })
+    chosen false g h = absurd cc
+
+-- what an operator takes, with its letters
+record IsBehind (ds : Declarations) (op : Op) (m : Modifier) (x : Operand) : Type 0 where
+  letters : allowed_by (usage_of op) m ≡ true
+  formed : formed_by (usage_of op) m (as_value x) ≡ true
+  lawful : IsOperand ds x
+
+behind_is : (ds : Declarations) (f : Form) (op : Op) (m : Modifier) (b : BehindText) (x : Operand) → accepts f b ≡ true → takes f op m ≡ true → behind_of ds b ≡ Ok x → IsBehind ds op (with_opening (opens b) m) x
+behind_is ds forms.Operand op m (Given y) x a k e =
+    let g = given_is ds y x e in
+    let p = and_both _ _ k in
+    record { letters = p.0; formed = value_formed (usage_of op) (with_opening false m) x g.value p.1; lawful = g.lawful }
+behind_is ds forms.Nothing op m Nothing x a k e =
+    let p = and_both _ _ k in
+    subst (IsBehind ds op (with_opening false m)) (ok_is operands.Absent x e) (record { letters = p.0; formed = p.1; lawful = tt })
+behind_is ds forms.Label op m (Target t) x a k e =
+    let p = and_both _ _ k in
+    subst (IsBehind ds op (with_opening false m)) (ok_is (operands.Label (capitals t.text)) x e) (record { letters = p.0; formed = label_formed (usage_of op) (with_opening false m) (capitals t.text) p.1; lawful = tt })
+behind_is ds forms.Either op m (Given y) x a k e =
+    let g = given_is ds y x e in
+    let p = and_both _ _ (and_both _ _ k).0 in
+    record { letters = p.0; formed = value_formed (usage_of op) (with_opening false m) x g.value p.1; lawful = g.lawful }
+behind_is ds forms.Either op m (Opened None) x a k e =
+    let p = and_both _ _ (and_both _ _ k).1 in
+    let q = and_both _ _ p.1 in
+    subst (IsBehind ds op (with_opening true m)) (ok_is operands.Absent x e) (record { letters = p.0; formed = q.1; lawful = tt })
+behind_is ds forms.Either op m (Opened (Some y)) x a k e =
+    let g = given_is ds y x e in
+    let p = and_both _ _ (and_both _ _ k).1 in
+    let q = and_both _ _ p.1 in
+    record { letters = p.0; formed = value_formed (usage_of op) (with_opening true m) x g.value q.0; lawful = g.lawful }
+behind_is ds forms.Call op m (Called c) x a k e = chosen (has_instance ds (capitals c.instance.text)) refl e
+  where
+    chosen : (b : Bool) → has_instance ds (capitals c.instance.text) ≡ b → cond b (Ok (operands.Instance (capitals c.instance.text))) (refused kinds.UnknownName c.instance) ≡ Ok x → IsBehind ds op (with_opening false m) x
+    chosen true f h =
+        let p = and_both _ _ k in
+        subst (IsBehind ds op (with_opening false m)) (ok_is (operands.Instance (capitals c.instance.text)) x h)
+        (record { letters = p.0; formed = instance_formed (usage_of op) (with_opening false m) (capitals c.instance.text) p.1; lawful = f })
+    chosen false f h = absurd cc
+behind_is ds f op m b x a k e = absurd cc
+
+-- ---- arguments
+
+all_push : {X : Type 0} (F : X → Type 0) (xs : List X) (x : X) → AllByRecursion F xs → F x → AllByRecursion F (xs ++ x ∷ [])
+all_push F [] x all here = (here, tt)
+all_push F (y ∷ ys) x all here = (all.0, all_push F ys x all.1 here)
+
+abbrev Anything : ArgumentText → Type 0
+Anything a = Unit {0}
+
+all_anything : (xs : List ArgumentText) → AllByRecursion Anything xs
+all_anything [] = tt
+all_anything (x ∷ xs) = (tt, all_anything xs)
+
+abbrev argument : ArgumentText → Operand → Argument
+argument a x = record { field = capitals a.field.text; side = a.side; operand = x }
+
+argument_is : (ds : Declarations) (a : ArgumentText) (x : Argument) → argument_of ds a ≡ Ok x → IsArgument ds x
+unfolding argument_of
+argument_is ds a x e =
+    let m = bind_ok (walk.operand_of ds a.operand) (λ o. Ok (argument a o)) x e in
+    let g = given_is ds a.operand m.0 m.1 in
+    subst (IsArgument ds) (ok_is (argument a m.0) x m.2) (record { operand = g.lawful; formed = value_form false m.0 g.value })
+
+argument_keeps : (ds : Declarations) (found : List Argument) (a : ArgumentText) (z : List Argument) → AllByRecursion (IsArgument ds) found → Anything a → pushed_argument ds found a ≡ Ok z → AllByRecursion (IsArgument ds) z
+argument_keeps ds found a z all any e =
+    let m = bind_ok (argument_of ds a) (λ x. Ok (found ++ x ∷ [])) z e in
+    subst (λ (xs : List Argument). AllByRecursion (IsArgument ds) xs) (ok_is (found ++ m.0 ∷ []) z m.2) (all_push (IsArgument ds) found m.0 all (argument_is ds a m.0 m.1))
+
+arguments_are : (ds : Declarations) (b : BehindText) (xs : List Argument) → behind_arguments ds b ≡ Ok xs → AllByRecursion (IsArgument ds) xs
+arguments_are ds (Called c) xs e = each_keeps (λ (found : List Argument). AllByRecursion (IsArgument ds) found) Anything (pushed_argument ds) (argument_keeps ds) [] (arguments_of c) xs tt (all_anything (arguments_of c)) e
+arguments_are ds b xs e = subst (λ (found : List Argument). AllByRecursion (IsArgument ds) found) (ok_is [] xs e) tt
+
+-- ---- lines
+
+label_is : (t : Token) (name : List ℕ) → IsWordText t.text → label_of t ≡ Ok name → IsLabel (Some name)
+label_is t name word e = chosen (is_reserved (capitals t.text)) refl e
+  where
+    chosen : (b : Bool) → is_reserved (capitals t.text) ≡ b → cond b (refused kinds.ReservedName t) (Ok (capitals t.text)) ≡ Ok name → IsLabel (Some name)
+    chosen true f h = absurd cc
+    chosen false f h =
+        subst (λ (n : List ℕ). IsLabel (Some n)) (ok_is (capitals t.text) name h) (long_enough t word, capitals_lawful t.text word f)
+
+abbrev instruction : Option (List ℕ) → Op → Modifier → Operand → List Argument → Instr
+instruction label op m x arguments = record { label = label; op = op; modifier = m; operand = x; arguments = arguments }
+
+abbrev operated : Option (List ℕ) → OperationText → Operand → List Argument → Instr
+operated label o x arguments = instruction label o.operator.mnemonic.op (with_opening (opens o.behind) o.operator.mnemonic.modifier) x arguments
+
+operation_is : (ds : Declarations) (label : Option (List ℕ)) (o : OperationText) (line : Instr) → IsLabel label → IsOperation o → instruction_of ds label (Some o) ≡ Ok line → IsInstruction ds line
+unfolding instruction_of
+operation_is ds label o line labelled is e =
+    let op = o.operator.mnemonic.op in
+    let m = o.operator.mnemonic.modifier in
+    let a = bind_ok (behind_of ds o.behind) (λ x. behind_arguments ds o.behind >>= λ arguments. Ok (operated label o x arguments)) line e in
+    let c = bind_ok (behind_arguments ds o.behind) (λ arguments. Ok (operated label o a.0 arguments)) line a.2 in
+    let t = taken o.behind is.0 o.operator is.1 in
+    let p = and_both _ _ t.fits in
+    let b = behind_is ds (form_of op) op m o.behind a.0 t.takes p.1 a.1 in
+    let full : is_empty op ≡ false = not_true (is_empty op) p.0 in
+    subst (IsInstruction ds) (ok_is (operated label o a.0 c.0) line c.2)
+    (record { label = labelled; letters = b.letters; operand = b.lawful; formed = b.formed; arguments = arguments_are ds o.behind c.0 c.1; placed = rw full refl })
+
+optional_is : (ds : Declarations) (name : List ℕ) (o : Option OperationText) (line : Instr) → IsLabel (Some name) → IsOptionalOperation o → instruction_of ds (Some name) o ≡ Ok line → IsInstruction ds line
+unfolding instruction_of
+optional_is ds name None line labelled is e =
+    subst (IsInstruction ds) (ok_is (instruction (Some name) ops.Empty resolution.plain operands.Absent []) line e)
+    (record { label = labelled; letters = refl; operand = tt; formed = refl; arguments = tt; placed = refl })
+optional_is ds name (Some o) line labelled is e = operation_is ds (Some name) o line labelled is e
+
+pub record FineCode (ds : Declarations) (code : List Instr) : Type 0 where
+  pub all : AllByRecursion (IsInstruction ds) code
+  pub few : length code ≤ 4096
+
+code_push : (ds : Declarations) (code : List Instr) (line : Instr) (left : ℕ) (u : Unit {0}) → FineCode ds code → room code left ≡ Ok u → IsInstruction ds line → FineCode ds (code ++ line ∷ [])
+code_push ds code line left u fine free is =
+    let lt = has_room (leb 4096 (length code)) refl free in
+    record { all = all_push (IsInstruction ds) code line fine.all is; few = omega (arith, lt, length-append code (line ∷ [])) }
+  where
+    has_room : (t : Bool) → leb 4096 (length code) ≡ t → cond {A = Result (Unit {0}) FaultAt} t (Err (record { kind = kinds.TooMany; left = left })) (Ok tt) ≡ Ok u → length code < 4096
+    has_room true f h = absurd cc
+    has_room false f h = leb-false 4096 (length code) f
+
+labelled_keeps : (ds : Declarations) (code : List Instr) (t : Token) (o : Option OperationText) (z : List Instr) → FineCode ds code → IsWordText t.text → IsOptionalOperation o → instruct_labelled ds code t o ≡ Ok z → FineCode ds z
+unfolding instruct_labelled
+labelled_keeps ds code t o z fine word is e =
+    let a = bind_ok (label_of t) (λ label. room code t.left >>= λ here. instruction_of ds (Some label) o >>= λ line. Ok (code ++ line ∷ [])) z e in
+    let b = bind_ok (room code t.left) (λ here. instruction_of ds (Some a.0) o >>= λ line. Ok (code ++ line ∷ [])) z a.2 in
+    let c = bind_ok (instruction_of ds (Some a.0) o) (λ line. Ok (code ++ line ∷ [])) z b.2 in
+    subst (FineCode ds) (ok_is (code ++ c.0 ∷ []) z c.2) (code_push ds code c.0 t.left b.0 fine b.1 (optional_is ds a.0 o c.0 (label_is t a.0 word a.1) is c.1))
+
+plain_keeps : (ds : Declarations) (code : List Instr) (o : OperationText) (z : List Instr) → FineCode ds code → IsOperation o → instruct_plain ds code o ≡ Ok z → FineCode ds z
+unfolding instruct_plain
+plain_keeps ds code o z fine is e =
+    let b = bind_ok (room code o.operator.left) (λ here. instruction_of ds None (Some o) >>= λ line. Ok (code ++ line ∷ [])) z e in
+    let c = bind_ok (instruction_of ds None (Some o)) (λ line. Ok (code ++ line ∷ [])) z b.2 in
+    subst (FineCode ds) (ok_is (code ++ c.0 ∷ []) z c.2) (code_push ds code c.0 o.operator.left b.0 fine b.1 (operation_is ds None o c.0 tt is c.1))
+
+line_keeps : (ds : Declarations) (code : List Instr) (l : LineText) (z : List Instr) → FineCode ds code → IsOperator l → instruct ds code l ≡ Ok z → FineCode ds z
+line_keeps ds code (Labelled t o) z fine is e = labelled_keeps ds code t o z fine is.0 is.1 e
+line_keeps ds code (Plain o) z fine is e = plain_keeps ds code o z fine is e
+
+pub lines_fine : (ds : Declarations) (ls : List LineText) (z : List Instr) → AllByRecursion IsOperator ls → each (instruct ds) [] ls ≡ Ok z → FineCode ds z
+lines_fine ds ls z words e = each_keeps (FineCode ds) IsOperator (instruct ds) (line_keeps ds) [] ls z (record { all = tt; few = omega arith }) words e
+
+-- ---- the whole
+
+-- the parts that a text's program is made of
+pub parts_fit : (p : ProgramText) (bs : List (List DeclarationText)) (ls : List LineText) (known : Declarations) (vs : List Variable) (xs : List Instance) (code : List Instr) → AreWords p → bs ≡ p.blocks → ls ≡ p.lines
+    → vs ≡ known.variables → xs ≡ known.instances → each declare_block nothing bs ≡ Ok known → each (instruct known) [] ls ≡ Ok code → IsDeclared (record { variables = vs; instances = xs; code = code })
+parts_fit p bs ls known vs xs code words b l v x e f =
+    let declared = blocks_fine p.blocks known words.blocks (subst (λ (y : List (List DeclarationText)). each declare_block nothing y ≡ Ok known) b e) in
+    let lines = lines_fine known p.lines code words.lines (subst (λ (y : List LineText). each (instruct known) [] y ≡ Ok code) l f) in
+    subst (λ (ws : List Variable). IsDeclared (record { variables = ws; instances = xs; code = code })) (sym v)
+    (subst (λ (ys : List Instance). IsDeclared (record { variables = known.variables; instances = ys; code = code })) (sym x)
+    (record { variables = declared.variables; variables_few = declared.variables_few; instances = declared.instances; instances_few = declared.instances_few; lines = lines.all; lines_few = lines.few }))
+
+abbrev pub some_text : Program → Option Program
+some_text Q = Some Q
+
+text_is : (P Q : Program) → some_text P ≡ some_text Q → P ≡ Q
+text_is P Q e = cc
+
+pub is_made : (Q : Program) (r : Option Program) → IsDeclared Q → r ≡ program_of Q.variables Q.instances Q.code → r ≡ Some Q
+is_made Q r is e =
+    let few = is.variables_few in
+    let a : ltb 512 (length Q.variables) ≡ false = le-ltb 512 (length Q.variables) few in
+    let b : ltb 128 (length Q.instances) ≡ false = le-ltb 128 (length Q.instances) is.instances_few in
+    let c : ltb 4096 (length Q.code) ≡ false = le-ltb 4096 (length Q.code) is.lines_few in
+    e ∙ rw (a, b, c) refl
+
+pub never_none : (Q : Program) (r : Option Program) → IsDeclared Q → r ≡ program_of Q.variables Q.instances Q.code → r ≡ None → ⊥
+never_none Q r is e none = let f : None ≡ some_text Q = sym none ∙ is_made Q r is e in absurd cc
+
+pub is_text : (Q P : Program) (r : Option Program) → IsDeclared Q → r ≡ program_of Q.variables Q.instances Q.code → r ≡ Some P → IsDeclared P
+is_text Q P r is e some = subst IsDeclared (text_is Q P (sym (is_made Q r is e) ∙ some)) is

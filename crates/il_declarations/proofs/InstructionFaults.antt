@@ -1,0 +1,256 @@
+-- The walk over instruction lines ends at the first of their faults, and else has their instructions; and so the walk over a text.
+use Rattle.std.proofs.Common.{◌≡◌, ℕ, suc, Bool, true, false, cond, leb, List, [], ◌∷◌, ◌++◌, length, Option, Some, None, Ok, Err, refl, sym, ap, subst, ◌∙◌, not}
+use Rattle.std.specs.Prelude.{is_none, nat_le}
+use Rattle.std.specs.List.{flat_map, AllZip}
+use Rattle.std.specs.Option.{option_map}
+use Rattle.il_model.specs.declared.literal.Literal.{Literal}
+use Rattle.il_model.specs.declared.literal.Literal.TheVariants.{Bare, Typed}
+use Rattle.il_model.specs.declared.op.Op.TheVariants as ops
+use Rattle.il_model.specs.declared.program.Loc.{Loc}
+use Rattle.il_model.specs.declared.program.Operand.{Operand}
+use Rattle.il_model.specs.declared.program.Operand.TheVariants as operands
+use Rattle.il_model.specs.declared.program.Argument.{Argument}
+use Rattle.il_model.specs.declared.program.Instr.{Instr}
+use Rattle.il_model.specs.Program.{Program, Declarations}
+use Rattle.il_model.specs.Names.{is_reserved}
+use Rattle.il_model.specs.Literals.{literal_of}
+use Rattle.il_model.specs.Locations as written
+use Rattle.il_reader.specs.Tokens.{Token}
+use Rattle.il_reader.specs.Grammar.{OperandText, Constant, Direct, Named, Field, BehindText, Nothing, Given, Target, Opened, Called, ArgumentText, arguments_of, OperationText, LineText, Labelled, Plain, ProgramText}
+use Rattle.il_declarations.specs.declared.fault.DeclKind.{DeclKind}
+use Rattle.il_declarations.specs.declared.fault.DeclKind.TheVariants as kinds
+use Rattle.il_declarations.specs.declared.fault.FaultAt.{FaultAt}
+use Rattle.il_declarations.specs.Resolution.{capitals, opens, with_opening, plain}
+use Rattle.il_declarations.specs.Walk.{◌>>=◌, each, refused, nothing, has_name, has_instance, declare_block, direct, constant, operand_of, behind_of, argument_of, pushed_argument, behind_arguments, instruction_of, room, label_of, instruct_labelled, instruct_plain, instruct, program_at}
+use Rattle.il_declarations.specs.Declaring.{DeclaredName, names_of, value_operand, operand_in, operand_behind, arguments_behind, IsArgumentOf, IsBehindLabel, IsInstructionOf, IsProgramOf}
+use Rattle.il_declarations.proofs.FaultList.{when, beside, operand_faults, behind_faults, operation_faults, line_faults, faults_of}
+use Rattle.il_declarations.proofs.Agreeing.{Agrees, done, ok_is, then_agrees, made_agrees, last_agrees, each_agrees, each_kept, bind_ok, each_by_itself}
+use Rattle.il_declarations.proofs.Names.{made, name_known, instance_known}
+use Rattle.il_declarations.proofs.DeclarationFaults.{blocks_agree, blocks_kept}
+
+-- ---- operands
+
+asked : {A : Type 0} (b : Bool) (kind : DeclKind) (left : ℕ) (x : A) → Agrees (cond b (done x) (Err (record { kind = kind; left = left }))) (when (not b) kind left)
+asked true kind left x = refl
+asked false kind left x = ([], refl)
+
+-- a test that has to pass
+asked_agrees : {A : Type 0} (b c : Bool) → b ≡ c → (kind : DeclKind) (left : ℕ) (x : A) → Agrees (cond b (done x) (Err (record { kind = kind; left = left }))) (when (not c) kind left)
+asked_agrees b c same kind left x = subst (λ (a : Bool). Agrees (cond b (done x) (Err (record { kind = kind; left = left }))) (when (not a) kind left)) same (asked b kind left x)
+
+asked_gives : {A : Type 0} (b : Bool) (f : FaultAt) (x y : A) → cond b (done x) (Err f) ≡ Ok y → x ≡ y
+asked_gives true f x y e = ok_is x y e
+asked_gives false f x y e = absurd cc
+
+operand_agrees : (names : List DeclaredName) (x : OperandText) → Agrees (operand_of (made names) x) (operand_faults names x)
+operand_agrees names (Constant t) = by_literal (literal_of t.text)
+  where
+    by_literal : (o : Option Literal) → Agrees (constant t o) (when (is_none o) kinds.UnknownName t.left)
+    by_literal None = ([], refl)
+    by_literal (Some (Bare z)) = refl
+    by_literal (Some (Typed v)) = refl
+operand_agrees names (Direct t) = by_location (written.location_of t.text)
+  where
+    by_location : (o : Option Loc) → Agrees (direct t o) (when (is_none o) kinds.BadLocation t.left)
+    by_location None = ([], refl)
+    by_location (Some loc) = refl
+operand_agrees names (Named t) = asked_agrees _ _ (name_known names (capitals t.text)) kinds.UnknownName t.left (operands.Variable (capitals t.text))
+operand_agrees names (Field t f) = asked_agrees _ _ (instance_known names (capitals t.text)) kinds.UnknownName t.left (operands.Field (capitals t.text) (capitals f.text))
+
+abbrev some : Operand → Option Operand
+some x = Some x
+
+operand_gives : (known : Declarations) (x : OperandText) (y : Operand) → operand_of known x ≡ Ok y → operand_in x ≡ Some y
+operand_gives known (Constant t) y e = by_literal (literal_of t.text) e
+  where
+    by_literal : (o : Option Literal) → constant t o ≡ Ok y → option_map value_operand o ≡ Some y
+    by_literal None h = absurd cc
+    by_literal (Some (Bare z)) h = ap some (ok_is (operands.Bare z) y h)
+    by_literal (Some (Typed v)) h = ap some (ok_is (operands.Literal v) y h)
+operand_gives known (Direct t) y e = by_location (written.location_of t.text) e
+  where
+    by_location : (o : Option Loc) → direct t o ≡ Ok y → option_map (λ loc. operands.Direct loc) o ≡ Some y
+    by_location None h = absurd cc
+    by_location (Some loc) h = ap some (ok_is (operands.Direct loc) y h)
+operand_gives known (Named t) y e = ap some (asked_gives (has_name known (capitals t.text)) _ _ y e)
+operand_gives known (Field t f) y e = ap some (asked_gives (has_instance known (capitals t.text)) _ _ y e)
+
+behind_agrees : (names : List DeclaredName) (b : BehindText) → Agrees (behind_of (made names) b) (behind_faults names b)
+behind_agrees names Nothing = refl
+behind_agrees names (Given x) = operand_agrees names x
+behind_agrees names (Target t) = refl
+behind_agrees names (Opened None) = refl
+behind_agrees names (Opened (Some x)) = operand_agrees names x
+behind_agrees names (Called c) = asked_agrees _ _ (instance_known names (capitals c.instance.text)) kinds.UnknownName c.instance.left (operands.Instance (capitals c.instance.text))
+
+behind_gives : (known : Declarations) (b : BehindText) (y : Operand) → behind_of known b ≡ Ok y → operand_behind b ≡ Some y
+behind_gives known Nothing y e = ap some (ok_is operands.Absent y e)
+behind_gives known (Given x) y e = operand_gives known x y e
+behind_gives known (Target t) y e = ap some (ok_is (operands.Label (capitals t.text)) y e)
+behind_gives known (Opened None) y e = ap some (ok_is operands.Absent y e)
+behind_gives known (Opened (Some x)) y e = operand_gives known x y e
+behind_gives known (Called c) y e = ap some (asked_gives (has_instance known (capitals c.instance.text)) _ _ y e)
+
+-- ---- arguments
+
+zip_push : {X Y : Type 0} (R : X → Y → Type 0) (xs : List X) (ys : List Y) (x : X) (y : Y) → AllZip R xs ys → R x y → AllZip R (xs ++ x ∷ []) (ys ++ y ∷ [])
+zip_push R [] [] x y all here = (here, tt)
+zip_push R [] (z ∷ ys) x y all here = absurd all
+zip_push R (z ∷ xs) [] x y all here = absurd all
+zip_push R (z ∷ xs) (w ∷ ys) x y all here = (all.0, zip_push R xs ys x y all.1 here)
+
+zip_length : {X Y : Type 0} (R : X → Y → Type 0) (xs : List X) (ys : List Y) → AllZip R xs ys → length ys ≡ length xs
+zip_length R [] [] all = refl
+zip_length R [] (z ∷ ys) all = absurd all
+zip_length R (z ∷ xs) [] all = absurd all
+zip_length R (z ∷ xs) (w ∷ ys) all = ap suc (zip_length R xs ys all.1)
+
+abbrev Anything : List ArgumentText → List Argument → Type 0
+Anything before found = Unit {0}
+
+argument_agrees : (names : List DeclaredName) (a : ArgumentText) (found : List Argument) → Agrees (pushed_argument (made names) found a) (operand_faults names a.operand)
+unfolding argument_of
+argument_agrees names a found =
+    made_agrees (argument_of (made names) a) (λ x. found ++ x ∷ []) (operand_faults names a.operand)
+    (made_agrees (operand_of (made names) a.operand) (λ x. record { field = capitals a.field.text; side = a.side; operand = x }) (operand_faults names a.operand) (operand_agrees names a.operand))
+
+arguments_agree : (names : List DeclaredName) (b : BehindText) → Agrees (behind_arguments (made names) b) (flat_map (λ a. operand_faults names a.operand) (arguments_behind b))
+arguments_agree names Nothing = refl
+arguments_agree names (Given x) = refl
+arguments_agree names (Target t) = refl
+arguments_agree names (Opened o) = refl
+arguments_agree names (Called c) =
+    subst (λ (fs : List FaultAt). Agrees (each (pushed_argument (made names)) [] (arguments_of c)) fs) (each_by_itself (λ a. operand_faults names a.operand) [] (arguments_of c))
+    (each_agrees Anything (pushed_argument (made names)) (λ b a. operand_faults names a.operand) (λ b a found any. argument_agrees names a found) (λ b a found more any e. tt) [] (arguments_of c) [] tt)
+
+argument_gives : (known : Declarations) (a : ArgumentText) (x : Argument) → argument_of known a ≡ Ok x → IsArgumentOf a x
+unfolding argument_of
+argument_gives known a x e =
+    let m = bind_ok (operand_of known a.operand) (λ y. Ok (record { field = capitals a.field.text; side = a.side; operand = y })) x e in
+    subst (IsArgumentOf a) (ok_is (record { field = capitals a.field.text; side = a.side; operand = m.0 }) x m.2) (record { field = refl; side = refl; operand = operand_gives known a.operand m.0 m.1 })
+
+argument_kept : (known : Declarations) (before : List ArgumentText) (a : ArgumentText) (found more : List Argument) → AllZip IsArgumentOf before found → pushed_argument known found a ≡ Ok more → AllZip IsArgumentOf (before ++ a ∷ []) more
+argument_kept known before a found more all e =
+    let m = bind_ok (argument_of known a) (λ x. Ok (found ++ x ∷ [])) more e in
+    subst (λ (xs : List Argument). AllZip IsArgumentOf (before ++ a ∷ []) xs) (ok_is (found ++ m.0 ∷ []) more m.2) (zip_push IsArgumentOf before found a m.0 all (argument_gives known a m.0 m.1))
+
+abbrev no_arguments : List Argument
+no_arguments = []
+
+arguments_given : (known : Declarations) (b : BehindText) (xs : List Argument) → behind_arguments known b ≡ Ok xs → AllZip IsArgumentOf (arguments_behind b) xs
+arguments_given known Nothing xs e = subst (λ (ys : List Argument). AllZip IsArgumentOf [] ys) (ok_is no_arguments xs e) tt
+arguments_given known (Given x) xs e = subst (λ (ys : List Argument). AllZip IsArgumentOf [] ys) (ok_is no_arguments xs e) tt
+arguments_given known (Target t) xs e = subst (λ (ys : List Argument). AllZip IsArgumentOf [] ys) (ok_is no_arguments xs e) tt
+arguments_given known (Opened o) xs e = subst (λ (ys : List Argument). AllZip IsArgumentOf [] ys) (ok_is no_arguments xs e) tt
+arguments_given known (Called c) xs e = each_kept (λ before found. AllZip IsArgumentOf before found) (pushed_argument known) (argument_kept known) [] (arguments_of c) [] xs tt e
+
+-- ---- lines
+
+abbrev instruction : Option (List ℕ) → OperationText → Operand → List Argument → Instr
+instruction label o x arguments = record { label = label; op = o.operator.mnemonic.op; modifier = with_opening (opens o.behind) o.operator.mnemonic.modifier; operand = x; arguments = arguments }
+
+instruction_agrees : (names : List DeclaredName) (label : Option (List ℕ)) (o : Option OperationText) → Agrees (instruction_of (made names) label o) (operation_faults names o)
+unfolding instruction_of
+instruction_agrees names label None = refl
+instruction_agrees names label (Some o) =
+    then_agrees (behind_of (made names) o.behind) (λ x. behind_arguments (made names) o.behind >>= λ arguments. Ok (instruction label o x arguments)) _ _ (behind_agrees names o.behind)
+    (λ x e. made_agrees (behind_arguments (made names) o.behind) (λ arguments. instruction label o x arguments) _ (arguments_agree names o.behind))
+
+record IsGiven (name : Option (List ℕ)) (o : Option OperationText) (x : Instr) : Type 0 where
+  label : x.label ≡ name
+  is : IsBehindLabel o x
+
+instruction_gives : (known : Declarations) (label : Option (List ℕ)) (o : Option OperationText) (x : Instr) → instruction_of known label o ≡ Ok x → IsGiven label o x
+unfolding instruction_of
+instruction_gives known label None x e =
+    subst (IsGiven label None) (ok_is (record { label = label; op = ops.Empty; modifier = plain; operand = operands.Absent; arguments = [] }) x e) (record { label = refl; is = record { op = refl; modifier = refl; operand = refl; arguments = refl } })
+instruction_gives known label (Some o) x e =
+    let a = bind_ok (behind_of known o.behind) (λ y. behind_arguments known o.behind >>= λ arguments. Ok (instruction label o y arguments)) x e in
+    let b = bind_ok (behind_arguments known o.behind) (λ arguments. Ok (instruction label o a.0 arguments)) x a.2 in
+    subst (IsGiven label (Some o)) (ok_is (instruction label o a.0 b.0) x b.2)
+    (record { label = refl; is = record { op = refl; modifier = refl; operand = behind_gives known o.behind a.0 a.1; arguments = arguments_given known o.behind b.0 b.1 } })
+
+room_agrees : (before : List LineText) (code : List Instr) (left : ℕ) → AllZip IsInstructionOf before code → Agrees (room code left) (when (nat_le 4096 (length before)) kinds.TooMany left)
+room_agrees before code left all = last_agrees _ _ (ap (leb 4096) (zip_length IsInstructionOf before code all)) kinds.TooMany left tt
+
+label_agrees : (t : Token) → Agrees (label_of t) (when (is_reserved (capitals t.text)) kinds.ReservedName t.left)
+label_agrees t = last_agrees (is_reserved (capitals t.text)) _ refl kinds.ReservedName t.left (capitals t.text)
+
+label_gives : (t : Token) (name : List ℕ) → label_of t ≡ Ok name → capitals t.text ≡ name
+label_gives t name e = chosen (is_reserved (capitals t.text)) e
+  where
+    chosen : (b : Bool) → cond b (refused kinds.ReservedName t) (Ok (capitals t.text)) ≡ Ok name → capitals t.text ≡ name
+    chosen true h = absurd cc
+    chosen false h = ok_is (capitals t.text) name h
+
+labelled_agrees : (names : List DeclaredName) (before : List LineText) (code : List Instr) (t : Token) (o : Option OperationText) → AllZip IsInstructionOf before code → Agrees (instruct_labelled (made names) code t o) (line_faults names before (Labelled t o))
+unfolding instruct_labelled
+labelled_agrees names before code t o all =
+    then_agrees (label_of t) (λ label. room code t.left >>= λ here. instruction_of (made names) (Some label) o >>= λ line. Ok (code ++ line ∷ [])) _ _ (label_agrees t)
+    (λ label e. then_agrees (room code t.left) (λ here. instruction_of (made names) (Some label) o >>= λ line. Ok (code ++ line ∷ [])) _ _ (room_agrees before code t.left all)
+    (λ here f. made_agrees (instruction_of (made names) (Some label) o) (λ line. code ++ line ∷ []) _ (instruction_agrees names (Some label) o)))
+
+plain_agrees : (names : List DeclaredName) (before : List LineText) (code : List Instr) (o : OperationText) → AllZip IsInstructionOf before code → Agrees (instruct_plain (made names) code o) (line_faults names before (Plain o))
+unfolding instruct_plain
+plain_agrees names before code o all =
+    then_agrees (room code o.operator.left) (λ here. instruction_of (made names) None (Some o) >>= λ line. Ok (code ++ line ∷ [])) _ _ (room_agrees before code o.operator.left all)
+    (λ here f. made_agrees (instruction_of (made names) None (Some o)) (λ line. code ++ line ∷ []) _ (instruction_agrees names None (Some o)))
+
+line_agrees : (names : List DeclaredName) (before : List LineText) (l : LineText) (code : List Instr) → AllZip IsInstructionOf before code → Agrees (instruct (made names) code l) (line_faults names before l)
+line_agrees names before (Labelled t o) code all = labelled_agrees names before code t o all
+line_agrees names before (Plain o) code all = plain_agrees names before code o all
+
+labelled_kept : (known : Declarations) (before : List LineText) (code more : List Instr) (t : Token) (o : Option OperationText) → AllZip IsInstructionOf before code → instruct_labelled known code t o ≡ Ok more → AllZip IsInstructionOf (before ++ Labelled t o ∷ []) more
+unfolding instruct_labelled
+labelled_kept known before code more t o all e =
+    let a = bind_ok (label_of t) (λ label. room code t.left >>= λ here. instruction_of known (Some label) o >>= λ line. Ok (code ++ line ∷ [])) more e in
+    let b = bind_ok (room code t.left) (λ here. instruction_of known (Some a.0) o >>= λ line. Ok (code ++ line ∷ [])) more a.2 in
+    let c = bind_ok (instruction_of known (Some a.0) o) (λ line. Ok (code ++ line ∷ [])) more b.2 in
+    let g = instruction_gives known (Some a.0) o c.0 c.1 in
+    subst (λ (xs : List Instr). AllZip IsInstructionOf (before ++ Labelled t o ∷ []) xs) (ok_is (code ++ c.0 ∷ []) more c.2)
+    (zip_push IsInstructionOf before code (Labelled t o) c.0 all (g.label ∙ ap (λ (name : List ℕ). Some name) (sym (label_gives t a.0 a.1)), g.is))
+
+plain_kept : (known : Declarations) (before : List LineText) (code more : List Instr) (o : OperationText) → AllZip IsInstructionOf before code → instruct_plain known code o ≡ Ok more → AllZip IsInstructionOf (before ++ Plain o ∷ []) more
+unfolding instruct_plain
+plain_kept known before code more o all e =
+    let b = bind_ok (room code o.operator.left) (λ here. instruction_of known None (Some o) >>= λ line. Ok (code ++ line ∷ [])) more e in
+    let c = bind_ok (instruction_of known None (Some o)) (λ line. Ok (code ++ line ∷ [])) more b.2 in
+    let g = instruction_gives known None (Some o) c.0 c.1 in
+    subst (λ (xs : List Instr). AllZip IsInstructionOf (before ++ Plain o ∷ []) xs) (ok_is (code ++ c.0 ∷ []) more c.2) (zip_push IsInstructionOf before code (Plain o) c.0 all (g.label, g.is))
+
+line_kept : (known : Declarations) (before : List LineText) (l : LineText) (code more : List Instr) → AllZip IsInstructionOf before code → instruct known code l ≡ Ok more → AllZip IsInstructionOf (before ++ l ∷ []) more
+line_kept known before (Labelled t o) code more all e = labelled_kept known before code more t o all e
+line_kept known before (Plain o) code more all e = plain_kept known before code more o all e
+
+lines_agree : (names : List DeclaredName) (ls : List LineText) → Agrees (each (instruct (made names)) [] ls) (beside (line_faults names) [] ls)
+lines_agree names ls = each_agrees (λ before code. AllZip IsInstructionOf before code) (instruct (made names)) (line_faults names) (line_agrees names) (line_kept (made names)) [] ls [] tt
+
+lines_kept : (known : Declarations) (ls : List LineText) (code : List Instr) → each (instruct known) [] ls ≡ Ok code → AllZip IsInstructionOf ls code
+lines_kept known ls code e = each_kept (λ before found. AllZip IsInstructionOf before found) (instruct known) (line_kept known) [] ls [] code tt e
+
+-- ---- a text
+
+abbrev made_of : Declarations → List Instr → Program
+made_of known code = record { variables = known.variables; instances = known.instances; code = code }
+
+-- the walk ends at the first fault, and not where there is none
+pub program_agrees : (p : ProgramText) → Agrees (program_at p) (faults_of p)
+unfolding program_at
+program_agrees p =
+    then_agrees (each declare_block nothing p.blocks) (λ known. each (instruct known) [] p.lines >>= λ code. Ok (made_of known code)) _ _ (blocks_agree p)
+    (λ known e. made_agrees (each (instruct known) [] p.lines) (made_of known) (beside (line_faults (names_of p)) [] p.lines)
+    (subst (λ (y : Declarations). Agrees (each (instruct y) [] p.lines) (beside (line_faults (names_of p)) [] p.lines)) (sym (blocks_kept p known e).keeps) (lines_agree (names_of p) p.lines)))
+
+-- what the walk finds is the program of the text
+pub program_kept : (p : ProgramText) (P : Program) → program_at p ≡ Ok P → IsProgramOf p P
+unfolding program_at
+program_kept p P e =
+    let a = bind_ok (each declare_block nothing p.blocks) (λ known. each (instruct known) [] p.lines >>= λ code. Ok (made_of known code)) P e in
+    let b = bind_ok (each (instruct a.0) [] p.lines) (λ code. Ok (made_of a.0 code)) P a.2 in
+    let kept = blocks_kept p a.0 a.1 in
+    subst (IsProgramOf p) (ok_is (made_of a.0 b.0) P b.2)
+    (record {
+      variables = ap (λ (known : Declarations). known.variables) kept.keeps ∙ kept.starts;
+      instances = ap (λ (known : Declarations). known.instances) kept.keeps;
+      code = lines_kept a.0 p.lines b.0 b.1;
+    })

@@ -1,0 +1,7 @@
+use Rattle.std.proofs.Common.{◌≡◌, drop, map}
+use Rattle.il_reader.specs.Grammar.{declaration}
+use Rattle.il_declarations.specs.Walk.{declare, each}
+use Rattle.il_declarations.proofs.variables.declare_each.Given as goal
+
+abbrev pub invariant-loop-d : goal.invariant-loop-d
+invariant-loop-d l = each declare l.known (drop l.d-index (map declaration l.block)) ≡ each declare l.fn.known (map declaration l.block)

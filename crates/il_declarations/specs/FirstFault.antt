@@ -1,0 +1,46 @@
+-- The first fault of a text: the one that stands first, and of two at one place the one with the least number.
+use Rattle.std.specs.Prelude.{◌≡◌, ◌⊎◌, ◌<◌, ◌≤◌, Result, Ok, Err}
+use Rattle.il_model.specs.Program.{Program}
+use Rattle.il_reader.specs.Grammar.{ProgramText}
+use Rattle.il_reader.specs.Place.{place_at}
+use Rattle.il_reader.specs.Texts.{SourceText}
+use Rattle.il_declarations.specs.declared.fault.FaultAt.{FaultAt}
+use Rattle.il_declarations.specs.declared.fault.Fault.{Fault}
+use Rattle.il_declarations.specs.declared.fault.DeclError.{DeclError}
+use Rattle.il_declarations.specs.declared.fault.DeclError.TheVariants as errors
+use Rattle.il_declarations.specs.Faults.{kind_number}
+use Rattle.il_declarations.specs.Resolution.{Answers}
+use Rattle.il_declarations.specs.Declaring.{IsProgramOf}
+use Rattle.il_declarations.specs.TextFaults.{HasFault}
+
+abbrev pub HasNoFault : ProgramText → Type 0
+HasNoFault p = (f : FaultAt) → HasFault p f → ⊥
+
+-- one fault is told no later than another: more of the text is left where it stands, or it stands there too and its
+-- number is no greater
+abbrev pub IsNoLater : FaultAt → FaultAt → Type 0
+IsNoLater f g = (g.left < f.left) ⊎ ((f.left ≡ g.left) × (kind_number f.kind ≤ kind_number g.kind))
+
+pub record IsFirstFault (p : ProgramText) (f : FaultAt) : Type 0 where
+  pub has : HasFault p f
+  pub first : (g : FaultAt) → HasFault p g → IsNoLater f g
+
+-- the first fault of a text that was read, with its line and column
+pub record IsRefused (s : SourceText) (told : Fault) : Type 0 where
+  pub fault : FaultAt
+  pub first : IsFirstFault s.says fault
+  pub kind : told.kind ≡ fault.kind
+  pub place : told.place ≡ place_at s.text fault.left
+
+-- a fault that is told is the first of the text
+abbrev pub TellsFirst : {X : Type 0} → SourceText → Result X DeclError → Type 0
+TellsFirst s (Err (errors.Fault told)) = IsRefused s told
+TellsFirst s r = Unit {0}
+
+-- the first fault of the text is told, unless memory ran out
+abbrev pub IsTold : SourceText → Result Program DeclError → Type 0
+IsTold s r = (first : Fault) → IsRefused s first → Answers (λ p. p) r (Err first)
+
+-- the program of a text without a fault is given, unless memory ran out
+abbrev pub IsGiven : SourceText → Result Program DeclError → Type 0
+IsGiven s r = (P : Program) → IsProgramOf s.says P → HasNoFault s.says → Answers (λ p. p) r (Ok P)

@@ -1,0 +1,163 @@
+-- The faults that a text has, each told of one name, one declaration or one instruction line beside what stands before
+-- it.
+use Rattle.std.specs.Prelude.{◌≡◌, ◌⊎◌, ℕ, List, [], ◌∷◌, ◌++◌, length, map, Option, Some, None, is_none, Bool, true}
+use Rattle.std.specs.Prelude.{false, not, nat_le}
+use Rattle.std.specs.List.{flat_map, filter}
+use Rattle.il_model.specs.declared.limits.TheConstants.{MOST_VARIABLES, MOST_INSTANCES, MOST_INSTRUCTIONS}
+use Rattle.il_model.specs.declared.program.Loc.{Loc}
+use Rattle.il_model.specs.Names.{is_reserved}
+use Rattle.il_model.specs.Literals.{literal_of}
+use Rattle.il_model.specs.CodedOperands.{loc_code}
+use Rattle.il_model.specs.Locations.{location_of}
+use Rattle.il_reader.specs.Tokens.{Token}
+use Rattle.il_reader.specs.Grammar.{OperandText, Constant, Direct, Named, Field, BehindText, Nothing, Given, Target}
+use Rattle.il_reader.specs.Grammar.{Opened, Called, arguments_of, OperationText, LineText, Labelled, Plain, Located}
+use Rattle.il_reader.specs.Grammar.{ProgramText}
+use Rattle.il_declarations.specs.declared.variables.DeclaredType.{DeclaredType}
+use Rattle.il_declarations.specs.declared.variables.DeclaredType.TheVariants as declared
+use Rattle.il_declarations.specs.declared.fault.DeclKind.{DeclKind}
+use Rattle.il_declarations.specs.declared.fault.DeclKind.TheVariants as kinds
+use Rattle.il_declarations.specs.declared.fault.FaultAt.{FaultAt}
+use Rattle.il_declarations.specs.Resolution.{capitals, suits, written_value}
+use Rattle.il_declarations.specs.Declaring.{DeclaredName, names_in, declarations_of, names_of, type_in, is_instance}
+use Rattle.il_declarations.specs.Declaring.{is_variable, location_in, is_declared, names_variable, names_instance}
+use Rattle.il_declarations.specs.Declaring.{is_occupied}
+
+-- in a list there is an item for which this holds, with those before it
+pub record Somewhere {X : Type 0} (P : List X → X → Type 0) (xs : List X) : Type 0 where
+  pub before : List X
+  pub item : X
+  pub behind : List X
+  pub is : xs ≡ before ++ item ∷ behind
+  pub holds : P before item
+
+-- ---- declarations
+
+-- There are as many instances, or variables, as a program may have. With an unknown type none is asked; before it
+-- stands the fault of that type.
+abbrev pub has_no_room : Option DeclaredType → List DeclaredName → Bool
+has_no_room None before = false
+has_no_room (Some (declared.Elementary type)) before = nat_le MOST_VARIABLES (length (filter is_variable before))
+has_no_room (Some (declared.Block kind)) before = nat_le MOST_INSTANCES (length (filter is_instance before))
+
+-- it is no location, or none of the type
+abbrev pub is_no_place : Option DeclaredType → Option Loc → Bool
+is_no_place type None = true
+is_no_place type (Some loc) = not (suits type loc)
+
+-- a variable before lies there
+abbrev pub is_overlapping : List DeclaredName → Option Loc → Bool
+is_overlapping before None = false
+is_overlapping before (Some loc) = is_occupied before (loc_code loc)
+
+-- an instance has no first value, an input neither, and else it has to fit; behind an unknown type nothing is asked
+abbrev pub is_bad_start : Option Loc → Token → Option DeclaredType → Bool
+is_bad_start loc t None = false
+is_bad_start loc t (Some (declared.Block kind)) = true
+is_bad_start loc t (Some (declared.Elementary type)) = is_none (written_value type loc t)
+
+-- ---- instruction lines
+
+-- what a line asks for: a variable, an instance, a location or a literal
+pub data Asked : Type 0 where
+  AsVariable : Token → Asked
+  AsInstance : Token → Asked
+  AsLocation : Token → Asked
+  AsLiteral : Token → Asked
+
+abbrev pub asked_token : Asked → Token
+asked_token (AsVariable t) = t
+asked_token (AsInstance t) = t
+asked_token (AsLocation t) = t
+asked_token (AsLiteral t) = t
+
+-- what it is called where there is none
+abbrev pub asked_kind : Asked → DeclKind
+asked_kind (AsLocation t) = kinds.BadLocation
+asked_kind a = kinds.UnknownName
+
+-- there is none; a text that was read has no constants but literals
+abbrev pub is_missing : List DeclaredName → Asked → Bool
+is_missing names (AsVariable t) = not (names_variable names (capitals t.text))
+is_missing names (AsInstance t) = not (names_instance names (capitals t.text))
+is_missing names (AsLocation t) = is_none (location_of t.text)
+is_missing names (AsLiteral t) = is_none (literal_of t.text)
+
+abbrev pub asked_by : OperandText → Asked
+asked_by (Constant t) = AsLiteral t
+asked_by (Direct t) = AsLocation t
+asked_by (Named t) = AsVariable t
+asked_by (Field t f) = AsInstance t
+
+abbrev pub asked_behind : BehindText → List Asked
+asked_behind Nothing = []
+asked_behind (Given x) = asked_by x ∷ []
+asked_behind (Target t) = []
+asked_behind (Opened None) = []
+asked_behind (Opened (Some x)) = asked_by x ∷ []
+asked_behind (Called c) = AsInstance c.instance ∷ map (λ a. asked_by a.operand) (arguments_of c)
+
+abbrev pub asked_of : Option OperationText → List Asked
+asked_of None = []
+asked_of (Some o) = asked_behind o.behind
+
+abbrev pub asked_in : LineText → List Asked
+asked_in (Labelled t o) = asked_of o
+asked_in (Plain o) = asked_of (Some o)
+
+-- where a line begins: at its label, or at its operator
+abbrev pub begins_at : LineText → ℕ
+begins_at (Labelled t o) = t.left
+begins_at (Plain o) = o.operator.left
+
+-- ---- the faults
+
+-- a name that a text declares is of this sort, beside those before it, and stands there
+abbrev pub SomeName : ProgramText → ℕ → (List DeclaredName → DeclaredName → Bool) → Type 0
+SomeName p left test = Somewhere (λ before x. (left ≡ x.name.left) × (test before x ≡ true)) (names_of p)
+
+-- so a declaration at its location
+abbrev pub SomePlace : ProgramText → ℕ → (List DeclaredName → Option DeclaredType → Option Loc → Bool) → Type 0
+SomePlace p left test = Somewhere
+    (λ before d. (t : Token) × (d.names ≡ Located t) × (left ≡ t.left)
+    × (test (flat_map names_in before) (type_in d) (location_of t.text) ≡ true)) (declarations_of p)
+
+-- so one at its first value
+abbrev pub SomeStart : ProgramText → ℕ → (Option Loc → Token → Option DeclaredType → Bool) → Type 0
+SomeStart p left test = Somewhere
+    (λ before d. (t : Token) × (d.initial ≡ Some t) × (left ≡ t.left)
+    × (test (location_in d.names) t (type_in d) ≡ true)) (declarations_of p)
+
+-- a line asks for what there isn't, and it is called this
+abbrev pub SomeMissing : ProgramText → DeclKind → ℕ → Type 0
+SomeMissing p kind left =
+    Somewhere (λ before l. Somewhere
+    (λ others a. (asked_kind a ≡ kind) × (left ≡ (asked_token a).left) × (is_missing (names_of p) a ≡ true))
+    (asked_in l)) p.lines
+
+abbrev pub HasFaultOf : ProgramText → DeclKind → ℕ → Type 0
+-- A name stands that one before it is too, whatever its case, be it of a variable or of an instance.
+HasFaultOf p kinds.Duplicate left = SomeName p left (λ before x. is_declared before (capitals x.name.text))
+-- A type word is neither a type nor the kind of a function block.
+HasFaultOf p kinds.UnknownType left =
+    Somewhere (λ before d. (left ≡ d.ty.left) × (is_none (type_in d) ≡ true)) (declarations_of p)
+-- A line names what isn't declared.
+HasFaultOf p kinds.UnknownName left = SomeMissing p kinds.UnknownName left
+-- A declaration puts its variable where none of its type can lie, or a line names a location that there isn't.
+HasFaultOf p kinds.BadLocation left = SomePlace p left (λ before type loc. is_no_place type loc)
+    ⊎ SomeMissing p kinds.BadLocation left
+-- It puts it where a variable before lies.
+HasFaultOf p kinds.Overlap left = SomePlace p left (λ before type loc. is_overlapping before loc)
+-- Its first value is none that it may have.
+HasFaultOf p kinds.BadInitial left = SomeStart p left is_bad_start
+-- A reserved word stands as a name, or as a label.
+HasFaultOf p kinds.ReservedName left = SomeName p left (λ before x. is_reserved (capitals x.name.text))
+    ⊎ Somewhere (λ before l. (t : Token) × (o : Option OperationText) × (l ≡ Labelled t o) × (left ≡ t.left)
+    × (is_reserved (capitals t.text) ≡ true)) p.lines
+-- There are as many variables, instances or lines before it as a program may have.
+HasFaultOf p kinds.TooMany left = SomeName p left (λ before x. has_no_room (type_in x.by) before)
+    ⊎ Somewhere (λ before l. (left ≡ begins_at l) × (nat_le MOST_INSTRUCTIONS (length before) ≡ true)) p.lines
+
+-- a text has a fault of a kind where so many bytes are left
+abbrev pub HasFault : ProgramText → FaultAt → Type 0
+HasFault p f = HasFaultOf p f.kind f.left

@@ -1,0 +1,287 @@
+-- The walk over a text that private functions take: declarations before instructions, and what is asked of a name or of
+-- a location is asked of those before it. No public clause cites it: what `resolve` answers is said by Declaring and
+-- FirstFault.
+use Rattle.std.specs.Prelude.{◌≡◌, ℕ, List, [], ◌∷◌, ◌++◌, length, Option, Some, None, is_some, unwrap_or, Result, Ok}
+use Rattle.std.specs.Prelude.{Err, Bool, false, ◌||◌, nat_le, if◌then◌else◌}
+use Rattle.il_model.specs.declared.limits.TheConstants.{MOST_VARIABLES, MOST_INSTANCES, MOST_INSTRUCTIONS}
+use Rattle.il_model.specs.declared.value.Ty.{Ty}
+use Rattle.il_model.specs.declared.value.Ty.TheVariants as types
+use Rattle.il_model.specs.declared.value.Value.{Value}
+use Rattle.il_model.specs.declared.value.Value.TheVariants as values
+use Rattle.il_model.specs.declared.literal.Literal.{Literal}
+use Rattle.il_model.specs.declared.literal.Literal.TheVariants.{Bare, Typed}
+use Rattle.il_model.specs.declared.op.Op.TheVariants as ops
+use Rattle.il_model.specs.declared.program.Loc.{Loc}
+use Rattle.il_model.specs.declared.program.Variable.{Variable}
+use Rattle.il_model.specs.declared.program.Operand.{Operand}
+use Rattle.il_model.specs.declared.program.Operand.TheVariants as operands
+use Rattle.il_model.specs.declared.program.Instance.{Instance}
+use Rattle.il_model.specs.declared.program.Argument.{Argument}
+use Rattle.il_model.specs.declared.program.Instr.{Instr}
+use Rattle.il_model.specs.Program.{Program, Declarations}
+use Rattle.il_model.specs.Resolved.{instance_in}
+use Rattle.il_model.specs.Names.{is_reserved}
+use Rattle.il_model.specs.Values.{zero_of}
+use Rattle.il_model.specs.Literals.{literal_of}
+use Rattle.il_model.specs.CodedOperands.{loc_code}
+use Rattle.il_model.specs.Codes.{is_number, is_taken}
+use Rattle.il_reader.specs.Tokens.{Token}
+use Rattle.il_reader.specs.Grammar.{OperandText, Constant, Direct, Named, Field, BehindText, Nothing, Given, Target}
+use Rattle.il_reader.specs.Grammar.{Opened, Called, ArgumentText, arguments_of, OperationText, LineText, Labelled}
+use Rattle.il_reader.specs.Grammar.{Plain, NamesText, Located, More, DeclarationText, ProgramText}
+use Rattle.il_reader.specs.Place.{place_at}
+use Rattle.il_reader.specs.Texts.{SourceText}
+use Rattle.il_declarations.specs.declared.variables.Plan.{Plan}
+use Rattle.il_declarations.specs.declared.variables.DeclaredType.{DeclaredType}
+use Rattle.il_declarations.specs.declared.variables.DeclaredType.TheVariants as declared
+use Rattle.il_declarations.specs.declared.fault.DeclKind.{DeclKind}
+use Rattle.il_declarations.specs.declared.fault.DeclKind.TheVariants as kinds
+use Rattle.il_declarations.specs.declared.fault.FaultAt.{FaultAt}
+use Rattle.il_declarations.specs.declared.fault.Failure.{Failure}
+use Rattle.il_declarations.specs.declared.fault.Failure.TheVariants as failures
+use Rattle.il_declarations.specs.declared.fault.Fault.{Fault}
+use Rattle.il_model.specs.Locations.{location_of}
+use Rattle.il_declarations.specs.Resolution.{capitals, declared_type, suits, variable, written_value, opens, with_opening}
+use Rattle.il_declarations.specs.Resolution.{plain}
+
+infixl 10 ◌>>=◌
+abbrev pub ◌>>=◌ : {A B : Type 0} → Result A FaultAt → (A → Result B FaultAt) → Result B FaultAt
+(Ok x) >>= f = f x
+(Err e) >>= f = Err e
+
+-- What a function returned, seen by view, is what is given, unless memory ran out.
+abbrev pub Fails : {Y : Type 0} → Failure → Result Y FaultAt → Type 0
+Fails failures.Memory given = Unit {0}
+Fails (failures.Refused f) given = given ≡ Err f
+
+abbrev pub Gives : {X Y : Type 0} → (X → Y) → Result X Failure → Result Y FaultAt → Type 0
+Gives view (Ok x) given = given ≡ Ok (view x)
+Gives view (Err e) given = Fails e given
+
+-- each of them in order, or the first fault
+unfoldable pub each : {X Y : Type 0} → (Y → X → Result Y FaultAt) → Y → List X → Result Y FaultAt
+each step y [] = Ok y
+each step y (x ∷ xs) = step y x >>= λ z. each step z xs
+
+abbrev pub refused : {A : Type 0} → DeclKind → Token → Result A FaultAt
+refused kind t = Err (record { kind = kind; left = t.left })
+
+-- ---- declarations
+
+-- no names yet
+abbrev pub nothing : Declarations
+nothing = record { variables = []; instances = [] }
+
+-- a variable has the name
+abbrev pub has_name : Declarations → List ℕ → Bool
+has_name known name = is_some (is_number known.variables name)
+
+-- an instance has the name
+abbrev pub has_instance : Declarations → List ℕ → Bool
+has_instance known name = is_some (instance_in known.instances name)
+
+-- there are as many variables, or instances, as a program may have; behind an unknown type nothing stands
+abbrev pub is_full : Option DeclaredType → Declarations → Bool
+is_full None known = false
+is_full (Some (declared.Elementary type)) known = nat_le MOST_VARIABLES (length known.variables)
+is_full (Some (declared.Block kind)) known = nat_le MOST_INSTANCES (length known.instances)
+
+-- a name in capital letters, which no variable and no instance before it has
+unfoldable pub new_name : Option DeclaredType → Declarations → Token → Result (List ℕ) FaultAt
+new_name type known t =
+    if has_name known (capitals t.text) || has_instance known (capitals t.text) then refused kinds.Duplicate t
+    else if is_reserved (capitals t.text) then refused kinds.ReservedName t
+    else if is_full type known then refused kinds.TooMany t
+    else Ok (capitals t.text)
+
+abbrev pub free_loc : Option DeclaredType → Declarations → Token → Option Loc → Result Loc FaultAt
+free_loc type known t None = refused kinds.BadLocation t
+free_loc type known t (Some loc) =
+    if suits type loc then (if is_taken known.variables (loc_code loc) then refused kinds.Overlap t else Ok loc)
+    else refused kinds.BadLocation t
+
+-- a location of the type that none of the variables before has
+abbrev pub free_location : Option DeclaredType → Declarations → Token → Result Loc FaultAt
+free_location type known t = free_loc type known t (location_of t.text)
+
+abbrev pub found_type : Token → Option DeclaredType → Result DeclaredType FaultAt
+found_type t None = refused kinds.UnknownType t
+found_type t (Some type) = Ok type
+
+abbrev pub known_type : Token → Result DeclaredType FaultAt
+known_type t = found_type t (declared_type t.text)
+
+-- ---- initial values
+
+abbrev pub fitted : Token → Option Value → Result Value FaultAt
+fitted t None = refused kinds.BadInitial t
+fitted t (Some v) = Ok v
+
+-- where none is written it is that of the type
+abbrev pub elementary_value : Ty → Option Loc → Option Token → Result Value FaultAt
+elementary_value type loc None = Ok (zero_of type)
+elementary_value type loc (Some t) = fitted t (written_value type loc t)
+
+-- an instance has no first value
+abbrev pub first_value : DeclaredType → Option Loc → Option Token → Result Value FaultAt
+first_value (declared.Elementary type) loc initial = elementary_value type loc initial
+first_value (declared.Block kind) loc None = Ok (values.Bool false)
+first_value (declared.Block kind) loc (Some t) = refused kinds.BadInitial t
+
+-- Whatever stands here for an unknown type, an instance or a bad value, that is the fault behind the names, or isn't
+-- used.
+abbrev pub planned_value : Option DeclaredType → Option Token → Value
+planned_value (Some (declared.Elementary type)) None = zero_of type
+planned_value (Some (declared.Elementary type)) (Some t) = unwrap_or (written_value type None t) (values.Bool false)
+planned_value type initial = values.Bool false
+
+abbrev pub plan_of : DeclarationText → Plan
+plan_of d = record { ty = declared_type d.ty.text; initial = planned_value (declared_type d.ty.text) d.initial }
+
+-- ---- variables and instances
+
+abbrev pub with_variable : Declarations → Variable → Declarations
+with_variable known v = record known { variables = known.variables ++ v ∷ [] }
+
+abbrev pub with_instance : Declarations → Instance → Declarations
+with_instance known x = record known { instances = known.instances ++ x ∷ [] }
+
+-- one name more, of a variable or of an instance
+abbrev pub with_declared : Plan → Declarations → List ℕ → Option Loc → Option DeclaredType → Declarations
+with_declared plan known name loc None = with_variable known (variable name types.Bool loc plan.initial)
+with_declared plan known name loc (Some (declared.Elementary type)) =
+    with_variable known (variable name type loc plan.initial)
+with_declared plan known name loc (Some (declared.Block kind)) =
+    with_instance known (record { name = name; kind = kind })
+
+-- a name of a list
+unfoldable pub declare_name : Plan → Declarations → Token → Result Declarations FaultAt
+declare_name plan known t = new_name plan.ty known t >>= λ name. Ok (with_declared plan known name None plan.ty)
+
+unfoldable pub declare_located : Declarations → DeclarationText → Token → Result Declarations FaultAt
+declare_located known d location = do
+  name ← new_name (declared_type d.ty.text) known d.name
+  loc ← free_location (declared_type d.ty.text) known location
+  type ← known_type d.ty
+  initial ← first_value type (Some loc) d.initial
+  Ok (with_declared (record { ty = Some type; initial = initial }) known name (Some loc) (Some type))
+
+unfoldable pub declare_listed : Declarations → DeclarationText → List Token → Result Declarations FaultAt
+declare_listed known d more = do
+  first ← declare_name (plan_of d) known d.name
+  named ← each (declare_name (plan_of d)) first more
+  type ← known_type d.ty
+  initial ← first_value type None d.initial
+  Ok named
+
+abbrev pub declare_by : Declarations → DeclarationText → NamesText → Result Declarations FaultAt
+declare_by known d (Located location) = declare_located known d location
+declare_by known d (More more) = declare_listed known d more
+
+abbrev pub declare : Declarations → DeclarationText → Result Declarations FaultAt
+declare known d = declare_by known d d.names
+
+abbrev pub declare_block : Declarations → List DeclarationText → Result Declarations FaultAt
+declare_block known ds = each declare known ds
+
+-- ---- instructions
+
+abbrev pub direct : Token → Option Loc → Result Operand FaultAt
+direct t None = refused kinds.BadLocation t
+direct t (Some loc) = Ok (operands.Direct loc)
+
+-- a text that was read has no other literals
+abbrev pub constant : Token → Option Literal → Result Operand FaultAt
+constant t None = refused kinds.UnknownName t
+constant t (Some (Bare z)) = Ok (operands.Bare z)
+constant t (Some (Typed v)) = Ok (operands.Literal v)
+
+abbrev pub operand_of : Declarations → OperandText → Result Operand FaultAt
+operand_of known (Constant t) = constant t (literal_of t.text)
+operand_of known (Direct t) = direct t (location_of t.text)
+operand_of known (Named t) = if has_name known (capitals t.text) then Ok (operands.Variable (capitals t.text))
+    else refused kinds.UnknownName t
+operand_of known (Field t f) = if has_instance known (capitals t.text)
+    then Ok (operands.Field (capitals t.text) (capitals f.text)) else refused kinds.UnknownName t
+
+abbrev pub optional_operand_of : Declarations → Option OperandText → Result Operand FaultAt
+optional_operand_of known None = Ok operands.Absent
+optional_operand_of known (Some x) = operand_of known x
+
+-- what stands behind an operator; whether a jump's label stands somewhere is not asked here
+abbrev pub behind_of : Declarations → BehindText → Result Operand FaultAt
+behind_of known Nothing = Ok operands.Absent
+behind_of known (Given x) = operand_of known x
+behind_of known (Target t) = Ok (operands.Label (capitals t.text))
+behind_of known (Opened o) = optional_operand_of known o
+behind_of known (Called c) = if has_instance known (capitals c.instance.text)
+    then Ok (operands.Instance (capitals c.instance.text)) else refused kinds.UnknownName c.instance
+
+-- an argument of a call; whether the block has such a field is judged with the types
+unfoldable pub argument_of : Declarations → ArgumentText → Result Argument FaultAt
+argument_of known a = operand_of known a.operand >>= λ x. Ok
+    (record { field = capitals a.field.text; side = a.side; operand = x })
+
+abbrev pub pushed_argument : Declarations → List Argument → ArgumentText → Result (List Argument) FaultAt
+pushed_argument known found a = argument_of known a >>= λ x. Ok (found ++ x ∷ [])
+
+abbrev pub behind_arguments : Declarations → BehindText → Result (List Argument) FaultAt
+behind_arguments known (Called c) = each (pushed_argument known) [] (arguments_of c)
+behind_arguments known b = Ok []
+
+-- the instruction of an operation, or the empty one
+unfoldable pub instruction_of : Declarations → Option (List ℕ) → Option OperationText → Result Instr FaultAt
+instruction_of known label None =
+    Ok (record { label = label; op = ops.Empty; modifier = plain; operand = operands.Absent; arguments = [] })
+instruction_of known label (Some o) =
+    behind_of known o.behind >>= λ x. behind_arguments known o.behind >>= λ arguments. Ok
+    (record {
+      label = label;
+      op = o.operator.mnemonic.op;
+      modifier = with_opening (opens o.behind) o.operator.mnemonic.modifier;
+      operand = x;
+      arguments = arguments;
+    })
+
+-- there is room for one instruction more, where the line begins that many bytes before the end
+abbrev pub room : List Instr → ℕ → Result (Unit {0}) FaultAt
+room code left = if nat_le MOST_INSTRUCTIONS (length code) then Err (record { kind = kinds.TooMany; left = left })
+    else Ok tt
+
+-- a label in capital letters; labels are a name space of their own, and a doubled one is found later
+abbrev pub label_of : Token → Result (List ℕ) FaultAt
+label_of t = if is_reserved (capitals t.text) then refused kinds.ReservedName t else Ok (capitals t.text)
+
+unfoldable pub instruct_labelled : Declarations → List Instr → Token → Option OperationText
+    → Result (List Instr) FaultAt
+instruct_labelled known code t o = do
+  label ← label_of t
+  here ← room code t.left
+  line ← instruction_of known (Some label) o
+  Ok (code ++ line ∷ [])
+
+unfoldable pub instruct_plain : Declarations → List Instr → OperationText → Result (List Instr) FaultAt
+instruct_plain known code o = do
+  here ← room code o.operator.left
+  line ← instruction_of known None (Some o)
+  Ok (code ++ line ∷ [])
+
+abbrev pub instruct : Declarations → List Instr → LineText → Result (List Instr) FaultAt
+instruct known code (Labelled t o) = instruct_labelled known code t o
+instruct known code (Plain o) = instruct_plain known code o
+
+-- ---- the whole
+
+unfoldable pub program_at : ProgramText → Result Program FaultAt
+program_at p = do
+  known ← each declare_block nothing p.blocks
+  code ← each (instruct known) [] p.lines
+  Ok (record { variables = known.variables; instances = known.instances; code = code })
+
+abbrev pub told : List ℕ → Result Program FaultAt → Result Program Fault
+told text (Ok Q) = Ok Q
+told text (Err f) = Err (record { kind = f.kind; place = place_at text f.left })
+
+-- the program of a text, or its first fault with its line and column
+abbrev pub resolution_of : SourceText → Result Program Fault
+resolution_of s = told s.text (program_at s.says)

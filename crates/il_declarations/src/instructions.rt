@@ -1,0 +1,305 @@
+//! Instructions: labels, operators with their letters, operands by name, location, value or field, arguments of calls.
+
+ghost use Rattle.std.specs.Prelude.{◌≡◌, [], map, option_map};
+ghost use Rattle.il_reader.specs.Tokens.{token};
+ghost use Rattle.il_reader.specs.Grammar.{Named, Field, Called, operand, argument, call, behind, operation, line};
+ghost use Rattle.il_declarations.specs.Resolution.{opens, with_opening};
+ghost use Rattle.il_declarations.specs.Walk.{Gives, constant, operand_of, optional_operand_of, behind_of, argument_of};
+ghost use Rattle.il_declarations.specs.Walk.{pushed_argument, behind_arguments, instruction_of, room, label_of};
+ghost use Rattle.il_declarations.specs.Walk.{instruct_labelled, instruct_plain, instruct, each};
+
+use crate::declared::Declared;
+use crate::fault::{DeclKind, Failure, FaultAt};
+use crate::variables::{capital_name, refused};
+use il_model::{
+    Argument, Arguments, Instr, Literal, MOST_INSTRUCTIONS, Modifier, Name, Op, Operand,
+    is_reserved, literal_from, location_from,
+};
+use il_reader::{Behind, Call, Lexeme, Line, Operation};
+use std::alloc::Global;
+
+fn constant(t: Lexeme, given: Option<Literal>) -> Result<Operand, Failure>
+    ensures { Gives (λ x. x) result (constant (token t.entry) given) }
+{
+    match given {
+        Some(Literal::Bare(z)) => Ok(Operand::Bare(z)),
+        Some(Literal::Typed(v)) => Ok(Operand::Literal(v)),
+        None => Err(refused(DeclKind::UnknownName, t)),
+    }
+}
+
+fn variable(alloc: Global, known: &Declared, t: Lexeme) -> Result<Operand, Failure>
+    ensures { Gives (λ x. x) result (operand_of known.now (Named (token t.entry))) }
+{
+    let name = capital_name(alloc, t.text)?;
+    if known.is_variable(&name) {
+        Ok(Operand::Variable(name))
+    } else {
+        Err(refused(DeclKind::UnknownName, t))
+    }
+}
+
+fn field_of(alloc: Global, known: &Declared, t: Lexeme, field: Lexeme) -> Result<Operand, Failure>
+    ensures { Gives (λ x. x) result (operand_of known.now (Field (token t.entry) (token field.entry))) }
+{
+    let name = capital_name(alloc, t.text)?;
+    if known.is_instance(&name) {
+        Ok(Operand::Field(name, capital_name(alloc, field.text)?))
+    } else {
+        Err(refused(DeclKind::UnknownName, t))
+    }
+}
+
+fn given_operand(
+    alloc: Global,
+    known: &Declared,
+    written: il_reader::Operand,
+) -> Result<Operand, Failure>
+    ensures { Gives (λ x. x) result (operand_of known.now (operand written.entry)) }
+{
+    match written {
+        il_reader::Operand::Constant(t) => constant(t, literal_from(t.text)),
+        il_reader::Operand::Direct(t) => match location_from(t.text) {
+            Some(loc) => Ok(Operand::Direct(loc)),
+            None => Err(refused(DeclKind::BadLocation, t)),
+        },
+        il_reader::Operand::Named(t) => variable(alloc, known, t),
+        il_reader::Operand::Field(t, f) => field_of(alloc, known, t, f),
+    }
+}
+
+fn optional_operand(
+    alloc: Global,
+    known: &Declared,
+    written: Option<il_reader::Operand>,
+) -> Result<Operand, Failure>
+    ensures { Gives (λ x. x) result (optional_operand_of known.now (option_map operand written.entry)) }
+{
+    match written {
+        Some(x) => given_operand(alloc, known, x),
+        None => Ok(Operand::Absent),
+    }
+}
+
+fn called_instance(alloc: Global, known: &Declared, written: &Call) -> Result<Operand, Failure>
+    ensures { Gives (λ x. x) result (behind_of known.now (Called (call written.now))) }
+{
+    let instance = capital_name(alloc, written.instance.text)?;
+    if known.is_instance(&instance) {
+        Ok(Operand::Instance(instance))
+    } else {
+        Err(refused(DeclKind::UnknownName, written.instance))
+    }
+}
+
+fn operand_behind(alloc: Global, known: &Declared, written: &Behind) -> Result<Operand, Failure>
+    ensures { Gives (λ x. x) result (behind_of known.now (behind written.now)) }
+{
+    match written {
+        Behind::Nothing => Ok(Operand::Absent),
+        Behind::Given(x) => given_operand(alloc, known, *x),
+        Behind::Target(t) => Ok(Operand::Label(capital_name(alloc, t.text)?)),
+        Behind::Opened(x) => optional_operand(alloc, known, *x),
+        Behind::Called(call) => called_instance(alloc, known, call),
+    }
+}
+
+#[tactic(auto, unfolding(crate::specs::Walk::argument_of))]
+fn given_argument(
+    alloc: Global,
+    known: &Declared,
+    written: il_reader::Argument,
+) -> Result<Argument, Failure>
+    ensures { Gives (λ x. x) result (argument_of known.now (argument written.entry)) }
+{
+    let operand = given_operand(alloc, known, written.operand)?;
+    Ok(Argument {
+        field: capital_name(alloc, written.field.text)?,
+        side: written.side,
+        operand,
+    })
+}
+
+fn push_argument(
+    alloc: Global,
+    known: &Declared,
+    found: &mut Vec<Argument>,
+    written: il_reader::Argument,
+) -> Result<(), Failure>
+    ensures { Gives (λ u. found.new.items) result (pushed_argument known.now found.old.items (argument written.entry)) }
+{
+    let one = given_argument(alloc, known, written)?;
+    found.push(one)?;
+    Ok(())
+}
+
+fn given_arguments(
+    alloc: Global,
+    known: &Declared,
+    given: &[il_reader::Argument],
+) -> Result<Vec<Argument>, Failure>
+    ensures { Gives (λ v. v.items) result (each (pushed_argument known.now) [] (map argument given.now)) }
+{
+    let mut found = Vec::new(alloc);
+    for written in given {
+        push_argument(alloc, known, &mut found, *written)?;
+    }
+    Ok(found)
+}
+
+fn arguments_behind(
+    alloc: Global,
+    known: &Declared,
+    written: &Behind,
+) -> Result<Arguments<Argument>, Failure>
+    ensures { Gives (λ v. v) result (behind_arguments known.now (behind written.now)) }
+{
+    let given = match written {
+        Behind::Called(call) => given_arguments(alloc, known, call.arguments())?,
+        _ => Vec::new(alloc),
+    };
+    Ok(Arguments::of(given))
+}
+
+fn opens(written: &Behind) -> bool
+    ensures { result ≡ opens (behind written.now) }
+{
+    matches!(written, Behind::Opened(_))
+}
+
+fn with_opening(opens: bool, m: Modifier) -> Modifier
+    ensures { result ≡ with_opening opens m }
+{
+    Modifier {
+        negated: m.negated,
+        conditional: m.conditional,
+        opens,
+    }
+}
+
+#[tactic(auto, unfolding(crate::specs::Walk::instruction_of))]
+fn instruction(
+    alloc: Global,
+    known: &Declared,
+    label: Option<Name>,
+    written: &Operation,
+) -> Result<Instr, Failure>
+    ensures { Gives (λ x. x) result (instruction_of known.now label (Some (operation written.now))) }
+{
+    let operand = operand_behind(alloc, known, &written.behind)?;
+    let arguments = arguments_behind(alloc, known, &written.behind)?;
+    let mnemonic = written.operator.mnemonic;
+    Ok(Instr {
+        label,
+        op: mnemonic.op,
+        modifier: with_opening(opens(&written.behind), mnemonic.modifier),
+        operand,
+        arguments,
+    })
+}
+
+#[tactic(auto, unfolding(crate::specs::Walk::instruction_of))]
+fn labelled(
+    alloc: Global,
+    known: &Declared,
+    label: Name,
+    written: Option<&Operation>,
+) -> Result<Instr, Failure>
+    ensures { Gives (λ x. x) result
+        (instruction_of known.now (Some label) (option_map (λ o. operation o.now) written.entry)) }
+{
+    match written {
+        Some(o) => instruction(alloc, known, Some(label), o),
+        None => Ok(Instr {
+            label: Some(label),
+            op: Op::Empty,
+            modifier: Modifier {
+                negated: false,
+                conditional: false,
+                opens: false,
+            },
+            operand: Operand::Absent,
+            arguments: Arguments::of(Vec::new(alloc)),
+        }),
+    }
+}
+
+fn has_room(code: &[Instr], left: usize) -> Result<(), Failure>
+    ensures { Gives (λ u. u) result (room code.now left) }
+{
+    if code.len() >= MOST_INSTRUCTIONS {
+        Err(Failure::Refused(FaultAt {
+            kind: DeclKind::TooMany,
+            left,
+        }))
+    } else {
+        Ok(())
+    }
+}
+
+fn lawful_label(alloc: Global, t: Lexeme) -> Result<Name, Failure>
+    ensures { Gives (λ n. n) result (label_of (token t.entry)) }
+{
+    let name = capital_name(alloc, t.text)?;
+    if is_reserved(name.bytes()) {
+        Err(refused(DeclKind::ReservedName, t))
+    } else {
+        Ok(name)
+    }
+}
+
+#[tactic(auto, unfolding(crate::specs::Walk::instruct_labelled))]
+fn push_labelled(
+    alloc: Global,
+    known: &Declared,
+    code: &mut Vec<Instr>,
+    t: Lexeme,
+    written: Option<&Operation>,
+) -> Result<(), Failure>
+    ensures { Gives (λ u. code.new.items) result
+        (instruct_labelled known.now code.old.items (token t.entry) (option_map (λ o. operation o.now) written.entry)) }
+{
+    let label = lawful_label(alloc, t)?;
+    has_room(code.as_slice(), t.left)?;
+    code.push(labelled(alloc, known, label, written)?)?;
+    Ok(())
+}
+
+#[tactic(auto, unfolding(crate::specs::Walk::instruct_plain))]
+fn push_plain(
+    alloc: Global,
+    known: &Declared,
+    code: &mut Vec<Instr>,
+    written: &Operation,
+) -> Result<(), Failure>
+    ensures { Gives (λ u. code.new.items) result (instruct_plain known.now code.old.items (operation written.now)) }
+{
+    has_room(code.as_slice(), written.operator.left)?;
+    code.push(instruction(alloc, known, None, written)?)?;
+    Ok(())
+}
+
+fn push_line(
+    alloc: Global,
+    known: &Declared,
+    code: &mut Vec<Instr>,
+    written: &Line,
+) -> Result<(), Failure>
+    ensures { Gives (λ u. code.new.items) result (instruct known.now code.old.items (line written.now)) }
+{
+    match written {
+        Line::Labelled(t, o) => push_labelled(alloc, known, code, *t, o.as_ref()),
+        Line::Plain(o) => push_plain(alloc, known, code, o),
+    }
+}
+
+/// The instructions of the lines.
+pub fn instructions(alloc: Global, known: &Declared, lines: &[Line]) -> Result<Vec<Instr>, Failure>
+    ensures { Gives (λ v. v.items) result (each (instruct known.now) [] (map line lines.now)) }
+{
+    let mut code = Vec::new(alloc);
+    for written in lines {
+        push_line(alloc, known, &mut code, written)?;
+    }
+    Ok(code)
+}

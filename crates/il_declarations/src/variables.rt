@@ -1,0 +1,269 @@
+//! Declarations of variables and function block instances.
+
+ghost use Rattle.std.specs.Prelude.{◌≡◌, IfOk, OnOk, map};
+ghost use Rattle.il_reader.specs.Tokens.{token};
+ghost use Rattle.il_reader.specs.Grammar.{declaration, declarations};
+ghost use Rattle.il_declarations.specs.Resolution.{capitals, type_of, declared_type, suits, variable};
+ghost use Rattle.il_declarations.specs.Walk.{Gives, is_full, new_name, free_location, found_type, plan_of, with_declared};
+ghost use Rattle.il_declarations.specs.Walk.{declare_name, declare_located, declare_listed, declare, declare_block, each};
+
+use crate::declared::Declared;
+use crate::fault::{DeclKind, Failure, FaultAt};
+use crate::initial::{first_value, planned_value};
+use il_model::{
+    BlockKind, Instance, Loc, MOST_INSTANCES, MOST_VARIABLES, Name, Ty, Value, Variable, capital,
+    is_reserved, is_spelled, loc_type, location_from,
+};
+use il_reader::{Declaration, Lexeme, Names};
+use std::alloc::{AllocError, Global};
+
+/// What a type word stands for.
+#[derive(Clone, Copy, PartialEq, Eq)]
+pub enum DeclaredType {
+    Elementary(Ty),
+    Block(BlockKind),
+}
+
+/// What the names of a list are: their type and their first value, where both are good.
+#[derive(Clone, Copy)]
+pub struct Plan {
+    pub ty: Option<DeclaredType>,
+    pub initial: Value,
+}
+
+/// The fault of a token.
+pub fn refused(kind: DeclKind, t: Lexeme) -> Failure
+    ensures { result ≡ Failure.Refused (record { kind = kind; left = t.entry.left }) }
+{
+    Failure::Refused(FaultAt { kind, left: t.left })
+}
+
+/// A name in capital letters.
+pub fn capital_name(alloc: Global, text: &[u8]) -> Result<Name, AllocError>
+    ensures { IfOk result (λ n. n ≡ capitals text.now) }
+{
+    let mut bytes = Vec::new(alloc);
+    for b in text {
+        bytes.push(capital(*b))?;
+    }
+    Ok(Name::of(bytes))
+}
+
+fn elementary(word: &[u8]) -> Option<Ty>
+    ensures { result ≡ type_of word.now }
+{
+    if is_spelled(b"BOOL", word) {
+        Some(Ty::Bool)
+    } else if is_spelled(b"INT", word) {
+        Some(Ty::Int)
+    } else if is_spelled(b"DINT", word) {
+        Some(Ty::Dint)
+    } else if is_spelled(b"TIME", word) {
+        Some(Ty::Time)
+    } else if is_spelled(b"LINT", word) {
+        Some(Ty::Lint)
+    } else {
+        None
+    }
+}
+
+/// The type that a word stands for, an elementary one or the kind of a function block; None where it is neither.
+fn declared_type(alloc: Global, word: &[u8]) -> Result<Option<DeclaredType>, AllocError>
+    ensures { IfOk result (λ ty. ty ≡ declared_type word.now) }
+{
+    if let Some(ty) = elementary(word) {
+        return Ok(Some(DeclaredType::Elementary(ty)));
+    }
+    let name = capital_name(alloc, word)?;
+    Ok(BlockKind::of_name(name.bytes()).map(DeclaredType::Block))
+}
+
+fn has_no_room(ty: Option<DeclaredType>, known: &Declared) -> bool
+    ensures { result ≡ is_full ty known.now }
+{
+    match ty {
+        Some(DeclaredType::Elementary(_)) => known.variable_count() >= MOST_VARIABLES,
+        Some(DeclaredType::Block(_)) => known.instance_count() >= MOST_INSTANCES,
+        None => false,
+    }
+}
+
+#[tactic(auto, unfolding(crate::specs::Walk::new_name))]
+fn lawful_name(
+    alloc: Global,
+    ty: Option<DeclaredType>,
+    known: &Declared,
+    t: Lexeme,
+) -> Result<Name, Failure>
+    ensures { Gives (λ n. n) result (new_name ty known.now (token t.entry)) }
+{
+    let name = capital_name(alloc, t.text)?;
+    if known.is_variable(&name) || known.is_instance(&name) {
+        Err(refused(DeclKind::Duplicate, t))
+    } else if is_reserved(name.bytes()) {
+        Err(refused(DeclKind::ReservedName, t))
+    } else if has_no_room(ty, known) {
+        Err(refused(DeclKind::TooMany, t))
+    } else {
+        Ok(name)
+    }
+}
+
+fn location_suits(ty: Option<DeclaredType>, loc: Loc) -> bool
+    ensures { result ≡ suits ty loc }
+{
+    match ty {
+        Some(DeclaredType::Elementary(Ty::Bool)) => matches!(loc_type(loc), Some(Ty::Bool)),
+        Some(DeclaredType::Elementary(Ty::Int)) => matches!(loc_type(loc), Some(Ty::Int)),
+        Some(_) => false,
+        None => true,
+    }
+}
+
+fn unoccupied(ty: Option<DeclaredType>, known: &Declared, t: Lexeme) -> Result<Loc, Failure>
+    ensures { Gives (λ loc. loc) result (free_location ty known.now (token t.entry)) }
+{
+    match location_from(t.text) {
+        None => Err(refused(DeclKind::BadLocation, t)),
+        Some(loc) => {
+            if !location_suits(ty, loc) {
+                Err(refused(DeclKind::BadLocation, t))
+            } else if known.is_taken(loc) {
+                Err(refused(DeclKind::Overlap, t))
+            } else {
+                Ok(loc)
+            }
+        }
+    }
+}
+
+fn planned(ty: Option<DeclaredType>, d: &Declaration) -> Plan
+    requires { ty ≡ declared_type (declaration d.now).ty.text }
+    ensures { result ≡ plan_of (declaration d.now) }
+{
+    Plan {
+        ty,
+        initial: planned_value(ty, d.initial),
+    }
+}
+
+fn known_type(ty: Option<DeclaredType>, t: Lexeme) -> Result<DeclaredType, Failure>
+    ensures { Gives (λ x. x) result (found_type (token t.entry) ty) }
+{
+    ty.ok_or(refused(DeclKind::UnknownType, t))
+}
+
+fn fresh(name: Name, ty: Ty, location: Option<Loc>, initial: Value) -> Variable
+    ensures { result ≡ variable name ty location initial }
+{
+    Variable {
+        name,
+        ty,
+        location,
+        initial,
+    }
+}
+
+fn push_declared(
+    alloc: Global,
+    plan: Plan,
+    known: &mut Declared,
+    name: Name,
+    location: Option<Loc>,
+) -> Result<(), AllocError>
+    ensures { OnOk result (known.new ≡ with_declared plan known.old name location plan.ty) }
+{
+    match plan.ty {
+        Some(DeclaredType::Elementary(ty)) => {
+            known.push_variable(alloc, fresh(name, ty, location, plan.initial))
+        }
+        Some(DeclaredType::Block(kind)) => known.push_instance(alloc, Instance { name, kind }),
+        None => known.push_variable(alloc, fresh(name, Ty::Bool, location, plan.initial)),
+    }
+}
+
+#[tactic(auto, unfolding(crate::specs::Walk::declare_name))]
+fn push_name(alloc: Global, plan: Plan, known: &mut Declared, t: Lexeme) -> Result<(), Failure>
+    ensures { Gives (λ u. known.new) result (declare_name plan known.old (token t.entry)) }
+{
+    let name = lawful_name(alloc, plan.ty, known, t)?;
+    push_declared(alloc, plan, known, name, None)?;
+    Ok(())
+}
+
+fn push_names(
+    alloc: Global,
+    plan: Plan,
+    known: &mut Declared,
+    names: &[Lexeme],
+) -> Result<(), Failure>
+    ensures { Gives (λ u. known.new) result (each (declare_name plan) known.old (map token names.now)) }
+{
+    for name in names {
+        push_name(alloc, plan, known, *name)?;
+    }
+    Ok(())
+}
+
+#[tactic(auto, unfolding(crate::specs::Walk::declare_located))]
+fn declare_at(
+    alloc: Global,
+    known: &mut Declared,
+    d: &Declaration,
+    at: Lexeme,
+) -> Result<(), Failure>
+    ensures { Gives (λ u. known.new) result (declare_located known.old (declaration d.now) (token at.entry)) }
+{
+    let written = declared_type(alloc, d.ty.text)?;
+    let name = lawful_name(alloc, written, known, d.name)?;
+    let loc = unoccupied(written, known, at)?;
+    let ty = known_type(written, d.ty)?;
+    let initial = first_value(ty, Some(loc), d.initial)?;
+    let plan = Plan {
+        ty: Some(ty),
+        initial,
+    };
+    push_declared(alloc, plan, known, name, Some(loc))?;
+    Ok(())
+}
+
+#[tactic(auto, unfolding(crate::specs::Walk::declare_listed))]
+fn declare_names(
+    alloc: Global,
+    known: &mut Declared,
+    d: &Declaration,
+    more: &[Lexeme],
+) -> Result<(), Failure>
+    ensures { Gives (λ u. known.new) result (declare_listed known.old (declaration d.now) (map token more.now)) }
+{
+    let written = declared_type(alloc, d.ty.text)?;
+    let plan = planned(written, d);
+    push_name(alloc, plan, known, d.name)?;
+    push_names(alloc, plan, known, more)?;
+    let ty = known_type(written, d.ty)?;
+    first_value(ty, None, d.initial)?;
+    Ok(())
+}
+
+fn declare_one(alloc: Global, known: &mut Declared, d: &Declaration) -> Result<(), Failure>
+    ensures { Gives (λ u. known.new) result (declare known.old (declaration d.now)) }
+{
+    match &d.names {
+        Names::Located(at) => declare_at(alloc, known, d, *at),
+        Names::More(more) => declare_names(alloc, known, d, more.as_slice()),
+    }
+}
+
+/// The variables and instances of a block, behind those before it.
+pub fn declare_each(
+    alloc: Global,
+    known: &mut Declared,
+    block: &[Declaration],
+) -> Result<(), Failure>
+    ensures { Gives (λ u. known.new) result (declare_block known.old (declarations block.now)) }
+{
+    for d in block {
+        declare_one(alloc, known, d)?;
+    }
+    Ok(())
+}

@@ -1,0 +1,176 @@
+-- The listing of a program: its one text, all in capital letters but ms. Each line ends with LF.
+use Rattle.std.specs.Prelude.{ℕ, suc, ◌+◌, ◌==◌, map, ◌/◌, ◌%◌, ℤ, pos, negsuc, Bool, true, false, List, [], ◌∷◌, ◌++◌}
+use Rattle.std.specs.Prelude.{Option, Some, None, if◌then◌else◌, codes}
+use Rattle.std.specs.List.{flat_map}
+use Rattle.std.specs.Int.Digits.{digits_of}
+use Rattle.il_model.specs.declared.value.Ty.{Ty}
+use Rattle.il_model.specs.declared.value.Ty.TheVariants as types
+use Rattle.il_model.specs.declared.value.Value.{Value}
+use Rattle.il_model.specs.declared.value.Value.TheVariants as values
+use Rattle.il_model.specs.declared.op.Op.{Op}
+use Rattle.il_model.specs.declared.op.Op.TheVariants as ops
+use Rattle.il_model.specs.declared.op.Modifier.{Modifier}
+use Rattle.il_model.specs.declared.program.Area.{Area}
+use Rattle.il_model.specs.declared.program.Area.TheVariants as areas
+use Rattle.il_model.specs.declared.program.Loc.{Loc}
+use Rattle.il_model.specs.declared.program.Loc.TheVariants.{Bit, Word}
+use Rattle.il_model.specs.declared.program.Variable.{Variable}
+use Rattle.il_model.specs.declared.program.Instance.{Instance}
+use Rattle.il_model.specs.declared.program.Operand.{Operand}
+use Rattle.il_model.specs.declared.program.Operand.TheVariants as operands
+use Rattle.il_model.specs.declared.program.Side.{Side}
+use Rattle.il_model.specs.declared.program.Side.TheVariants as sides
+use Rattle.il_model.specs.declared.program.Argument.{Argument}
+use Rattle.il_model.specs.declared.program.Instr.{Instr}
+use Rattle.il_model.specs.Values.{number_of}
+use Rattle.il_model.specs.Operators.{is_zero}
+use Rattle.il_model.specs.Kinds.{kind_name}
+use Rattle.il_model.specs.Codes.{is_empty}
+use Rattle.il_model.specs.Program.{Program}
+
+-- ---- literals and locations
+
+-- in decimal digits, the highest first
+abbrev pub decimal : ℕ → List ℕ
+decimal n = if n == 0 then codes "0" else map (λ d. 48 + d) (digits_of 10 n)
+
+abbrev pub number_text : ℤ → List ℕ
+number_text (pos n) = decimal n
+number_text (negsuc n) = codes "-" ++ decimal (suc n)
+
+abbrev pub truth_text : Bool → List ℕ
+truth_text true = codes "TRUE"
+truth_text false = codes "FALSE"
+
+abbrev pub literal_text : Value → List ℕ
+literal_text (values.Bool b) = truth_text b
+literal_text (values.Int z) = codes "INT#" ++ number_text z
+literal_text (values.Dint z) = codes "DINT#" ++ number_text z
+literal_text (values.Lint z) = codes "LINT#" ++ number_text z
+literal_text (values.Time z) = codes "T#" ++ (number_text z ++ codes "ms")
+
+abbrev pub area_letter : Area → List ℕ
+area_letter areas.Input = codes "I"
+area_letter areas.Output = codes "Q"
+area_letter areas.Memory = codes "M"
+
+-- %IX0.3, %QW7
+abbrev pub location_text : Loc → List ℕ
+location_text (Bit area n) = codes "%"
+    ++ (area_letter area ++ (codes "X" ++ (decimal (n / 8) ++ (codes "." ++ decimal (n % 8)))))
+location_text (Word area n) = codes "%" ++ (area_letter area ++ (codes "W" ++ decimal n))
+
+-- ---- declarations
+
+abbrev pub type_name : Ty → List ℕ
+type_name types.Bool = codes "BOOL"
+type_name types.Int = codes "INT"
+type_name types.Dint = codes "DINT"
+type_name types.Time = codes "TIME"
+type_name types.Lint = codes "LINT"
+
+abbrev pub at_text : Option Loc → List ℕ
+at_text None = []
+at_text (Some loc) = codes " AT " ++ location_text loc
+
+-- an initial value is listed where it isn't FALSE, 0 or no time
+abbrev pub initial_text : Value → List ℕ
+initial_text v = if is_zero (number_of v) then [] else codes " := " ++ literal_text v
+
+-- X AT %QW0 : INT := INT#7;
+abbrev pub variable_text : Variable → List ℕ
+variable_text v = v.name
+    ++ (at_text v.location ++ (codes " : " ++ (type_name v.ty ++ (initial_text v.initial ++ codes ";\n"))))
+
+-- T1 : TON;
+abbrev pub instance_text : Instance → List ℕ
+instance_text x = x.name ++ (codes " : " ++ (kind_name x.kind ++ codes ";\n"))
+
+-- ---- instructions
+
+abbrev pub op_name : Op → List ℕ
+op_name ops.Empty = []
+op_name ops.Ld = codes "LD"
+op_name ops.St = codes "ST"
+op_name ops.S = codes "S"
+op_name ops.R = codes "R"
+op_name ops.And = codes "AND"
+op_name ops.Or = codes "OR"
+op_name ops.Xor = codes "XOR"
+op_name ops.Not = codes "NOT"
+op_name ops.Add = codes "ADD"
+op_name ops.Sub = codes "SUB"
+op_name ops.Mul = codes "MUL"
+op_name ops.Div = codes "DIV"
+op_name ops.Mod = codes "MOD"
+op_name ops.Gt = codes "GT"
+op_name ops.Ge = codes "GE"
+op_name ops.Eq = codes "EQ"
+op_name ops.Ne = codes "NE"
+op_name ops.Le = codes "LE"
+op_name ops.Lt = codes "LT"
+op_name ops.Jmp = codes "JMP"
+op_name ops.Cal = codes "CAL"
+op_name ops.Ret = codes "RET"
+op_name ops.Close = codes ")"
+op_name ops.IntToDint = codes "INT_TO_DINT"
+op_name ops.DintToInt = codes "DINT_TO_INT"
+op_name ops.DintToLint = codes "DINT_TO_LINT"
+op_name ops.LintToDint = codes "LINT_TO_DINT"
+
+abbrev pub letter : Bool → List ℕ → List ℕ
+letter b text = if b then text else []
+
+-- JMPCN, ANDN(
+abbrev pub operator_text : Op → Modifier → List ℕ
+operator_text op m = op_name op
+    ++ (letter m.conditional (codes "C") ++ (letter m.negated (codes "N") ++ letter m.opens (codes "(")))
+
+-- a bare number stands in no typed program
+abbrev pub operand_text : Operand → List ℕ
+operand_text operands.Absent = []
+operand_text (operands.Literal v) = literal_text v
+operand_text (operands.Bare z) = number_text z
+operand_text (operands.Variable name) = name
+operand_text (operands.Direct loc) = location_text loc
+operand_text (operands.Label name) = name
+operand_text (operands.Field name field) = name ++ (codes "." ++ field)
+operand_text (operands.Instance name) = name
+
+-- behind an operator, with a space
+abbrev pub behind_text : Operand → List ℕ
+behind_text operands.Absent = []
+behind_text operand = codes " " ++ operand_text operand
+
+abbrev pub side_text : Side → List ℕ
+side_text sides.Input = codes " := "
+side_text sides.Output = codes " => "
+
+abbrev pub argument_text : Argument → List ℕ
+argument_text a = a.field ++ (side_text a.side ++ operand_text a.operand)
+
+abbrev pub next_argument_text : Argument → List ℕ
+next_argument_text a = codes ", " ++ argument_text a
+
+-- (IN := X, PT := T#2000ms, Q => Y); a call without arguments has no parentheses
+abbrev pub arguments_text : List Argument → List ℕ
+arguments_text [] = []
+arguments_text (a ∷ more) = codes "(" ++ (argument_text a ++ (flat_map next_argument_text more ++ codes ")"))
+
+abbrev pub operation_text : Instr → List ℕ
+operation_text line = operator_text line.op line.modifier ++ (behind_text line.operand ++ arguments_text line.arguments)
+
+-- nothing but a line end follows the label of an empty instruction
+abbrev pub label_text : Op → Option (List ℕ) → List ℕ
+label_text op None = []
+label_text op (Some name) = name ++ (if is_empty op then codes ":" else codes ": ")
+
+abbrev pub line_text : Instr → List ℕ
+line_text line = label_text line.op line.label ++ (operation_text line ++ codes "\n")
+
+-- ---- the whole
+
+abbrev pub listing : Program → List ℕ
+listing Q = codes "VAR\n"
+    ++ (flat_map variable_text Q.variables
+    ++ (flat_map instance_text Q.instances ++ (codes "END_VAR\n" ++ flat_map line_text Q.code)))

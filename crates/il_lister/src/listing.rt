@@ -1,0 +1,37 @@
+//! The listing of an image.
+
+ghost use Rattle.std.specs.Prelude.{◌≤◌, ℕ, OnErr, OnOk, take};
+ghost use Rattle.std.specs.Io.KnownBytes.{Appends};
+ghost use Rattle.io_model.specs.Counted.{Failed};
+ghost use Rattle.il_lister.specs.Listing.{listing};
+ghost use Rattle.il_lister.specs.Writing.{Writes};
+
+use crate::declaration::{write_instances, write_variables};
+use crate::fault::ListFault;
+use crate::instruction::write_lines;
+use crate::writing::write_text;
+use io_model::CountedWrite;
+use il_loader::Image;
+
+fn write_listing<W: CountedWrite>(writer: &mut W, image: &Image) -> Result<(), ListFault>
+    ensures { Writes W.CountedWrite (listing image.now) writer.old writer.new result }
+{
+    write_text(writer, b"VAR\n")?;
+    write_variables(writer, image.variables())?;
+    write_instances(writer, image.instances())?;
+    write_text(writer, b"END_VAR\n")?;
+    write_lines(writer, image.code())
+}
+
+/// Writes the listing of an image: its program in Instruction List (IEC 61131-3:2003, 3.2), in capital letters but for
+/// the unit ms, each line ended by LF. It answers Device only where the writer failed in this call; then a beginning of
+/// the listing went out.
+pub fn list<W: CountedWrite>(image: &Image, writer: &mut W) -> Result<(), ListFault>
+    ensures ok { OnOk result (Appends (W.held writer.old) (W.held writer.new) (listing image.now)) }
+    ensures err { OnErr result
+        ((n : ℕ) × Appends (W.held writer.old) (W.held writer.new) (take n (listing image.now))) }
+    ensures device { OnErr result (Failed (W.faults writer.old) (W.faults writer.new)) }
+    ensures counts { W.faults writer.old ≤ W.faults writer.new }
+{
+    write_listing(writer, image)
+}

@@ -1,0 +1,281 @@
+-- The two laws: what is read is the spelling of a typed program, and that spelling is read.
+use Rattle.std.proofs.Common.{◌≡◌, ℕ, ◌+◌, ◌≤◌, Bool, true, false, cond, ltb, List, [], ◌∷◌, length, Option, Some, None, Result, Ok, Err, refl, sym, ap, subst, ◌∙◌, arith}
+use Rattle.std.specs.Prelude.{nat_eq, nat_le, ◌||◌, IfOk}
+use Rattle.std.specs.List.{flat_map, list_any, position, AllByRecursion}
+use Rattle.std.proofs.lemmas.Bool.{ltb-false, le-ltb, eqb-true, eq-eqb}
+use Rattle.std.proofs.lemmas.List.{take_all}
+use Rattle.il_model.specs.declared.value.Value.{Value}
+use Rattle.il_model.specs.declared.codes.Version.{Version}
+use Rattle.il_model.specs.declared.program.Instance.{Instance}
+use Rattle.il_model.specs.declared.program.Instr.{Instr}
+use Rattle.il_model.specs.declared.typing.TypeFault.{TypeFault}
+use Rattle.il_model.specs.Program.{Program}
+use Rattle.il_model.specs.Limits.{program_of}
+use Rattle.il_model.specs.Typing.{judgement_of, IsTyped}
+use Rattle.il_model.specs.Marks.{Mark, marks_from, words_in, AreRising, AreStarts}
+use Rattle.il_model.specs.Constants.{same_value, operands_of, constants_from, constants_of}
+use Rattle.il_model.specs.Image.{version_number, is_long_line, version_with, version_of, instruction_bytes, spelling}
+use Rattle.il_model.specs.Codes.{may_have}
+use Rattle.il_model.specs.Fits.{IsMark, IsConstant, AreItems, IsProgram, IsImage}
+use Rattle.il_model.proofs.Marks.{table_again, table_rises, table_starts, table_labels}
+use Rattle.il_model.proofs.ConstantLists.{are_apart}
+use Rattle.il_model.proofs.Calls.{typed_lines}
+use Rattle.il_model.proofs.Versions.{same_version, version_may}
+use Rattle.il_loader.specs.declared.word.Word.{Word}
+use Rattle.il_loader.specs.declared.word.Content.{Content}
+use Rattle.il_loader.specs.declared.word.Content.TheVariants as contents
+use Rattle.il_loader.specs.declared.fault.LoadFault.{LoadFault}
+use Rattle.il_loader.specs.declared.fault.LoadFault.TheVariants.{BadVersion, BadWord}
+use Rattle.il_loader.specs.declared.fault.LoadError.{LoadError}
+use Rattle.il_loader.specs.Tables.{Tables, declared_in, with_line, lines_of}
+use Rattle.il_loader.specs.Reading.{◌>>=◌, Gives, agrees, tables_at}
+use Rattle.il_loader.specs.Judging.{constant_place, risen, used_from, earlier, sooner, stray_from, misspelled, at_word, words_fine, all_used, is_same, small, judged_tables, image_of}
+use Rattle.il_loader.proofs.Fields.{IsBytes, bind_ok, agrees_ok, ok_is}
+use Rattle.il_loader.proofs.Records.{is_long_content, is_long_word, read_word_bytes}
+use Rattle.il_loader.proofs.Spelled.{tables_bytes, AreTables, AreShort, tables_take, tables_again}
+use Rattle.il_loader.proofs.Groups.{front, words_are, none_front, operands_are, word_operands, labels_read, risen_takes, risen_again}
+use Rattle.il_loader.proofs.Words.{AreKnown}
+use Rattle.il_loader.proofs.Used.{IsReadSomewhere, words_read, used_take, used_again_all}
+use Rattle.il_loader.proofs.WordsRead.{silent, are_words}
+use Rattle.il_loader.proofs.WordsOf.{words_of, lines_again, words_long, bytes_again, words_coded, words_again, none_stray, none_silent}
+
+-- ---- what a judgement tells
+
+small_ok : (o : Option Program) (Q : Program) → small o ≡ Ok Q → o ≡ Some Q
+small_ok None Q e = absurd cc
+small_ok (Some P) Q e = let is : P ≡ Q = cc in ap (λ (x : Program). Some x) is
+
+program_by : (a b c : Bool) (P Q : Program) → cond (a || (b || c)) None (Some P) ≡ Some Q → (c ≡ false) × (P ≡ Q)
+program_by false false false P Q e = (refl, cc)
+program_by true b c P Q e = absurd cc
+program_by false true c P Q e = absurd cc
+program_by false false true P Q e = absurd cc
+
+record IsFine (o : Option ℕ) (j : Result (Unit {0}) (TypeFault × ℕ)) : Type 0 where
+  none : o ≡ None
+  typed : j ≡ Ok tt
+
+later_not : (b : Bool) (f g : LoadFault) (x : Unit {0}) → (let r : Result (Unit {0}) LoadFault = cond b (Err f) (Err g) in r ≡ Ok x) → ⊥
+later_not true f g x e = cc
+later_not false f g x e = cc
+
+fine_takes : (total count : ℕ) (o : Option ℕ) (j : Result (Unit {0}) (TypeFault × ℕ)) (x : Unit {0}) → words_fine total count o j ≡ Ok x → IsFine o j
+fine_takes total count None (Ok b) x e = record { none = refl; typed = refl }
+fine_takes total count None (Err f) x e = absurd cc
+fine_takes total count (Some n) (Ok b) x e = absurd cc
+fine_takes total count (Some n) (Err f) x e = absurd (later_not (nat_le n f.1) _ _ x e)
+
+-- where no fault is at a word there is none
+word_ok : (Q : Program) (r : Result (Unit {0}) (TypeFault × ℕ)) → at_word Q r ≡ Ok tt → r ≡ Ok tt
+word_ok Q (Ok x) e = e
+word_ok Q (Err f) e = absurd cc
+
+record IsUsed (o : Option ℕ) (used : Result ℕ ℕ) : Type 0 where
+  none : o ≡ None
+  number : ℕ
+  is : used ≡ Ok number
+
+earlier_none : (o : Option ℕ) (used : Result ℕ ℕ) → earlier o used ≡ None → IsUsed o used
+earlier_none o (Ok u) e = record { none = e; number = u; is = refl }
+earlier_none None (Err n) e = absurd cc
+earlier_none (Some m) (Err n) e = absurd cc
+
+sooner_none : (o p : Option ℕ) → sooner o p ≡ None → (o ≡ None) × (p ≡ None)
+sooner_none None p e = (refl, e)
+sooner_none (Some m) None e = absurd cc
+sooner_none (Some m) (Some n) e = absurd cc
+
+all_takes : (version : Version) (total words count : ℕ) (used : Result ℕ ℕ) (u : ℕ) (x : Unit {0}) → used ≡ Ok u → all_used version total words count used ≡ Ok x → u ≡ count
+all_takes version total words count used u x is e =
+    let f : all_used version total words count (Ok u) ≡ Ok x = ap (all_used version total words count) (sym is) ∙ e in
+    eqb-true u count (agrees_ok (BadWord (constant_place version total words count u)) (nat_eq u count) x f)
+
+abbrev program_in : Tables → Program
+program_in t = record { variables = t.variables; instances = t.instances; code = lines_of t.instances t.words }
+
+-- the version that a program of these tables has
+abbrev version_in : Tables → Version
+version_in t = version_with t.variables t.constants (lines_of t.instances t.words)
+
+record IsJudged (t : Tables) : Type 0 where
+  short : length (lines_of t.instances t.words) ≤ 4096
+  rising : AreRising 0 (length t.words) t.labels
+  starts : AreStarts 0 (lines_of t.instances t.words) t.labels
+  used : used_from 0 0 t.words ≡ Ok (length t.constants)
+  loud : position silent t.words ≡ None
+  stray : stray_from false t.words ≡ None
+  typed : IsTyped (program_in t)
+  version : t.version ≡ version_in t
+
+-- the version is that of the program
+abbrev is_own_version : Tables → Program → Bool
+is_own_version t Q = is_same t.version (version_with t.variables t.constants Q.code)
+
+judged_join : (total : ℕ) (t : Tables) (Q : Program) (x y z u : Unit {0}) → program_of t.variables t.instances (lines_of t.instances t.words) ≡ Some Q → risen (constant_place t.version total (length t.words) (length t.constants) 0) 0 t.words t.labels ≡ Ok x
+    → words_fine total (length t.words) (misspelled t.words (used_from 0 0 t.words)) (at_word Q (judgement_of Q)) ≡ Ok y → all_used t.version total (length t.words) (length t.constants) (used_from 0 0 t.words) ≡ Ok z → agrees BadVersion (is_own_version t Q) ≡ Ok u → IsJudged t × (program_in t ≡ Q)
+judged_join total t Q x y z u small-is risen-is fine-is used-is version-is =
+    let p = program_by (ltb 512 (length t.variables)) (ltb 128 (length t.instances)) (ltb 4096 (length (lines_of t.instances t.words))) (program_in t) Q small-is in
+    let fine = fine_takes total (length t.words) (misspelled t.words (used_from 0 0 t.words)) (at_word Q (judgement_of Q)) y fine-is in
+    let used = earlier_none (sooner (position silent t.words) (stray_from false t.words)) (used_from 0 0 t.words) fine.none in
+    let both = sooner_none (position silent t.words) (stray_from false t.words) used.none in
+    let all = all_takes t.version total (length t.words) (length t.constants) (used_from 0 0 t.words) used.number z used.is used-is in
+    let labels = risen_takes t.instances (constant_place t.version total (length t.words) (length t.constants) 0) 0 t.words t.labels x (none_front None t.words both.1).0 risen-is in (
+      record {
+        short = ltb-false 4096 (length (lines_of t.instances t.words)) p.0;
+        rising = labels.0;
+        starts = labels.1;
+        used = used.is ∙ ap (λ (u : ℕ). let r : Result ℕ ℕ = Ok u in r) all;
+        loud = both.0;
+        stray = both.1;
+        typed = subst IsTyped (sym p.1) (word_ok Q (judgement_of Q) fine.typed);
+        version = same_version t.version (version_in t) (ap (is_own_version t) p.1 ∙ agrees_ok BadVersion (is_own_version t Q) u version-is);
+      },
+      p.1,
+    )
+
+judged_takes : (total : ℕ) (t : Tables) (Q : Program) → judged_tables total t ≡ Ok Q → IsJudged t × (program_in t ≡ Q)
+unfolding judged_tables
+judged_takes total t Q e =
+    let end = constant_place t.version total (length t.words) (length t.constants) 0 in
+    let used = used_from 0 0 t.words in
+    let wrong = misspelled t.words used in
+    let a = bind_ok (small (program_of t.variables t.instances (lines_of t.instances t.words))) (λ Q. risen end 0 t.words t.labels >>= λ rising. words_fine total (length t.words) wrong (at_word Q (judgement_of Q)) >>= λ fine. all_used t.version total (length t.words) (length t.constants) used >>= λ used. agrees BadVersion (is_own_version t Q) >>= λ own. Ok Q) Q e in
+    let P = a.0 in
+    let b = bind_ok (risen end 0 t.words t.labels) (λ rising. words_fine total (length t.words) wrong (at_word P (judgement_of P)) >>= λ fine. all_used t.version total (length t.words) (length t.constants) used >>= λ used. agrees BadVersion (is_own_version t P) >>= λ own. Ok P) Q a.2 in
+    let c = bind_ok (words_fine total (length t.words) wrong (at_word P (judgement_of P))) (λ fine. all_used t.version total (length t.words) (length t.constants) used >>= λ used. agrees BadVersion (is_own_version t P) >>= λ own. Ok P) Q b.2 in
+    let d = bind_ok (all_used t.version total (length t.words) (length t.constants) used) (λ used. agrees BadVersion (is_own_version t P) >>= λ own. Ok P) Q c.2 in
+    let v = bind_ok (agrees BadVersion (is_own_version t P)) (λ own. Ok P) Q d.2 in
+    let j = judged_join total t P b.0 c.0 d.0 v.0 (small_ok (program_of t.variables t.instances (lines_of t.instances t.words)) P a.1) b.1 c.1 d.1 v.1 in
+    (j.0, j.1 ∙ ok_is P Q v.2)
+
+-- ---- what is read is spelled so
+
+spelled_join : (t : Tables) (Q : Program) → t.version ≡ version_of Q → t.variables ≡ Q.variables → t.instances ≡ Q.instances → t.labels ≡ marks_from 0 Q.code → t.constants ≡ constants_of Q → length t.words ≡ words_in Q.code → flat_map read_word_bytes t.words ≡ flat_map (instruction_bytes Q (constants_of Q)) Q.code → tables_bytes t ≡ spelling Q
+spelled_join t Q version-is vs-is xs-is ms-is cs-is long ws-is = rw (version-is, vs-is, xs-is, ms-is, cs-is, long, ws-is) refl
+
+tables_spelled : (t : Tables) → AreTables t → IsJudged t → IsImage (program_in t) × (tables_bytes t ≡ spelling (program_in t))
+tables_spelled t are judgement_of =
+    let Q = program_in t in
+    let ds = declared_in t in
+    let ms-is : marks_from 0 Q.code ≡ t.labels = table_again t.labels Q.code (length t.words) (labels_read t.instances ds t.labels t.constants t.words judgement_of.stray are.words) judgement_of.rising judgement_of.starts in
+    let read = words_read ds t.labels t.constants [] t.words are.words in
+    let apart = are_apart t.constants are.constants in
+    let cs-is : constants_of Q ≡ t.constants = ap (constants_from same_value []) (operands_are t.instances t.words judgement_of.stray) ∙ used_take ds t.labels t.constants t.words 0 0 (length t.constants) apart read judgement_of.used ∙ take_all (length t.constants) t.constants (omega arith) in
+    let marks = subst (AreItems IsMark []) (sym ms-is) are.labels in
+    let constants = subst (AreItems IsConstant []) (sym cs-is) are.constants in
+    let read2 = subst (λ (ms : List Mark). AllByRecursion (IsReadSomewhere ds ms (constants_of Q)) t.words) (sym ms-is) (subst (λ (cs : List Value). AllByRecursion (IsReadSomewhere ds t.labels cs) t.words) (sym cs-is) read) in
+    let known : AreKnown Q (marks_from 0 Q.code) (constants_of Q) = record { variables = are.variables; instances = are.instances; marks = marks; apart = are_apart (constants_of Q) constants; labels = table_labels Q.code } in
+    let w = are_words Q t.words known read2 (typed_lines Q judgement_of.typed) judgement_of.loud judgement_of.stray in
+    let none : front t.words ≡ 0 = (none_front None t.words judgement_of.stray).0 in
+    let long : length t.words ≡ words_in Q.code = omega (arith, words_are t.instances t.words, none) in
+    let few = are.few in
+    let few-vs : length t.variables ≤ 512 = few.variables in
+    let few-xs : length t.instances ≤ 128 = few.instances in
+    let few-ms : length t.labels ≤ 4096 = few.labels in
+    let few-cs : length t.constants ≤ 20480 = few.constants in
+    let few-ws : length t.words ≤ 36864 = few.words in
+    let text : IsProgram Q = record {
+      variables = are.variables;
+      variables_few = few-vs;
+      instances = are.instances;
+      instances_few = few-xs;
+      labels = marks;
+      labels_few = subst (λ (ms : List Mark). length ms ≤ 4096) (sym ms-is) few-ms;
+      constants = constants;
+      constants_few = subst (λ (cs : List Value). length cs ≤ 20480) (sym cs-is) few-cs;
+      words = w.words;
+      words_few = subst (λ (k : ℕ). k ≤ 36864) long few-ws;
+    } in
+    (record { text = text; short = judgement_of.short; typed = judgement_of.typed }, spelled_join t Q (judgement_of.version ∙ ap (λ (cs : List Value). version_with t.variables cs Q.code) (sym cs-is)) refl refl (sym ms-is) (sym cs-is) long w.same)
+
+pub image_takes : (bytes : List ℕ) (Q : Program) → IsBytes bytes → image_of bytes ≡ Ok Q → IsImage Q × (bytes ≡ spelling Q)
+unfolding image_of
+image_takes bytes Q fits e =
+    let a = bind_ok (tables_at bytes) (λ t. judged_tables (length bytes) t) Q e in
+    let t = tables_take bytes a.0 fits a.1 in
+    let j = judged_takes (length bytes) a.0 Q a.2 in
+    let s = tables_spelled a.0 t.0 j.0 in
+    subst (λ (Q : Program). IsImage Q × (bytes ≡ spelling Q)) j.1 (s.0, t.1 ∙ s.1)
+
+-- ---- what is spelled so is read
+
+abbrev all_words : Program → List Word
+all_words Q = words_of Q (constants_of Q) Q.code
+
+abbrev tables_of : Program → Tables
+tables_of Q = record { version = version_of Q; variables = Q.variables; instances = Q.instances; labels = marks_from 0 Q.code; constants = constants_of Q; words = all_words Q }
+
+tables_fit : (Q : Program) → IsImage Q → AreTables (tables_of Q)
+tables_fit Q is =
+    let text = is.text in
+    record {
+      variables = text.variables;
+      instances = text.instances;
+      labels = text.labels;
+      constants = text.constants;
+      words = words_again Q [] [] Q.code text.words (table_labels Q.code);
+      few = record { variables = text.variables_few; instances = text.instances_few; labels = text.labels_few; constants = text.constants_few; words = subst (λ (k : ℕ). k ≤ 36864) (sym (words_long Q (constants_of Q) Q.code)) text.words_few };
+    }
+
+long_word : (xs : List Instance) (content : Content) (ws : List Word) → list_any is_long_word ws ≡ list_any is_long_line (lines_of xs ws) → (is_long_content content || list_any is_long_word ws) ≡ list_any is_long_line (with_line xs content ws (lines_of xs ws))
+long_word xs (contents.Instruction line) ws e = ap (λ b. is_long_line line || b) e
+long_word xs (contents.Argument side number operand) ws e = e
+
+-- an instruction's word is long where the instruction is
+long_words : (xs : List Instance) (ws : List Word) → list_any is_long_word ws ≡ list_any is_long_line (lines_of xs ws)
+long_words xs [] = refl
+long_words xs (w ∷ ws) = long_word xs w.content ws (long_words xs ws)
+
+tables_short : (Q : Program) → IsImage Q → AreShort (tables_of Q)
+tables_short Q is =
+    let cs = constants_of Q in
+    let may = version_may Q.variables cs Q.code in
+    let same : list_any is_long_word (all_words Q) ≡ list_any is_long_line Q.code = long_words Q.instances (all_words Q) ∙ ap (list_any is_long_line) (lines_again Q cs [] Q.code is.text.words) in
+    record { variables = may.0; constants = may.1; words = ap (may_have (version_of Q)) same ∙ may.2 }
+
+tables_judged : (total : ℕ) (Q : Program) → IsImage Q → judged_tables total (tables_of Q) ≡ Ok Q
+unfolding judged_tables
+tables_judged total Q is =
+    let vs-le : length Q.variables ≤ 512 = is.text.variables_few in
+    let xs-le : length Q.instances ≤ 128 = is.text.instances_few in
+    let code-le : length Q.code ≤ 4096 = is.short in
+    let cs = constants_of Q in
+    let ms = marks_from 0 Q.code in
+    let ws = all_words Q in
+    let lines : lines_of Q.instances ws ≡ Q.code = lines_again Q cs [] Q.code is.text.words in
+    let stray : stray_from false ws ≡ None = none_stray Q cs [] Q.code false is.text.words in
+    let loud : position silent ws ≡ None = none_silent Q cs [] Q.code is.text.words in
+    let all : cs ≡ constants_from same_value [] (word_operands ws) = ap (λ (code : List Instr). constants_from same_value [] (operands_of code)) (sym lines) ∙ ap (constants_from same_value []) (operands_are Q.instances ws stray) in
+    let used : used_from 0 0 ws ≡ Ok (length cs) = used_again_all Q cs [] ws 0 is.text.constants_few (words_coded Q cs Q.code) all in
+    let starts : AreStarts 0 (lines_of Q.instances ws) ms = subst (λ (code : List Instr). AreStarts 0 code ms) (sym lines) (table_starts Q.code 0) in
+    let rising : risen (constant_place (version_of Q) total (length ws) (length cs) 0) 0 ws ms ≡ Ok tt = risen_again Q.instances (constant_place (version_of Q) total (length ws) (length cs) 0) 0 (0 + words_in Q.code) ws ms (none_front None ws stray).0 (table_rises Q.code 0) starts in
+    rw (
+      lines,
+      le-ltb 512 (length Q.variables) vs-le,
+      le-ltb 128 (length Q.instances) xs-le,
+      le-ltb 4096 (length Q.code) code-le,
+      rising,
+      used,
+      stray,
+      loud,
+      is.typed,
+      eq-eqb (length cs) (length cs) refl,
+      eq-eqb (version_number (version_of Q)) (version_number (version_of Q)) refl,
+    ) refl
+
+pub image_again : (Q : Program) → IsImage Q → image_of (spelling Q) ≡ Ok Q
+unfolding image_of
+image_again Q is =
+    let t = tables_of Q in
+    let spelled : tables_bytes t ≡ spelling Q = spelled_join t Q refl refl refl refl refl (words_long Q (constants_of Q) Q.code) (bytes_again Q (constants_of Q) Q.code) in
+    let read : tables_at (spelling Q) ≡ Ok t = ap tables_at (sym spelled) ∙ tables_again t (tables_fit Q is) (tables_short Q is) in
+    rw read (tables_judged (length (spelling Q)) Q is)
+
+-- ---- what a function tells that reads so
+
+pub is_found : {X : Type 0} (view : X → Program) (bytes : List ℕ) (r : Result X LoadError) → IsBytes bytes → Gives view r (image_of bytes) → IfOk r (λ x. IsImage (view x) × (bytes ≡ spelling (view x)))
+is_found view bytes (Ok x) fits given = image_takes bytes (view x) fits given
+is_found view bytes (Err e) fits given = tt
+
+pub is_read : {X : Type 0} (view : X → Program) (bytes : List ℕ) (r : Result X LoadError) (Q : Program) → IsImage Q → bytes ≡ spelling Q → Gives view r (image_of bytes) → Gives view r (Ok Q)
+is_read view bytes r Q is same given = subst (Gives view r) (ap image_of same ∙ image_again Q is) given

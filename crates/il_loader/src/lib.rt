@@ -1,0 +1,40 @@
+//! Images from bytes: exactly the spellings of typed programs are loaded, each to its program. It uses il_model, where
+//! the spelling and the typing are defined.
+//!
+//! ```rust
+//! let image = il_loader::load(alloc, bytes.as_slice()).ok()?;
+//! let same = image.bytes() == bytes.as_slice(); // true
+//! ```
+//!
+//! Proved: `load` answers Ok exactly on the spelling of a typed program, and gives that program; else the first fault
+//! in the order of reading, with its position (`exact`). `bytes` is that spelling, `copy` an equal image. Each
+//! instruction's `Action` is the one that performs it, and of the instructions that `straight` gives none but the first
+//! has a label, and they reach as far as the next label.
+//!
+//! Only tested: nothing; `images.rows` of `tests_rows` has images cut short, spoilt and too long.
+#![tactic(auto)]
+
+mod action;
+mod counts;
+mod declared;
+mod fault;
+mod grouping;
+mod image;
+mod instance;
+mod judging;
+mod label;
+mod line;
+mod linking;
+mod loading;
+mod operands;
+mod reading;
+mod tables;
+mod typing;
+mod variable;
+mod word;
+
+pub use action::Action;
+pub use fault::{LoadError, LoadFault};
+pub use image::Image;
+pub use line::Line;
+pub use loading::load;

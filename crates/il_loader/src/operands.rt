@@ -1,0 +1,183 @@
+//! The operands of words: what their numbers stand for.
+
+ghost use Rattle.std.specs.Prelude.{◌≡◌, Ok, slice_get};
+ghost use Rattle.std.specs.Option.{option_map};
+ghost use Rattle.il_model.specs.declared.program.Operand.TheVariants as operands;
+ghost use Rattle.il_model.specs.Codes.{label_there, target_name, variable_named, instance_named, field_named};
+ghost use Rattle.il_model.specs.Codes.{named_operand, value_operand, numbered_operand, word_operand, argument_operand};
+ghost use Rattle.il_loader.specs.Reading.{Gives};
+
+use crate::declared::Declared;
+use crate::fault::LoadError;
+use crate::label::Labels;
+use il_model::{
+    CodedOperand, Instance, Modifier, Name, Op, Operand, Value, Variable, is_formed, is_passed,
+};
+use std::alloc::Global;
+
+/// The name of the first label at an address.
+pub fn label_there(alloc: Global, labels: &Labels, n: usize) -> Result<Option<Name>, LoadError>
+    ensures { Gives (λ o. o) result (Ok (label_there labels.now n)) }
+{
+    match labels.name_at(n) {
+        Some(name) => Ok(Some(Name::of(Vec::from_slice(alloc, name)?))),
+        None => Ok(None),
+    }
+}
+
+fn target_name(alloc: Global, labels: &Labels, n: u16) -> Result<Name, LoadError>
+    ensures { Gives (λ name. name) result (Ok (target_name (label_there labels.now n))) }
+{
+    match label_there(alloc, labels, n as usize)? {
+        Some(name) => Ok(name),
+        None => Ok(Name::of(Vec::new(alloc))),
+    }
+}
+
+fn variable_named(alloc: Global, v: Option<&Variable>) -> Result<Option<Operand>, LoadError>
+    ensures { Gives (λ o. o) result (Ok (variable_named (option_map (λ v. v.now) v.entry))) }
+{
+    match v {
+        Some(v) => Ok(Some(Operand::Variable(v.name.copy(alloc)?))),
+        None => Ok(None),
+    }
+}
+
+fn instance_named(alloc: Global, x: Option<&Instance>) -> Result<Option<Operand>, LoadError>
+    ensures { Gives (λ o. o) result (Ok (instance_named (option_map (λ x. x.now) x.entry))) }
+{
+    match x {
+        Some(x) => Ok(Some(Operand::Instance(x.name.copy(alloc)?))),
+        None => Ok(None),
+    }
+}
+
+/// The field of an instance by its number.
+fn field_named(alloc: Global, x: Option<&Instance>, n: u8) -> Result<Option<Operand>, LoadError>
+    ensures { Gives (λ o. o) result (Ok (field_named (option_map (λ x. x.now) x.entry) n)) }
+{
+    match x {
+        Some(x) => match x.kind.field(n) {
+            Some(field) => {
+                let name = Name::of(Vec::from_slice(alloc, field.name())?);
+                Ok(Some(Operand::Field(x.name.copy(alloc)?, name)))
+            }
+            None => Ok(None),
+        },
+        None => Ok(None),
+    }
+}
+
+fn literal_at(constants: &[Value], k: usize) -> Option<Operand>
+    ensures { result ≡ option_map operands.Literal (slice_get constants.now k) }
+{
+    match constants.get(k) {
+        Some(v) => Some(Operand::Literal(*v)),
+        None => None,
+    }
+}
+
+/// The operand that stands under these numbers, if there is one.
+fn named_operand(
+    alloc: Global,
+    ds: &Declared,
+    constants: &[Value],
+    operand: CodedOperand,
+) -> Result<Option<Operand>, LoadError>
+    ensures { Gives (λ o. o) result (Ok (named_operand ds.now constants.now operand)) }
+{
+    match operand {
+        CodedOperand::Location(loc) => Ok(Some(Operand::Direct(loc))),
+        CodedOperand::Variable(i) => {
+            variable_named(alloc, ds.variables().as_slice().get(i as usize))
+        }
+        CodedOperand::Field { instance, field } => {
+            field_named(
+                alloc,
+                ds.instances().as_slice().get(instance as usize),
+                field,
+            )
+        }
+        CodedOperand::Constant(k) => Ok(literal_at(constants, k as usize)),
+        CodedOperand::Unused => Ok(Some(Operand::Absent)),
+    }
+}
+
+/// An operand that is neither a label nor an instance that is called.
+fn value_operand(
+    alloc: Global,
+    ds: &Declared,
+    constants: &[Value],
+    n: u16,
+) -> Result<Option<Operand>, LoadError>
+    ensures { Gives (λ o. o) result (Ok (value_operand ds.now constants.now n)) }
+{
+    match CodedOperand::of_code(n) {
+        Some(operand) => named_operand(alloc, ds, constants, operand),
+        None => Ok(None),
+    }
+}
+
+fn numbered_operand(
+    alloc: Global,
+    ds: &Declared,
+    labels: &Labels,
+    constants: &[Value],
+    op: Op,
+    n: u16,
+) -> Result<Option<Operand>, LoadError>
+    ensures { Gives (λ o. o) result (Ok (numbered_operand ds.now labels.now constants.now op n)) }
+{
+    if op == Op::Jmp {
+        Ok(Some(Operand::Label(target_name(alloc, labels, n)?)))
+    } else if op == Op::Cal {
+        instance_named(alloc, ds.instances().as_slice().get(n as usize))
+    } else {
+        value_operand(alloc, ds, constants, n)
+    }
+}
+
+/// The operand of an instruction, where its operator takes one of this form.
+pub fn word_operand(
+    alloc: Global,
+    ds: &Declared,
+    labels: &Labels,
+    constants: &[Value],
+    op: Op,
+    m: Modifier,
+    n: u16,
+) -> Result<Option<Operand>, LoadError>
+    ensures { Gives (λ o. o) result (Ok (word_operand ds.now labels.now constants.now op m n)) }
+{
+    match numbered_operand(alloc, ds, labels, constants, op, n)? {
+        Some(operand) => {
+            if is_formed(op, m, &operand) {
+                Ok(Some(operand))
+            } else {
+                Ok(None)
+            }
+        }
+        None => Ok(None),
+    }
+}
+
+/// The operand of an argument: a value or a place.
+pub fn argument_operand(
+    alloc: Global,
+    ds: &Declared,
+    constants: &[Value],
+    n: u16,
+) -> Result<Option<Operand>, LoadError>
+    ensures { Gives (λ o. o) result (Ok (argument_operand ds.now constants.now n)) }
+{
+    match value_operand(alloc, ds, constants, n)? {
+        Some(operand) => {
+            if is_passed(&operand) {
+                Ok(Some(operand))
+            } else {
+                Ok(None)
+            }
+        }
+        None => Ok(None),
+    }
+}

@@ -1,0 +1,389 @@
+-- What a program that has an image is made of, as far as its listing goes: names, values and places that are there, and operators that take what they are given.
+use Rattle.std.proofs.Common.{◌≡◌, ℕ, zero, suc, ◌+◌, Bool, true, false, cond, ltb, List, [], ◌∷◌, ◌++◌, length, Option, Some, None, refl, sym, ap, ◌∙◌, subst, ◌||◌, not}
+use Rattle.std.specs.Prelude.{is_some, slice_get, nat_eq, ◌^◌, ℤ, pos, negsuc}
+use Rattle.std.specs.List.{AllByRecursion, position}
+use Rattle.std.specs.Option.{option_map, option_and_then}
+use Rattle.std.proofs.lemmas.Slice.Eq.{bytes_eq-Decides}
+use Rattle.il_model.specs.declared.value.Ty.{Ty}
+use Rattle.il_model.specs.declared.value.Ty.TheVariants as types
+use Rattle.il_model.specs.declared.value.Value.{Value}
+use Rattle.il_model.specs.declared.value.Value.TheVariants as values
+use Rattle.il_model.specs.declared.op.Op.{Op}
+use Rattle.il_model.specs.declared.program.Place.TheVariants as places
+use Rattle.il_model.specs.declared.program.Variable.{Variable}
+use Rattle.il_model.specs.declared.program.Instance.{Instance}
+use Rattle.il_model.specs.declared.kind.BlockKind.{BlockKind}
+use Rattle.il_model.specs.declared.kind.Field.{Field}
+use Rattle.il_model.specs.declared.program.Argument.{Argument}
+use Rattle.il_model.specs.declared.program.Operand.{Operand}
+use Rattle.il_model.specs.declared.program.Operand.TheVariants as operands
+use Rattle.il_model.specs.declared.program.Instr.{Instr}
+use Rattle.il_model.specs.declared.codes.OperandForm.TheVariants as forms
+use Rattle.il_model.specs.declared.fetched.Source.{Source}
+use Rattle.il_model.specs.declared.fetched.Source.TheVariants as sources
+use Rattle.il_model.specs.Program.{Program, Declarations, declared_by}
+use Rattle.il_model.specs.Values.{ty_of, number_of, is_within, truth_made, typed_value}
+use Rattle.il_model.specs.Names.{same_name, is_lawful_name}
+use Rattle.il_model.specs.Kinds.{kind_fields, field_name, field_number}
+use Rattle.il_model.specs.Resolved.{variable_place, place_of, source_of, instance_in, numbered_field, field_of, has_label, target_of, called_kind}
+use Rattle.il_model.specs.Typing.{arguments_fault}
+use Rattle.il_model.specs.Marks.{Mark, with_mark, marks_from, word_count}
+use Rattle.il_model.specs.Constants.{constants_of}
+use Rattle.il_model.specs.Image.{modifier_code, operand_code}
+use Rattle.il_model.specs.declared.coded_operand.CodedOperand.{CodedOperand}
+use Rattle.il_model.specs.declared.coded_operand.CodedOperand.TheVariants as coded
+use Rattle.il_model.specs.CodedOperands.{IsCell, HasOwnCode, with_code}
+use Rattle.il_model.proofs.CodedOperands.{coded_back}
+use Rattle.il_model.specs.Codes.{if_passes, is_new_name, is_number, usage_of, has_form, allowed_by, formed_by, is_jump, is_call, modifier_of, variable_named, instance_named, field_named, named_operand, value_operand, numbered_operand, is_pointless, is_known, target_name, label_there}
+use Rattle.il_model.specs.Fits.{IsVariable, IsInstance, IsMark, IsConstant, IsPassing, IsWord, AreItems, IsProgram, IsImage}
+use Rattle.il_model.proofs.Positions.{position_later}
+use Rattle.il_model.proofs.Declared.{field_so}
+use Rattle.il_model.proofs.TypedLines.{IsArgumentOf, arguments_typed, no_arguments}
+use Rattle.il_model.proofs.Calls.{IsTypedLine, typed_lines}
+use Rattle.il_declarations.specs.Walk.{has_name, has_instance}
+use Rattle.laws_listing.proofs.Fronts.{both_true}
+use Rattle.il_model.proofs.LiteralLaws.{IsValue}
+use Rattle.laws_listing.proofs.NameTexts.{IsFreeName, IsFieldName, lawful_free, field_is}
+
+-- ---- what is listed
+
+-- a value, or a place that is there
+abbrev pub IsValueOperand : Declarations → Operand → Type 0
+IsValueOperand ds (operands.Literal v) = IsValue v
+IsValueOperand ds (operands.Variable name) = IsFreeName name × (has_name ds name ≡ true)
+IsValueOperand ds (operands.Direct loc) = IsCell loc
+IsValueOperand ds (operands.Field name field) = IsFreeName name × IsFieldName field × (has_instance ds name ≡ true)
+IsValueOperand ds operand = ⊥
+
+-- or none, a label or an instance
+abbrev pub IsListedOperand : Declarations → Operand → Type 0
+IsListedOperand ds operands.Absent = Unit {0}
+IsListedOperand ds (operands.Label name) = IsFreeName name
+IsListedOperand ds (operands.Instance name) = IsFreeName name × (has_instance ds name ≡ true)
+IsListedOperand ds operand = IsValueOperand ds operand
+
+pub record IsListedArgument (ds : Declarations) (a : Argument) : Type 0 where
+  pub field : IsFieldName a.field
+  pub operand : IsValueOperand ds a.operand
+
+abbrev pub IsListedLabel : Option (List ℕ) → Type 0
+IsListedLabel None = Unit {0}
+IsListedLabel (Some name) = IsFreeName name
+
+pub record IsListedLine (ds : Declarations) (line : Instr) : Type 0 where
+  pub label : IsListedLabel line.label
+  pub letters : allowed_by (usage_of line.op) line.modifier ≡ true
+  pub form : formed_by (usage_of line.op) line.modifier line.operand ≡ true
+  pub operand : IsListedOperand ds line.operand
+  pub arguments : AllByRecursion (IsListedArgument ds) line.arguments
+  pub called : (is_call line.op || nat_eq (length line.arguments) 0) ≡ true
+  pub labelled : is_pointless line ≡ false
+
+-- ---- options
+
+abbrev pub some : {A : Type 0} → A → Option A
+some x = Some x
+
+pub some_is : {A : Type 0} (x y : A) → some x ≡ some y → x ≡ y
+some_is x y e = cc
+
+and_then_is : {A B : Type 0} (o : Option A) (f : A → Option B) (y : B) → option_and_then f o ≡ Some y → (x : A) × (o ≡ Some x) × (f x ≡ Some y)
+and_then_is None f y e = absurd cc
+and_then_is (Some x) f y e = (x, refl, e)
+
+map_is : {A B : Type 0} (o : Option A) (f : A → B) (y : B) → option_map f o ≡ Some y → (x : A) × (o ≡ Some x) × (f x ≡ y)
+map_is None f y e = absurd cc
+map_is (Some x) f y e = (x, refl, some_is (f x) y e)
+
+-- what passed a test is what was there
+pub tested_is : {A : Type 0} (test : A → Bool) (o : Option A) (x : A) → option_and_then (if_passes test) o ≡ Some x → (o ≡ Some x) × (test x ≡ true)
+tested_is test None x e = absurd cc
+tested_is {A} test (Some y) x e = by_test (test y) refl e
+  where
+    by_test : (b : Bool) → test y ≡ b → cond b (Some y) None ≡ Some x → (Some y ≡ Some x) × (test x ≡ true)
+    by_test true f h = (h, sym (ap test (some_is y x h)) ∙ f)
+    by_test false f h = absurd cc
+
+-- ---- lists
+
+pub items_all : {X : Type 0} (I : List X → X → Type 0) (F : X → Type 0) → ((seen : List X) (x : X) → I seen x → F x) → (seen xs : List X) → AreItems I seen xs → AllByRecursion F xs
+items_all I F each seen [] all = tt
+items_all I F each seen (x ∷ xs) all = (each seen x all.0, items_all I F each (seen ++ x ∷ []) xs all.1)
+
+all_there : {X : Type 0} (F : X → Type 0) (xs : List X) (n : ℕ) (x : X) → slice_get xs n ≡ Some x → AllByRecursion F xs → F x
+all_there F [] n x e all = absurd cc
+all_there F (y ∷ ys) zero x e all = subst F (some_is y x e) all.0
+all_there F (y ∷ ys) (suc n) x e all = all_there F ys n x e all.1
+
+same_is : (a b : List ℕ) → same_name a b ≡ true → a ≡ b
+same_is a b e = (bytes_eq-Decides a b).0 e
+
+-- the name that a thing of a list is found by is that thing's
+found_free : {X : Type 0} (named : X → List ℕ) (xs : List X) (name : List ℕ) (i : ℕ) → position (λ (x : X). same_name (named x) name) xs ≡ Some i → AllByRecursion (λ (x : X). IsFreeName (named x)) xs → IsFreeName name
+found_free named [] name i e all = absurd cc
+found_free {X} named (x ∷ xs) name i e all = by_test (same_name (named x) name) refl (λ k f. found_free named xs name k f all.1)
+  where
+    by_rest : (o : Option ℕ) → position (λ (y : X). same_name (named y) name) xs ≡ o → option_map suc o ≡ Some i → ((k : ℕ) → position (λ (y : X). same_name (named y) name) xs ≡ Some k → IsFreeName name) → IsFreeName name
+    by_rest None f h again = absurd cc
+    by_rest (Some k) f h again = again k f
+
+    by_test : (b : Bool) → same_name (named x) name ≡ b → ((k : ℕ) → position (λ (y : X). same_name (named y) name) xs ≡ Some k → IsFreeName name) → IsFreeName name
+    by_test true f again = subst IsFreeName (same_is (named x) name f) all.0
+    by_test false f again = by_rest (position (λ (y : X). same_name (named y) name) xs) refl (sym (position_later (λ (y : X). same_name (named y) name) x xs f) ∙ e) again
+
+found_label : (code : List Instr) (name : List ℕ) (i : ℕ) → position (has_label name) code ≡ Some i → AllByRecursion (λ (line : Instr). IsListedLabel line.label) code → IsFreeName name
+found_label [] name i e all = absurd cc
+found_label (line ∷ code) name i e all = by_test (has_label name line) refl (λ k f. found_label code name k f all.1)
+  where
+    by_label : (o : Option (List ℕ)) → elim o [ Some label ↦ same_name label name | None ↦ false ] ≡ true → IsListedLabel o → IsFreeName name
+    by_label None f is = absurd cc
+    by_label (Some label) f is = subst IsFreeName (same_is label name f) is
+
+    by_rest : (o : Option ℕ) → position (has_label name) code ≡ o → option_map suc o ≡ Some i → ((k : ℕ) → position (has_label name) code ≡ Some k → IsFreeName name) → IsFreeName name
+    by_rest None f h again = absurd cc
+    by_rest (Some k) f h again = again k f
+
+    by_test : (b : Bool) → has_label name line ≡ b → ((k : ℕ) → position (has_label name) code ≡ Some k → IsFreeName name) → IsFreeName name
+    by_test true f again = by_label line.label f all.0
+    by_test false f again = by_rest (position (has_label name) code) refl (sym (position_later (has_label name) line code f) ∙ e) again
+
+-- ---- places and values
+
+-- what is read from a number has a value of its range, or a place that is there
+abbrev IsRead : Operand → Type 0
+IsRead (operands.Literal v) = IsValue v
+IsRead (operands.Direct loc) = IsCell loc
+IsRead operand = Unit {0}
+
+variable_read : (x : Option Variable) (o : Operand) → variable_named x ≡ Some o → IsRead o
+variable_read None o e = absurd cc
+variable_read (Some v) o e = subst IsRead (some_is (operands.Variable v.name) o e) tt
+
+instance_read : (x : Option Instance) (o : Operand) → instance_named x ≡ Some o → IsRead o
+instance_read None o e = absurd cc
+instance_read (Some x) o e = subst IsRead (some_is (operands.Instance x.name) o e) tt
+
+field_read : (x : Option Instance) (n : ℕ) (o : Operand) → field_named x n ≡ Some o → IsRead o
+field_read None n o e = absurd cc
+field_read (Some x) n o e =
+    let m = map_is (slice_get (kind_fields x.kind) n) (λ (f : Field). operands.Field x.name (field_name f)) o e in
+    subst IsRead m.2 tt
+
+literal_read : (v : Option Value) (o : Operand) → ((w : Value) → v ≡ Some w → IsValue w) → option_map operands.Literal v ≡ Some o → IsRead o
+literal_read v o all e =
+    let m = map_is v operands.Literal o e in
+    subst IsRead m.2 (all m.0 m.1)
+
+named_read : (ds : Declarations) (constants : List Value) (x : CodedOperand) (o : Operand) → AllByRecursion IsValue constants → HasOwnCode x → named_operand ds constants x ≡ Some o → IsRead o
+named_read ds constants (coded.Location loc) o all own e = subst IsRead (some_is (operands.Direct loc) o e) own
+named_read ds constants (coded.Variable i) o all own e = variable_read (slice_get ds.variables i) o e
+named_read ds constants (coded.Field i n) o all own e = field_read (slice_get ds.instances i) n o e
+named_read ds constants (coded.Constant k) o all own e = literal_read (slice_get constants k) o (λ w there. all_there IsValue constants k w there all) e
+named_read ds constants coded.Unused o all own e = subst IsRead (some_is operands.Absent o e) tt
+
+value_read : (ds : Declarations) (constants : List Value) (n : ℕ) (o : Operand) → AllByRecursion IsValue constants → value_operand ds constants n ≡ Some o → IsRead o
+value_read ds constants n o all e = by_code (with_code n) refl e
+  where
+    by_code : (x : Option CodedOperand) → with_code n ≡ x → option_and_then (named_operand ds constants) x ≡ Some o → IsRead o
+    by_code None f h = absurd cc
+    by_code (Some x) f h = named_read ds constants x o all (coded_back n x f).own h
+
+word_read : (ds : Declarations) (marks : List Mark) (constants : List Value) (op : Op) (n : ℕ) (o : Operand) → AllByRecursion IsValue constants → numbered_operand ds marks constants op n ≡ Some o → IsRead o
+word_read ds marks constants op n o all e = by_tests (is_jump op) (is_call op) e
+  where
+    by_tests : (p q : Bool) → cond p (Some (operands.Label (target_name (label_there marks n)))) (cond q (instance_named (slice_get ds.instances n)) (value_operand ds constants n)) ≡ Some o → IsRead o
+    by_tests true q h = subst IsRead (some_is (operands.Label (target_name (label_there marks n))) o h) tt
+    by_tests false true h = instance_read (slice_get ds.instances n) o h
+    by_tests false false h = value_read ds constants n o all h
+
+-- ---- names that are declared
+
+pub record HasNames (Q : Program) : Type 0 where
+  pub variables : AllByRecursion (λ (v : Variable). IsFreeName v.name) Q.variables
+  pub instances : AllByRecursion (λ (x : Instance). IsFreeName x.name) Q.instances
+  pub labels : AllByRecursion (λ (line : Instr). IsListedLabel line.label) Q.code
+
+pub variable_free : (seen : List Variable) (v : Variable) → IsVariable seen v → IsFreeName v.name
+variable_free seen v is = lawful_free v.name is.length (both_true (is_lawful_name v.name) (not (is_some (is_number seen v.name))) is.name).0
+
+instance_free : (vs : List Variable) (seen : List Instance) (x : Instance) → IsInstance vs seen x → IsFreeName x.name
+instance_free vs seen x is =
+    let new = both_true (is_new_name vs x.name) (not (is_some (instance_in seen x.name))) is.name in
+    lawful_free x.name is.length (both_true (is_lawful_name x.name) (not (is_some (is_number vs x.name))) new.0).0
+
+mark_free : (seen : List Mark) (m : Mark) → IsMark seen m → IsFreeName m.name
+mark_free seen m is = lawful_free m.name is.length (both_true (is_lawful_name m.name) (not (is_some (position (λ (k : Mark). same_name k.name m.name) seen))) is.name).0
+
+labels_free : (n : ℕ) (code : List Instr) → AllByRecursion (λ (m : Mark). IsFreeName m.name) (marks_from n code) → AllByRecursion (λ (line : Instr). IsListedLabel line.label) code
+labels_free n [] all = tt
+labels_free n (line ∷ code) all = by_label line.label all (λ h. labels_free (n + word_count line) code h)
+  where
+    by_label : (o : Option (List ℕ)) → AllByRecursion (λ (m : Mark). IsFreeName m.name) (with_mark n o (marks_from (n + word_count line) code))
+        → (AllByRecursion (λ (m : Mark). IsFreeName m.name) (marks_from (n + word_count line) code) → AllByRecursion (λ (l : Instr). IsListedLabel l.label) code) → IsListedLabel o × AllByRecursion (λ (l : Instr). IsListedLabel l.label) code
+    by_label None h again = (tt, again h)
+    by_label (Some name) h again = (h.0, again h.1)
+
+pub names_of : (Q : Program) → IsProgram Q → HasNames Q
+names_of Q is = record {
+  variables = items_all IsVariable (λ (v : Variable). IsFreeName v.name) variable_free [] Q.variables is.variables;
+  instances = items_all (IsInstance Q.variables) (λ (x : Instance). IsFreeName x.name) (instance_free Q.variables) [] Q.instances is.instances;
+  labels = labels_free 0 Q.code (items_all IsMark (λ (m : Mark). IsFreeName m.name) mark_free [] (marks_from 0 Q.code) is.labels);
+}
+
+-- ---- operands
+
+found_some : (o : Option ℕ) (i : ℕ) → o ≡ Some i → is_some o ≡ true
+found_some o i e = ap is_some e
+
+-- a variable, an instance or a label that an operand stands for is declared
+abbrev IsNamed : Declarations → Operand → Type 0
+IsNamed ds (operands.Variable name) = IsFreeName name × (has_name ds name ≡ true)
+IsNamed ds (operands.Field name field) = IsFreeName name × IsFieldName field × (has_instance ds name ≡ true)
+IsNamed ds (operands.Label name) = IsFreeName name
+IsNamed ds (operands.Instance name) = IsFreeName name × (has_instance ds name ≡ true)
+IsNamed ds (operands.Bare z) = ⊥
+IsNamed ds operand = Unit {0}
+
+field_named_so : (a b : List ℕ) → a ≡ b → IsFieldName a → IsFieldName b
+field_named_so a b e is = subst IsFieldName e is
+
+stands_for : (Q : Program) (o : Operand) (src : Source) → HasNames Q → source_of Q o ≡ Some src → IsNamed (declared_by Q) o
+stands_for Q operands.Absent src has e = tt
+stands_for Q (operands.Literal v) src has e = tt
+stands_for Q (operands.Bare z) src has e = absurd cc
+stands_for Q (operands.Variable name) src has e =
+    let m = map_is (place_of Q name) sources.Of src e in
+    let i = and_then_is (is_number Q.variables name) (λ i. option_map (variable_place i) (slice_get Q.variables i)) m.0 m.1 in
+    (found_free (λ (v : Variable). v.name) Q.variables name i.0 i.1 has.variables, found_some (is_number Q.variables name) i.0 i.1)
+stands_for Q (operands.Direct loc) src has e = tt
+stands_for Q (operands.Label name) src has e =
+    let m = map_is (target_of Q name) sources.Target src e in
+    found_label Q.code name m.0 m.1 has.labels
+stands_for Q (operands.Field name field) src has e =
+    let m = map_is (field_of Q name field) sources.Of src e in
+    let i = and_then_is (instance_in Q.instances name) (λ i. option_and_then (numbered_field i field) (slice_get Q.instances i)) m.0 m.1 in
+    let x = and_then_is (slice_get Q.instances i.0) (numbered_field i.0 field) m.0 i.2 in
+    let n = map_is (field_number x.0.kind field) (places.Field i.0) m.0 x.2 in
+    let f = field_so x.0.kind field n.0 n.1 in
+    (found_free (λ (y : Instance). y.name) Q.instances name i.0 i.1 has.instances, field_named_so (field_name f.field) field f.named (field_is f.field), found_some (instance_in Q.instances name) i.0 i.1)
+stands_for Q (operands.Instance name) src has e =
+    let m = map_is (instance_in Q.instances name) sources.Instance src e in
+    (found_free (λ (y : Instance). y.name) Q.instances name m.0 m.1 has.instances, found_some (instance_in Q.instances name) m.0 m.1)
+
+value_listed : (ds : Declarations) (o : Operand) → has_form forms.Value false o ≡ true → IsNamed ds o → IsRead o → IsValueOperand ds o
+value_listed ds operands.Absent form named read = absurd cc
+value_listed ds (operands.Literal v) form named read = read
+value_listed ds (operands.Bare z) form named read = named
+value_listed ds (operands.Variable name) form named read = named
+value_listed ds (operands.Direct loc) form named read = read
+value_listed ds (operands.Label name) form named read = absurd cc
+value_listed ds (operands.Field name field) form named read = named
+value_listed ds (operands.Instance name) form named read = absurd cc
+
+operand_listed : (ds : Declarations) (o : Operand) → IsNamed ds o → IsRead o → IsListedOperand ds o
+operand_listed ds operands.Absent named read = tt
+operand_listed ds (operands.Literal v) named read = read
+operand_listed ds (operands.Bare z) named read = named
+operand_listed ds (operands.Variable name) named read = named
+operand_listed ds (operands.Direct loc) named read = read
+operand_listed ds (operands.Label name) named read = named
+operand_listed ds (operands.Field name field) named read = named
+operand_listed ds (operands.Instance name) named read = named
+
+-- ---- arguments
+
+passed_listed : (Q : Program) (kind : Option BlockKind) (k : BlockKind) (a : Argument) → HasNames Q → AllByRecursion IsValue (constants_of Q) → IsPassing Q kind a → IsArgumentOf Q k a → IsListedArgument (declared_by Q) a
+passed_listed Q kind k a has values is typed =
+    let t = tested_is (has_form forms.Value false) (value_operand (declared_by Q) (constants_of Q) (operand_code Q (constants_of Q) a.operand)) a.operand is.operand_read in
+    let read = value_read (declared_by Q) (constants_of Q) (operand_code Q (constants_of Q) a.operand) a.operand values t.0 in
+    let f = field_so k a.field typed.number typed.numbered in
+    record {
+      field = subst IsFieldName f.named (field_is f.field);
+      operand = value_listed (declared_by Q) a.operand t.1 (stands_for Q a.operand typed.source has typed.sourced) read;
+    }
+
+all_passed : (Q : Program) (kind : Option BlockKind) (k : BlockKind) (args : List Argument) → HasNames Q → AllByRecursion IsValue (constants_of Q) → AllByRecursion (IsPassing Q kind) args → AllByRecursion (IsArgumentOf Q k) args
+    → AllByRecursion (IsListedArgument (declared_by Q)) args
+all_passed Q kind k [] has values is typed = tt
+all_passed Q kind k (a ∷ args) has values is typed = (passed_listed Q kind k a has values is.0 typed.0, all_passed Q kind k args has values is.1 typed.1)
+
+arguments_listed : (Q : Program) (kind own : Option BlockKind) (args : List Argument) → HasNames Q → AllByRecursion IsValue (constants_of Q) → AllByRecursion (IsPassing Q own) args → arguments_fault Q kind [] args ≡ None
+    → AllByRecursion (IsListedArgument (declared_by Q)) args
+arguments_listed Q None own args has values is e = subst (λ (xs : List Argument). AllByRecursion (IsListedArgument (declared_by Q)) xs) (sym (no_arguments Q [] args e)) tt
+arguments_listed Q (Some k) own args has values is e = all_passed Q own k args has values is (arguments_typed Q k [] args e)
+
+-- ---- lines
+
+line_listed : (Q : Program) (line : Instr) → HasNames Q → AllByRecursion IsValue (constants_of Q) → IsListedLabel line.label → IsWord Q line → IsTypedLine Q line → IsListedLine (declared_by Q) line
+line_listed Q line has values label is typed =
+    let code = operand_code Q (constants_of Q) line.operand in
+    let marks = marks_from 0 Q.code in
+    let t = tested_is (formed_by (usage_of line.op) line.modifier) (numbered_operand (declared_by Q) marks (constants_of Q) line.op code) line.operand is.coded.operand_read in
+    let l = tested_is (allowed_by (usage_of line.op)) (modifier_of (modifier_code line.modifier)) line.modifier is.coded.letters in
+    record {
+      label = label;
+      letters = l.1;
+      form = t.1;
+      operand = operand_listed (declared_by Q) line.operand (stands_for Q line.operand typed.source has typed.sourced) (word_read (declared_by Q) marks (constants_of Q) line.op code line.operand values t.0);
+      arguments = arguments_listed Q (called_kind Q line.operand) (called_kind Q line.operand) line.arguments has values is.arguments typed.arguments;
+      called = is.called;
+      labelled = is.labelled;
+    }
+
+all_lines : (Q : Program) (code : List Instr) → HasNames Q → AllByRecursion IsValue (constants_of Q) → AllByRecursion (λ (line : Instr). IsListedLabel line.label) code → AllByRecursion (IsWord Q) code → AllByRecursion (IsTypedLine Q) code
+    → AllByRecursion (IsListedLine (declared_by Q)) code
+all_lines Q [] has values labels words typed = tt
+all_lines Q (line ∷ code) has values labels words typed = (line_listed Q line has values labels.0 words.0 typed.0, all_lines Q code has values labels.1 words.1 typed.1)
+
+-- ---- values
+
+-- a value of a type, within its range
+pub record IsOfType (type : Ty) (v : Value) : Type 0 where
+  pub is : ty_of v ≡ type
+  pub made_again : typed_value type (number_of v) ≡ Some v
+
+pub if_some : {A : Type 0} (b : Bool) (x y : A) → cond b (Some x) None ≡ Some y → (b ≡ true) × (x ≡ y)
+if_some true x y e = (refl, some_is x y e)
+if_some false x y e = absurd cc
+
+truth_of_type : (z : ℤ) (v : Value) → truth_made z ≡ Some v → IsOfType types.Bool v
+truth_of_type (negsuc n) v e = absurd cc
+truth_of_type (pos n) v e = by_tests (ltb n 1) (ltb n 2) e
+  where
+    by_tests : (p q : Bool) → cond p (Some (values.Bool false)) (cond q (Some (values.Bool true)) None) ≡ Some v → IsOfType types.Bool v
+    by_tests true q h = subst (IsOfType types.Bool) (some_is (values.Bool false) v h) (record { is = refl; made_again = refl })
+    by_tests false true h = subst (IsOfType types.Bool) (some_is (values.Bool true) v h) (record { is = refl; made_again = refl })
+    by_tests false false h = absurd cc
+
+pub of_type : (type : Ty) (z : ℤ) (v : Value) → typed_value type z ≡ Some v → IsOfType type v
+of_type types.Bool z v e = truth_of_type z v e
+of_type types.Int z v e =
+    let m = if_some (is_within (2 ^ 15) z) (values.Int z) v e in
+    subst (IsOfType types.Int) m.1 (record { is = refl; made_again = rw m.0 refl })
+of_type types.Dint z v e =
+    let m = if_some (is_within (2 ^ 31) z) (values.Dint z) v e in
+    subst (IsOfType types.Dint) m.1 (record { is = refl; made_again = rw m.0 refl })
+of_type types.Time z v e =
+    let m = if_some (is_within (2 ^ 31) z) (values.Time z) v e in
+    subst (IsOfType types.Time) m.1 (record { is = refl; made_again = rw m.0 refl })
+of_type types.Lint z v e =
+    let m = if_some (is_within (2 ^ 63) z) (values.Lint z) v e in
+    subst (IsOfType types.Lint) m.1 (record { is = refl; made_again = rw m.0 refl })
+
+constant_value : (seen : List Value) (v : Value) → IsConstant seen v → IsValue v
+constant_value seen v is =
+    let t = tested_is (λ w. not (is_known seen w)) (typed_value (ty_of v) (number_of v)) v is.value in
+    (of_type (ty_of v) (number_of v) v t.0).made_again
+
+-- ---- the whole
+
+pub record IsListable (Q : Program) : Type 0 where
+  pub names : HasNames Q
+  pub lines : AllByRecursion (IsListedLine (declared_by Q)) Q.code
+
+pub listable : (Q : Program) → IsImage Q → IsListable Q
+listable Q is =
+    let has = names_of Q is.text in
+    let all = items_all IsConstant IsValue constant_value [] (constants_of Q) is.text.constants in
+    let words = items_all (λ seen. IsWord Q) (IsWord Q) (λ seen line w. w) [] Q.code is.text.words in
+    record { names = has; lines = all_lines Q Q.code has all has.labels words (typed_lines Q is.typed) }

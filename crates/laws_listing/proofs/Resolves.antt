@@ -1,0 +1,201 @@
+-- The listing's names, literals, locations and operators are resolved to the program's own.
+use Rattle.std.proofs.Common.{◌≡◌, ℕ, ◌+◌, ◌<◌, ◌≤◌, Bool, true, false, eqb, List, [], ◌∷◌, ◌++◌, length, Option, Some, None, Result, Ok, refl, sym, ap, ◌∙◌, arith, ◌||◌, not, append_assoc}
+use Rattle.std.specs.Prelude.{nat_eq}
+use Rattle.std.specs.List.{AllByRecursion, flat_map}
+use Rattle.std.proofs.lemmas.List.{length-append, append-nil}
+use Rattle.std.proofs.lemmas.Bool.{lt-leb, eqb-true}
+use Rattle.il_model.specs.declared.op.Op.{Op}
+use Rattle.il_model.specs.declared.op.Op.TheVariants as ops
+use Rattle.il_model.specs.declared.op.Modifier.{Modifier}
+use Rattle.il_model.specs.declared.program.Argument.{Argument}
+use Rattle.il_model.specs.declared.program.Operand.{Operand}
+use Rattle.il_model.specs.declared.program.Operand.TheVariants as operands
+use Rattle.il_model.specs.declared.program.Instr.{Instr}
+use Rattle.il_model.specs.Program.{Declarations}
+use Rattle.il_model.specs.Codes.{usage_of, allowed_by, formed_by, is_call, is_empty}
+use Rattle.il_reader.specs.declared.lexeme.Sign.TheVariants as signs
+use Rattle.il_reader.specs.Grammar.{BehindText}
+use Rattle.il_declarations.specs.declared.fault.FaultAt.{FaultAt}
+use Rattle.il_declarations.specs.Resolution.{opens, plain}
+use Rattle.il_declarations.specs.Walk.{each, operand_of, behind_of, behind_arguments, argument_of, pushed_argument, instruction_of, room, label_of, instruct_labelled, instruct_plain, instruct}
+use Rattle.il_lister.specs.Listing.{next_argument_text, operation_text, line_text}
+use Rattle.laws_listing.proofs.Fronts.{both_true}
+use Rattle.laws_listing.proofs.LiteralTexts.{literal_again}
+use Rattle.laws_listing.proofs.LocationTexts.{location_again}
+use Rattle.laws_listing.proofs.OperatorTexts.{letters}
+use Rattle.laws_listing.proofs.NameTexts.{IsFreeName, capital}
+use Rattle.laws_listing.proofs.Listable.{IsValueOperand, IsListedOperand, IsListedArgument, IsListedLabel, IsListedLine}
+use Rattle.laws_listing.proofs.Written.{token_at, written_operand, written_argument, written_all, written_value, written_absent, written_behind, written_operation, unless_empty, colon_text, labelled_line, written_lines}
+
+-- ---- operands
+
+value_back : (ds : Declarations) (o : Operand) (rest : List ℕ) → IsValueOperand ds o → operand_of ds (written_operand o rest) ≡ Ok o
+value_back ds operands.Absent rest is = absurd is
+value_back ds (operands.Literal v) rest is = rw (literal_again v is) refl
+value_back ds (operands.Bare z) rest is = absurd is
+value_back ds (operands.Variable name) rest is = rw (capital name is.0.name, is.1) refl
+value_back ds (operands.Direct loc) rest is = rw (location_again loc is) refl
+value_back ds (operands.Label name) rest is = absurd is
+value_back ds (operands.Field name field) rest is = rw (capital name is.0.name, capital field is.1.name, is.2) refl
+value_back ds (operands.Instance name) rest is = absurd is
+
+given_back : (ds : Declarations) (b : Bool) (o : Operand) (rest : List ℕ) → IsValueOperand ds o → behind_of ds (written_value b (written_operand o rest)) ≡ Ok o
+given_back ds true o rest is = value_back ds o rest is
+given_back ds false o rest is = value_back ds o rest is
+
+absent_back : (ds : Declarations) (b : Bool) → behind_of ds (written_absent b) ≡ Ok operands.Absent
+absent_back ds true = refl
+absent_back ds false = refl
+
+behind_back : (ds : Declarations) (b : Bool) (o : Operand) (args : List Argument) (rest : List ℕ) → IsListedOperand ds o → behind_of ds (written_behind b o args rest) ≡ Ok o
+behind_back ds b operands.Absent args rest is = absent_back ds b
+behind_back ds b (operands.Literal v) args rest is = given_back ds b (operands.Literal v) rest is
+behind_back ds b (operands.Bare z) args rest is = absurd is
+behind_back ds b (operands.Variable name) args rest is = given_back ds b (operands.Variable name) rest is
+behind_back ds b (operands.Direct loc) args rest is = given_back ds b (operands.Direct loc) rest is
+behind_back ds b (operands.Label name) args rest is = rw (capital name is.name) refl
+behind_back ds b (operands.Field name field) args rest is = given_back ds b (operands.Field name field) rest is
+behind_back ds b (operands.Instance name) args rest is = rw (capital name is.0.name, is.1) refl
+
+-- ---- arguments
+
+argument_back : (ds : Declarations) (a : Argument) (rest : List ℕ) → IsListedArgument ds a → argument_of ds (written_argument a rest) ≡ Ok a
+unfolding argument_of
+argument_back ds a rest is = rw (value_back ds a.operand rest is.operand, capital a.field is.field.name) refl
+
+all_back : (ds : Declarations) (seen args : List Argument) (rest : List ℕ) → AllByRecursion (IsListedArgument ds) args → each (pushed_argument ds) seen (written_all args rest) ≡ Ok (seen ++ args)
+unfolding each
+all_back ds seen [] rest all = rw (append-nil seen) refl
+all_back ds seen (a ∷ args) rest all =
+    rw (argument_back ds a (flat_map next_argument_text args ++ rest) all.0) (all_back ds (seen ++ a ∷ []) args rest all.1 ∙ rw (append_assoc seen (a ∷ []) args) refl)
+
+call_back : (ds : Declarations) (name : List ℕ) (args : List Argument) (rest : List ℕ) → AllByRecursion (IsListedArgument ds) args → behind_arguments ds (written_behind false (operands.Instance name) args rest) ≡ Ok args
+unfolding each
+call_back ds name [] rest all = refl
+call_back ds name (a ∷ args) rest all = all_back ds [] (a ∷ args) (41 ∷ rest) all
+
+-- what is no call has no arguments
+no_call_back : (ds : Declarations) (b : Bool) (o : Operand) (rest : List ℕ) → behind_arguments ds (written_value b (written_operand o rest)) ≡ Ok []
+no_call_back ds true o rest = refl
+no_call_back ds false o rest = refl
+
+absent_no_call : (ds : Declarations) (b : Bool) → behind_arguments ds (written_absent b) ≡ Ok []
+absent_no_call ds true = refl
+absent_no_call ds false = refl
+
+pub no_args : (args : List Argument) → eqb (length args) 0 ≡ true → args ≡ []
+no_args [] e = refl
+no_args (a ∷ args) e = let z = eqb-true (length (a ∷ args)) 0 e in absurd (omega (arith, z))
+
+abbrev pub is_instance : Operand → Bool
+is_instance (operands.Instance name) = true
+is_instance o = false
+
+-- what names no instance is no call
+not_call : (op : Op) (m : Modifier) (o : Operand) → is_instance o ≡ false → formed_by (usage_of op) m o ≡ true → is_call op ≡ false
+not_call ops.Cal m operands.Absent i f = absurd cc
+not_call ops.Cal m (operands.Literal v) i f = absurd cc
+not_call ops.Cal m (operands.Bare z) i f = absurd cc
+not_call ops.Cal m (operands.Variable name) i f = absurd cc
+not_call ops.Cal m (operands.Direct loc) i f = absurd cc
+not_call ops.Cal m (operands.Label name) i f = absurd cc
+not_call ops.Cal m (operands.Field name field) i f = absurd cc
+not_call ops.Cal m (operands.Instance name) i f = absurd cc
+not_call op m o i f = refl
+
+pub lone_args : (ds : Declarations) (line : Instr) → IsListedLine ds line → is_instance line.operand ≡ false → line.arguments ≡ []
+lone_args ds line is lone = no_args line.arguments (rw (not_call line.op line.modifier line.operand lone is.form) at is.called)
+
+none_back : (ds : Declarations) (x : BehindText) (args : List Argument) → args ≡ [] → behind_arguments ds x ≡ Ok [] → behind_arguments ds x ≡ Ok args
+none_back ds x args e h = h ∙ ap (λ (xs : List Argument). let r : Result (List Argument) FaultAt = Ok xs in r) (sym e)
+
+given_args : (ds : Declarations) (b : Bool) (o : Operand) (args : List Argument) (rest : List ℕ) → (is_instance o ≡ false → args ≡ []) → AllByRecursion (IsListedArgument ds) args → behind_arguments ds (written_behind b o args rest) ≡ Ok args
+given_args ds b operands.Absent args rest lone all = none_back ds (written_absent b) args (lone refl) (absent_no_call ds b)
+given_args ds b (operands.Literal v) args rest lone all = none_back ds (written_value b (written_operand (operands.Literal v) rest)) args (lone refl) (no_call_back ds b (operands.Literal v) rest)
+given_args ds b (operands.Bare z) args rest lone all = none_back ds (written_value b (written_operand (operands.Bare z) rest)) args (lone refl) (no_call_back ds b (operands.Bare z) rest)
+given_args ds b (operands.Variable name) args rest lone all = none_back ds (written_value b (written_operand (operands.Variable name) rest)) args (lone refl) (no_call_back ds b (operands.Variable name) rest)
+given_args ds b (operands.Direct loc) args rest lone all = none_back ds (written_value b (written_operand (operands.Direct loc) rest)) args (lone refl) (no_call_back ds b (operands.Direct loc) rest)
+given_args ds b (operands.Label name) args rest lone all = none_back ds (written_behind b (operands.Label name) args rest) args (lone refl) refl
+given_args ds b (operands.Field name field) args rest lone all = none_back ds (written_value b (written_operand (operands.Field name field) rest)) args (lone refl) (no_call_back ds b (operands.Field name field) rest)
+given_args ds b (operands.Instance name) args rest lone all = call_back ds name args rest all
+
+-- ---- operators
+
+pub label_closed : (op : Op) (n c b : Bool) (name : List ℕ) → formed_by (usage_of op) (letters n c b) (operands.Label name) ≡ true → allowed_by (usage_of op) (letters n c b) ≡ true → b ≡ false
+label_closed op n c false name f a = refl
+label_closed ops.Jmp n c true name f a = let h = (both_true (c || not n) false a).1 in absurd cc
+label_closed op n c true name f a = absurd cc
+
+pub instance_closed : (op : Op) (n c b : Bool) (name : List ℕ) → formed_by (usage_of op) (letters n c b) (operands.Instance name) ≡ true → allowed_by (usage_of op) (letters n c b) ≡ true → b ≡ false
+instance_closed op n c false name f a = refl
+instance_closed ops.Cal n c true name f a = let h = (both_true (c || not n) false a).1 in absurd cc
+instance_closed op n c true name f a = absurd cc
+
+value_opens : (b : Bool) (o : Operand) (rest : List ℕ) → opens (written_value b (written_operand o rest)) ≡ b
+value_opens true o rest = refl
+value_opens false o rest = refl
+
+absent_opens : (b : Bool) → opens (written_absent b) ≡ b
+absent_opens true = refl
+absent_opens false = refl
+
+opens_back : (op : Op) (m : Modifier) (o : Operand) (args : List Argument) (rest : List ℕ) → formed_by (usage_of op) m o ≡ true → allowed_by (usage_of op) m ≡ true → opens (written_behind m.opens o args rest) ≡ m.opens
+opens_back op m operands.Absent args rest f a = absent_opens m.opens
+opens_back op m (operands.Literal v) args rest f a = value_opens m.opens (operands.Literal v) rest
+opens_back op m (operands.Bare z) args rest f a = value_opens m.opens (operands.Bare z) rest
+opens_back op m (operands.Variable name) args rest f a = value_opens m.opens (operands.Variable name) rest
+opens_back op m (operands.Direct loc) args rest f a = value_opens m.opens (operands.Direct loc) rest
+opens_back op m (operands.Label name) args rest f a = sym (label_closed op m.negated m.conditional m.opens name f a)
+opens_back op m (operands.Field name field) args rest f a = value_opens m.opens (operands.Field name field) rest
+opens_back op m (operands.Instance name) args rest f a = sym (instance_closed op m.negated m.conditional m.opens name f a)
+
+-- ---- lines
+
+instruction_back : (ds : Declarations) (label : Option (List ℕ)) (line : Instr) (rest : List ℕ) → IsListedLine ds line → instruction_of ds label (Some (written_operation line rest)) ≡ Ok (record line { label = label })
+unfolding instruction_of
+instruction_back ds label line rest is =
+    rw (
+      behind_back ds line.modifier.opens line.operand line.arguments rest is.operand,
+      given_args ds line.modifier.opens line.operand line.arguments rest (lone_args ds line is) is.arguments,
+      opens_back line.op line.modifier line.operand line.arguments rest is.form is.letters,
+    ) refl
+
+abbrev pub instr : Option (List ℕ) → Op → Modifier → Operand → List Argument → Instr
+instr label op m o args = record { label = label; op = op; modifier = m; operand = o; arguments = args }
+
+pub empty_line : (label : Option (List ℕ)) (op : Op) (n c b : Bool) (o : Operand) (args : List Argument) → is_empty op ≡ true → allowed_by (usage_of op) (letters n c b) ≡ true → formed_by (usage_of op) (letters n c b) o ≡ true
+    → (is_call op || nat_eq (length args) 0) ≡ true → instr label ops.Empty plain operands.Absent [] ≡ instr label op (letters n c b) o args
+empty_line label ops.Empty false false false operands.Absent args w a f k = ap (λ (xs : List Argument). instr label ops.Empty plain operands.Absent xs) (sym (no_args args k))
+empty_line label ops.Empty n c b o args w a f k = absurd cc
+empty_line label op n c b o args w a f k = absurd cc
+
+room_back : (code : List Instr) (left : ℕ) → length code < 4096 → room code left ≡ Ok tt
+room_back code left lt = rw (lt-leb 4096 (length code) lt) refl
+
+label_back : (name rest : List ℕ) → IsFreeName name → label_of (token_at signs.Name name rest) ≡ Ok name
+label_back name rest is = rw (capital name is.name, is.free) refl
+
+abbrev pushed : List Instr → Instr → Result (List Instr) FaultAt
+pushed code line = Ok (code ++ line ∷ [])
+
+optional_back : (ds : Declarations) (name : List ℕ) (line : Instr) (rest : List ℕ) (b : Bool) → is_empty line.op ≡ b → IsListedLine ds line → instruction_of ds (Some name) (unless_empty b (written_operation line rest)) ≡ Ok (record line { label = Some name })
+unfolding instruction_of
+optional_back ds name line rest true e is =
+    ap (λ (l : Instr). let r : Result Instr FaultAt = Ok l in r) (empty_line (Some name) line.op line.modifier.negated line.modifier.conditional line.modifier.opens line.operand line.arguments e is.letters is.form is.called)
+optional_back ds name line rest false e is = instruction_back ds (Some name) line rest is
+
+line_by : (ds : Declarations) (code : List Instr) (label : Option (List ℕ)) (line : Instr) (rest : List ℕ) → line.label ≡ label → IsListedLabel label → IsListedLine ds line → length code < 4096
+    → instruct ds code (labelled_line label line rest) ≡ pushed code line
+unfolding instruct_plain instruct_labelled
+line_by ds code None line rest e free is lt =
+    rw (room_back code (written_operation line rest).operator.left lt, instruction_back ds None line rest is) (ap (λ (l : Option (List ℕ)). pushed code (record line { label = l })) (sym e))
+line_by ds code (Some name) line rest e free is lt =
+    let behind = colon_text (is_empty line.op) ++ (operation_text line ++ rest) in
+    rw (label_back name behind free, room_back code (token_at signs.Name name behind).left lt, optional_back ds name line rest (is_empty line.op) refl is) (ap (λ (l : Option (List ℕ)). pushed code (record line { label = l })) (sym e))
+
+pub lines_back : (ds : Declarations) (seen code : List Instr) → AllByRecursion (IsListedLine ds) code → length seen + length code ≤ 4096 → each (instruct ds) seen (written_lines code) ≡ Ok (seen ++ code)
+unfolding each
+lines_back ds seen [] all few = rw (append-nil seen) refl
+lines_back ds seen (line ∷ code) all few =
+    rw (line_by ds seen line.label line (10 ∷ flat_map line_text code) refl all.0.label all.0 (omega (arith, few)))
+    (lines_back ds (seen ++ line ∷ []) code all.1 (omega (arith, few, length-append seen (line ∷ []))) ∙ rw (append_assoc seen (line ∷ []) code) refl)

@@ -1,0 +1,262 @@
+-- The listing of a program is short enough to be read.
+use Rattle.std.proofs.Common.{◌≡◌, ℕ, suc, ◌+◌, ◌*◌, ◌/◌, ◌%◌, ◌^◌, ◌<◌, ◌≤◌, Bool, true, false, cond, List, [], ◌∷◌, ◌++◌, length, Option, Some, None, refl, arith}
+use Rattle.std.specs.Prelude.{codes, ℤ, pos, negsuc}
+use Rattle.std.specs.List.{AllByRecursion, flat_map}
+use Rattle.std.proofs.lemmas.List.{length-append}
+use Rattle.std.proofs.lemmas.Bool.{ltb-true}
+use Rattle.il_model.specs.declared.value.Ty.{Ty}
+use Rattle.il_model.specs.declared.value.Ty.TheVariants as types
+use Rattle.il_model.specs.declared.value.Value.{Value}
+use Rattle.il_model.specs.declared.value.Value.TheVariants as values
+use Rattle.il_model.specs.declared.op.Op.{Op}
+use Rattle.il_model.specs.declared.op.Op.TheVariants as ops
+use Rattle.il_model.specs.declared.op.Modifier.{Modifier}
+use Rattle.il_model.specs.declared.program.Area.{Area}
+use Rattle.il_model.specs.declared.program.Area.TheVariants as areas
+use Rattle.il_model.specs.declared.program.Loc.{Loc}
+use Rattle.il_model.specs.declared.program.Loc.TheVariants.{Bit, Word}
+use Rattle.il_model.specs.declared.program.Variable.{Variable}
+use Rattle.il_model.specs.declared.program.Instance.{Instance}
+use Rattle.il_model.specs.declared.kind.BlockKind.{BlockKind}
+use Rattle.il_model.specs.declared.kind.BlockKind.TheVariants as kinds
+use Rattle.il_model.specs.declared.program.Operand.{Operand}
+use Rattle.il_model.specs.declared.program.Operand.TheVariants as operands
+use Rattle.il_model.specs.declared.program.Side.{Side}
+use Rattle.il_model.specs.declared.program.Side.TheVariants as sides
+use Rattle.il_model.specs.declared.program.Argument.{Argument}
+use Rattle.il_model.specs.declared.program.Instr.{Instr}
+use Rattle.il_model.specs.Program.{Program, Declarations, declared_by}
+use Rattle.il_model.specs.Values.{is_within, number_of}
+use Rattle.il_model.specs.Operators.{is_zero}
+use Rattle.il_model.specs.Kinds.{kind_name}
+use Rattle.il_model.specs.Marks.{word_count, words_in}
+use Rattle.il_model.specs.Fits.{IsImage}
+use Rattle.il_model.specs.CodedOperands.{IsCell}
+use Rattle.il_model.specs.Codes.{is_empty}
+use Rattle.il_lister.specs.Listing.{decimal, number_text, literal_text, area_letter, location_text, type_name, at_text, initial_text, variable_text, instance_text, op_name, letter, operator_text, operand_text, behind_text, side_text, argument_text, next_argument_text, arguments_text, label_text, line_text, listing}
+use Rattle.laws_listing.proofs.Numerals.{decimal_length}
+use Rattle.il_model.proofs.LiteralLaws.{IsValue}
+use Rattle.laws_listing.proofs.NameTexts.{IsFreeName}
+use Rattle.laws_listing.proofs.Listable.{if_some, IsValueOperand, IsListedOperand, IsListedArgument, IsListedLabel, IsListedLine, listable}
+use Rattle.laws_listing.proofs.Declares.{IsListedVariable, variables_listed}
+
+-- so many bytes at most
+record AtMost (n : ℕ) (xs : List ℕ) : Type 0 where
+  le : length xs ≤ n
+
+join : {m n : ℕ} {xs ys : List ℕ} → AtMost m xs → AtMost n ys → AtMost (m + n) (xs ++ ys)
+join {m} {n} {xs} {ys} a b = let p = a.le in let q = b.le in record { le = omega (arith, length-append xs ys, p, q) }
+
+wider : (m n : ℕ) (xs : List ℕ) → AtMost m xs → m ≤ n → AtMost n xs
+wider m n xs a le = let p = a.le in record { le = omega (arith, p, le) }
+
+-- ---- literals and locations
+
+number_most : (z : ℤ) → is_within (2 ^ 31) z ≡ true → AtMost 11 (number_text z)
+number_most (pos n) e =
+    let lt = ltb-true n (2 ^ 31) e in
+    let d = decimal_length 10 n (omega arith) (omega (arith, lt)) in
+    record { le = omega (arith, d) }
+number_most (negsuc n) e =
+    let lt = ltb-true n (2 ^ 31) e in
+    let d = decimal_length 10 (suc n) (omega arith) (omega (arith, lt)) in
+    record { le = omega (arith, d) }
+
+long_most : (z : ℤ) → is_within (2 ^ 63) z ≡ true → AtMost 20 (number_text z)
+long_most (pos n) e =
+    let lt = ltb-true n (2 ^ 63) e in
+    let d = decimal_length 19 n (omega arith) (omega (arith, lt)) in
+    record { le = omega (arith, d) }
+long_most (negsuc n) e =
+    let lt = ltb-true n (2 ^ 63) e in
+    let d = decimal_length 19 (suc n) (omega arith) (omega (arith, lt)) in
+    record { le = omega (arith, d) }
+
+within_more : (z : ℤ) → is_within (2 ^ 15) z ≡ true → AtMost 11 (number_text z)
+within_more (pos n) e =
+    let lt = ltb-true n (2 ^ 15) e in
+    let d = decimal_length 10 n (omega arith) (omega (arith, lt)) in
+    record { le = omega (arith, d) }
+within_more (negsuc n) e =
+    let lt = ltb-true n (2 ^ 15) e in
+    let d = decimal_length 10 (suc n) (omega arith) (omega (arith, lt)) in
+    record { le = omega (arith, d) }
+
+word_most : (n : ℕ) (xs : List ℕ) → length xs ≤ n → AtMost n xs
+word_most n xs le = record { le = le }
+
+literal_most : (v : Value) → IsValue v → AtMost 25 (literal_text v)
+literal_most (values.Bool true) is = record { le = omega arith }
+literal_most (values.Bool false) is = record { le = omega arith }
+literal_most (values.Int z) is =
+    let m = within_more z (if_some (is_within (2 ^ 15) z) (values.Int z) (values.Int z) is).0 in
+    let p = m.le in
+    record { le = omega (arith, p) }
+literal_most (values.Dint z) is =
+    let m = number_most z (if_some (is_within (2 ^ 31) z) (values.Dint z) (values.Dint z) is).0 in
+    let p = m.le in
+    record { le = omega (arith, p) }
+literal_most (values.Lint z) is =
+    let m = long_most z (if_some (is_within (2 ^ 63) z) (values.Lint z) (values.Lint z) is).0 in
+    let p = m.le in
+    record { le = omega (arith, p) }
+literal_most (values.Time z) is =
+    let m = number_most z (if_some (is_within (2 ^ 31) z) (values.Time z) (values.Time z) is).0 in
+    let p = m.le in
+    record { le = omega (arith, p, length-append (number_text z) (codes "ms")) }
+
+area_most : (area : Area) → AtMost 1 (area_letter area)
+area_most areas.Input = record { le = omega arith }
+area_most areas.Output = record { le = omega arith }
+area_most areas.Memory = record { le = omega arith }
+
+fixed : (xs : List ℕ) → AtMost (length xs) xs
+fixed xs = record { le = omega arith }
+
+decimal_most : (k n : ℕ) → 0 < k → n < 10 ^ k → AtMost k (decimal n)
+decimal_most k n some lt = record { le = decimal_length k n some lt }
+
+location_most : (loc : Loc) → IsCell loc → AtMost 7 (location_text loc)
+location_most (Bit area n) lt =
+    let whole : n / 8 < 100 = omega (arith, lt) in
+    let rest : n % 8 < 10 = omega (arith, lt) in
+    join (fixed (codes "%")) (join (area_most area) (join (fixed (codes "X")) (join (decimal_most 2 (n / 8) (omega arith) whole) (join (fixed (codes ".")) (decimal_most 1 (n % 8) (omega arith) rest)))))
+location_most (Word area n) lt =
+    let small : n < 100 = omega (arith, lt) in
+    wider 5 7 (location_text (Word area n)) (join (fixed (codes "%")) (join (area_most area) (join (fixed (codes "W")) (decimal_most 2 n (omega arith) small)))) (omega arith)
+
+-- ---- declarations
+
+type_most : (type : Ty) → AtMost 4 (type_name type)
+type_most types.Bool = record { le = omega arith }
+type_most types.Int = record { le = omega arith }
+type_most types.Dint = record { le = omega arith }
+type_most types.Time = record { le = omega arith }
+type_most types.Lint = record { le = omega arith }
+
+kind_most : (kind : BlockKind) → AtMost 6 (kind_name kind)
+kind_most kinds.Sr = record { le = omega arith }
+kind_most kinds.Rs = record { le = omega arith }
+kind_most kinds.RTrig = record { le = omega arith }
+kind_most kinds.FTrig = record { le = omega arith }
+kind_most kinds.Ctu = record { le = omega arith }
+kind_most kinds.Ctd = record { le = omega arith }
+kind_most kinds.Ctud = record { le = omega arith }
+kind_most kinds.Tp = record { le = omega arith }
+kind_most kinds.Ton = record { le = omega arith }
+kind_most kinds.Tof = record { le = omega arith }
+
+name_most : (w : List ℕ) → IsFreeName w → AtMost 32 w
+name_most w is = record { le = is.name.short }
+
+at_most : (o : Option Loc) → ((loc : Loc) → o ≡ Some loc → IsCell loc) → AtMost 11 (at_text o)
+at_most None place = record { le = omega arith }
+at_most (Some loc) place = join (fixed (codes " AT ")) (location_most loc (place loc refl))
+
+initial_if : (b : Bool) (v : Value) → IsValue v → AtMost 29 (cond b [] (codes " := " ++ literal_text v))
+initial_if true v is = record { le = omega arith }
+initial_if false v is = join (fixed (codes " := ")) (literal_most v is)
+
+initial_most : (v : Value) → IsValue v → AtMost 29 (initial_text v)
+initial_most v is = initial_if (is_zero (number_of v)) v is
+
+variable_most : (v : Variable) → IsListedVariable v → AtMost 81 (variable_text v)
+variable_most v is = join (name_most v.name is.name) (join (at_most v.location is.place) (join (fixed (codes " : ")) (join (type_most v.ty) (join (initial_most v.initial is.value) (fixed (codes ";\n"))))))
+
+instance_most : (x : Instance) → IsFreeName x.name → AtMost 43 (instance_text x)
+instance_most x is = join (name_most x.name is) (join (fixed (codes " : ")) (join (kind_most x.kind) (fixed (codes ";\n"))))
+
+-- each of them so many at most
+all_most : {X : Type 0} (F : X → Type 0) (text : X → List ℕ) (n : ℕ) → ((x : X) → F x → AtMost n (text x)) → (xs : List X) → AllByRecursion F xs → AtMost (n * length xs) (flat_map text xs)
+all_most F text n each [] all = record { le = omega arith }
+all_most F text n each (x ∷ xs) all =
+    let h = (join (each x all.0) (all_most F text n each xs all.1)).le in
+    record { le = omega (arith, h) }
+
+-- ---- operands and arguments
+
+value_most : (ds : Declarations) (o : Operand) → IsValueOperand ds o → AtMost 36 (operand_text o)
+value_most ds operands.Absent is = absurd is
+value_most ds (operands.Literal v) is = wider 25 36 (literal_text v) (literal_most v is) (omega arith)
+value_most ds (operands.Bare z) is = absurd is
+value_most ds (operands.Variable w) is = wider 32 36 w (name_most w is.0) (omega arith)
+value_most ds (operands.Direct loc) is = wider 7 36 (location_text loc) (location_most loc is) (omega arith)
+value_most ds (operands.Label w) is = absurd is
+value_most ds (operands.Field w field) is = join (name_most w is.0) (join (fixed (codes ".")) (word_most 3 field is.1.small))
+value_most ds (operands.Instance w) is = absurd is
+
+behind_most : (ds : Declarations) (o : Operand) → IsListedOperand ds o → AtMost 37 (behind_text o)
+behind_most ds operands.Absent is = record { le = omega arith }
+behind_most ds (operands.Literal v) is = join (fixed (codes " ")) (value_most ds (operands.Literal v) is)
+behind_most ds (operands.Bare z) is = absurd is
+behind_most ds (operands.Variable w) is = join (fixed (codes " ")) (value_most ds (operands.Variable w) is)
+behind_most ds (operands.Direct loc) is = join (fixed (codes " ")) (value_most ds (operands.Direct loc) is)
+behind_most ds (operands.Label w) is = wider 33 37 (codes " " ++ w) (join (fixed (codes " ")) (name_most w is)) (omega arith)
+behind_most ds (operands.Field w field) is = join (fixed (codes " ")) (value_most ds (operands.Field w field) is)
+behind_most ds (operands.Instance w) is = wider 33 37 (codes " " ++ w) (join (fixed (codes " ")) (name_most w is.0)) (omega arith)
+
+side_most : (side : Side) → AtMost 4 (side_text side)
+side_most sides.Input = record { le = omega arith }
+side_most sides.Output = record { le = omega arith }
+
+argument_most : (ds : Declarations) (a : Argument) → IsListedArgument ds a → AtMost 43 (argument_text a)
+argument_most ds a is = join (word_most 3 a.field is.field.small) (join (side_most a.side) (value_most ds a.operand is.operand))
+
+next_most : (ds : Declarations) (a : Argument) → IsListedArgument ds a → AtMost 45 (next_argument_text a)
+next_most ds a is = join (fixed (codes ", ")) (argument_most ds a is)
+
+arguments_most : (ds : Declarations) (args : List Argument) → AllByRecursion (IsListedArgument ds) args → AtMost (45 * length args) (arguments_text args)
+arguments_most ds [] all = record { le = omega arith }
+arguments_most ds (a ∷ more) all =
+    let h = (join (fixed (codes "(")) (join (argument_most ds a all.0) (join (all_most (IsListedArgument ds) next_argument_text 45 (next_most ds) more all.1) (fixed (codes ")"))))).le in
+    record { le = omega (arith, h) }
+
+-- ---- lines
+
+op_most : (op : Op) → AtMost 12 (op_name op)
+op_most ops.IntToDint = record { le = omega arith }
+op_most ops.DintToInt = record { le = omega arith }
+op_most ops.DintToLint = record { le = omega arith }
+op_most ops.LintToDint = record { le = omega arith }
+op_most op = record { le = omega arith }
+
+letter_most : (b : Bool) (n : ℕ) (xs : List ℕ) → AtMost n xs → AtMost n (letter b xs)
+letter_most true n xs is = is
+letter_most false n xs is = record { le = omega arith }
+
+operator_most : (op : Op) (m : Modifier) → AtMost 15 (operator_text op m)
+operator_most op m = join (op_most op) (join (letter_most m.conditional 1 (codes "C") (fixed (codes "C"))) (join (letter_most m.negated 1 (codes "N") (fixed (codes "N"))) (letter_most m.opens 1 (codes "(") (fixed (codes "(")))))
+
+colon_most : (b : Bool) → AtMost 2 (cond b (codes ":") (codes ": "))
+colon_most true = record { le = omega arith }
+colon_most false = record { le = omega arith }
+
+label_most : (op : Op) (o : Option (List ℕ)) → IsListedLabel o → AtMost 34 (label_text op o)
+label_most op None is = record { le = omega arith }
+label_most op (Some w) is = join (name_most w is) (colon_most (is_empty op))
+
+line_most : (ds : Declarations) (line : Instr) → IsListedLine ds line → AtMost (45 * word_count line + 44) (line_text line)
+line_most ds line is =
+    let h = (join (label_most line.op line.label is.label) (join (join (operator_most line.op line.modifier) (join (behind_most ds line.operand is.operand) (arguments_most ds line.arguments is.arguments))) (fixed (codes "\n")))).le in
+    record { le = omega (arith, h) }
+
+lines_most : (ds : Declarations) (code : List Instr) → AllByRecursion (IsListedLine ds) code → AtMost (45 * words_in code + 44 * length code) (flat_map line_text code)
+lines_most ds [] all = record { le = omega arith }
+lines_most ds (line ∷ code) all =
+    let h = (join (line_most ds line all.0) (lines_most ds code all.1)).le in
+    record { le = omega (arith, h) }
+
+-- ---- the whole
+
+pub listing_short : (Q : Program) → IsImage Q → length (listing Q) ≤ 2097152
+listing_short Q is =
+    let all = listable Q is in
+    let vs = all_most IsListedVariable variable_text 81 variable_most Q.variables (variables_listed Q is) in
+    let xs = all_most (λ (x : Instance). IsFreeName x.name) instance_text 43 instance_most Q.instances all.names.instances in
+    let code = lines_most (declared_by Q) Q.code all.lines in
+    let h = (join (fixed (codes "VAR\n")) (join vs (join xs (join (fixed (codes "END_VAR\n")) code)))).le in
+    let a = is.text.variables_few in
+    let b = is.text.instances_few in
+    let c = is.short in
+    let d = is.text.words_few in
+    omega (arith, h, a, b, c, d)

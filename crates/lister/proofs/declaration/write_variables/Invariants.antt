@@ -1,8 +1,0 @@
-use Rattle.std.proofs.Common.{Ok, take}
-use Rattle.std.specs.List.{flat_map}
-use Rattle.lister.specs.Listing.{variable_text}
-use Rattle.lister.specs.Writing.{Writes}
-use Rattle.lister.proofs.declaration.write_variables.Given as goal
-
-abbrev pub invariant-loop-variable : goal.invariant-loop-variable
-invariant-loop-variable g l = Writes g.W.CountedWrite (flat_map variable_text (take l.variable-index l.variables)) l.initial.writer l.writer (Ok tt)

@@ -1,7 +1,0 @@
-use Rattle.std.proofs.Common.{◌≡◌, ◌+◌, drop, false}
-use Rattle.std.specs.Option.{option_map}
-use Rattle.loader.specs.Judging.{stray_from}
-use Rattle.loader.proofs.judging.stray_word.Given as goal
-
-abbrev pub invariant-loop-n : goal.invariant-loop-n
-invariant-loop-n l = option_map (λ k. l.n + k) (stray_from l.may (drop l.n l.words)) ≡ stray_from false l.words

@@ -1,6 +1,0 @@
-use Rattle.std.proofs.Common.{◌≡◌, ◌-◌, []}
-use Rattle.loader.specs.Reading.{items_from, mark_at}
-use Rattle.loader.proofs.reading.labels_of.Given as goal
-
-abbrev pub invariant-loop : goal.invariant-loop
-invariant-loop l = items_from (mark_at l.total) (l.count - l.counter) l.seen l.rest ≡ items_from (mark_at l.total) l.count [] l.bytes

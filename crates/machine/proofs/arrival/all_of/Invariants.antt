@@ -1,7 +1,0 @@
-use Rattle.std.proofs.Common.{◌≡◌, take, true}
-use Rattle.machine.proofs.Zipped.{zipped}
-use Rattle.machine.proofs.Shapes.{is_held}
-use Rattle.machine.proofs.arrival.all_of.Given as goal
-
-abbrev pub invariant-loop-i : goal.invariant-loop-i
-invariant-loop-i l = zipped is_held (take l.i l.deferred) (take l.i l.held) ≡ true

@@ -1,6 +1,0 @@
-use Rattle.std.proofs.Common.{◌≡◌, take, map, length}
-use Rattle.controller_model.specs.Changes.{carried_value}
-use Rattle.machine.proofs.carrying.carry_values.Given as goal
-
-abbrev pub invariant-loop-i : goal.invariant-loop-i
-invariant-loop-i l = record { done : take l.i l.own.items ≡ map (carried_value l.variables l.values) (take l.i l.new); same : length l.own.items ≡ length l.new }

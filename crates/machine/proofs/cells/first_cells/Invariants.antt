@@ -1,6 +1,0 @@
-use Rattle.std.proofs.Common.{◌≡◌, drop}
-use Rattle.controller_model.specs.Cold.{with_firsts, first_cells}
-use Rattle.machine.proofs.cells.first_cells.Given as goal
-
-abbrev pub invariant-loop-variable : goal.invariant-loop-variable
-invariant-loop-variable l = with_firsts l.area l.cells (drop l.variable-index l.variables) ≡ first_cells l.area l.variables

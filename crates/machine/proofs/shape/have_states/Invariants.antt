@@ -1,6 +1,0 @@
-use Rattle.std.proofs.Common.{take}
-use Rattle.machine.specs.Parts.{HaveBlocks}
-use Rattle.machine.proofs.shape.have_states.Given as goal
-
-abbrev pub invariant-loop-x : goal.invariant-loop-x
-invariant-loop-x l = HaveBlocks (take l.x-index l.instances)

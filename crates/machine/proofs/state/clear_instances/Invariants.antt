@@ -1,6 +1,0 @@
-use Rattle.std.proofs.Common.{◌≡◌, take, map, length}
-use Rattle.controller_model.specs.Cold.{cold_instance}
-use Rattle.machine.proofs.state.clear_instances.Given as goal
-
-abbrev pub invariant-loop-i : goal.invariant-loop-i
-invariant-loop-i l = record { done : take l.i l.instances.items ≡ map cold_instance (take l.i l.declared); same : length l.instances.items ≡ length l.declared }

@@ -1,6 +1,0 @@
-use Rattle.std.proofs.Common.{◌≡◌, take, map}
-use Rattle.controller_model.specs.Cold.{cold_instance}
-use Rattle.machine.proofs.state.cold_instances.Given as goal
-
-abbrev pub invariant-loop-x : goal.invariant-loop-x
-invariant-loop-x l = l.instances.items ≡ map cold_instance (take l.x-index l.declared)

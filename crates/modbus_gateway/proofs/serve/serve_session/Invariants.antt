@@ -1,8 +1,0 @@
-use Rattle.modbus_gateway.proofs.Sessions.{IsServed}
-use Rattle.modbus_gateway.proofs.serve.serve_session.Given as goal
-
-abbrev pub invariant-loop : goal.invariant-loop
-invariant-loop g l =
-    IsServed (g.R.CountedRead.left l.initial.reader) (g.R.CountedRead.left l.reader) (g.R.CountedRead.faults l.initial.reader) (g.R.CountedRead.faults l.reader)
-    (g.W.CountedWrite.held l.initial.writer) (g.W.CountedWrite.held l.writer) (g.W.CountedWrite.faults l.initial.writer) (g.W.CountedWrite.faults l.writer)
-    (record { told = g.S.Staging.told l.initial.staging; seen = l.initial.released }) (record { told = g.S.Staging.told l.staging; seen = l.released }) l.buffers.session

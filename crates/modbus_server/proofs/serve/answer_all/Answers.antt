@@ -1,0 +1,26 @@
+use Rattle.std.proofs.Common.{◌≡◌, ◌+◌, ◌∷◌, [], ◌++◌, take, ap, sym, ◌∙◌}
+use Rattle.std.proofs.lemmas.List.{take_more}
+use Rattle.modbus_server.specs.Frames.{Adu}
+use Rattle.modbus_server.proofs.Feeds.{on_err}
+use Rattle.modbus_server.proofs.Sessions.{adds_more, answers_more}
+use Rattle.modbus_server.proofs.serve.answer_all.Goals as goal
+
+pub returns-in_err-write_to-clause-err : goal.returns-in_err-write_to-clause-err
+returns-in_err-write_to-clause-err g c =
+    let requests = c.args.requests.now in
+    let i = c.loop-request.request-index in
+    let u = c.request-item.result in
+    let more : take (i + 1) requests ≡ take i requests ++ u ∷ [] = take_more requests i u c.loop-request-test.true ∙ ap (λ (a : Adu). take i requests ++ a ∷ []) (sym c.request-item.is) in
+    on_err _ c.from_residual.result
+    (answers_more (record { told = g.S.Staging.told c.args.staging.now; seen = c.args.released.now }) (record { told = g.S.Staging.told c.loop-request.staging; seen = c.loop-request.released }) (record { told = g.S.Staging.told c.answer.new.staging; seen = c.answer.new.released })
+    requests i u c.answer.result c.args.out.now.items c.loop-request.out.items more c.loop-request.invariant c.answer.ensures.is)
+
+pub loop-request-preserved : goal.loop-request-preserved
+loop-request-preserved g c =
+    let requests = c.args.requests.now in
+    let i = c.loop-request.request-index in
+    let u = c.request-item.result in
+    let more : take (i + 1) requests ≡ take i requests ++ u ∷ [] = take_more requests i u c.loop-request-test.true ∙ ap (λ (a : Adu). take i requests ++ a ∷ []) (sym c.request-item.is) in
+    rw more
+    (adds_more (record { told = g.S.Staging.told c.args.staging.now; seen = c.args.released.now }) (record { told = g.S.Staging.told c.loop-request.staging; seen = c.loop-request.released }) (record { told = g.S.Staging.told c.answer.new.staging; seen = c.answer.new.released })
+    (take i requests) u c.answer.result c.args.out.now.items c.loop-request.out.items c.write_to.new.out.items c.loop-request.invariant c.answer.ensures.is c.in_ok-write_to.ensures)

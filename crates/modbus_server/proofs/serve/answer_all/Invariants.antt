@@ -1,0 +1,7 @@
+use Rattle.std.proofs.Common.{take}
+use Rattle.modbus_server.specs.Sessions.{Adds}
+use Rattle.modbus_server.proofs.serve.answer_all.Given as goal
+
+abbrev pub invariant-loop-request : goal.invariant-loop-request
+invariant-loop-request g l =
+    Adds (record { told = g.S.Staging.told l.initial.staging; seen = l.initial.released }) (take l.request-index l.requests) l.initial.out.items l.out.items (record { told = g.S.Staging.told l.staging; seen = l.released })

@@ -1,0 +1,150 @@
+//! A session: requests come in, and their replies go out in order.
+ghost use Rattle.std.specs.Prelude.{◌≡◌, ◌≤◌, [], length, OnOk, OnErr, MatchResult};
+ghost use Rattle.std.specs.List.{AllByRecursion};
+ghost use Rattle.io_model.specs.Counted.{Failed};
+ghost use Rattle.modbus_server.specs.Frames.{IsFramed};
+ghost use Rattle.io_model.specs.Stream.{IsRest};
+ghost use Rattle.modbus_server.specs.Sessions.{images_of, Answers, Adds, AnswersSome, Serves, Stops, Talks};
+
+use crate::adu::Adu;
+use crate::replies::reply;
+use crate::session::{Session, SessionFault};
+use io_model::{CountedRead, CountedWrite, write_all};
+use io_image::{Naming, ReleasedReader, Staging};
+use std::alloc::{AllocError, Global};
+use std::sync::Wait;
+
+/// So many bytes are read at once.
+const PIECE: usize = 4096;
+
+/// How a session ended.
+#[derive(Clone, Copy, PartialEq, Eq)]
+pub enum SessionEnd {
+    /// The reader came to its end.
+    Closed,
+    /// The stream met a fault, whose earlier requests are answered, or memory ran out.
+    Fault(SessionFault),
+    /// The reader or the writer failed.
+    Device,
+}
+
+fn answer<S: Staging, J: Naming>(
+    request: &Adu,
+    staging: &mut S,
+    released: &mut ReleasedReader<J>,
+) -> Adu
+    requires { IsFramed request.now }
+    ensures is { Answers (images_of (S.told staging.old) released.old) request.now result
+        (images_of (S.told staging.new) released.new) }
+    ensures short { length result.pdu ≤ 253 }
+{
+    let view = released.read();
+    Adu {
+        transaction: request.transaction,
+        unit: request.unit,
+        pdu: reply(request.pdu.as_slice(), staging, &view),
+    }
+}
+
+/// Adds the replies to these requests.
+fn answer_all<S: Staging, J: Naming>(
+    requests: &[Adu],
+    out: &mut Vec<u8>,
+    staging: &mut S,
+    released: &mut ReleasedReader<J>,
+) -> Result<(), AllocError>
+    requires { AllByRecursion IsFramed requests.now }
+    ensures ok { OnOk result
+        (Adds (images_of (S.told staging.old) released.old) requests.now out.old.items out.new.items
+        (images_of (S.told staging.new) released.new)) }
+    ensures err { OnErr result
+        (AnswersSome (images_of (S.told staging.old) released.old) requests.now
+        (images_of (S.told staging.new) released.new)) }
+{
+    for request in requests {
+        answer(request, staging, released).write_to(out)?;
+    }
+    Ok(())
+}
+
+/// What a session keeps from one piece to the next. The two lists are emptied for each piece, and keep their memory.
+#[derive(Drop)]
+struct Buffers {
+    session: Session,
+    requests: Vec<Adu>,
+    replies: Vec<u8>,
+}
+
+/// Answers each request that is whole with this piece, in one write.
+fn serve_piece<W: CountedWrite, S: Staging, J: Naming>(
+    piece: &[u8],
+    buffers: &mut Buffers,
+    writer: &mut W,
+    staging: &mut S,
+    released: &mut ReleasedReader<J>,
+) -> Result<(), SessionEnd>
+    requires { IsRest buffers.old.session }
+    ensures served { MatchResult result
+        (λ _. Serves buffers.old.session piece.now buffers.new.session (images_of (S.told staging.old) released.old)
+        (images_of (S.told staging.new) released.new) (W.held writer.old) (W.held writer.new)
+        × IsRest buffers.new.session)
+        (λ end. Stops end buffers.old.session piece.now (Failed (W.faults writer.old) (W.faults writer.new))
+        (images_of (S.told staging.old) released.old) (images_of (S.told staging.new) released.new)
+        (W.held writer.old) (W.held writer.new)) }
+    ensures counts { W.faults writer.old ≤ W.faults writer.new }
+{
+    let Buffers {
+        session,
+        requests,
+        replies,
+    } = buffers;
+    requests.clear();
+    replies.clear();
+    let fed = session.feed(piece, requests);
+    if answer_all(requests.as_slice(), replies, staging, released).is_err() {
+        return Err(SessionEnd::Fault(SessionFault::Memory));
+    }
+    if write_all(writer, replies.as_slice()).is_err() {
+        return Err(SessionEnd::Device);
+    }
+    match fed {
+        Ok(()) => Ok(()),
+        Err(fault) => Err(SessionEnd::Fault(fault)),
+    }
+}
+
+/// Serves a session to its end. It reads requests in pieces, as they come, and writes the replies in order: those to
+/// the requests that a piece makes whole in one write, each by what `released` shows when its turn comes. Where it ends
+/// by `Device`, or for want of memory, a beginning of the replies went out, and requests whose replies didn't may have
+/// been done.
+pub fn serve_session<H: Wait, R: CountedRead, W: CountedWrite, S: Staging, J: Naming>(
+    rt: &H,
+    alloc: Global,
+    reader: &mut R,
+    writer: &mut W,
+    staging: &mut S,
+    released: &mut ReleasedReader<J>,
+) -> SessionEnd
+    ensures { Talks result (R.left reader.old) (R.left reader.new) (R.faults reader.old) (R.faults reader.new)
+        (W.held writer.old) (W.held writer.new) (W.faults writer.old) (W.faults writer.new)
+        (images_of (S.told staging.old) released.old) (images_of (S.told staging.new) released.new) }
+{
+    let mut buffers = Buffers {
+        session: Session::new(),
+        requests: Vec::new(alloc),
+        replies: Vec::new(alloc),
+    };
+    let mut piece = [0; PIECE];
+    for _ in rt.forever() {
+        let Ok(count) = reader.read(&mut piece) else {
+            return SessionEnd::Device;
+        };
+        if count == 0 {
+            return SessionEnd::Closed;
+        }
+        if let Err(end) = serve_piece(&piece[..count], &mut buffers, writer, staging, released) {
+            return end;
+        }
+    }
+    unreachable!()
+}

@@ -1,0 +1,53 @@
+-- The two ends of a connection that carries frames of messages.
+use Rattle.std.specs.Prelude.{◌≡◌, ℕ, ◌+◌, ◌<◌, ◌⊎◌, List, [], ◌++◌, length, Option}
+use Rattle.std.specs.Io.KnownBytes.{Appends, Consumes}
+use Rattle.io_model.specs.Stream.{Ending, Took}
+use Rattle.vr_model.specs.declared.message.Message.{Message}
+use Rattle.vr_wire.specs.declared.fault.WireFault.{WireFault}
+use Rattle.vr_wire.specs.Feeding.{frames}
+
+-- so many bytes may wait
+abbrev pub most_waiting : ℕ
+most_waiting = 1048576
+
+-- something waits, and with this frame it's more than may wait
+abbrev pub IsTooMuch : List ℕ → List ℕ → Type 0
+IsTooMuch waits frame = (0 < length waits) × (most_waiting < length waits + length frame)
+
+-- These bytes of what waits were written, and the others wait.
+pub record Flushes (held held' : Option (List ℕ)) (waits waits' : List ℕ) : Type 0 where
+  pub written : List ℕ
+  pub rest : waits ≡ written ++ waits'
+  pub went : Appends held held' written
+
+-- what a stream has come to, and the bytes behind it that were read and not fed yet
+pub record Reading : Type 0 where
+  pub stream : Ending WireFault
+  pub kept : List ℕ
+
+-- nothing was fed, or a piece was
+abbrev pub Goes : Ending WireFault → List ℕ → Ending WireFault → List Message → List Message → Type 0
+Goes before piece after out out' = ((piece ≡ []) × (after ≡ before) × (out' ≡ out))
+    ⊎ Took frames before piece after out out'
+
+-- These bytes were read, behind those that were kept.
+pub record Filled (before after : Reading) (left left' : Option (List ℕ)) : Type 0 where
+  pub came : List ℕ
+  pub read : Consumes left left' came
+  pub kept : after.kept ≡ before.kept ++ came
+  pub same : after.stream ≡ before.stream
+
+-- The front of what was kept was fed, and the messages that were whole then were added.
+pub record Given (before after : Reading) (out out' : List Message) : Type 0 where
+  pub piece : List ℕ
+  pub fed : before.kept ≡ piece ++ after.kept
+  pub goes : Goes before.stream piece after.stream out out'
+
+-- These bytes were read; of all that was not fed yet the front was fed, and the messages that were whole then were
+-- added.
+pub record Reads (before after : Reading) (left left' : Option (List ℕ)) (out out' : List Message) : Type 0 where
+  pub came : List ℕ
+  pub piece : List ℕ
+  pub read : Consumes left left' came
+  pub fed : before.kept ++ came ≡ piece ++ after.kept
+  pub goes : Goes before.stream piece after.stream out out'

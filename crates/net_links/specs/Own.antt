@@ -1,0 +1,28 @@
+-- Which messages a connection may bring.
+use Rattle.std.specs.Prelude.{◌≡◌, ◌==◌, ◌&&◌, Bool, true, false, List}
+use Rattle.std.specs.List.{All}
+use Rattle.vr_model.specs.declared.message.Party.{Party}
+use Rattle.vr_model.specs.declared.message.Party.TheVariants as parties
+use Rattle.vr_model.specs.declared.message.Message.{Message}
+use Rattle.vr_threads.specs.declared.ends.Input.{Input}
+use Rattle.vr_threads.specs.declared.ends.Input.TheVariants as inputs
+
+abbrev pub is_same : Party → Party → Bool
+is_same (parties.Replica i) (parties.Replica j) = i == j
+is_same (parties.Client c) (parties.Client d) = c.number == d.number
+is_same (parties.Replica i) (parties.Client d) = false
+is_same (parties.Client c) (parties.Replica j) = false
+
+-- it's from one of these to the other
+abbrev pub is_between : Party → Party → Message → Bool
+is_between from to message = is_same message.from from && is_same message.to to
+
+-- each of these is to this party
+abbrev pub AreTo : Party → List Message → Type 0
+AreTo party messages = All (λ message. is_same message.to party ≡ true) messages
+
+-- what is given is a message to this party, or none
+abbrev pub IsTo : Party → Input → Type 0
+IsTo party (inputs.Message message) = is_same message.to party ≡ true
+IsTo party inputs.Nothing = Unit {0}
+IsTo party inputs.Closed = Unit {0}

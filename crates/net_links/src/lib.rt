@@ -1,0 +1,32 @@
+//! Links of replicas over connections of this machine: messages go as frames of `vr_wire` over TCP on 127.0.0.1, a
+//! connection for each pair of ends. What goes out and what comes in is told by the ends of a connection (`net_ends`).
+//!
+//! ```rust
+//! use vr_threads::{Cutter, Relink};
+//! use net_links::links;
+//!
+//! // three replicas and a client, by number; a receive waits for 50 ms at most
+//! let links = links(&rt, alloc, 3, 1, Duration::from_millis(50)).ok()?;
+//! let cutter = links.first()?.cutter().ok()?;
+//! cutter.cut(); // from any thread: this link gives Closed from now on, until it's made anew by `renew`
+//! ```
+//!
+//! Proved: a message that a link gives is for its own party; of what a connection brings exactly the messages from its
+//! other party to this one are kept (`keep_own`). Each call is safe and returns, but for the wait of a poll.
+//!
+//! Only tested (`link_rows` of `tests_threads`): that messages come in order, that a link is closed once all others
+//! are gone and where it's cut, and made anew, that a message of another sender is dropped, that a stranger who was
+//! faster is refused.
+//! In no clause: that a socket delivers, what a poll reports, that a send doesn't wait.
+#![tactic(auto)]
+
+mod connecting;
+mod group;
+mod hub;
+mod peer;
+mod tcp_link;
+
+pub use connecting::pair;
+pub use group::links;
+pub use hub::TcpCutter;
+pub use tcp_link::TcpLink;

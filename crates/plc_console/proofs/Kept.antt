@@ -1,0 +1,100 @@
+-- What is kept of a line, and which command that is.
+use Rattle.std.proofs.Common.{◌≡◌, ◌<◌, ◌≤◌, inl, inr, ℕ, Bool, true, false, List, [], ◌∷◌, ◌++◌, length, Option, Some, None, refl, sym, ap, subst, ◌∙◌, length-append, arith}
+use Rattle.std.specs.Prelude.{nat_le, if◌then◌else◌, IfSome, IfNone}
+use Rattle.il_model.specs.declared.command.Command.{Command}
+use Rattle.std.proofs.lemmas.Bool.{cases_Bool, leb-true, leb-false, le-leb, lt-leb}
+use Rattle.il_model.specs.Program.{Program}
+use Rattle.plc_json.specs.declared.command.NamedCommand.{NamedCommand}
+use Rattle.plc_json.specs.Single.{HasCommand, HasNoCommand}
+use Rattle.plc_tool.specs.Named.{meant}
+use Rattle.plc_console.specs.Lines.{longest_line, kept, IsScan, AsksFor, AsksForScan, AsksForNothing}
+
+kept_short : (line : List ℕ) → length line ≤ longest_line → kept line ≡ Some line
+kept_short line le = let test : nat_le (length line) longest_line ≡ true = le-leb (length line) longest_line le in rw test refl
+
+kept_long : (line : List ℕ) → longest_line < length line → kept line ≡ None
+kept_long line lt = let test : nat_le (length line) longest_line ≡ false = lt-leb (length line) longest_line lt in rw test refl
+
+abbrev bytes_told : Option (List ℕ) → List ℕ
+bytes_told None = []
+bytes_told (Some bytes) = bytes
+
+-- the whole line is kept
+pub is_kept : (line bytes : List ℕ) → Some bytes ≡ kept line → (bytes ≡ line) × (length line ≤ longest_line)
+is_kept line bytes is = elim (cases_Bool (nat_le (length line) longest_line)) [
+  | inl fits ↦ let le = leb-true (length line) longest_line fits in (ap bytes_told (is ∙ kept_short line le), le)
+  | inr over ↦ absurd (let wrong : Some bytes ≡ None = is ∙ kept_long line (leb-false (length line) longest_line over) in cc)
+]
+
+-- the line is too long
+pub is_long : (line : List ℕ) → None ≡ kept line → longest_line < length line
+is_long line is = elim (cases_Bool (nat_le (length line) longest_line)) [
+  | inl fits ↦ absurd (let wrong : None ≡ Some line = is ∙ kept_short line (leb-true (length line) longest_line fits) in cc)
+  | inr over ↦ leb-false (length line) longest_line over
+]
+
+-- one byte more
+pub pushes : (line bytes : List ℕ) (byte : ℕ) → Some bytes ≡ kept line → length bytes < longest_line → Some (bytes ++ byte ∷ []) ≡ kept (line ++ byte ∷ [])
+pushes line bytes byte is lt =
+    let same : bytes ≡ line = (is_kept line bytes is).0 in
+    let fits : length (line ++ byte ∷ []) ≤ longest_line = omega (arith, length-append line (byte ∷ []), ap length same, lt) in
+    ap (λ (l : List ℕ). Some (l ++ byte ∷ [])) same ∙ sym (kept_short (line ++ byte ∷ []) fits)
+
+pub fills : (line bytes : List ℕ) (byte : ℕ) → Some bytes ≡ kept line → longest_line ≤ length bytes → None ≡ kept (line ++ byte ∷ [])
+fills line bytes byte is le =
+    let same : bytes ≡ line = (is_kept line bytes is).0 in
+    sym (kept_long (line ++ byte ∷ []) (omega (arith, length-append line (byte ∷ []), ap length same, le)))
+
+pub stays : (line : List ℕ) (byte : ℕ) → None ≡ kept line → None ≡ kept (line ++ byte ∷ [])
+stays line byte is = sym (kept_long (line ++ byte ∷ []) (omega (arith, length-append line (byte ∷ []), is_long line is)))
+
+-- what a line keeps, by whether it's marked as too long
+abbrev pub marked : Bool → List ℕ → Option (List ℕ)
+marked long bytes = if long then None else Some bytes
+
+pub pushed : (long : Bool) (bytes : List ℕ) (byte : ℕ) → length bytes < longest_line → (line : List ℕ) → marked long bytes ≡ kept line → marked long (bytes ++ byte ∷ []) ≡ kept (line ++ byte ∷ [])
+pushed true bytes byte lt line is = stays line byte is
+pushed false bytes byte lt line is = pushes line bytes byte is lt
+
+pub filled : (long : Bool) (bytes : List ℕ) (byte : ℕ) → longest_line ≤ length bytes → (line : List ℕ) → marked long bytes ≡ kept line → None ≡ kept (line ++ byte ∷ [])
+filled true bytes byte le line is = stays line byte is
+filled false bytes byte le line is = fills line bytes byte is le
+
+-- ---- what the line asks for
+
+pub asks_for : (Q : Program) (line bytes : List ℕ) (named : NamedCommand) → Some bytes ≡ kept line → HasCommand bytes named → (IsScan named → ⊥) → AsksFor Q line (meant Q named)
+asks_for Q line bytes named is read no_scan =
+    let kept_is = is_kept line bytes is in
+    record { named = named; short = kept_is.1; read = subst (λ (l : List ℕ). HasCommand l named) kept_is.0 read; no_scan = no_scan; is = refl }
+
+pub asks_for_scan : (line bytes : List ℕ) (named : NamedCommand) → Some bytes ≡ kept line → HasCommand bytes named → IsScan named → AsksForNothing line
+asks_for_scan line bytes named is read scan =
+    let scans : AsksForScan line = record { named = named; read = subst (λ (l : List ℕ). HasCommand l named) (is_kept line bytes is).0 read; is_scan = scan } in
+    inr (inr scans)
+
+pub asks_for_none : (line bytes : List ℕ) → Some bytes ≡ kept line → HasNoCommand bytes → AsksForNothing line
+asks_for_none line bytes is none = inr (inl (subst (λ (l : List ℕ). HasNoCommand l) (is_kept line bytes is).0 none))
+
+pub asks_too_long : (line : List ℕ) → None ≡ kept line → AsksForNothing line
+asks_too_long line is = inl (is_long line is)
+
+-- ---- the same by what a line keeps
+
+module _ (seen : Option (List ℕ)) (long : Bool) (bytes : List ℕ) (view : seen ≡ marked long bytes) where
+  keeps : (line : List ℕ) → long ≡ false → seen ≡ kept line → Some bytes ≡ kept line
+  keeps line short is = sym (view ∙ ap (λ (b : Bool). marked b bytes) short) ∙ is
+
+  pub long_asked : long ≡ true → (line : List ℕ) → seen ≡ kept line → AsksForNothing line
+  long_asked too_long line is = asks_too_long line (sym (view ∙ ap (λ (b : Bool). marked b bytes) too_long) ∙ is)
+
+  pub nothing_asked : long ≡ false → HasNoCommand bytes → (line : List ℕ) → seen ≡ kept line → AsksForNothing line
+  nothing_asked short none line is = asks_for_none line bytes (keeps line short is) none
+
+  pub none_asked : (o : Option Command) (named : NamedCommand) → long ≡ false → HasCommand bytes named → IfNone o (IsScan named) → IfNone o ((line : List ℕ) → seen ≡ kept line → AsksForNothing line)
+  none_asked None named short read scan = λ line is. asks_for_scan line bytes named (keeps line short is) read scan
+  none_asked (Some command) named short read scan = scan
+
+  pub some_asked : (Q : Program) (o : Option Command) (named : NamedCommand) → long ≡ false → HasCommand bytes named → IfSome o (λ command. (IsScan named → ⊥) × (command ≡ meant Q named)) → IfSome o (λ command. (line : List ℕ) → seen ≡ kept line → AsksFor Q line command)
+  some_asked Q None named short read found = found
+  some_asked Q (Some command) named short read found = λ line is.
+      subst (λ (c : Command). AsksFor Q line c) (sym found.1) (asks_for Q line bytes named (keeps line short is) read found.0)

@@ -1,0 +1,395 @@
+-- Sessions, put together from their lines.
+use Rattle.std.proofs.Common.{◌≡◌, ℕ, ◌<◌, ◌≤◌, ◌⊎◌, inl, inr, List, [], ◌∷◌, ◌++◌, take, drop, refl, sym, ap, subst, ◌∙◌, append_assoc, arith, Option, Some, None, take-append-drop, Result, Ok, Err}
+use Rattle.std.specs.Prelude.{MatchResult, IfSome, IfNone}
+use Rattle.std.specs.List.{flat_map}
+use Rattle.std.specs.Io.KnownBytes.{Appends, Consumes, Keeps, IsAtEnd}
+use Rattle.std.proofs.KnownBytes.{Appends-nil, Appends-trans, Consumes-nil, Consumes-trans, Consumes-kept}
+use Rattle.std.proofs.lemmas.List.{append-nil}
+use Rattle.std.proofs.lemmas.List.Concat.{flat_map-cons}
+use Rattle.std.proofs.lemmas.Grind.{flat_map-append}
+use Rattle.io_model.specs.Counted.{Failed}
+use Rattle.il_model.specs.declared.command.Answer.{Answer}
+use Rattle.il_model.specs.declared.command.Command.{Command}
+use Rattle.il_model.specs.Program.{Program}
+use Rattle.vr_threads.specs.Serving.{Grows}
+use Rattle.plc_console.specs.declared.session.ConsoleEnd.{ConsoleEnd}
+use Rattle.plc_console.specs.declared.session.ConsoleEnd.TheVariants as ends
+use Rattle.plc_console.specs.InForce.{brought_by, goes_on_with, in_force_after}
+use Rattle.plc_console.specs.Lines.{line_end, HasNoEnd, kept, AsksFor, AsksForNothing, Outcome, Submitted, Refused, IsOutcome, FitsCommand, text_of, submitted_by}
+use Rattle.plc_console.specs.Sessions.{Turn, line_of, AreTurns, lines_of, texts_of, submitted_in, Scene, scene, Serves, Breaks, Stops, Ended, Talks, Takes, TakesShort, StopsAt, IsWhyUnwritten, Writes}
+use Rattle.plc_console.proofs.Waiting.{grows_none, grows_more, all_more}
+
+lines_both : (ts us : List Turn) → lines_of (ts ++ us) ≡ lines_of ts ++ lines_of us
+lines_both ts us = flat_map-append line_of ts us
+
+texts_both : (ts us : List Turn) → texts_of (ts ++ us) ≡ texts_of ts ++ texts_of us
+texts_both ts us = flat_map-append (λ (t : Turn). text_of t.outcome) ts us
+
+submitted_both : (ts us : List Turn) → submitted_in (ts ++ us) ≡ submitted_in ts ++ submitted_in us
+submitted_both ts us = flat_map-append (λ (t : Turn). submitted_by t.outcome) ts us
+
+-- the lines of a stream and those of what comes behind it
+lines_on : (a p b q more : List ℕ) (ts us : List Turn) → a ++ p ≡ lines_of ts ++ b → b ++ q ≡ lines_of us ++ more → a ++ (p ++ q) ≡ lines_of (ts ++ us) ++ more
+lines_on a p b q more ts us first then =
+    sym (append_assoc a p q)
+    ∙ (ap (λ (l : List ℕ). l ++ q) first
+    ∙ (append_assoc (lines_of ts) b q
+    ∙ (ap (λ (l : List ℕ). lines_of ts ++ l) then
+    ∙ (sym (append_assoc (lines_of ts) (lines_of us) more) ∙ ap (λ (l : List ℕ). l ++ more) (sym (lines_both ts us))))))
+
+submitted_on : (a b c : Option (List (Command × Answer))) (ts us : List Turn) → Grows a b (submitted_in ts) → Grows b c (submitted_in us) → Grows a c (submitted_in (ts ++ us))
+submitted_on a b c ts us h k = subst (λ (l : List (Command × Answer)). Grows a c l) (sym (submitted_both ts us)) (grows_more a b c (submitted_in ts) (submitted_in us) h k)
+
+in_force_both : (Q : Program) (past more : List (Command × Answer)) → in_force_after Q (past ++ more) ≡ in_force_after (in_force_after Q past) more
+in_force_both Q [] more = refl
+in_force_both Q ((command, answer) ∷ past) more = in_force_both (goes_on_with Q (brought_by command) answer) past more
+
+-- the program in force behind one turn and others
+in_force_on : (Q : Program) (t : Turn) (ts : List Turn) → in_force_after Q (submitted_in (t ∷ ts)) ≡ in_force_after (in_force_after Q (submitted_by t.outcome)) (submitted_in ts)
+in_force_on Q t ts =
+    ap (in_force_after Q) (flat_map-cons (λ (x : Turn). submitted_by x.outcome) t ts)
+    ∙ in_force_both Q (submitted_by t.outcome) (submitted_in ts)
+
+turns_both : (Q : Program) (ts us : List Turn) → AreTurns Q ts → AreTurns (in_force_after Q (submitted_in ts)) us → AreTurns Q (ts ++ us)
+turns_both Q [] us h k = k
+turns_both Q (t ∷ ts) us h k = (h.0, turns_both (in_force_after Q (submitted_by t.outcome)) ts us h.1 (subst (λ (R : Program). AreTurns R us) (in_force_on Q t ts) k))
+
+program_on : (Q R S : Program) (ts us : List Turn) → R ≡ in_force_after Q (submitted_in ts) → S ≡ in_force_after R (submitted_in us) → S ≡ in_force_after Q (submitted_in (ts ++ us))
+program_on Q R S ts us h k =
+    k ∙ (ap (λ (P : Program). in_force_after P (submitted_in us)) h
+    ∙ (sym (in_force_both Q (submitted_in ts) (submitted_in us)) ∙ ap (in_force_after Q) (sym (submitted_both ts us))))
+
+-- what one gives
+one_of : {A B : Type 0} (f : A → List B) (x : A) → flat_map f (x ∷ []) ≡ f x
+one_of f x = flat_map-cons f x [] ∙ append-nil (f x)
+
+-- ---- one piece behind another
+
+pub serves_none : (rest : List ℕ) (s : Scene) → HasNoEnd rest → Serves rest [] rest s s
+serves_none rest s unended = record {
+  turns = [];
+  lines = append-nil rest;
+  unended = unended;
+  each = tt;
+  submitted = grows_none s.answered;
+  program = refl;
+  written = Appends-nil s.held;
+}
+
+pub serves_more : (a p b q c : List ℕ) (s t u : Scene) → Serves a p b s t → Serves b q c t u → Serves a (p ++ q) c s u
+serves_more a p b q c s t u h k = record {
+  turns = h.turns ++ k.turns;
+  lines = lines_on a p b q c h.turns k.turns h.lines k.lines;
+  unended = k.unended;
+  each = turns_both s.program h.turns k.turns h.each (subst (λ (Q : Program). AreTurns Q k.turns) h.program k.each);
+  submitted = submitted_on s.answered t.answered u.answered h.turns k.turns h.submitted k.submitted;
+  program = program_on s.program t.program u.program h.turns k.turns h.program k.program;
+  written = subst (Appends s.held u.held) (sym (texts_both h.turns k.turns)) (Appends-trans s.held t.held u.held (texts_of h.turns) (texts_of k.turns) h.written k.written);
+}
+
+breaks_more : (a p b q : List ℕ) (s t u : Scene) → Serves a p b s t → Breaks b q t u → Breaks a (p ++ q) s u
+breaks_more a p b q s t u h k = record {
+  turns = h.turns ++ k.turns;
+  more = k.more;
+  lines = lines_on a p b q k.more h.turns k.turns h.lines k.lines;
+  each = turns_both s.program h.turns k.turns h.each (subst (λ (Q : Program). AreTurns Q k.turns) h.program k.each);
+  submitted = submitted_on s.answered t.answered u.answered h.turns k.turns h.submitted k.submitted;
+  program = program_on s.program t.program u.program h.turns k.turns h.program k.program;
+  output = texts_of h.turns ++ k.output;
+  unwritten = k.unwritten;
+  begins = texts_both h.turns k.turns ∙ (ap (λ (l : List ℕ). texts_of h.turns ++ l) k.begins ∙ sym (append_assoc (texts_of h.turns) k.output k.unwritten));
+  written = Appends-trans s.held t.held u.held (texts_of h.turns) k.output h.written k.written;
+}
+
+breaks_early : (a p q : List ℕ) (s t : Scene) → Breaks a p s t → Breaks a (p ++ q) s t
+breaks_early a p q s t h = record {
+  turns = h.turns;
+  more = h.more ++ q;
+  lines = sym (append_assoc a p q) ∙ (ap (λ (l : List ℕ). l ++ q) h.lines ∙ append_assoc (lines_of h.turns) h.more q);
+  each = h.each;
+  submitted = h.submitted;
+  program = h.program;
+  output = h.output;
+  unwritten = h.unwritten;
+  begins = h.begins;
+  written = h.written;
+}
+
+-- nothing had its turn
+pub breaks_none : (a p : List ℕ) (s : Scene) → Breaks a p s s
+breaks_none a p s = record {
+  turns = [];
+  more = a ++ p;
+  lines = refl;
+  each = tt;
+  submitted = grows_none s.answered;
+  program = refl;
+  output = [];
+  unwritten = [];
+  begins = refl;
+  written = Appends-nil s.held;
+}
+
+-- what was served is a break, too
+serves_breaks : (a p b : List ℕ) (s t : Scene) → Serves a p b s t → Breaks a p s t
+serves_breaks a p b s t h = record {
+  turns = h.turns;
+  more = b;
+  lines = h.lines;
+  each = h.each;
+  submitted = h.submitted;
+  program = h.program;
+  output = texts_of h.turns;
+  unwritten = [];
+  begins = sym (append-nil (texts_of h.turns));
+  written = h.written;
+}
+
+le_cases : (w v : ℕ) → w ≤ v → (w ≡ v) ⊎ (w < v)
+le_cases w v h = grind arith
+
+-- a failure in a later call
+failed_later : (w v w' : ℕ) → w ≤ v → v ≤ w' → Failed v w' → Failed w w'
+failed_later w v w' low high (inl h) = inl (omega arith)
+failed_later w v w' low high (inr h) = elim (le_cases w v low) [ inl e ↦ inr (e ∙ h) | inr l ↦ inl (omega arith) ]
+
+-- an end over a later piece; the failures are those of both calls
+pub stops_more : (end : ConsoleEnd) (a p b q : List ℕ) (w v w' : ℕ) (s t u : Scene) → w ≤ v → v ≤ w' → Serves a p b s t → Stops end b q (Failed v w') t u → Stops end a (p ++ q) (Failed w w') s u
+stops_more ends.Closed a p b q w v w' s t u low high h k = absurd k
+stops_more ends.Device a p b q w v w' s t u low high h k = (failed_later w v w' low high k.0, breaks_more a p b q s t u h k.1)
+stops_more ends.Memory a p b q w v w' s t u low high h k = breaks_more a p b q s t u h k
+stops_more ends.Unanswered a p b q w v w' s t u low high h k = breaks_more a p b q s t u h k
+
+pub stops_early : (end : ConsoleEnd) (a p q : List ℕ) (fails : Type 0) (s t : Scene) → Stops end a p fails s t → Stops end a (p ++ q) fails s t
+stops_early ends.Closed a p q fails s t k = absurd k
+stops_early ends.Device a p q fails s t k = (k.0, breaks_early a p q s t k.1)
+stops_early ends.Memory a p q fails s t k = breaks_early a p q s t k
+stops_early ends.Unanswered a p q fails s t k = breaks_early a p q s t k
+
+-- ---- one byte
+
+-- it goes on a line
+pub goes_on : (rest : List ℕ) (byte : ℕ) (s : Scene) → HasNoEnd rest → (byte ≡ line_end → ⊥) → Serves rest (byte ∷ []) (rest ++ byte ∷ []) s s
+goes_on rest byte s unended other = record {
+  turns = [];
+  lines = refl;
+  unended = all_more (λ (b : ℕ). b ≡ line_end → ⊥) rest (byte ∷ []) unended (other, tt);
+  each = tt;
+  submitted = grows_none s.answered;
+  program = refl;
+  written = Appends-nil s.held;
+}
+
+-- what is known of a line: its command, or that it asks for nothing
+abbrev pub IsKnown : Program → List ℕ → Option Command → Type 0
+IsKnown Q line (Some command) = AsksFor Q line command
+IsKnown Q line None = AsksForNothing line
+
+is_outcome : (Q : Program) (line : List ℕ) (command : Option Command) (outcome : Outcome) → IsKnown Q line command → FitsCommand command outcome → IsOutcome Q line outcome
+is_outcome Q line (Some asked) (Submitted command answer) known fits = subst (AsksFor Q line) (sym fits) known
+is_outcome Q line None Refused known fits = known
+is_outcome Q line (Some asked) Refused known fits = absurd fits
+is_outcome Q line None (Submitted command answer) known fits = absurd fits
+
+abbrev turn_at : List ℕ → Outcome → Turn
+turn_at line outcome = record { line = line; outcome = outcome }
+
+one_line : (rest : List ℕ) (outcome : Outcome) → rest ++ line_end ∷ [] ≡ lines_of (turn_at rest outcome ∷ []) ++ []
+one_line rest outcome =
+    sym (append-nil (lines_of (turn_at rest outcome ∷ [])) ∙ one_of line_of (turn_at rest outcome))
+
+-- it ends a line, which has its turn
+pub takes_turn : (rest : List ℕ) (command : Option Command) (s t : Scene) → HasNoEnd rest → IsKnown s.program rest command → Takes command s t → Serves rest (line_end ∷ []) [] s t
+takes_turn rest command s t unended known h = record {
+  turns = turn_at rest h.outcome ∷ [];
+  lines = one_line rest h.outcome;
+  unended = tt;
+  each = ((unended, is_outcome s.program rest command h.outcome known h.fits), tt);
+  submitted = subst (λ (l : List (Command × Answer)). Grows s.answered t.answered l) (sym (one_of (λ (x : Turn). submitted_by x.outcome) (turn_at rest h.outcome))) h.submitted;
+  program = h.program ∙ ap (in_force_after s.program) (sym (one_of (λ (x : Turn). submitted_by x.outcome) (turn_at rest h.outcome)));
+  written = subst (Appends s.held t.held) (sym (one_of (λ (x : Turn). text_of x.outcome) (turn_at rest h.outcome))) h.written;
+}
+
+takes_short : (rest : List ℕ) (command : Option Command) (s t : Scene) → HasNoEnd rest → IsKnown s.program rest command → TakesShort command s t → Breaks rest (line_end ∷ []) s t
+takes_short rest command s t unended known h = record {
+  turns = turn_at rest h.outcome ∷ [];
+  more = [];
+  lines = one_line rest h.outcome;
+  each = ((unended, is_outcome s.program rest command h.outcome known h.fits), tt);
+  submitted = subst (λ (l : List (Command × Answer)). Grows s.answered t.answered l) (sym (one_of (λ (x : Turn). submitted_by x.outcome) (turn_at rest h.outcome))) h.submitted;
+  program = h.program ∙ ap (in_force_after s.program) (sym (one_of (λ (x : Turn). submitted_by x.outcome) (turn_at rest h.outcome)));
+  output = h.output;
+  unwritten = h.unwritten;
+  begins = one_of (λ (x : Turn). text_of x.outcome) (turn_at rest h.outcome) ∙ h.begins;
+  written = h.written;
+}
+
+pub stops_at : (end : ConsoleEnd) (rest : List ℕ) (command : Option Command) (fails : Type 0) (s t : Scene) → HasNoEnd rest → IsKnown s.program rest command → StopsAt end command fails s t → Stops end rest (line_end ∷ []) fails s t
+stops_at ends.Closed rest command fails s t unended known k = absurd k
+stops_at ends.Device rest command fails s t unended known k = (k.0, takes_short rest command s t unended known k.1)
+stops_at ends.Memory rest command fails s t unended known k = elim k [
+  | inl same ↦ subst (λ (x : Scene). Breaks rest (line_end ∷ []) s x) (sym same) (breaks_none rest (line_end ∷ []) s)
+  | inr some ↦ takes_short rest command s t unended known some
+]
+stops_at ends.Unanswered rest command fails s t unended known k = subst (λ (x : Scene). Breaks rest (line_end ∷ []) s x) (sym k) (breaks_none rest (line_end ∷ []) s)
+
+short : (command : Option Command) (outcome : Outcome) (s t : Scene) (n : ℕ) → FitsCommand command outcome → Grows s.answered t.answered (submitted_by outcome) → t.program ≡ in_force_after s.program (submitted_by outcome) → Appends s.held t.held (take n (text_of outcome)) → TakesShort command s t
+short command outcome s t n fits submitted program written = record {
+  outcome = outcome;
+  fits = fits;
+  submitted = submitted;
+  program = program;
+  output = take n (text_of outcome);
+  unwritten = drop n (text_of outcome);
+  begins = sym (take-append-drop n (text_of outcome));
+  written = written;
+}
+
+took_short : (end : ConsoleEnd) (command : Option Command) (outcome : Outcome) (fails : Type 0) (s t : Scene) → FitsCommand command outcome → Grows s.answered t.answered (submitted_by outcome) → t.program ≡ in_force_after s.program (submitted_by outcome) → IsWhyUnwritten end fails → (n : ℕ) → Appends s.held t.held (take n (text_of outcome)) → StopsAt end command fails s t
+took_short ends.Closed command outcome fails s t fits submitted program why n written = absurd why
+took_short ends.Device command outcome fails s t fits submitted program why n written = (why, short command outcome s t n fits submitted program written)
+took_short ends.Memory command outcome fails s t fits submitted program why n written = inr (short command outcome s t n fits submitted program written)
+took_short ends.Unanswered command outcome fails s t fits submitted program why n written = absurd why
+
+-- what one line came to, by how its answer was written
+pub took : (result : Result (Unit {0}) ConsoleEnd) (command : Option Command) (outcome : Outcome) (fails : Type 0) (s t : Scene) → FitsCommand command outcome → Grows s.answered t.answered (submitted_by outcome) → t.program ≡ in_force_after s.program (submitted_by outcome) → Writes result (text_of outcome) fails s.held t.held
+    → MatchResult result (λ done. Takes command s t) (λ end. StopsAt end command fails s t)
+took (Ok done) command outcome fails s t fits submitted program wrote = record { outcome = outcome; fits = fits; submitted = submitted; program = program; written = wrote }
+took (Err end) command outcome fails s t fits submitted program wrote = took_short end command outcome fails s t fits submitted program wrote.0 wrote.1 wrote.2
+
+fits_none : (command : Option Command) → command ≡ None → FitsCommand command Refused
+fits_none command is = subst (λ (c : Option Command). FitsCommand c Refused) (sym is) tt
+
+-- a refused line
+pub refused : (result : Result (Unit {0}) ConsoleEnd) (command : Option Command) (fails : Type 0) (answered : Option (List (Command × Answer))) (held held' : Option (List ℕ)) (Q : Program) → command ≡ None → Writes result (text_of Refused) fails held held'
+    → MatchResult result (λ done. Takes command (scene answered held Q) (scene answered held' Q)) (λ end. StopsAt end command fails (scene answered held Q) (scene answered held' Q))
+refused result command fails answered held held' Q is wrote = took result command Refused fails (scene answered held Q) (scene answered held' Q) (fits_none command is) (grows_none answered) refl wrote
+
+-- a command that was answered
+pub answered_one : (result : Result (Unit {0}) ConsoleEnd) (fails : Type 0) (command : Command) (answer : Answer) (a b : Option (List (Command × Answer))) (held held' : Option (List ℕ)) (Q R : Program) → Grows a b ((command, answer) ∷ []) → R ≡ goes_on_with Q (brought_by command) answer → Writes result (text_of (Submitted command answer)) fails held held'
+    → MatchResult result (λ done. Takes (Some command) (scene a held Q) (scene b held' R)) (λ end. StopsAt end (Some command) fails (scene a held Q) (scene b held' R))
+answered_one result fails command answer a b held held' Q R submitted program wrote = took result (Some command) (Submitted command answer) fails (scene a held Q) (scene b held' R) refl submitted program wrote
+
+-- a line that was ended
+pub ended_line : (result : Result (Unit {0}) ConsoleEnd) (rest : List ℕ) (command : Option Command) (line : Option (List ℕ)) (fails : Type 0) (s t : Scene) → line ≡ kept [] → HasNoEnd rest → IsKnown s.program rest command
+    → MatchResult result (λ done. Takes command s t) (λ end. StopsAt end command fails s t)
+    → MatchResult result (λ done. (line ≡ kept []) × Serves rest (line_end ∷ []) [] s t) (λ end. Stops end rest (line_end ∷ []) fails s t)
+ended_line (Ok done) rest command line fails s t is unended known h = (is, takes_turn rest command s t unended known h)
+ended_line (Err end) rest command line fails s t is unended known h = stops_at end rest command fails s t unended known h
+
+-- what is known of a line whose command was looked for
+pub known : (Q : Program) (o : Option Command) (line : Option (List ℕ)) → IfSome o (λ command. (rest : List ℕ) → line ≡ kept rest → AsksFor Q rest command) → IfNone o ((rest : List ℕ) → line ≡ kept rest → AsksForNothing rest) → (rest : List ℕ) → line ≡ kept rest → IsKnown Q rest o
+known Q (Some command) line some none rest is = some rest is
+known Q None line some none rest is = none rest is
+
+-- one byte more on the line, or memory ran out
+pub extended : (result : Result (Unit {0}) ConsoleEnd) (byte : ℕ) (line line' : Option (List ℕ)) (fails : Type 0) (s : Scene) → (byte ≡ line_end → ⊥)
+    → MatchResult result (λ done. (rest : List ℕ) → line ≡ kept rest → line' ≡ kept (rest ++ byte ∷ [])) (λ end. end ≡ ends.Memory)
+    → (rest : List ℕ) → HasNoEnd rest → line ≡ kept rest
+    → MatchResult result (λ done. (rest' : List ℕ) × (line' ≡ kept rest') × Serves rest (byte ∷ []) rest' s s) (λ end. Stops end rest (byte ∷ []) fails s s)
+extended (Ok done) byte line line' fails s other went rest unended is = (rest ++ byte ∷ [], went rest is, goes_on rest byte s unended other)
+extended (Err end) byte line line' fails s other went rest unended is = subst (λ (e : ConsoleEnd). Stops e rest (byte ∷ []) fails s s) (sym went) (breaks_none rest (byte ∷ []) s)
+
+-- ---- the session
+
+-- a session that goes on
+pub record GoesOn (left left' : Option (List ℕ)) (r r' w w' : ℕ) (line : Option (List ℕ)) (before after : Scene) : Type 0 where
+  pub input : List ℕ
+  pub rest : List ℕ
+  pub read : Consumes left left' input
+  pub unended : HasNoEnd rest
+  pub is : line ≡ kept rest
+  pub served : Serves [] input rest before after
+  pub reads : r ≤ r'
+  pub writes : w ≤ w'
+
+pub starts : (left : Option (List ℕ)) (r w : ℕ) (line : Option (List ℕ)) (s : Scene) → line ≡ kept [] → GoesOn left left r r w w line s s
+starts left r w line s is = record {
+  input = [];
+  rest = [];
+  read = Consumes-nil left;
+  unended = tt;
+  is = is;
+  served = serves_none [] s tt;
+  reads = omega arith;
+  writes = omega arith;
+}
+
+-- what one piece did, for whatever was there of a line
+abbrev pub PieceServed : List ℕ → Option (List ℕ) → Option (List ℕ) → Scene → Scene → Type 0
+PieceServed piece line line' before after = (rest : List ℕ) → HasNoEnd rest → line ≡ kept rest → (rest' : List ℕ) × (line' ≡ kept rest') × Serves rest piece rest' before after
+
+pub goes_further : (left left1 left2 : Option (List ℕ)) (r r1 r2 w w1 w2 : ℕ) (line line' : Option (List ℕ)) (s t u : Scene) (piece : List ℕ)
+    → GoesOn left left1 r r1 w w1 line s t → Consumes left1 left2 piece → r1 ≤ r2 → w1 ≤ w2 → PieceServed piece line line' t u → GoesOn left left2 r r2 w w2 line' s u
+goes_further left left1 left2 r r1 r2 w w1 w2 line line' s t u piece h read reads writes served =
+    let more = served h.rest h.unended h.is in
+    record {
+      input = h.input ++ piece;
+      rest = more.0;
+      read = Consumes-trans left left1 left2 h.input piece h.read read;
+      unended = more.2.unended;
+      is = more.1;
+      served = serves_more [] h.input h.rest piece more.0 s t u h.served more.2;
+      reads = omega (arith, h.reads, reads);
+      writes = omega (arith, h.writes, writes);
+    }
+
+-- what a stop over the whole input is
+ended : (end : ConsoleEnd) (input : List ℕ) (left : Option (List ℕ)) (fails : Type 0) (other : Type 0) (s t : Scene) → Stops end [] input fails s t → Ended end input left (other ⊎ fails) s t
+ended ends.Closed input left fails other s t k = absurd k
+ended ends.Device input left fails other s t k = (inr k.0, k.1)
+ended ends.Memory input left fails other s t k = k
+ended ends.Unanswered input left fails other s t k = k
+
+pub ends_with : (end : ConsoleEnd) (left left1 left2 : Option (List ℕ)) (r r1 r2 w w1 w2 : ℕ) (line : Option (List ℕ)) (s t u : Scene) (piece : List ℕ)
+    → GoesOn left left1 r r1 w w1 line s t → Consumes left1 left2 piece → w1 ≤ w2 → ((rest : List ℕ) → HasNoEnd rest → line ≡ kept rest → Stops end rest piece (Failed w1 w2) t u) → Talks end left left2 r r2 w w2 s u
+ends_with end left left1 left2 r r1 r2 w w1 w2 line s t u piece h read writes stops = record {
+  input = h.input ++ piece;
+  read = Consumes-trans left left1 left2 h.input piece h.read read;
+  ended = ended end (h.input ++ piece) left2 (Failed w w2) (Failed r r2) s u (stops_more end [] h.input h.rest piece w w1 w2 s t u h.writes writes h.served (stops h.rest h.unended h.is));
+}
+
+-- its reader fails
+pub ends_unread : (left left1 left2 : Option (List ℕ)) (r r1 r2 w w1 : ℕ) (line : Option (List ℕ)) (s t : Scene)
+    → GoesOn left left1 r r1 w w1 line s t → Keeps left1 left2 → Failed r1 r2 → r1 ≤ r2 → Talks ends.Device left left2 r r2 w w1 s t
+ends_unread left left1 left2 r r1 r2 w w1 line s t h read failed reads = record {
+  input = h.input;
+  read = Consumes-kept left left1 left2 h.input h.read read;
+  ended = (inl (failed_later r r1 r2 h.reads reads failed), serves_breaks [] h.input h.rest s t h.served);
+}
+
+-- its reader is at its end
+pub ends_closed : (left left1 left2 : Option (List ℕ)) (r r1 r2 w w1 : ℕ) (line : Option (List ℕ)) (s t : Scene)
+    → GoesOn left left1 r r1 w w1 line s t → Consumes left1 left2 [] → IsAtEnd left2 → Talks ends.Closed left left2 r r2 w w1 s t
+ends_closed left left1 left2 r r1 r2 w w1 line s t h read over = record {
+  input = h.input;
+  read = subst (Consumes left left2) (append-nil h.input) (Consumes-trans left left1 left2 h.input [] h.read read);
+  ended = (over, h.rest, h.served);
+}
+
+-- ---- byte after byte
+
+-- how a piece ended a session
+abbrev pub PieceStopped : ConsoleEnd → List ℕ → Option (List ℕ) → Type 0 → Scene → Scene → Type 0
+PieceStopped end piece line fails before after = (rest : List ℕ) → HasNoEnd rest → line ≡ kept rest → Stops end rest piece fails before after
+
+-- what one piece did, or how it ended the session
+abbrev pub PieceWent : Result (Unit {0}) ConsoleEnd → List ℕ → Option (List ℕ) → Option (List ℕ) → Type 0 → Scene → Scene → Type 0
+PieceWent result piece line line' fails before after =
+    (rest : List ℕ) → HasNoEnd rest → line ≡ kept rest → MatchResult result
+    (λ done. (rest' : List ℕ) × (line' ≡ kept rest') × Serves rest piece rest' before after)
+    (λ end. Stops end rest piece fails before after)
+
+pub piece_none : (line : Option (List ℕ)) (s : Scene) → PieceServed [] line line s s
+piece_none line s = λ rest unended is. (rest, is, serves_none rest s unended)
+
+pub piece_more : (p q : List ℕ) (line line' line'' : Option (List ℕ)) (s t u : Scene) → PieceServed p line line' s t → PieceServed q line' line'' t u → PieceServed (p ++ q) line line'' s u
+piece_more p q line line' line'' s t u first then = λ rest unended is.
+    let a = first rest unended is in
+    let b = then a.0 a.2.unended a.1 in
+    (b.0, b.1, serves_more rest p a.0 q b.0 s t u a.2 b.2)
+
+pub piece_stops : (end : ConsoleEnd) (p q more : List ℕ) (line line' : Option (List ℕ)) (w v w' : ℕ) (s t u : Scene) → w ≤ v → v ≤ w' → PieceServed p line line' s t → PieceStopped end q line' (Failed v w') t u → PieceStopped end ((p ++ q) ++ more) line (Failed w w') s u
+piece_stops end p q more line line' w v w' s t u low high first then = λ rest unended is.
+    let a = first rest unended is in
+    stops_early end rest (p ++ q) more (Failed w w') s u (stops_more end rest p a.0 q w v w' s t u low high a.2 (then a.0 a.2.unended a.1))

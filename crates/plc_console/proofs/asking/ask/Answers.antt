@@ -1,0 +1,22 @@
+use Rattle.std.proofs.Common.{subst}
+use Rattle.il_model.specs.declared.command.Command.{Command}
+use Rattle.io_image.specs.Client.{SubmitsCommand}
+use Rattle.plc_console.proofs.Waiting.{begins, hears, answers, asks_again}
+use Rattle.plc_console.proofs.asking.ask.Goals as goal
+
+pub loop-init : goal.loop-init
+loop-init g c = record {
+  can_next = tt;
+  finite = tt;
+  waits = begins _ _ _ _ _ _ (subst (λ (x : Command). SubmitsCommand c.args.client.now x c.in-Some.request c.submit.new.self) c.in-Ok.ensures c.in-Some.ensures.some) c.send.ensures.took c.send.ensures.same;
+}
+
+pub returns-in-Some-3 : goal.returns-in-Some-3
+returns-in-Some-3 g c = answers _ _ _ _ _ _ _ _ _ c.loop.invariant.waits c.in_ok-answer.ensures.heard cc
+
+pub loop-preserved : goal.loop-preserved
+loop-preserved g c = record {
+  can_next = tt;
+  finite = tt;
+  waits = asks_again _ _ _ _ _ _ _ (hears _ _ _ _ _ _ _ _ c.loop.invariant.waits c.in_ok-answer.ensures.heard cc) c.ask_again-asked.ensures.sent.1 c.ask_again-asked.ensures.sent.2 c.ask_again-asked.ensures.same;
+}

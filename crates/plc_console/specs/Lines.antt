@@ -1,0 +1,79 @@
+-- The lines of an operator's console: which command each asks for, and what it comes to.
+use Rattle.std.specs.Prelude.{◌≡◌, ◌≤◌, ◌<◌, ◌⊎◌, ℕ, nat_le, if◌then◌else◌, List, [], ◌∷◌, length, Option, Some, None}
+use Rattle.std.specs.List.{AllByRecursion}
+use Rattle.il_model.specs.declared.command.Answer.{Answer}
+use Rattle.il_model.specs.declared.command.Command.{Command}
+use Rattle.il_model.specs.declared.command.Command.TheVariants.{Scan}
+use Rattle.il_model.specs.Program.{Program}
+use Rattle.plc_json.specs.declared.command.NamedCommand.{NamedCommand}
+use Rattle.plc_json.specs.declared.command.NamedCommand.TheVariants as named
+use Rattle.plc_json.specs.Single.{HasCommand, HasNoCommand}
+use Rattle.plc_tool.specs.Lines.{line_text}
+use Rattle.plc_tool.specs.Named.{meant}
+use Rattle.plc_tool.specs.Telling.{fault_line}
+use Rattle.plc_tool.specs.declared.fault.Fault.TheVariants.{Commands}
+
+-- LF, which ends a line
+abbrev pub line_end : ℕ
+line_end = 10
+
+-- so many bytes a line may have, without its end
+abbrev pub longest_line : ℕ
+longest_line = 131_072
+
+-- no line ends among these bytes
+abbrev pub HasNoEnd : List ℕ → Type 0
+HasNoEnd bytes = AllByRecursion (λ byte. byte ≡ line_end → ⊥) bytes
+
+-- what is kept of a line: its bytes, or that it's too long
+abbrev pub kept : List ℕ → Option (List ℕ)
+kept line = if nat_le (length line) longest_line then Some line else None
+
+-- scans are the driver's alone
+abbrev pub IsScan : NamedCommand → Type 0
+IsScan (named.Plain (Scan inputs moment)) = Unit {0}
+IsScan _ = ⊥
+
+-- The line is this command, whose names were looked up in the program.
+pub record AsksFor (Q : Program) (line : List ℕ) (command : Command) : Type 0 where
+  pub named : NamedCommand
+  pub short : length line ≤ longest_line
+  pub read : HasCommand line named
+  pub no_scan : IsScan named → ⊥
+  pub is : command ≡ meant Q named
+
+-- the line is a scan
+pub record AsksForScan (line : List ℕ) : Type 0 where
+  pub named : NamedCommand
+  pub read : HasCommand line named
+  pub is_scan : IsScan named
+
+-- the line is too long, no command, or a scan
+abbrev pub AsksForNothing : List ℕ → Type 0
+AsksForNothing line = (longest_line < length line) ⊎ (HasNoCommand line ⊎ AsksForScan line)
+
+-- what a line came to: its command was submitted and answered once, by this answer; or it was refused
+pub data Outcome : Type 0 where
+  Submitted : (command : Command) (answer : Answer) → Outcome
+  Refused : Outcome
+
+abbrev pub IsOutcome : Program → List ℕ → Outcome → Type 0
+IsOutcome Q line (Submitted command answer) = AsksFor Q line command
+IsOutcome Q line Refused = AsksForNothing line
+
+-- what it writes
+abbrev pub text_of : Outcome → List ℕ
+text_of (Submitted command answer) = line_text answer
+text_of Refused = fault_line Commands
+
+-- what was submitted for it, with the answer
+abbrev pub submitted_by : Outcome → List (Command × Answer)
+submitted_by (Submitted command answer) = (command, answer) ∷ []
+submitted_by Refused = []
+
+-- what is known of a line before it's answered: its command, if it has one
+abbrev pub FitsCommand : Option Command → Outcome → Type 0
+FitsCommand (Some asked) (Submitted command answer) = command ≡ asked
+FitsCommand None Refused = Unit {0}
+FitsCommand (Some asked) Refused = ⊥
+FitsCommand None (Submitted command answer) = ⊥

@@ -1,0 +1,133 @@
+-- What a session of an operator's console reads, submits and writes.
+use Rattle.std.specs.Prelude.{◌≡◌, ◌⊎◌, ℕ, List, [], ◌∷◌, ◌++◌, take, Option, Result, MatchResult}
+use Rattle.std.specs.List.{flat_map, AllByRecursion}
+use Rattle.std.specs.Io.KnownBytes.{Appends, Consumes, IsAtEnd}
+use Rattle.io_model.specs.Counted.{Failed}
+use Rattle.il_model.specs.declared.command.Answer.{Answer}
+use Rattle.il_model.specs.declared.command.Command.{Command}
+use Rattle.il_model.specs.Program.{Program}
+use Rattle.vr_threads.specs.Serving.{Grows}
+use Rattle.plc_console.specs.declared.session.ConsoleEnd.{ConsoleEnd}
+use Rattle.plc_console.specs.declared.session.ConsoleEnd.TheVariants as ends
+use Rattle.plc_console.specs.InForce.{in_force_after}
+use Rattle.plc_console.specs.Lines.{line_end, HasNoEnd, Outcome, IsOutcome, FitsCommand, text_of, submitted_by}
+
+-- a line, without its end, and what it came to
+pub record Turn : Type 0 where
+  pub line : List ℕ
+  pub outcome : Outcome
+
+abbrev pub line_of : Turn → List ℕ
+line_of turn = turn.line ++ line_end ∷ []
+
+-- a whole line, and what such a line comes to
+abbrev pub IsTurn : Program → Turn → Type 0
+IsTurn Q turn = HasNoEnd turn.line × IsOutcome Q turn.line turn.outcome
+
+-- the same of lines, one behind another; names of each are those of the program in force then
+abbrev pub AreTurns : Program → List Turn → Type 0
+AreTurns Q [] = Unit {0}
+AreTurns Q (turn ∷ more) = IsTurn Q turn × AreTurns (in_force_after Q (submitted_by turn.outcome)) more
+
+abbrev pub lines_of : List Turn → List ℕ
+lines_of turns = flat_map line_of turns
+
+abbrev pub texts_of : List Turn → List ℕ
+texts_of turns = flat_map (λ turn. text_of turn.outcome) turns
+
+abbrev pub submitted_in : List Turn → List (Command × Answer)
+submitted_in turns = flat_map (λ turn. submitted_by turn.outcome) turns
+
+-- what shows of a session: the commands that were submitted, with their answers, what its writer holds, and the program
+-- that names are looked up in
+pub record Scene : Type 0 where
+  pub answered : Option (List (Command × Answer))
+  pub held : Option (List ℕ)
+  pub program : Program
+
+abbrev pub scene : Option (List (Command × Answer)) → Option (List ℕ) → Program → Scene
+scene answered held program = record { answered = answered; held = held; program = program }
+
+-- Behind what was there of a line a piece of the stream came. Each line that is whole with it had its turn: its command
+-- was submitted and answered once, or it was refused, and its answer was written, in order. This is there of the next
+-- line, whose names are looked up in the program in force.
+pub record Serves (rest piece rest' : List ℕ) (before after : Scene) : Type 0 where
+  pub turns : List Turn
+  pub lines : rest ++ piece ≡ lines_of turns ++ rest'
+  pub unended : HasNoEnd rest'
+  pub each : AreTurns before.program turns
+  pub submitted : Grows before.answered after.answered (submitted_in turns)
+  pub program : after.program ≡ in_force_after before.program (submitted_in turns)
+  pub written : Appends before.held after.held (texts_of turns)
+
+-- The first lines of the stream had their turns, and a beginning of what they write went out.
+pub record Breaks (rest piece : List ℕ) (before after : Scene) : Type 0 where
+  pub turns : List Turn
+  pub more : List ℕ
+  pub lines : rest ++ piece ≡ lines_of turns ++ more
+  pub each : AreTurns before.program turns
+  pub submitted : Grows before.answered after.answered (submitted_in turns)
+  pub program : after.program ≡ in_force_after before.program (submitted_in turns)
+  pub output : List ℕ
+  pub unwritten : List ℕ
+  pub begins : texts_of turns ≡ output ++ unwritten
+  pub written : Appends before.held after.held output
+
+-- how a session ended over one piece; its reader or its writer failed
+abbrev pub Stops : ConsoleEnd → List ℕ → List ℕ → Type 0 → Scene → Scene → Type 0
+Stops ends.Closed rest piece fails before after = ⊥
+Stops ends.Device rest piece fails before after = fails × Breaks rest piece before after
+Stops ends.Memory rest piece fails before after = Breaks rest piece before after
+Stops ends.Unanswered rest piece fails before after = Breaks rest piece before after
+
+-- how a session ended that read this input; what its reader had left then, and whether its reader or its writer failed
+abbrev pub Ended : ConsoleEnd → List ℕ → Option (List ℕ) → Type 0 → Scene → Scene → Type 0
+Ended ends.Closed input left fails before after = IsAtEnd left × (rest : List ℕ) × Serves [] input rest before after
+Ended ends.Device input left fails before after = fails × Breaks [] input before after
+Ended ends.Memory input left fails before after = Breaks [] input before after
+Ended ends.Unanswered input left fails before after = Breaks [] input before after
+
+-- what a session did, by what its reader had left before and after, and how often its reader and its writer had failed
+pub record Talks (end : ConsoleEnd) (left left' : Option (List ℕ)) (r r' w w' : ℕ) (before after : Scene) : Type 0 where
+  pub input : List ℕ
+  pub read : Consumes left left' input
+  pub ended : Ended end input left' (Failed r r' ⊎ Failed w w') before after
+
+-- why a line wasn't written: the writer failed, or memory ran out
+abbrev pub IsWhyUnwritten : ConsoleEnd → Type 0 → Type 0
+IsWhyUnwritten ends.Device fails = fails
+IsWhyUnwritten ends.Memory fails = Unit {0}
+IsWhyUnwritten ends.Closed fails = ⊥
+IsWhyUnwritten ends.Unanswered fails = ⊥
+
+-- all of the text went out, or a beginning of it
+abbrev pub Writes : Result (Unit {0}) ConsoleEnd → List ℕ → Type 0 → Option (List ℕ) → Option (List ℕ) → Type 0
+Writes result text fails held held' =
+    MatchResult result (λ done. Appends held held' text)
+    (λ end. IsWhyUnwritten end fails × (n : ℕ) × Appends held held' (take n text))
+
+-- One line had its turn, of which this command was known, if any.
+pub record Takes (command : Option Command) (before after : Scene) : Type 0 where
+  pub outcome : Outcome
+  pub fits : FitsCommand command outcome
+  pub submitted : Grows before.answered after.answered (submitted_by outcome)
+  pub program : after.program ≡ in_force_after before.program (submitted_by outcome)
+  pub written : Appends before.held after.held (text_of outcome)
+
+-- The same, and a beginning of its answer went out.
+pub record TakesShort (command : Option Command) (before after : Scene) : Type 0 where
+  pub outcome : Outcome
+  pub fits : FitsCommand command outcome
+  pub submitted : Grows before.answered after.answered (submitted_by outcome)
+  pub program : after.program ≡ in_force_after before.program (submitted_by outcome)
+  pub output : List ℕ
+  pub unwritten : List ℕ
+  pub begins : text_of outcome ≡ output ++ unwritten
+  pub written : Appends before.held after.held output
+
+-- how a session ended at one line; where memory ran out for the program of a change, nothing was submitted
+abbrev pub StopsAt : ConsoleEnd → Option Command → Type 0 → Scene → Scene → Type 0
+StopsAt ends.Closed command fails before after = ⊥
+StopsAt ends.Device command fails before after = fails × TakesShort command before after
+StopsAt ends.Memory command fails before after = (after ≡ before) ⊎ TakesShort command before after
+StopsAt ends.Unanswered command fails before after = after ≡ before

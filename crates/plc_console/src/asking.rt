@@ -1,0 +1,110 @@
+//! A command that is asked of a group, as one of its clients.
+
+ghost use Rattle.std.specs.Prelude.{◌≡◌, ◌⊎◌, IfOk, List};
+ghost use Rattle.std.specs.List.{AllByRecursion};
+ghost use Rattle.vr_model.specs.declared.message.Message.{Message as Sent};
+ghost use Rattle.vr_model.specs.Steps.{Retries};
+ghost use Rattle.vr_threads.specs.Serving.{Grows};
+ghost use Rattle.io_image.specs.Client.{SendsAt};
+ghost use Rattle.plc_console.specs.Asking.{way, joined, Hears, IsAnswered};
+
+use crate::session::Unanswered;
+use il_model::{Answer, Command};
+use io_image::GroupClient;
+use vr_threads::{Input, Link, send_all};
+use std::alloc::Global;
+use std::sync::Wait;
+use std::time::{Clock, Duration, Instant};
+
+/// Submits a command under the client's next number, and receives until it is answered: by the first REPLY with that
+/// number, whatever else comes meanwhile. After each period without it the same request is sent again, to all. It is
+/// unanswered where the link is closed; and where the client has a request that waits, its numbers are used up, or
+/// memory runs out, in which case nothing was submitted.
+pub fn ask<R: Wait + Clock, L: Link>(
+    rt: &R,
+    alloc: Global,
+    period: Duration,
+    client: &mut GroupClient,
+    link: &mut L,
+    command: &Command,
+) -> Result<Answer, Unanswered>
+    ensures { IfOk result (λ answer. IsAnswered client.old command.now
+        (way (L.inputs link.old) (L.sent link.old)) (way (L.inputs link.new) (L.sent link.new)) answer client.new) }
+{
+    let Ok(one) = command.copy(alloc) else {
+        return Err(Unanswered);
+    };
+    let Ok(same) = command.copy(alloc) else {
+        return Err(Unanswered);
+    };
+    let Some(request) = client.submit(one, same) else {
+        return Err(Unanswered);
+    };
+    link.send(request);
+    let mut asked = Instant::now(rt).ok();
+    for _ in rt.forever() {
+        if let Some(answer) = hear(client, link)? {
+            return Ok(answer);
+        }
+        asked = ask_again(rt, alloc, period, client, link, asked);
+    }
+    unreachable!()
+}
+
+/// Receives once: the answer to the command that waits, if that is what came.
+fn hear<L: Link>(client: &mut GroupClient, link: &mut L) -> Result<Option<Answer>, Unanswered>
+    ensures heard { IfOk result (λ answer. Hears client.old
+        (way (L.inputs link.old) (L.sent link.old)) (way (L.inputs link.new) (L.sent link.new)) answer client.new) }
+{
+    match link.recv() {
+        Input::Message(message) => match client.on_reply(&message) {
+            Some(answered) => Ok(Some(answered.answer)),
+            None => Ok(None),
+        },
+        Input::Nothing => Ok(None),
+        Input::Closed => Err(Unanswered),
+    }
+}
+
+/// Sends the request that waits to all where a period went by since it was sent last: when it was sent last, where the
+/// machine's time could be read.
+fn ask_again<R: Clock, L: Link>(
+    rt: &R,
+    alloc: Global,
+    period: Duration,
+    client: &GroupClient,
+    link: &mut L,
+    asked: Option<Instant>,
+) -> Option<Instant>
+    ensures sent { (again : List (List Sent)) × AllByRecursion (SendsAt client.now Retries) again
+        × Grows (L.sent link.old) (L.sent link.new) (joined again) }
+    ensures same { L.inputs link.new ≡ L.inputs link.old }
+{
+    let Ok(now) = Instant::now(rt) else {
+        return asked;
+    };
+    if !is_over(now, asked, period) {
+        return Some(asked.unwrap_or(now));
+    }
+    send_again(alloc, client, link);
+    Some(now)
+}
+
+/// Sends the request that waits to all. Where memory runs out nothing is sent, until a later time.
+fn send_again<L: Link>(alloc: Global, client: &GroupClient, link: &mut L)
+    ensures sent { (L.sent link.new ≡ L.sent link.old)
+        ⊎ ((sends : List Sent) × SendsAt client.now Retries sends × Grows (L.sent link.old) (L.sent link.new) sends) }
+    ensures same { L.inputs link.new ≡ L.inputs link.old }
+{
+    if let Ok(sends) = client.retry(alloc) {
+        send_all(link, sends);
+    }
+}
+
+/// Whether so much time went by since then.
+fn is_over(now: Instant, since: Option<Instant>, time: Duration) -> bool {
+    match since {
+        Some(since) => now.saturating_duration_since(since) >= time,
+        None => false,
+    }
+}

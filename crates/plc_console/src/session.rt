@@ -1,0 +1,279 @@
+//! A session of a console: lines come in, and each is answered in order.
+
+ghost use Rattle.std.specs.Prelude.{◌≡◌, ◌≤◌, ◌++◌, ◌∷◌, [], List, ℕ, Some, IfOk, MatchResult};
+ghost use Rattle.io_model.specs.Counted.{Failed};
+ghost use Rattle.plc_tool.specs.Lines.{line_text};
+ghost use Rattle.plc_tool.specs.Telling.{fault_line};
+ghost use Rattle.plc_tool.specs.declared.fault.Fault.TheVariants.{Commands};
+ghost use Rattle.plc_console.specs.declared.session.ConsoleEnd.TheVariants as ends;
+ghost use Rattle.plc_console.specs.InForce.{brought_by, goes_on_with};
+ghost use Rattle.plc_console.specs.Lines.{kept, line_end, HasNoEnd};
+ghost use Rattle.plc_console.specs.Sessions.{scene, Serves, Stops, StopsAt, Takes, Talks, Writes};
+
+use crate::line::{LINE_END, Line, PIECE};
+use il_model::{Answer, Command};
+use io_model::{CountedRead, CountedWrite, write_all};
+use il_loader::{Image, LoadError, load};
+use plc_tool::{Fault, put_line};
+use std::alloc::{AllocError, Global};
+use std::sync::Wait;
+use thiserror::Error;
+
+/// No answer comes any more to a command, which may have been done or not.
+#[derive(Clone, Copy, Debug, PartialEq, Eq, Error)]
+#[error("unanswered")]
+pub struct Unanswered;
+
+/// What submits the commands of a console. It tells which commands were answered, and how, or tells nothing.
+pub trait Submits {
+    ghost use Rattle.std.specs.Prelude.{◌≡◌, [], ◌∷◌, List, Option, IfOk, OnErr};
+    ghost use Rattle.il_model.specs.declared.command.Answer.{Answer};
+    ghost use Rattle.il_model.specs.declared.command.Command.{Command};
+    ghost use Rattle.vr_threads.specs.Serving.{Grows};
+
+    // The commands that were answered so far, each with its answer, if it tells.
+    ghost answered: { Self → Option (List (Command × Answer)) };
+
+    /// Submits a command, and waits for its answer.
+    fn submit(&mut self, command: &Command) -> Result<Answer, Unanswered>
+        ensures answered { IfOk result
+            (λ answer. Grows (answered self.old) (answered self.new) ((command.now, answer) ∷ [])) }
+        ensures unanswered { OnErr result (answered self.new ≡ answered self.old) };
+}
+
+/// How a session ended.
+#[derive(Clone, Copy, PartialEq, Eq)]
+pub enum ConsoleEnd {
+    /// The reader came to its end.
+    Closed,
+    /// The reader or the writer failed.
+    Device,
+    Memory,
+    /// A command had no answer.
+    Unanswered,
+}
+
+/// Writes that a line is no command.
+fn refuse<W: CountedWrite>(writer: &mut W) -> Result<(), ConsoleEnd>
+    ensures wrote { Writes result (fault_line Commands) (Failed (W.faults writer.old) (W.faults writer.new))
+        (W.held writer.old) (W.held writer.new) }
+    ensures counts { W.faults writer.old ≤ W.faults writer.new }
+{
+    match write_all(writer, b"plc: commands\n") {
+        Ok(()) => Ok(()),
+        Err(_) => Err(ConsoleEnd::Device),
+    }
+}
+
+/// Writes the line of an answer.
+fn put_answer<W: CountedWrite>(
+    alloc: Global,
+    answer: &Answer,
+    writer: &mut W,
+) -> Result<(), ConsoleEnd>
+    ensures wrote { Writes result (line_text answer.now) (Failed (W.faults writer.old) (W.faults writer.new))
+        (W.held writer.old) (W.held writer.new) }
+    ensures counts { W.faults writer.old ≤ W.faults writer.new }
+{
+    match put_line(alloc, answer, writer) {
+        Ok(()) => Ok(()),
+        Err(Fault::Memory) => Err(ConsoleEnd::Memory),
+        Err(_) => Err(ConsoleEnd::Device),
+    }
+}
+
+/// The image of the program that a change brings. `None` for any other command, and for bytes that are no image.
+fn brought(alloc: Global, command: &Command) -> Result<Option<Image>, AllocError>
+    ensures { IfOk result (λ o. o ≡ brought_by command.now) }
+{
+    let Command::Change(bytes) = command else {
+        return Ok(None);
+    };
+    match load(alloc, bytes.as_slice()) {
+        Ok(image) => Ok(Some(image)),
+        Err(LoadError::Fault(_)) => Ok(None),
+        Err(LoadError::Memory) => Err(AllocError),
+    }
+}
+
+/// Goes on with the program that a command brought, if it's done.
+fn follow(brought: Option<Image>, answer: &Answer, image: &mut Image)
+    ensures { image.new ≡ goes_on_with image.old brought answer.now }
+{
+    if let (Some(brought), Answer::Done) = (brought, answer) {
+        *image = brought;
+    }
+}
+
+/// Submits a command, and writes the line of its answer. Where memory runs out for the program that it brings, nothing
+/// was submitted.
+fn submit<W: CountedWrite, D: Submits>(
+    alloc: Global,
+    command: &Command,
+    image: &mut Image,
+    writer: &mut W,
+    desk: &mut D,
+) -> Result<(), ConsoleEnd>
+    ensures took { MatchResult result
+        (λ _. Takes (Some command.now) (scene (D.answered desk.old) (W.held writer.old) image.old)
+        (scene (D.answered desk.new) (W.held writer.new) image.new))
+        (λ end. StopsAt end (Some command.now) (Failed (W.faults writer.old) (W.faults writer.new))
+        (scene (D.answered desk.old) (W.held writer.old) image.old)
+        (scene (D.answered desk.new) (W.held writer.new) image.new)) }
+    ensures counts { W.faults writer.old ≤ W.faults writer.new }
+{
+    let Ok(brought) = brought(alloc, command) else {
+        return Err(ConsoleEnd::Memory);
+    };
+    match desk.submit(command) {
+        Ok(answer) => {
+            follow(brought, &answer, image);
+            put_answer(alloc, &answer, writer)
+        }
+        Err(Unanswered) => Err(ConsoleEnd::Unanswered),
+    }
+}
+
+/// Gives a line its turn: its command is submitted, if it has one, and answered by its line; or it is refused.
+fn take_turn<W: CountedWrite, D: Submits>(
+    alloc: Global,
+    command: Option<Command>,
+    image: &mut Image,
+    writer: &mut W,
+    desk: &mut D,
+) -> Result<(), ConsoleEnd>
+    ensures took { MatchResult result
+        (λ _. Takes command (scene (D.answered desk.old) (W.held writer.old) image.old)
+        (scene (D.answered desk.new) (W.held writer.new) image.new))
+        (λ end. StopsAt end command (Failed (W.faults writer.old) (W.faults writer.new))
+        (scene (D.answered desk.old) (W.held writer.old) image.old)
+        (scene (D.answered desk.new) (W.held writer.new) image.new)) }
+    ensures counts { W.faults writer.old ≤ W.faults writer.new }
+{
+    match command {
+        Some(command) => submit(alloc, &command, image, writer, desk),
+        None => refuse(writer),
+    }
+}
+
+/// Takes one byte that doesn't end a line.
+fn extend(byte: u8, line: &mut Line) -> Result<(), ConsoleEnd>
+    ensures { MatchResult result (λ _. (rest : List ℕ) → line.old ≡ kept rest → line.new ≡ kept (rest ++ byte ∷ []))
+        (λ end. end ≡ ends.Memory) }
+{
+    match line.push(byte) {
+        Ok(()) => Ok(()),
+        Err(_) => Err(ConsoleEnd::Memory),
+    }
+}
+
+/// Ends a line, which has its turn.
+fn end_line<W: CountedWrite, D: Submits>(
+    alloc: Global,
+    image: &mut Image,
+    line: &mut Line,
+    writer: &mut W,
+    desk: &mut D,
+) -> Result<(), ConsoleEnd>
+    ensures served { (rest : List ℕ) → HasNoEnd rest → line.old ≡ kept rest → MatchResult result
+        (λ _. (line.new ≡ kept [])
+        × Serves rest (line_end ∷ []) [] (scene (D.answered desk.old) (W.held writer.old) image.old)
+        (scene (D.answered desk.new) (W.held writer.new) image.new))
+        (λ end. Stops end rest (line_end ∷ []) (Failed (W.faults writer.old) (W.faults writer.new))
+        (scene (D.answered desk.old) (W.held writer.old) image.old)
+        (scene (D.answered desk.new) (W.held writer.new) image.new)) }
+    ensures counts { W.faults writer.old ≤ W.faults writer.new }
+{
+    match line.command(alloc, image) {
+        Ok(command) => {
+            line.clear();
+            take_turn(alloc, command, image, writer, desk)
+        }
+        Err(_) => Err(ConsoleEnd::Memory),
+    }
+}
+
+/// Takes one byte: the line that it ends has its turn.
+fn take_byte<W: CountedWrite, D: Submits>(
+    alloc: Global,
+    image: &mut Image,
+    byte: u8,
+    line: &mut Line,
+    writer: &mut W,
+    desk: &mut D,
+) -> Result<(), ConsoleEnd>
+    ensures served { (rest : List ℕ) → HasNoEnd rest → line.old ≡ kept rest → MatchResult result
+        (λ _. (rest' : List ℕ) × (line.new ≡ kept rest')
+        × Serves rest (byte ∷ []) rest' (scene (D.answered desk.old) (W.held writer.old) image.old)
+        (scene (D.answered desk.new) (W.held writer.new) image.new))
+        (λ end. Stops end rest (byte ∷ []) (Failed (W.faults writer.old) (W.faults writer.new))
+        (scene (D.answered desk.old) (W.held writer.old) image.old)
+        (scene (D.answered desk.new) (W.held writer.new) image.new)) }
+    ensures counts { W.faults writer.old ≤ W.faults writer.new }
+{
+    if byte == LINE_END {
+        end_line(alloc, image, line, writer, desk)
+    } else {
+        extend(byte, line)
+    }
+}
+
+/// Gives each line its turn that is whole with this piece.
+fn serve_piece<W: CountedWrite, D: Submits>(
+    alloc: Global,
+    image: &mut Image,
+    piece: &[u8],
+    line: &mut Line,
+    writer: &mut W,
+    desk: &mut D,
+) -> Result<(), ConsoleEnd>
+    ensures served { (rest : List ℕ) → HasNoEnd rest → line.old ≡ kept rest → MatchResult result
+        (λ _. (rest' : List ℕ) × (line.new ≡ kept rest')
+        × Serves rest piece.now rest' (scene (D.answered desk.old) (W.held writer.old) image.old)
+        (scene (D.answered desk.new) (W.held writer.new) image.new))
+        (λ end. Stops end rest piece.now (Failed (W.faults writer.old) (W.faults writer.new))
+        (scene (D.answered desk.old) (W.held writer.old) image.old)
+        (scene (D.answered desk.new) (W.held writer.new) image.new)) }
+    ensures counts { W.faults writer.old ≤ W.faults writer.new }
+{
+    for byte in piece {
+        if let Err(end) = take_byte(alloc, image, *byte, line, writer, desk) {
+            return Err(end);
+        }
+    }
+    Ok(())
+}
+
+/// Serves a session to its end. Each line that is a command of those in files of commands, but for a scan, is submitted
+/// and answered once, its names looked up in the program in force, and the line of its answer is written; for each
+/// other line, as one over 131072 bytes, `plc: commands`. The program in force is that of the image, and after a change
+/// that is done the one that it brought, whose image this is then. Lines have their turns in order, one behind the
+/// answer of the other. What the reader has behind its last whole line is no line. Where a session ends by `Device`, for
+/// want of memory or by a command without an answer, a beginning of the answers went out.
+pub fn serve_console<H: Wait, R: CountedRead, W: CountedWrite, D: Submits>(
+    rt: &H,
+    alloc: Global,
+    image: &mut Image,
+    reader: &mut R,
+    writer: &mut W,
+    desk: &mut D,
+) -> ConsoleEnd
+    ensures { Talks result (R.left reader.old) (R.left reader.new) (R.faults reader.old) (R.faults reader.new)
+        (W.faults writer.old) (W.faults writer.new) (scene (D.answered desk.old) (W.held writer.old) image.old)
+        (scene (D.answered desk.new) (W.held writer.new) image.new) }
+{
+    let mut line = Line::new(alloc);
+    let mut piece = [0; PIECE];
+    for _ in rt.forever() {
+        let Ok(count) = reader.read(&mut piece) else {
+            return ConsoleEnd::Device;
+        };
+        if count == 0 {
+            return ConsoleEnd::Closed;
+        }
+        if let Err(end) = serve_piece(alloc, image, &piece[..count], &mut line, writer, desk) {
+            return end;
+        }
+    }
+    unreachable!()
+}

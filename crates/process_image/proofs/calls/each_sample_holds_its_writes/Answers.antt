@@ -1,5 +1,0 @@
-use Rattle.process_image.proofs.CallLaws.{each_sample}
-use Rattle.process_image.proofs.calls.each_sample_holds_its_writes.Goals as goal
-
-pub returns : goal.returns
-returns c = each_sample

@@ -1,5 +1,0 @@
-use Rattle.replica.proofs.Dispatched.{not_from_client}
-use Rattle.replica.proofs.rules.from_client.Goals as goal
-
-pub returns : goal.returns
-returns c = λ l. not_from_client c.args.core.now l c.args.body c.new.result c.in_default.not-Request c.new.ensures.items

@@ -1,6 +1,0 @@
-use Rattle.vr_model.specs.World.{down}
-use Rattle.replica.proofs.Acting.{stands_down}
-use Rattle.replica.proofs.state.Replica.crash.Goals as goal
-
-pub returns : goal.returns
-returns c = λ m r st. stands_down (record { core = c.crash.new.self }) m (down r) (c.crash.ensures.crashes m r st.member)

@@ -1,9 +1,0 @@
-use Rattle.vr_model.specs.World.{down}
-use Rattle.vr_core.specs.StandsFor.{member}
-use Rattle.replica.proofs.Acting.{stands_down}
-use Rattle.replica.proofs.state.Replica.down.Goals as goal
-
-pub returns : goal.returns
-returns c =
-    let config = c.args.config in
-    λ r. stands_down (record { core = c.in_ok-down.field-0 }) (member config.f c.args.number c.args.image c.args.budget.instructions) (down r) (c.in_ok-down.ensures r)

@@ -1,8 +1,0 @@
-use Rattle.std.proofs.Common.{ap, ◌∙◌}
-use Rattle.controller_model.specs.declared.forces.Forces.{Forces}
-use Rattle.controller_model.specs.Forces.{with_forces}
-use Rattle.scan_cycle.proofs.Unforced.{outputs_same}
-use Rattle.scan_cycle.proofs.force_table.ForceTable.over_outputs.Goals as goal
-
-pub returns-else-self : goal.returns-else-self
-returns-else-self c = outputs_same c.self.inside.may_force c.self.inside.forces c.args.cells.now c.self.invariant c.if-self.false ∙ ap (λ (f : Forces). with_forces f.output c.args.cells.now) c.self.view_is

@@ -1,6 +1,0 @@
-use Rattle.std.proofs.Common.{◌≡◌}
-use Rattle.tcp_links.proofs.tcp_link.TcpLink.read_ready.Given as goal
-
--- whose link it is stays
-abbrev pub invariant-loop : goal.invariant-loop
-invariant-loop g l = l.self.party ≡ l.initial.self.party

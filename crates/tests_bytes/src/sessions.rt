@@ -1,0 +1,362 @@
+//! Modbus sessions: requests with their replies, streams that are cut, at fault or that fail.
+ghost use Rattle.std.specs.Prelude.{◌≡◌};
+
+use crate::clients::{Client, Pieces, Publishing, Writes, cut_at};
+use crate::notation::{behind, bytes_of, cells_of, otherwise, unreadable};
+use il_model::OutImage;
+use io_model::Counted;
+use modbus_server::{HeaderFault, Session, SessionEnd, SessionFault, serve_session};
+use io_image::{
+    Naming, NewList, Release, ReleasedReader, Sample, Stage, StageBook, Staging, released,
+};
+use std::alloc::{AllocError, Global};
+use std::io;
+use std::marker::Brand;
+use std::sync::Wait;
+
+/// What a session wrote, and how it ended.
+type Written = (Vec<u8>, SessionEnd);
+
+/// A session that has ended: what it wrote, how it ended, how many reads and writes it made, how many bytes it left
+/// unread, and the sample behind it.
+#[derive(Drop)]
+struct Talked {
+    written: Vec<u8>,
+    end: SessionEnd,
+    reads: usize,
+    writes: usize,
+    left: usize,
+    sample: Sample,
+}
+
+/// What is released before a session, its requests, and their replies.
+#[derive(Drop)]
+pub struct Exchange {
+    released: Option<Release>,
+    requests: Vec<u8>,
+    replies: Vec<u8>,
+}
+
+fn end_name(end: SessionEnd) -> &'static str {
+    match end {
+        SessionEnd::Closed => "closed",
+        SessionEnd::Device => "device",
+        SessionEnd::Fault(fault) => fault_name(fault),
+    }
+}
+
+fn fault_name(fault: SessionFault) -> &'static str {
+    match fault {
+        SessionFault::Memory => "memory",
+        SessionFault::Header(HeaderFault::BadProtocol) => "bad protocol",
+        SessionFault::Header(HeaderFault::BadLength) => "bad length",
+    }
+}
+
+/// A session with a client.
+fn talk<R: Wait, S: Staging, J: Naming>(
+    rt: &R,
+    alloc: Global,
+    staging: &mut S,
+    reader: &mut ReleasedReader<J>,
+    client: Client<'_>,
+) -> Talked {
+    let mut pieces = Pieces::new(client);
+    let mut writes = Writes {
+        good: client.writes,
+        calls: 0,
+        taken: Vec::new(alloc),
+    };
+    let end = {
+        let mut reads = Counted::new(&mut pieces);
+        let mut counted = Counted::new(&mut writes);
+        serve_session(rt, alloc, &mut reads, &mut counted, staging, reader)
+    };
+    Talked {
+        written: writes.taken,
+        end,
+        reads: pieces.calls,
+        writes: writes.calls,
+        left: pieces.bytes.len(),
+        sample: staging.sample(),
+    }
+}
+
+/// A session over nothing staged and this release, over a book or over one behind a lock.
+fn session<R: Wait, J: Naming>(
+    rt: &R,
+    alloc: Global,
+    list: NewList,
+    release: Option<Release>,
+    client: Client<'_>,
+    is_locked: bool,
+) -> io::Result<Talked>
+    requires { list ≡ J.book }
+{
+    let made = released::<J, &R>(list, alloc, rt, 1);
+    let (mut writer, mut readers) = made.ok().ok_or(otherwise())?;
+    let mut reader = readers.pop().ok_or(otherwise())?;
+    if let Some(release) = release {
+        writer.publish(release).ok().ok_or(otherwise())?;
+    }
+    let mut book = StageBook::new(alloc);
+    if is_locked {
+        let stage = Stage::new(book);
+        return Ok(talk(rt, alloc, &mut stage.handle(rt), &mut reader, client));
+    }
+    Ok(talk(rt, alloc, &mut book, &mut reader, client))
+}
+
+/// A session over a new list of releases.
+fn served<R: Wait>(
+    rt: &R,
+    alloc: Global,
+    release: Option<Release>,
+    client: Client<'_>,
+    is_locked: bool,
+) -> io::Result<Talked> {
+    session::<R, Brand>(rt, alloc, NewList::new(), release, client, is_locked)
+}
+
+/// How often a request is sent, as `4096 times`, and the request.
+fn repeated(text: &str) -> (usize, &str) {
+    match text.split_once(" times ") {
+        Some((count, request)) => (count.parse::<usize>().unwrap_or(1), request),
+        None => (1, text),
+    }
+}
+
+/// Puts the same bytes so many times behind what is there.
+fn put_times(bytes: &mut Vec<u8>, more: &[u8], count: usize) -> Result<(), AllocError> {
+    for _ in 0..count {
+        bytes.extend_from_slice(more)?;
+    }
+    Ok(())
+}
+
+/// The number behind a name, or the greatest one.
+fn size_of(text: &str, name: &str) -> usize {
+    behind(text, name)
+        .and_then(|number| number.parse::<usize>().ok())
+        .unwrap_or(usize::MAX)
+}
+
+impl Exchange {
+    pub fn new(alloc: Global) -> Exchange {
+        Exchange {
+            released: None,
+            requests: Vec::new(alloc),
+            replies: Vec::new(alloc),
+        }
+    }
+
+    /// Takes what is released before the session: a number, and the outputs that aren't FALSE or 0.
+    pub fn release(&mut self, text: &str) -> io::Result<()> {
+        let (number, cells) = text.split_once(' ').unwrap_or((text, ""));
+        self.released = Some(Release {
+            number: number.parse::<u64>().ok().ok_or(unreadable())?,
+            image: OutImage {
+                cells: cells_of(cells)?,
+            },
+        });
+        Ok(())
+    }
+
+    /// Puts a request and its reply behind those before, and gives the reply that comes, in hexadecimal. Of a request
+    /// that is sent so many times it gives the last reply, where those before are as said.
+    pub fn request<R: Wait>(
+        &mut self,
+        rt: &R,
+        alloc: Global,
+        request: &str,
+        reply: &str,
+    ) -> io::Result<String> {
+        let (count, request) = repeated(request);
+        let (request, reply) = (bytes_of(alloc, request)?, bytes_of(alloc, reply)?);
+        put_times(&mut self.requests, request.as_slice(), count)?;
+        put_times(&mut self.replies, reply.as_slice(), count.saturating_sub(1))?;
+        let whole = cut_at(self.requests.as_slice(), usize::MAX);
+        let talked = served(rt, alloc, self.released, whole, false)?;
+        if talked.end != SessionEnd::Closed {
+            return Err(otherwise());
+        }
+        let came = talked
+            .written
+            .as_slice()
+            .get(self.replies.len()..)
+            .unwrap_or(&[]);
+        let came = hex::encode(alloc, came)?;
+        self.replies.extend_from_slice(reply.as_slice())?;
+        Ok(came)
+    }
+
+    /// Whether all that a session staged stands in the sample behind it: it is the sample behind one that reads just as
+    /// much, in one piece, and closes.
+    fn has_staged<R: Wait>(&self, rt: &R, alloc: Global, talked: &Talked) -> io::Result<bool> {
+        let requests = self.requests.as_slice();
+        let count = requests.len().saturating_sub(talked.left);
+        let read = requests.get(..count).unwrap_or(&[]);
+        let closed = served(rt, alloc, self.released, cut_at(read, usize::MAX), false)?;
+        Ok(closed.end == SessionEnd::Closed && closed.sample == talked.sample)
+    }
+
+    /// How a session with a client ends; its replies are all of these. Where the device fails they are a beginning of
+    /// them, and what was staged is in the next sample.
+    fn end<R: Wait>(
+        &self,
+        rt: &R,
+        alloc: Global,
+        client: Client<'_>,
+        is_locked: bool,
+    ) -> io::Result<&'static str> {
+        let talked = served(rt, alloc, self.released, client, is_locked)?;
+        let (written, replies) = (talked.written.as_slice(), self.replies.as_slice());
+        let is_as_said = match talked.end {
+            SessionEnd::Device => replies.starts_with(written),
+            _ => replies == written,
+        };
+        if !is_as_said {
+            return Ok("other replies");
+        }
+        if talked.end == SessionEnd::Device && !self.has_staged(rt, alloc, &talked)? {
+            return Ok("another sample");
+        }
+        Ok(end_name(talked.end))
+    }
+
+    /// How the session ends with a client of whose reads and writes one fails, each in turn.
+    fn end_at_each_failure<R: Wait>(
+        &self,
+        rt: &R,
+        alloc: Global,
+        client: Client<'_>,
+        is_locked: bool,
+    ) -> io::Result<&'static str> {
+        let whole = served(rt, alloc, self.released, client, is_locked)?;
+        for call in 0..whole.reads.saturating_add(whole.writes) {
+            let (reads, writes) = match call.checked_sub(whole.reads) {
+                None => (call, usize::MAX),
+                Some(write) => (usize::MAX, write),
+            };
+            let failing = Client {
+                reads,
+                writes,
+                ..client
+            };
+            let end = self.end(rt, alloc, failing, is_locked)?;
+            if end != end_name(SessionEnd::Device) {
+                return Ok(end);
+            }
+        }
+        Ok(end_name(SessionEnd::Device))
+    }
+
+    /// How the session ends wherever its requests are cut in two.
+    fn end_at_each_cut<R: Wait>(&self, rt: &R, alloc: Global) -> io::Result<&'static str> {
+        let requests = self.requests.as_slice();
+        let first = self.end(rt, alloc, cut_at(requests, 1), false)?;
+        for place in 2..requests.len().saturating_add(2) {
+            if self.end(rt, alloc, cut_at(requests, place), false)? != first {
+                return Ok("as it is cut");
+            }
+        }
+        Ok(first)
+    }
+
+    /// How the session ends with a client: `cut at each place`, or the sizes of its pieces, behind how many reads or
+    /// writes one fails or that each of them fails in turn, and `over a lock`.
+    pub fn with_client<R: Wait>(
+        &self,
+        rt: &R,
+        alloc: Global,
+        text: &str,
+    ) -> io::Result<&'static str> {
+        if text == "cut at each place" {
+            return self.end_at_each_cut(rt, alloc);
+        }
+        let client = Client {
+            requests: self.requests.as_slice(),
+            first: size_of(text, "first="),
+            others: size_of(text, "others="),
+            reads: size_of(text, "reads="),
+            writes: size_of(text, "writes="),
+        };
+        let is_locked = text.ends_with("over a lock");
+        if text.contains("each read and write fails") {
+            return self.end_at_each_failure(rt, alloc, client, is_locked);
+        }
+        self.end(rt, alloc, client, is_locked)
+    }
+}
+
+/// How a stream ends, as `REQUESTS > REPLIES`, wherever it is cut.
+pub fn stream<R: Wait>(rt: &R, alloc: Global, text: &str) -> io::Result<&'static str> {
+    let (requests, replies) = text.split_once('>').ok_or(unreadable())?;
+    let exchange = Exchange {
+        released: None,
+        requests: bytes_of(alloc, requests)?,
+        replies: bytes_of(alloc, replies)?,
+    };
+    exchange.end_at_each_cut(rt, alloc)
+}
+
+/// The fault of bytes, which is answered again for each later piece.
+pub fn fault(alloc: Global, text: &str) -> io::Result<&'static str> {
+    let bytes = bytes_of(alloc, text)?;
+    let mut session = Session::new();
+    let mut found = Vec::new(alloc);
+    let first = session.feed(bytes.as_slice(), &mut found);
+    for piece in [b"".as_slice(), b"\x00\x01\x00\x00\x00\x02\x01\x07"] {
+        if session.feed(piece, &mut found) != first {
+            return Err(otherwise());
+        }
+    }
+    match first {
+        Err(fault) if found.is_empty() => Ok(fault_name(fault)),
+        _ => Ok("none"),
+    }
+}
+
+/// A session before each request of which something is released.
+fn publishing<R: Wait, J: Naming>(
+    rt: &R,
+    alloc: Global,
+    list: NewList,
+    count: u64,
+) -> io::Result<Written>
+    requires { list ≡ J.book }
+{
+    let made = released::<J, &R>(list, alloc, rt, 1);
+    let (mut writer, mut readers) = made.ok().ok_or(otherwise())?;
+    let mut reader = readers.pop().ok_or(otherwise())?;
+    let mut book = StageBook::new(alloc);
+    let mut taken = Vec::new(alloc);
+    let end = serve_session(
+        rt,
+        alloc,
+        &mut Counted::new(Publishing {
+            writer: &mut writer,
+            last: 0,
+            count,
+        }),
+        &mut Counted::new(&mut taken),
+        &mut book,
+        &mut reader,
+    );
+    Ok((taken, end))
+}
+
+/// What so many requests show: the numbers of the releases before them, each one more than the one before.
+pub fn numbers_shown<R: Wait>(rt: &R, alloc: Global, count: &str) -> io::Result<String> {
+    let count = count.parse::<u64>().ok().ok_or(unreadable())?;
+    let (taken, end) = publishing::<R, Brand>(rt, alloc, NewList::new(), count)?;
+    let mut last = 0u8;
+    for reply in taken.as_slice().chunks(10) {
+        last = last.wrapping_add(1);
+        if reply != [0, 1, 0, 0, 0, 4, 1, 2, 1, last].as_slice() {
+            return Err(otherwise());
+        }
+    }
+    let end = end_name(end);
+    Ok(format!(in alloc; "1 to {last}, {end}")?)
+}

@@ -1,0 +1,160 @@
+//! Links over TCP: what comes, in which order, and how they end.
+
+use vr_threads::{Cutter, Input, Link, Relink};
+use std::alloc::Global;
+use std::io::{Read, Write};
+use std::net::{Net, TcpListener, TcpStream};
+use std::process::Abort;
+use std::sync::Wait;
+use std::test::Fail;
+use std::thread;
+use std::time::{Duration, Instant};
+use net_links::{TcpLink, links, pair};
+use vr_model::{Body, Message, Party};
+use net_ends::{Flow, Inbox};
+
+/// The links of two replicas, whose receives wait for so many milliseconds.
+fn two<R: Wait + Net<Listener = TcpListener, Stream = TcpStream> + Copy + Drop>(
+    rt: R,
+    alloc: Global,
+    wait: u64,
+) -> Result<(TcpLink<R>, TcpLink<R>), Fail> {
+    let mut links = links(rt, alloc, 2, 0, Duration::from_millis(wait))?;
+    let second = links.pop().ok_or("no link")?;
+    let first = links.pop().ok_or("no link")?;
+    Ok((first, second))
+}
+
+/// A COMMIT to replica 0.
+fn commit(from: u8, number: u64) -> Message {
+    Message {
+        from: Party::Replica(from),
+        to: Party::Replica(0),
+        body: Body::Commit {
+            view: 0,
+            commit_number: number,
+        },
+    }
+}
+
+/// The numbers of so many COMMITs are added up while they rise; what else came ends it.
+fn sum_of<L: Link>(link: &mut L, count: u32) -> u64 {
+    let mut sum = 0u64;
+    let mut last = 0u64;
+    for _ in 0..count {
+        match link.recv() {
+            Input::Message(
+                Message {
+                    body: Body::Commit {
+                        view: _,
+                        commit_number,
+                    },
+                    ..
+                },
+            ) if commit_number > last => {
+                sum = sum.saturating_add(commit_number);
+                last = commit_number;
+            }
+            Input::Nothing => {}
+            _ => return 0,
+        }
+    }
+    sum
+}
+
+/// Whether it is closed soon.
+fn is_closed<L: Link>(link: &mut L) -> bool {
+    for _ in 0..10u32 {
+        if matches!(link.recv(), Input::Closed) {
+            return true;
+        }
+    }
+    false
+}
+
+#[test]
+fn messages_come_in_order_until_the_others_are_gone(rt: HostRuntime) -> Result<(), Fail> {
+    let (mut first, mut second) = two(rt, rt.alloc(), 50)?;
+    for number in 1..=100u64 {
+        second.send(commit(1, number));
+    }
+    assert_eq!(rt; sum_of(&mut first, 101), 5050);
+    second.send(commit(1, 7));
+    drop(second);
+    assert_eq!(rt; (sum_of(&mut first, 1), is_closed(&mut first)), (7, true));
+    Ok(())
+}
+
+/// A link is cut while it waits for ten seconds, and so is closed long before. Then it's made anew.
+#[test]
+fn a_link_is_cut_and_made_anew(rt: HostRuntime) -> Result<(), Fail> {
+    let (mut first, mut second) = two(rt, rt.alloc(), 10_000)?;
+    second.wait_for(Duration::from_millis(50));
+    let cutter = first.cutter()?;
+    let cut = move || {
+        thread::sleep(&rt, Duration::from_millis(20));
+        let begun = Instant::now(&rt);
+        cutter.cut();
+        begun
+    };
+    let Ok(cutting) = thread::spawn(&rt, cut) else {
+        return Err("no thread")?;
+    };
+    let closed = is_closed(&mut first);
+    let ended = Instant::now(&rt)?;
+    let took = ended
+        .saturating_duration_since(cutting.join(&rt)?)
+        .as_micros();
+    assert!(rt; closed && took < 5_000_000, "{took}");
+    assert!(rt; is_closed(&mut second));
+    assert!(rt; first.renew().is_ok());
+    assert!(rt; matches!(second.recv(), Input::Nothing));
+    second.send(commit(1, 7));
+    assert_eq!(rt; sum_of(&mut first, 1), 7);
+    Ok(())
+}
+
+#[test]
+fn a_message_of_another_sender_is_dropped(rt: HostRuntime) -> Result<(), Fail> {
+    let (mut first, mut second) = two(rt, rt.alloc(), 50)?;
+    second.send(commit(2, 1));
+    second.send(commit(1, 2));
+    assert_eq!(rt; sum_of(&mut first, 3), 2);
+    Ok(())
+}
+
+#[test]
+fn a_stranger_that_was_faster_is_refused(rt: HostRuntime) -> Result<(), Fail> {
+    let listener = TcpListener::bind(&rt, ("127.0.0.1", 0))?;
+    let mut stranger = TcpStream::connect(&rt, listener.local_addr()?)?;
+    stranger.write_all(b"!")?;
+    let (mut near, mut far) = pair(&rt, &listener)?;
+    near.write_all(b"a")?;
+    let mut byte = [0u8; 1];
+    far.read_exact(&mut byte)?;
+    let ended = !matches!(stranger.read(&mut [0u8; 1]), Ok(1));
+    assert_eq!(rt; (byte, ended), (*b"a", true));
+    Ok(())
+}
+
+/// COMMIT of view 1, commit number 2, from replica 1 to replica 2; then a length of 0.
+const BYTES: &[u8] = b"\0\0\0\x13\x04\x01\x02\0\0\0\0\0\0\0\x01\0\0\0\0\0\0\0\x02\0\0\0\0";
+
+/// How many messages an inbox gives of bytes that come in two pieces, and whether they are over then.
+fn seen(alloc: Global, cut: usize) -> Result<(usize, bool), Fail> {
+    let mut inbox = Inbox::new(alloc)?;
+    let mut out = Vec::new(alloc);
+    let mut front = BYTES.get(..cut).ok_or("no front")?;
+    let mut behind = BYTES.get(cut..).ok_or("nothing behind")?;
+    let _first = inbox.read(alloc, &mut front, &mut out);
+    let flow = inbox.read(alloc, &mut behind, &mut out);
+    Ok((out.len(), flow == Flow::Over))
+}
+
+#[test]
+fn a_bad_frame_ends_a_connection_at_each_cut(rt: HostRuntime) -> Result<(), Fail> {
+    for cut in 1..BYTES.len() {
+        assert_eq!(rt; seen(rt.alloc(), cut)?, (1, true));
+    }
+    Ok(())
+}

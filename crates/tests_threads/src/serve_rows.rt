@@ -1,0 +1,519 @@
+//! A served controller, from the words of its call: what its clients see, what its operator is told, and how it ends.
+ghost use Rattle.std.specs.Prelude.{◌≡◌};
+
+use crate::clients::{ALL, Step, Visit, visit_once_told};
+use crate::falling::with_falling;
+use io_model::Counted;
+use plc_serve::{ReportFile, Service, Settings, serve};
+use plc_words::{Words, read_words};
+use io_image::NewList;
+use std::alloc::Global;
+use std::io::Write;
+use std::marker::Brand;
+use std::net::{Net, TcpListener, TcpStream};
+use std::process::Abort;
+use std::rt::Files;
+use std::sync::Arc;
+use std::sync::atomic::{AtomicU64, Ordering};
+use std::test::Fail;
+use std::thread::{JoinHandle, Threads};
+use std::time::{Clock, Duration, Instant};
+use std::{fs, io, str, thread};
+
+/// `%QX0.0` is `%IX0.0`, `%QW0` is `%IW0`. It performs 10 instructions, and 7 more for each unit of `%IW1`.
+const COUNTS_DOWN: &[u8] = b"VAR N : INT; END_VAR
+    LD %IX0.0
+    ST %QX0.0
+    LD %IW0
+    ST %QW0
+    LD %IW1
+    ST N
+AGAIN: LD N
+    EQ 0
+    JMPC DONE
+    LD N
+    SUB 1
+    ST N
+    JMP AGAIN
+DONE:
+";
+
+/// `%QX0.0` is not `%IX0.0`, `%QW0` is 7.
+const OTHER: &[u8] = b"LDN %IX0.0\nST %QX0.0\nLD 7\nST %QW0\n";
+
+/// A name with two underscores side by side.
+const BAD: &[u8] = b"LD A__B\n";
+
+/// A bit and a word are followed, also where the scan performs just as many instructions as it may; with more it stops.
+const STORY: &[Step] = &[
+    (5, 0, 0xFF00, (1, 0)),
+    (6, 0, 300, (1, 300)),
+    (6, 1, 4, (1, 300)),
+    (6, 0, 65_535, (1, 65_535)),
+    (6, 1, 5, (0, 0)),
+];
+
+const OTHER_STORY: &[Step] = &[(6, 0, 300, (1, 7)), (5, 0, 0xFF00, (0, 7))];
+
+/// What is done before a call.
+#[derive(Clone, Copy)]
+enum Before {
+    Nothing,
+    /// A folder stands where the first file of replica 1 is made.
+    Hinder,
+    LetGo,
+    /// Another start has the directory.
+    Lock,
+    Unlock,
+}
+
+/// Whether the port is in use, or any that is free.
+#[derive(Clone, Copy)]
+enum Port {
+    InUse,
+    Free,
+}
+
+/// A call, and how it goes.
+#[derive(Clone, Copy)]
+struct Row {
+    before: Before,
+    source: &'static [u8],
+    words: &'static [&'static str],
+    port: Port,
+    /// So many of the first replicas fall silent once their files are made.
+    falls: usize,
+    /// In seconds: it ends after so long without a majority.
+    lost_after: u32,
+    visit: Visit,
+    /// How much of the visit went as it should; none where no port was told.
+    seen: Option<u8>,
+    /// At least so many milliseconds go by.
+    least: u64,
+    status: u8,
+    out: &'static [u8],
+    /// What standard error tells, in order, beside the port and what else a slow machine makes of its replicas.
+    err: &'static [&'static str],
+    /// Whether replica 0 has a file then.
+    has_file: bool,
+}
+
+const LONG: &[&str] = &[
+    "plc",
+    "serve",
+    "served.il",
+    "--store",
+    "served/long",
+    "--scans",
+    "400",
+    "--period",
+    "20",
+    "--f",
+    "2",
+    "--budget",
+    "38",
+    "--every",
+    "16",
+    "--idle",
+    "2",
+];
+
+const CHANNELS: &[&str] = &[
+    "plc",
+    "serve",
+    "served.il",
+    "--store",
+    "served/channels",
+    "--scans",
+    "100",
+    "--period",
+    "20",
+    "--links",
+    "channel",
+];
+
+const SILENT: &[&str] = &[
+    "plc",
+    "serve",
+    "served.il",
+    "--store",
+    "served/silent",
+    "--scans",
+    "120",
+    "--period",
+    "20",
+];
+
+const ALONE: &[&str] = &[
+    "plc",
+    "serve",
+    "served.il",
+    "--store",
+    "served/alone",
+    "--scans",
+    "3",
+    "--period",
+    "20",
+];
+
+const PACED: &[&str] = &[
+    "plc",
+    "serve",
+    "served.il",
+    "--store",
+    "served/paced",
+    "--scans",
+    "3",
+    "--period",
+    "700",
+];
+
+/// The first scan is due at once, whatever the period.
+const FIRST: &[&str] = &[
+    "plc",
+    "serve",
+    "served.il",
+    "--store",
+    "served/first",
+    "--scans",
+    "1",
+    "--period",
+    "60000",
+];
+
+/// A call that is refused, or fails before a port is told, and leaves no file.
+const REFUSED: Row = Row {
+    before: Before::Nothing,
+    source: OTHER,
+    words: FIRST,
+    port: Port::Free,
+    falls: 0,
+    lost_after: 60,
+    visit: Visit::Nothing,
+    seen: None,
+    least: 0,
+    status: 2,
+    out: b"",
+    err: &["plc: device"],
+    has_file: false,
+};
+
+const ROWS: &[Row] = &[
+    Row {
+        source: COUNTS_DOWN,
+        words: LONG,
+        visit: Visit::All(STORY),
+        seen: Some(ALL + 5),
+        least: 7980,
+        status: 0,
+        out: b"scans 400\n",
+        err: &["stopped budget 10"],
+        has_file: true,
+        ..REFUSED
+    },
+    // the same directory once more
+    Row {
+        words: LONG,
+        status: 1,
+        err: &["plc: store"],
+        has_file: true,
+        ..REFUSED
+    },
+    // another program, over channels
+    Row {
+        words: CHANNELS,
+        visit: Visit::Steps(OTHER_STORY),
+        seen: Some(2),
+        least: 1980,
+        status: 0,
+        out: b"scans 100\n",
+        err: &[],
+        has_file: true,
+        ..REFUSED
+    },
+    // the primary falls silent, and the group goes on
+    Row {
+        words: SILENT,
+        falls: 1,
+        visit: Visit::Steps(OTHER_STORY),
+        seen: Some(2),
+        least: 2380,
+        status: 0,
+        out: b"scans 120\n",
+        err: &["replica 0 store", "replica 0 down"],
+        has_file: true,
+        ..REFUSED
+    },
+    // fewer than a majority are left
+    Row {
+        words: ALONE,
+        falls: 2,
+        lost_after: 0,
+        seen: Some(0),
+        err: &["replica 0 store", "replica 1 store", "plc: device"],
+        has_file: true,
+        ..REFUSED
+    },
+    // a period that is long beside the scans of a slow machine
+    Row {
+        words: PACED,
+        seen: Some(0),
+        least: 1400,
+        status: 0,
+        out: b"scans 3\n",
+        err: &[],
+        has_file: true,
+        ..REFUSED
+    },
+    Row {
+        source: BAD,
+        status: 1,
+        err: &["plc: read 2 at 1:4"],
+        ..REFUSED
+    },
+    Row {
+        port: Port::InUse,
+        ..REFUSED
+    },
+    Row {
+        before: Before::Hinder,
+        ..REFUSED
+    },
+    Row {
+        before: Before::LetGo,
+        port: Port::InUse,
+        ..REFUSED
+    },
+    Row {
+        before: Before::Lock,
+        status: 1,
+        err: &["plc: store"],
+        ..REFUSED
+    },
+    Row {
+        before: Before::Unlock,
+        status: 0,
+        seen: Some(0),
+        out: b"scans 1\n",
+        err: &[],
+        has_file: true,
+        ..REFUSED
+    },
+];
+
+fn prepare<R: Files + Alloc<A = Global>>(rt: &R, before: Before) -> io::Result<()> {
+    match before {
+        Before::Nothing => Ok(()),
+        Before::Hinder => fs::create_dir_all(rt, "served/first/replica-1.new"),
+        Before::LetGo => fs::remove_dir_all(rt, "served/first/replica-1.new"),
+        Before::Lock => fs::write(rt, "served/first/lock", b"".as_slice()),
+        Before::Unlock => fs::remove_file(rt, "served/first/lock"),
+    }
+}
+
+/// What a row asks to serve, with its text in a file.
+fn prepared<R: Files + Alloc<A = Global> + Copy + Drop>(
+    rt: R,
+    row: &Row,
+    in_use: u16,
+) -> Result<Service<R>, Fail> {
+    prepare(&rt, row.before)?;
+    fs::write(&rt, "served.il", row.source)?;
+    let port = match row.port {
+        Port::InUse => in_use,
+        Port::Free => 0,
+    };
+    asked(rt, row, port)
+}
+
+/// What takes the lines on standard error of a controller, and passes on the port.
+#[derive(Drop)]
+struct Operator<'a> {
+    text: Vec<u8>,
+    port: &'a AtomicU64,
+}
+
+impl Operator<'_> {
+    fn new(alloc: Global, port: &AtomicU64) -> Operator<'_> {
+        Operator {
+            text: Vec::new(alloc),
+            port,
+        }
+    }
+}
+
+/// The port that a line tells.
+fn port_of(line: &[u8]) -> Option<u16> {
+    let text = str::from_utf8(line).ok()?;
+    text.strip_prefix("serving on 127.0.0.1:")?
+        .strip_suffix("\n")?
+        .parse()
+        .ok()
+}
+
+impl Write for Operator<'_> {
+    fn write(&mut self, bytes: &[u8]) -> io::Result<usize> {
+        self.text.extend_from_slice(bytes)?;
+        if let Some(port) = port_of(self.text.as_slice()) {
+            self.port.store(u64::from(port), Ordering::SeqCst);
+        }
+        Ok(bytes.len())
+    }
+
+    fn flush(&mut self) -> io::Result<()> {
+        Ok(())
+    }
+}
+
+/// What the words of a row ask to serve, but at another port, since the words can't name any that is free, and with
+/// the row's patience.
+fn asked<R: Files + Alloc<A = Global> + Copy + Drop>(
+    rt: R,
+    row: &Row,
+    port: u16,
+) -> Result<Service<R>, Fail> {
+    let Ok(
+        Words::Serve {
+            source,
+            store,
+            scans,
+            config,
+            port: 5020,
+            period,
+            budget,
+            idle,
+            over_tcp,
+            crash,
+            report,
+            console: None,
+        },
+    ) = read_words(rt.alloc(), row.words)
+    else {
+        return Err("other words")?;
+    };
+    let settings = Settings {
+        config,
+        budget,
+        port,
+        period,
+        scans,
+        idle,
+        over_tcp,
+        crash,
+        lost_after: row.lost_after,
+        console: None,
+    };
+    match Service::new(rt, source, store, report, settings) {
+        Ok(service) => Ok(service),
+        Err(_) => Err("no service")?,
+    }
+}
+
+/// How a call went.
+#[derive(Drop)]
+struct Ended {
+    seen: Option<u8>,
+    took: Duration,
+    status: u8,
+    out: Vec<u8>,
+    err: Vec<u8>,
+    has_file: bool,
+}
+
+/// Whether a text has these lines, in order, and no other but those of a port and of replicas.
+fn tells(text: &str, lines: &[&str]) -> bool {
+    let mut count = 0usize;
+    for line in text.split_terminator('\n') {
+        if lines.get(count) == Some(&line) {
+            count = count.saturating_add(1);
+        } else if !line.starts_with("replica ") && !line.starts_with("serving on ") {
+            return false;
+        }
+    }
+    count == lines.len()
+}
+
+/// Wants a call to have gone as this row tells.
+fn wants(rt: &impl Abort, n: usize, row: &Row, ended: &Ended) {
+    let gone = (
+        ended.seen,
+        ended.status,
+        ended.out.as_slice(),
+        ended.has_file,
+    );
+    let wanted = (row.seen, row.status, row.out, row.has_file);
+    let text = str::from_utf8(ended.err.as_slice()).unwrap_or("?");
+    assert_eq!(rt; gone, wanted, "in row {n}: {text}");
+    assert!(rt; tells(text, row.err), "in row {n}: {text}");
+    assert!(rt;
+        ended.took >= Duration::from_millis(row.least),
+        "in row {n}"
+    );
+}
+
+/// The thread of a row's clients, who come once the port is told.
+fn visiting<R>(
+    rt: &R,
+    alloc: Global,
+    told: &Arc<AtomicU64>,
+    visit: Visit,
+) -> Result<JoinHandle<Option<u8>>, Fail>
+where
+    R: Threads + Net<Listener = TcpListener, Stream = TcpStream> + Clock + Copy + Send + 'static,
+{
+    let theirs = *rt;
+    let port = Arc::try_clone(told)?;
+    match thread::spawn(rt, move || visit_once_told(&theirs, alloc, &port, visit)) {
+        Ok(clients) => Ok(clients),
+        Err(_) => Err("no thread")?,
+    }
+}
+
+#[test]
+fn controllers_are_served(rt: HostRuntime) -> Result<(), Fail> {
+    let alloc = rt.alloc();
+    let _ = fs::remove_dir_all(&rt, "served");
+    let taken = TcpListener::bind(&rt, ("127.0.0.1", 0))?;
+    let in_use = taken.local_addr()?.port();
+    for (n, row) in ROWS.iter().enumerate() {
+        let Service {
+            source,
+            directory,
+            report,
+            stores,
+            settings,
+        } = prepared(rt, row, in_use)?;
+        let stores = with_falling(alloc, stores, row.falls)?;
+        let file = format!(in alloc; "{directory}/replica-0")?;
+        let told = Arc::new(alloc, AtomicU64::new(0))?;
+        let begun = Instant::now(&rt)?;
+        let clients = visiting(&rt, alloc, &told, row.visit)?;
+        let mut out = Vec::new(alloc);
+        let mut operator = Operator::new(alloc, &told);
+        let path = report.as_ref().map(|path| path.as_str());
+        let status = serve::<Brand, _, _, _, _, _>(
+            rt,
+            alloc,
+            NewList::new(),
+            source.as_slice(),
+            directory,
+            stores,
+            settings,
+            &mut Counted::new(ReportFile::at(&rt, path)),
+            &mut out,
+            &mut Counted::new(&mut operator),
+        );
+        // Clients that still wait for the port find none.
+        let _ = told.compare_exchange(0, u64::MAX, Ordering::SeqCst, Ordering::SeqCst);
+        let ended = Ended {
+            seen: clients.join(&rt),
+            took: Instant::now(&rt)?.saturating_duration_since(begun),
+            status,
+            out,
+            err: operator.text,
+            has_file: fs::exists(&rt, file.as_str())?,
+        };
+        wants(&rt, n, row, &ended);
+    }
+    Ok(())
+}

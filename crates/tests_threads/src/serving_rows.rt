@@ -1,0 +1,226 @@
+//! The loop of one replica over scripted ends: what it polls, receives, tells its clock and calls its gate with.
+use crate::shelf::{Shelf, WIRE, group_of_three};
+use il_model::{Command, InImage};
+use il_loader::load;
+use vr_replica::Replica;
+use vr_threads::{Clock, Gate, Input, Link, Tick, serve};
+use std::alloc::Global;
+use std::process::Abort;
+use std::test::Fail;
+use vr_model::{Body, ClientNumber, Message, Party, Request};
+
+/// What a receive gives: the request of this number, from client 0.
+#[derive(Clone, Copy)]
+enum Given {
+    Request(u64),
+    Nothing,
+    Closed,
+}
+
+/// The request of this number, from a client.
+fn request(client: ClientNumber, number: u64) -> Message {
+    Message {
+        from: Party::Client(client),
+        to: Party::Replica(0),
+        body: Body::Request(Request {
+            client,
+            number,
+            command: Command::Scan {
+                inputs: InImage::clear(),
+                moment: 0,
+            },
+        }),
+    }
+}
+
+/// Gives what is written, and then nothing. It keeps what it gave, and what it was handed to send.
+#[derive(Drop)]
+struct ScriptedLink<'a, R: Abort + Drop> {
+    rt: R,
+    alloc: Global,
+    script: &'a [Given],
+    client: ClientNumber,
+    given: Vec<Input>,
+    sent: Vec<Message>,
+}
+
+impl<R: Abort + Drop> Link for ScriptedLink<'_, R> {
+    ghost use Rattle.std.specs.Prelude.{Some};
+
+    ghost inputs = { λ l. Some l.given.items };
+
+    ghost sent = { λ l. Some l.sent.items };
+
+    fn recv(&mut self) -> Input {
+        let (kept, input) = match self.script.get(self.given.len()) {
+            Some(Given::Request(number)) => {
+                let message = request(self.client, *number);
+                let copy = message.copy(self.alloc).expect(&self.rt, "memory");
+                (Input::Message(copy), Input::Message(message))
+            }
+            Some(Given::Closed) => (Input::Closed, Input::Closed),
+            Some(Given::Nothing) | None => (Input::Nothing, Input::Nothing),
+        };
+        self.given.push(kept).expect(&self.rt, "memory");
+        input
+    }
+
+    fn send(&mut self, message: Message) {
+        self.sent.push(message).expect(&self.rt, "memory");
+    }
+}
+
+/// Says what is written, and then nothing. It keeps what it said, and counts what was heard.
+#[derive(Drop)]
+struct ScriptedClock<'a, R: Abort + Drop> {
+    rt: R,
+    script: &'a [Tick],
+    said: Vec<Tick>,
+    heard: u64,
+}
+
+impl<R: Abort + Drop> Clock for ScriptedClock<'_, R> {
+    ghost use Rattle.std.specs.Prelude.{Some};
+
+    ghost ticks = { λ c. Some c.said.items };
+
+    fn poll(&mut self) -> Tick {
+        let tick = match self.script.get(self.said.len()) {
+            Some(tick) => *tick,
+            None => Tick::None,
+        };
+        self.said.push(tick).expect(&self.rt, "memory");
+        tick
+    }
+
+    fn heard(&mut self, _message: &Message) {
+        self.heard = self.heard.saturating_add(1);
+    }
+}
+
+/// Counts the steps that began and ended in turn, each under the next number.
+#[derive(Drop)]
+struct CountingGate {
+    begun: u64,
+    ended: u64,
+    normal: u64,
+    in_turn: bool,
+}
+
+impl CountingGate {
+    fn new() -> CountingGate {
+        CountingGate {
+            begun: 0,
+            ended: 0,
+            normal: 0,
+            in_turn: true,
+        }
+    }
+
+    /// How many steps it saw, if all were in turn.
+    fn steps(&self) -> u64 {
+        if self.in_turn { self.ended } else { 0 }
+    }
+}
+
+impl Gate for CountingGate {
+    fn before(&mut self, call: u64) {
+        self.begun = self.begun.saturating_add(1);
+        self.in_turn = self.in_turn && call == self.begun && call == self.ended.saturating_add(1);
+    }
+
+    fn after(&mut self, call: u64, normal: bool) {
+        self.ended = self.ended.saturating_add(1);
+        self.in_turn = self.in_turn && call == self.ended && call == self.begun;
+        if normal {
+            self.normal = self.normal.saturating_add(1);
+        }
+    }
+}
+
+/// How often was polled, received, heard and sent, how many steps the gate saw in turn, and after how many of them the
+/// replica was normal.
+type Counts = (usize, usize, u64, usize, u64, u64);
+
+/// Replica 0 is served for so many turns.
+fn served<R: Abort + Copy + Drop>(
+    rt: R,
+    alloc: Global,
+    turns: u64,
+    ticks: &[Tick],
+    inputs: &[Given],
+) -> Result<Counts, Fail> {
+    let (config, budget) = group_of_three()?;
+    let client = ClientNumber::new(0).ok_or("no client")?;
+    let Ok(image) = load(alloc, WIRE) else {
+        return Err("no image")?;
+    };
+    let mut replica = Replica::new(alloc, config, 0, image, budget)?;
+    let mut link = ScriptedLink {
+        rt,
+        alloc,
+        script: inputs,
+        client,
+        given: Vec::new(alloc),
+        sent: Vec::new(alloc),
+    };
+    let mut clock = ScriptedClock {
+        rt,
+        script: ticks,
+        said: Vec::new(alloc),
+        heard: 0,
+    };
+    let mut gate = CountingGate::new();
+    let mut store = Shelf::new(0);
+    serve(
+        alloc,
+        &mut replica,
+        &mut link,
+        &mut store,
+        &mut clock,
+        &mut gate,
+        turns,
+    );
+    Ok((
+        clock.said.len(),
+        link.given.len(),
+        clock.heard,
+        link.sent.len(),
+        gate.steps(),
+        gate.normal,
+    ))
+}
+
+/// A request, PREPARE to two; resend, the same; nothing; the request again, which is dropped; a timeout, which begins a
+/// view change: STARTVIEWCHANGE to two; then the link is closed.
+const TICKS: [Tick; 6] = [
+    Tick::None,
+    Tick::Resend,
+    Tick::None,
+    Tick::None,
+    Tick::Timeout,
+    Tick::None,
+];
+
+const INPUTS: [Given; 4] = [
+    Given::Request(1),
+    Given::Nothing,
+    Given::Request(1),
+    Given::Closed,
+];
+
+#[test]
+fn each_turn_takes_one_event(rt: HostRuntime) -> Result<(), Fail> {
+    let alloc = rt.alloc();
+    assert_eq!(rt; served(rt, alloc, 0, &TICKS, &INPUTS)?, (0, 0, 0, 0, 0, 0));
+    assert_eq!(rt; served(rt, alloc, 1, &TICKS, &INPUTS)?, (1, 1, 1, 2, 1, 1));
+    assert_eq!(rt; served(rt, alloc, 2, &TICKS, &INPUTS)?, (2, 1, 1, 4, 2, 2));
+    assert_eq!(rt; served(rt, alloc, 4, &TICKS, &INPUTS)?, (4, 3, 2, 4, 3, 3));
+    assert_eq!(rt; served(rt, alloc, 5, &TICKS, &INPUTS)?, (5, 3, 2, 6, 4, 3));
+    assert_eq!(rt;
+        served(rt, alloc, 100, &TICKS, &INPUTS)?,
+        (6, 4, 2, 6, 4, 3)
+    );
+    assert_eq!(rt; served(rt, alloc, 9, &[], &[])?, (9, 9, 0, 0, 0, 0));
+    Ok(())
+}

@@ -1,0 +1,96 @@
+//! A store on real files.
+
+use vr_replica::{StoreFault, ViewStore};
+use vr_threads::{FileStore, Starts};
+use std::io::Write;
+use std::process::Abort;
+use std::rt::Files;
+use std::test::Fail;
+use std::{fs, io};
+use vr_model::Stored;
+
+fn put<R: Files>(rt: &R, path: &str, bytes: &[u8]) -> io::Result<()> {
+    let mut file = fs::create(rt, path)?;
+    file.write_all(bytes)
+}
+
+const fn stored(view: u64, starts: u64) -> Stored {
+    Stored { view, starts }
+}
+
+#[test]
+fn a_store_keeps_what_it_saved(rt: HostRuntime) -> Result<(), Fail> {
+    let alloc = rt.alloc();
+    let mut first = FileStore::new(rt, alloc, ".", 200)?;
+    let _ = fs::remove_file(&rt, first.path());
+    assert_eq!(rt; first.save(1), Err(StoreFault));
+    assert_eq!(rt; first.load(), Ok(stored(0, 0)));
+    assert_eq!(rt; first.save(1), Err(StoreFault));
+    assert_eq!(rt; first.begin(), Ok(stored(0, 1)));
+    assert_eq!(rt; first.save(7), Ok(()));
+    assert_eq!(rt; first.save(5), Ok(()));
+    assert_eq!(rt; first.begin(), Ok(stored(5, 2)));
+    let mut again = FileStore::new(rt, alloc, ".", 200)?;
+    assert_eq!(rt; again.load(), Ok(stored(5, 2)));
+    assert_eq!(rt; again.begin(), Ok(stored(5, 3)));
+    let bytes = fs::read(&rt, "replica-200")?;
+    assert_eq!(rt;
+        bytes.as_slice(),
+        [0u8, 0, 0, 0, 0, 0, 0, 5, 0, 0, 0, 0, 0, 0, 0, 3].as_slice()
+    );
+    assert!(rt; !fs::exists(&rt, "replica-200.new")?);
+    assert_eq!(rt; (first.faults(), again.faults()), (2, 0));
+    fs::remove_file(&rt, "replica-200")?;
+    Ok(())
+}
+
+#[test]
+fn a_file_that_no_start_left_is_a_fault(rt: HostRuntime) -> Result<(), Fail> {
+    let alloc = rt.alloc();
+    let bytes = [255u8; 17];
+    for length in [0usize, 1, 15, 17] {
+        put(&rt, "replica-201", &bytes[..length])?;
+        let mut store = FileStore::new(rt, alloc, ".", 201)?;
+        assert_eq!(rt; store.load(), Err(StoreFault));
+        assert_eq!(rt; store.begin(), Err(StoreFault));
+        assert_eq!(rt; store.faults(), 2);
+    }
+    put(&rt, "replica-201", &bytes[..16])?;
+    let mut store = FileStore::new(rt, alloc, ".", 201)?;
+    assert_eq!(rt; store.load(), Ok(stored(u64::MAX, u64::MAX)));
+    assert_eq!(rt; store.begin(), Err(StoreFault));
+    for view in [0u8, 5] {
+        let unstarted = [0u8, 0, 0, 0, 0, 0, 0, view, 0, 0, 0, 0, 0, 0, 0, 0];
+        put(&rt, "replica-201", &unstarted)?;
+        let mut store = FileStore::new(rt, alloc, ".", 201)?;
+        assert_eq!(rt; store.begin(), Err(StoreFault));
+    }
+    fs::remove_file(&rt, "replica-201")?;
+    Ok(())
+}
+
+#[test]
+fn a_value_that_the_store_did_not_leave_is_a_fault(rt: HostRuntime) -> Result<(), Fail> {
+    let mut store = FileStore::new(rt, rt.alloc(), ".", 202)?;
+    let _ = fs::remove_file(&rt, store.path());
+    assert_eq!(rt; store.begin(), Ok(stored(0, 1)));
+    put(
+        &rt,
+        "replica-202",
+        &[0u8, 0, 0, 0, 0, 0, 0, 9, 0, 0, 0, 0, 0, 0, 0, 1],
+    )?;
+    assert_eq!(rt; store.load(), Err(StoreFault));
+    fs::remove_file(&rt, "replica-202")?;
+    assert_eq!(rt; store.load(), Err(StoreFault));
+    Ok(())
+}
+
+#[test]
+fn a_directory_that_is_not_there_is_a_fault_of_the_save(rt: HostRuntime) -> Result<(), Fail> {
+    let mut store = FileStore::new(rt, rt.alloc(), "no-such-directory", 0)?;
+    assert_eq!(rt; store.load(), Ok(stored(0, 0)));
+    assert_eq!(rt; store.save(1), Err(StoreFault));
+    assert_eq!(rt; store.save(2), Err(StoreFault));
+    assert_eq!(rt; store.load(), Ok(stored(0, 0)));
+    Ok(())
+}

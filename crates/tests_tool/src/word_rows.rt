@@ -1,0 +1,394 @@
+//! The words of a call: what they ask for, and what is printed where they ask for nothing.
+
+use il_model::Budget;
+use io_model::Counted;
+use plc_words::{Words, WordsError, read_words};
+use std::alloc::{AllocError, Global};
+use std::io;
+use std::process::Abort;
+use std::test::Fail;
+use vr_model::Config;
+
+fn ask_for(rt: &impl Abort, alloc: Global, rows: &[(&[&str], Words)]) {
+    for (given, wanted) in rows.iter() {
+        let words = read_words(alloc, given);
+        assert!(rt; matches!(words, Ok(words) if words == *wanted), "{given:?}");
+    }
+}
+
+/// A run of `a.il` over `b.json`.
+fn run(instructions: u32) -> Result<Words<'static>, Fail> {
+    Ok(Words::Run {
+        source: "a.il",
+        commands: "b.json",
+        budget: Budget::new(instructions).ok_or("no budget")?,
+    })
+}
+
+/// A run of `b.json` over replicas of `a.il`.
+fn sim(failures: u8, every: u16) -> Result<Words<'static>, Fail> {
+    Ok(Words::Sim {
+        source: "a.il",
+        schedule: "b.json",
+        config: Config::new(failures, every).ok_or("no config")?,
+        budget: Budget::new(10_000).ok_or("no budget")?,
+    })
+}
+
+/// So many scans of `a.il`, with stores in `d`; with crashes, a report in `r` and a console at that port.
+fn serve(
+    scans: u32,
+    failures: u8,
+    every: u16,
+    port: u16,
+    period: u32,
+    idle: u32,
+    crash: Option<u32>,
+) -> Result<Words<'static>, Fail> {
+    Ok(Words::Serve {
+        source: "a.il",
+        store: "d",
+        scans,
+        config: Config::new(failures, every).ok_or("no config")?,
+        port,
+        period,
+        budget: Budget::new(10_000).ok_or("no budget")?,
+        idle,
+        over_tcp: true,
+        crash,
+        report: match crash {
+            Some(_) => Some("r"),
+            None => None,
+        },
+        console: match crash {
+            Some(_) => Some(port),
+            None => None,
+        },
+    })
+}
+
+#[test]
+fn words_ask_to_serve(rt: HostRuntime) -> Result<(), Fail> {
+    let first: &[&str] = &["plc", "serve", "a.il", "--store", "d", "--scans", "1"];
+    let greatest: &[&str] = &[
+        "plc",
+        "serve",
+        "--scans=4294967295",
+        "--store=d",
+        "--f=3",
+        "--every=65535",
+        "--port=65535",
+        "--period=4294967295",
+        "--idle=4294967295",
+        "--crash=4294967295",
+        "--report=r",
+        "--console=65535",
+        "a.il",
+    ];
+    let least: &[&str] = &[
+        "plc",
+        "serve",
+        "a.il",
+        "--store",
+        "d",
+        "--scans",
+        "9",
+        "--port",
+        "1",
+        "--period",
+        "1",
+        "--idle",
+        "1",
+        "--crash",
+        "1",
+        "--report",
+        "r",
+        "--console",
+        "1",
+    ];
+    let rows: [(&[&str], Words); 3] = [
+        (first, serve(1, 1, 64, 5020, 100, 300, None)?),
+        (
+            greatest,
+            serve(
+                4_294_967_295,
+                3,
+                65_535,
+                65_535,
+                4_294_967_295,
+                4_294_967_295,
+                Some(4_294_967_295),
+            )?,
+        ),
+        (least, serve(9, 1, 64, 1, 1, 1, Some(1))?),
+    ];
+    ask_for(&rt, rt.alloc(), &rows);
+    Ok(())
+}
+
+#[test]
+fn words_ask_for_a_form(rt: HostRuntime) -> Result<(), Fail> {
+    let asm = Words::Asm {
+        source: "a.il",
+        image: "a.image",
+    };
+    let list = Words::List { image: "a.image" };
+    let ask = Words::Ask {
+        port: 5021,
+        commands: "b.json",
+    };
+    let change = Words::Change {
+        port: 5021,
+        source: "a.il",
+    };
+    let rows: [(&[&str], Words); 11] = [
+        (&["plc", "sim", "a.il", "b.json"], sim(1, 64)?),
+        (
+            &["plc", "sim", "a.il", "b.json", "--every", "0"],
+            sim(1, 0)?,
+        ),
+        (
+            &["plc", "sim", "--every=65535", "--f", "2", "a.il", "b.json"],
+            sim(2, 65_535)?,
+        ),
+        (&["plc", "run", "a.il", "b.json"], run(10_000)?),
+        (&["plc", "run", "a.il", "b.json", "--budget", "5"], run(5)?),
+        (&["plc", "run", "a.il", "--budget=1", "b.json"], run(1)?),
+        (
+            &["plc", "run", "--budget", "1000000", "a.il", "b.json"],
+            run(1_000_000)?,
+        ),
+        (&["plc", "asm", "a.il", "a.image"], asm),
+        (&["plc", "list", "a.image"], list),
+        (&["plc", "ask", "5021", "b.json"], ask),
+        (&["plc", "ask", "5021", "--change", "a.il"], change),
+    ];
+    ask_for(&rt, rt.alloc(), &rows);
+    Ok(())
+}
+
+/// Words that ask for no work, and a part of what is printed.
+type Row<'a> = (&'a [&'a str], &'a str);
+
+/// The status of words that ask for no work, and what stands on both streams.
+fn told(alloc: Global, given: &[&str]) -> Result<(u8, String, String), Fail> {
+    let mut out = Vec::new(alloc);
+    let mut err = Vec::new(alloc);
+    let status = match read_words(alloc, given) {
+        Ok(_) => return Err(Fail::from("they ask for work")),
+        Err(error) => plc_tool::tell_words(&error, &mut out, &mut Counted::new(&mut err)),
+    };
+    Ok((status, String::from_utf8(out)?, String::from_utf8(err)?))
+}
+
+/// Wants words to be answered on the output, with the status 0.
+fn are_shown(rt: &impl Abort, alloc: Global, rows: &[Row]) -> Result<(), Fail> {
+    for (given, part) in rows.iter() {
+        let (status, out, err) = told(alloc, given)?;
+        assert_eq!(rt; status, 0, "{given:?}");
+        assert!(rt; out.as_str().contains(part) && err.is_empty(), "{given:?}");
+    }
+    Ok(())
+}
+
+/// Wants words to be refused on the other stream, with the status 3; those of each row stand behind these.
+fn are_bad<'a>(
+    rt: &impl Abort,
+    alloc: Global,
+    first: &[&'a str],
+    rows: &[Row<'a>],
+) -> Result<(), Fail> {
+    for (given, part) in rows.iter() {
+        let mut words = Vec::from_slice(alloc, first)?;
+        words.extend_from_slice(given)?;
+        let (status, out, err) = told(alloc, words.as_slice())?;
+        assert_eq!(rt; status, 3, "{given:?}");
+        assert!(rt; err.as_str().contains(part) && out.is_empty(), "{given:?}");
+    }
+    Ok(())
+}
+
+#[test]
+fn help_and_version_are_shown(rt: HostRuntime) -> Result<(), Fail> {
+    let rows: [Row; 7] = [
+        (&["./plc.bin", "--help"], "Usage: plc <COMMAND>\n"),
+        (&["plc", "help"], "Usage: plc <COMMAND>\n"),
+        (
+            &["plc", "run", "-h"],
+            "Usage: plc run [OPTIONS] <SOURCE> <COMMANDS>\n",
+        ),
+        (
+            &["plc", "asm", "--help"],
+            "Usage: plc asm <SOURCE> <IMAGE>\n",
+        ),
+        (&["plc", "list", "-h"], "Usage: plc list <IMAGE>\n"),
+        (&["plc", "sim", "-h"], "\n  plc: read N at L:C "),
+        (&["plc", "--version"], "plc 0.1.0\n"),
+    ];
+    are_shown(&rt, rt.alloc(), &rows)
+}
+
+#[test]
+fn other_words_are_bad(rt: HostRuntime) -> Result<(), Fail> {
+    let rows: [Row; 9] = [
+        (&[], "Usage: plc <COMMAND>\n"),
+        (&["walk"], "error: unrecognized subcommand 'walk'\n"),
+        (
+            &["run", "a"],
+            "error: the following required arguments were not provided:\n  <COMMANDS>\n",
+        ),
+        (
+            &["run", "a", "b", "c"],
+            "error: unexpected argument 'c' found\n",
+        ),
+        (
+            &["asm", "a"],
+            "error: the following required arguments were not provided:\n  <IMAGE>\n",
+        ),
+        (
+            &["list", "a", "b"],
+            "error: unexpected argument 'b' found\n",
+        ),
+        (
+            &["run", "a", "b", "--loud"],
+            "error: unexpected argument '--loud' found\n",
+        ),
+        (
+            &["ask", "5021"],
+            "error: the following required arguments were not provided:\n  <COMMANDS>\n",
+        ),
+        (
+            &["ask", "5021", "b", "--change", "a"],
+            "error: the argument '[COMMANDS]' cannot be used with '--change <SOURCE>'\n",
+        ),
+    ];
+    are_bad(&rt, rt.alloc(), &["plc"], &rows)
+}
+
+#[test]
+fn budgets_out_of_range_are_bad(rt: HostRuntime) -> Result<(), Fail> {
+    let rows: [Row; 7] = [
+        (
+            &["--budget", "0"],
+            "error: invalid value '0' for '--budget <B>'",
+        ),
+        (
+            &["--budget=1000001"],
+            "error: invalid value '1000001' for '--budget <B>'",
+        ),
+        (
+            &["--budget=-1"],
+            "error: invalid value '-1' for '--budget <B>'",
+        ),
+        (
+            &["--budget=4294967297"],
+            "error: invalid value '4294967297' for '--budget <B>'",
+        ),
+        (
+            &["--budget", "five"],
+            "error: invalid value 'five' for '--budget <B>'",
+        ),
+        (
+            &["--budget", "5", "--budget=5"],
+            "error: the argument '--budget <B>' cannot be used multiple times",
+        ),
+        (
+            &["--budget"],
+            "error: a value is required for '--budget <B>' but none was supplied",
+        ),
+    ];
+    are_bad(&rt, rt.alloc(), &["plc", "run", "a", "b"], &rows)
+}
+
+#[test]
+fn words_of_sim_out_of_range_are_bad(rt: HostRuntime) -> Result<(), Fail> {
+    let rows: [Row; 4] = [
+        (
+            &["--every", "65536"],
+            "error: invalid value '65536' for '--every <E>'",
+        ),
+        (
+            &["--every=-1"],
+            "error: invalid value '-1' for '--every <E>'",
+        ),
+        (
+            &["--every", "1", "--every=1"],
+            "error: the argument '--every <E>' cannot be used multiple times",
+        ),
+        (&["--f", "0"], "error: invalid value '0' for '--f <F>'"),
+    ];
+    are_bad(&rt, rt.alloc(), &["plc", "sim", "a", "b"], &rows)
+}
+
+#[test]
+fn words_of_serve_out_of_range_are_bad(rt: HostRuntime) -> Result<(), Fail> {
+    let rows: [Row; 12] = [
+        (
+            &["--scans", "1"],
+            "error: the following required arguments were not provided:\n  --store <DIR>\n",
+        ),
+        (
+            &["--store", "d"],
+            "error: the following required arguments were not provided:\n  --scans <N>\n",
+        ),
+        (
+            &["--store", "", "--scans", "1"],
+            "error: a value is required for '--store <DIR>' but none was supplied",
+        ),
+        (
+            &["--store", "d", "--scans", "0"],
+            "error: invalid value '0' for '--scans <N>'",
+        ),
+        (
+            &["--store", "d", "--scans=4294967296"],
+            "error: invalid value '4294967296' for '--scans <N>'",
+        ),
+        (
+            &["--store", "d", "--scans", "1", "--port", "0"],
+            "error: invalid value '0' for '--port <P>'",
+        ),
+        (
+            &["--store", "d", "--scans", "1", "--port=65536"],
+            "error: invalid value '65536' for '--port <P>'",
+        ),
+        (
+            &["--store", "d", "--scans", "1", "--period", "0"],
+            "error: invalid value '0' for '--period <MS>'",
+        ),
+        (
+            &["--store", "d", "--scans", "1", "--period=4294967296"],
+            "error: invalid value '4294967296' for '--period <MS>'",
+        ),
+        (
+            &["--store", "d", "--scans", "1", "--f", "4"],
+            "error: invalid value '4' for '--f <F>'",
+        ),
+        (
+            &["--store", "d", "--scans", "1", "--crash", "0"],
+            "error: invalid value '0' for '--crash <K>'",
+        ),
+        (
+            &["--store", "d", "--scans", "1", "--report", ""],
+            "error: a value is required for '--report <FILE>' but none was supplied",
+        ),
+    ];
+    are_bad(&rt, rt.alloc(), &["plc", "serve", "a.il"], &rows)
+}
+
+#[test]
+fn words_without_text_are_bad(rt: HostRuntime) {
+    let mut out = Vec::new(rt.alloc());
+    let mut err = Vec::new(rt.alloc());
+    let unread = WordsError::from(io::Error::from(io::ErrorKind::InvalidData));
+    assert_eq!(rt;
+        plc_tool::tell_words(&unread, &mut out, &mut Counted::new(&mut err)),
+        3
+    );
+    let line = b"error: a word is no text in UTF-8\n".as_slice();
+    assert_eq!(rt; err.as_slice(), line);
+    let memory = WordsError::from(AllocError);
+    assert_eq!(rt;
+        plc_tool::tell_words(&memory, &mut out, &mut Counted::new(&mut err)),
+        2
+    );
+}

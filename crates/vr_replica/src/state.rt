@@ -1,0 +1,105 @@
+//! A replica, and what it shows.
+
+ghost use Rattle.std.specs.Prelude.{◌≡◌, ◌↔◌, ◌⊎◌, ◌<◌, IfOk, IsTrue, None, Some, MatchOption};
+ghost use Rattle.std.specs.List.{slice_get};
+ghost use Rattle.il_model.specs.declared.command.Command.{Command};
+ghost use Rattle.vr_model.specs.Membership.{Membership};
+ghost use Rattle.vr_model.specs.Replicas as model;
+ghost use Rattle.vr_model.specs.StandsFor.{request_of};
+ghost use Rattle.vr_model.specs.World as world;
+ghost use Rattle.vr_core.specs.StandsFor.{member};
+ghost use Rattle.vr_replica.specs.Standing.{StandsFor, IsDown};
+
+use il_model::Budget;
+use il_loader::Image;
+use std::alloc::{AllocError, Global};
+use vr_core::{Core, Status};
+use vr_model::{Config, Request};
+
+/// A replica of a group. What it keeps in memory goes with a crash; what its store keeps stays.
+#[derive(Drop)]
+pub struct Replica {
+    pub(crate) core: Core,
+}
+
+impl Replica {
+    /// The replica of this number, normal in view 0 and with an empty log. It fails only where memory runs out.
+    pub fn new(
+        alloc: Global,
+        config: Config,
+        number: u8,
+        image: Image,
+        budget: Budget,
+    ) -> Result<Replica, AllocError>
+        ensures { IfOk result (λ replica. StandsFor replica
+            (member config.f number image budget.instructions) world.first_replica) }
+    {
+        Ok(Replica {
+            core: Core::new(alloc, config, number, image, budget)?,
+        })
+    }
+
+    /// The replica of this number, down: it waits for a restart. It fails only where memory runs out.
+    pub fn down(
+        alloc: Global,
+        config: Config,
+        number: u8,
+        image: Image,
+        budget: Budget,
+    ) -> Result<Replica, AllocError>
+        ensures { IfOk result (λ replica. (r : model.ReplicaState Command)
+            → StandsFor replica (member config.f number image budget.instructions) (world.down r)) }
+    {
+        Ok(Replica {
+            core: Core::down(alloc, config, number, image, budget)?,
+        })
+    }
+
+    /// A crash: it is down until a restart, and has lost all but its store. It takes no memory.
+    pub fn crash(&mut self, alloc: Global)
+        ensures { (m : Membership) (r : model.ReplicaState Command) → StandsFor self.old m r
+            → StandsFor self.new m (world.down r) }
+    {
+        self.core.crash(alloc);
+    }
+
+    /// Whether its view goes on normally.
+    pub fn is_normal(&self) -> bool
+        ensures { (m : Membership) (r : model.ReplicaState Command) → StandsFor self.now m r
+            → result ≡ model.is_normal r.status }
+    {
+        match self.core.status {
+            Status::Normal => true,
+            Status::ViewChange | Status::Recovering | Status::Down => false,
+        }
+    }
+
+    /// Whether it is down.
+    pub fn is_down(&self) -> bool
+        ensures told { (m : Membership) (r : model.ReplicaState Command) → StandsFor self.now m r
+            → result ≡ model.is_down r.status }
+        ensures status { IsTrue result ↔ IsDown self.now }
+    {
+        match self.core.status {
+            Status::Down => true,
+            Status::Normal | Status::ViewChange | Status::Recovering => false,
+        }
+    }
+
+    /// How many entries of its log it has executed.
+    pub fn commit(&self) -> u64
+        ensures { (m : Membership) (r : model.ReplicaState Command) → StandsFor self.now m r
+            → result ≡ r.commit_number }
+    {
+        self.core.commit_number
+    }
+
+    /// The entry of its log at this place, from 0. Of those that it has executed it may keep only the last ones.
+    pub fn entry(&self, place: u64) -> Option<&Request>
+        ensures { (m : Membership) (r : model.ReplicaState Command) → StandsFor self.now m r
+            → MatchOption result ((slice_get r.log place ≡ None) ⊎ (place < r.commit_number))
+            (λ entry. slice_get r.log place ≡ Some (request_of entry.now)) }
+    {
+        self.core.log.get(place)
+    }
+}

@@ -1,0 +1,224 @@
+//! A store in a file of 16 bytes.
+
+ghost use Rattle.std.specs.Prelude.{◌≡◌, ◌≤◌, ◌↔◌, IsTrue, MatchResult, true, false, OnOk, OnErr};
+ghost use Rattle.io_model.specs.Counted.{Failed};
+ghost use Rattle.vr_threads.specs.Keeping.{stored_bytes, stored_from, MayHold, Rose, Writes};
+
+use crate::ends::Starts;
+use byteorder::{BigEndian, ByteOrder};
+use vr_replica::{StoreFault, ViewStore};
+use std::alloc::{AllocError, Global};
+use std::fs::OpenFile;
+use std::io::{ErrorKind, Read, Write};
+use std::rt::Files;
+use std::{fs, io};
+use vr_model::Stored;
+
+const LENGTH: usize = 16;
+
+/// What the file may hold.
+#[derive(Clone, Copy, Debug, PartialEq, Eq)]
+pub(crate) enum Held {
+    /// Before the first load: whatever an earlier run left there.
+    Unknown,
+    /// After a load or a write.
+    One(Stored),
+    /// After a write that failed: what was there, or what was written.
+    OneOf(Stored, Stored),
+}
+
+impl Held {
+    /// Whether it may hold this: a view is kept only behind a start.
+    fn has(self, stored: Stored) -> bool
+        ensures { IsTrue result ↔ MayHold self stored }
+    {
+        if stored.starts == 0 && stored.view != 0 {
+            return false;
+        }
+        match self {
+            Held::Unknown => true,
+            Held::One(one) => stored == one,
+            Held::OneOf(one, other) => stored == one || stored == other,
+        }
+    }
+}
+
+/// The view and the starts of a replica, in a file: written beside it, flushed, and renamed. It counts its failures,
+/// and the writes that went well. A replica that starts again is handed the store that it had: another one would not
+/// know what the file may hold.
+#[derive(Drop)]
+pub struct FileStore<R: Files + Drop> {
+    rt: R,
+    directory: String,
+    path: String,
+    beside: String,
+    held: Held,
+    failures: u64,
+    writes: u64,
+}
+
+/// As it stands in the file.
+fn spelt(stored: Stored) -> [u8; LENGTH]
+    ensures { result ≡ stored_bytes stored }
+{
+    let mut bytes = [0u8; LENGTH];
+    BigEndian::write_u64(&mut bytes[0..8], stored.view);
+    BigEndian::write_u64(&mut bytes[8..16], stored.starts);
+    bytes
+}
+
+/// What these bytes of a file say.
+fn read_back(bytes: &[u8; LENGTH]) -> Stored
+    ensures { result ≡ stored_from bytes.now }
+{
+    Stored {
+        view: BigEndian::read_u64(bytes.as_slice()),
+        starts: BigEndian::read_u64(&bytes[8..]),
+    }
+}
+
+impl<R: Files + Drop> FileStore<R> {
+    /// The store of a replica, in a directory that is there.
+    pub fn new(
+        rt: R,
+        alloc: Global,
+        directory: &str,
+        replica: u8,
+    ) -> Result<FileStore<R>, AllocError> {
+        Ok(FileStore {
+            rt,
+            directory: format!(in alloc; "{directory}")?,
+            path: format!(in alloc; "{directory}/replica-{replica}")?,
+            beside: format!(in alloc; "{directory}/replica-{replica}.new")?,
+            held: Held::Unknown,
+            failures: 0,
+            writes: 0,
+        })
+    }
+
+    /// Where its file is, or will be.
+    pub fn path(&self) -> &str {
+        self.path.as_str()
+    }
+
+    /// Takes its file away, as far as that can be done: that of a replica that never served.
+    pub fn remove(self) {
+        let _ = fs::remove_file(&self.rt, self.beside.as_str());
+        let _ = fs::remove_file(&self.rt, self.path.as_str());
+    }
+
+    /// What the file holds: zeros where there is none. No start leaves a file without a start.
+    fn read(&self) -> io::Result<Stored> {
+        let mut file = match fs::open(&self.rt, self.path.as_str()) {
+            Ok(file) => file,
+            Err(error) if error.kind() == ErrorKind::NotFound => return Ok(Stored {
+                view: 0,
+                starts: 0,
+            }),
+            Err(error) => return Err(error),
+        };
+        let mut bytes = [0u8; LENGTH];
+        file.read_exact(&mut bytes)?;
+        let stored = read_back(&bytes);
+        if stored.starts == 0 || file.read(&mut [0u8; 1])? != 0 {
+            return Err(io::Error::from(ErrorKind::InvalidData));
+        }
+        Ok(stored)
+    }
+
+    /// Writes it beside the file, and puts that in its place.
+    fn write(&self, stored: Stored) -> io::Result<()> {
+        {
+            let mut file = fs::create(&self.rt, self.beside.as_str())?;
+            file.write_all(spelt(stored).as_slice())?;
+            file.sync_all()?;
+        }
+        fs::rename(&self.rt, self.beside.as_str(), self.path.as_str())?;
+        fs::open(&self.rt, self.directory.as_str())?.sync_all()
+    }
+
+    /// Writes it over what was found.
+    fn keep(&mut self, found: Stored, stored: Stored) -> Result<(), StoreFault>
+        ensures gives { MatchResult result (λ _. Writes found stored true self.new.held)
+            (λ _. Writes found stored false self.new.held) }
+        ensures device { OnErr result (Failed self.old.failures self.new.failures) }
+        ensures counts { self.old.failures ≤ self.new.failures }
+        ensures wrote { OnOk result (Rose self.old.writes self.new.writes) }
+    {
+        if self.write(stored).is_err() {
+            self.held = Held::OneOf(found, stored);
+            return Err(self.fail());
+        }
+        self.writes = self.writes.saturating_add(1);
+        self.held = Held::One(stored);
+        Ok(())
+    }
+
+    /// Counts a failure.
+    fn fail(&mut self) -> StoreFault
+        ensures device { Failed self.old.failures self.new.failures }
+        ensures counts { self.old.failures ≤ self.new.failures }
+        ensures held { self.new.held ≡ self.old.held }
+        ensures writes { self.new.writes ≡ self.old.writes }
+    {
+        self.failures = self.failures.saturating_add(1);
+        StoreFault
+    }
+}
+
+impl<R: Files + Drop> ViewStore for FileStore<R> {
+    ghost use Rattle.vr_threads.specs.Keeping.{Loads, Saves, Rose};
+
+    ghost load_gives = { λ s found t. Loads s.held found t.held × (t.writes ≡ s.writes) };
+
+    ghost save_gives = { λ s view made t. Saves s.held view made t.held × (IsTrue made → Rose s.writes t.writes) };
+
+    ghost faults = { λ s. s.failures };
+
+    fn load(&mut self) -> Result<Stored, StoreFault> {
+        match self.read() {
+            Ok(stored) if self.held.has(stored) => {
+                self.held = Held::One(stored);
+                Ok(stored)
+            }
+            _ => Err(self.fail()),
+        }
+    }
+
+    fn save(&mut self, view: u64) -> Result<(), StoreFault> {
+        match self.held {
+            Held::One(found) if found.starts > 0 => self.keep(
+                found,
+                Stored {
+                    view,
+                    starts: found.starts,
+                },
+            ),
+            Held::Unknown | Held::One(_) | Held::OneOf(_, _) => Err(self.fail()),
+        }
+    }
+
+    fn faults(&self) -> u64 {
+        self.failures
+    }
+}
+
+impl<R: Files + Drop> Starts for FileStore<R> {
+    ghost use Rattle.std.specs.Prelude.{IfSome};
+    ghost use Rattle.vr_threads.specs.Keeping.{Begins, Rose};
+
+    ghost begin_gives = { λ s stored t. Begins s.held stored t.held × IfSome stored (λ _. Rose s.writes t.writes) };
+
+    fn begin(&mut self) -> Result<Stored, StoreFault> {
+        let found = self.load()?;
+        if found.starts == u64::MAX {
+            return Err(self.fail());
+        }
+        let stored = Stored {
+            view: found.view,
+            starts: found.starts + 1,
+        };
+        self.keep(found, stored)?;
+        Ok(stored)
+    }
+}

@@ -1,4 +1,0 @@
-use Rattle.worked_threads.proofs.serve_rows.controllers_are_served.Given as goal
-
-abbrev pub ghosts-serve : goal.ghosts-serve
-ghosts-serve g a = record { book = a.list }
