@@ -28,12 +28,12 @@ use crate::ready::{Fresh, Kind, Ready};
 use crate::shape::{can_restore, fits};
 use crate::snap_error::SnapError;
 use ctl_model::{Phase, ScanOut};
+use ctl_scan::{Breakpoints, ScanCycle, have_states};
+use il_loader::Image;
 use il_model::{
     Answer, Area, Budget, Command, InImage, Loc, OutImage, Refusal, SavedPhase, Slot, Snapshot,
     Stop, Value,
 };
-use il_loader::Image;
-use ctl_scan::{Breakpoints, ScanCycle, have_states};
 use std::alloc::{AllocError, Global};
 use std::marker::Model;
 use std::mem::swap;

@@ -9,10 +9,10 @@ ghost use Rattle.il_model.specs.Words.{spells};
 ghost use Rattle.ctl_model.specs.Slots.{variable_slot, instance_slot, field_slot, dotted_slot, slot_number};
 ghost use Rattle.ctl_model.specs.Slots.{slot_of};
 
+use il_loader::Image;
 use il_model::{
     CodedOperand, Field, Instance, MOST_INSTANCES, Slot, Variable, dot, is_spelled, location_from,
 };
-use il_loader::Image;
 
 fn location_slot(name: &[u8]) -> Option<u16>
     ensures { result ≡ option_map loc_code (location_of name.now) }

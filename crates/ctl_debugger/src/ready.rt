@@ -4,9 +4,9 @@ ghost use Rattle.std.specs.Prelude.{◌≡◌, IfOk};
 ghost use Rattle.il_model.specs.declared.command.Command.TheVariants.{Change};
 ghost use Rattle.ctl_debugger.specs.Prepared.{IsReady, IsWhole, prepared_as};
 
-use il_model::Command;
-use il_loader::{Image, LoadError, load};
 use ctl_scan::{Breakpoints, ScanCycle};
+use il_loader::{Image, LoadError, load};
+use il_model::Command;
 use std::alloc::{AllocError, Global};
 use std::marker::Model;
 

@@ -6,9 +6,9 @@ ghost use Rattle.ctl_model.specs.Snapshots.{fit_breaks, fits_location, fit_force
 ghost use Rattle.ctl_debugger.specs.Restored.{CanRestore};
 
 use crate::controller::forcible_at;
-use il_model::{Budget, ForcedSlot, SavedPhase, Slot, Snapshot, Value, loc_type};
-use il_loader::Image;
 use ctl_scan::{fits_run, fits_values, has_type, have_states};
+use il_loader::Image;
+use il_model::{Budget, ForcedSlot, SavedPhase, Slot, Snapshot, Value, loc_type};
 
 /// Whether a slot is a location of `%I` or `%Q`, and the value of its type.
 fn fits_location(value: Value, slot: Slot) -> bool

@@ -7,8 +7,8 @@ ghost use Rattle.il_model.specs.Typing.{top_of, shape_after, shape_on_arrival, s
 ghost use Rattle.ctl_model.specs.Suits.{held_of};
 ghost use Rattle.ctl_model.specs.Snapshots.{same_optional, same_held, all_held};
 
-use il_model::{Deferred, Held, Ty, Types, Value, kind_of, row_of};
 use il_loader::Image;
+use il_model::{Deferred, Held, Ty, Types, Value, kind_of, row_of};
 
 /// Goes past an instruction.
 fn pass(types: &mut Types, image: &Image, n: u16)

@@ -7,8 +7,8 @@ ghost use Rattle.ctl_machine.specs.Parts.{HasBlock, HaveBlocks, HasNoBlock, HasN
 
 use crate::arrival::{are_of, has_type, types_at};
 use ctl_blocks::Block;
-use il_model::{BlockKind, Instance, SavedInstance, Snapshot, Value, Variable};
 use il_loader::Image;
+use il_model::{BlockKind, Instance, SavedInstance, Snapshot, Value, Variable};
 
 /// Whether there is a value of its type for each variable without a location, in order.
 fn fit_variables(values: &[Value], variables: &[Variable]) -> bool

@@ -17,10 +17,10 @@ ghost use Rattle.ctl_scan.specs.Told.{came_to, IsWithin};
 use crate::breakpoints::Breakpoints;
 use crate::force_table::ForceTable;
 use crate::run::{Came, run, run_one, run_over};
-use ctl_model::ScanOut;
-use il_model::{Budget, InImage, Loc, OutImage, SavedPhase, Slot, Snapshot, Value};
-use il_loader::Image;
 use ctl_machine::Machine;
+use ctl_model::ScanOut;
+use il_loader::Image;
+use il_model::{Budget, InImage, Loc, OutImage, SavedPhase, Slot, Snapshot, Value};
 use std::alloc::{AllocError, Global};
 use std::marker::Model;
 

@@ -27,6 +27,6 @@ mod forces;
 mod run;
 
 pub use breakpoints::Breakpoints;
+pub use ctl_machine::{fits_run, fits_values, has_type, have_states};
 pub use ctl_model::ScanOut;
 pub use cycle::ScanCycle;
-pub use ctl_machine::{fits_run, fits_values, has_type, have_states};

@@ -10,8 +10,8 @@ use crate::declaration::{write_instances, write_variables};
 use crate::fault::ListFault;
 use crate::instruction::write_lines;
 use crate::writing::write_text;
-use io_model::CountedWrite;
 use il_loader::Image;
+use io_model::CountedWrite;
 
 fn write_listing<W: CountedWrite>(writer: &mut W, image: &Image) -> Result<(), ListFault>
     ensures { Writes W.CountedWrite (listing image.now) writer.old writer.new result }

@@ -17,8 +17,4 @@
 
 mod counted;
 
-pub use counted::Counted;
-pub use counted::CountedRead;
-pub use counted::CountedWrite;
-pub use counted::DeviceFault;
-pub use counted::write_all;
+pub use counted::{Counted, CountedRead, CountedWrite, DeviceFault, write_all};

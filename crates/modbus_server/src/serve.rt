@@ -9,8 +9,8 @@ ghost use Rattle.modbus_server.specs.Sessions.{images_of, Answers, Adds, Answers
 use crate::adu::Adu;
 use crate::replies::reply;
 use crate::session::{Session, SessionFault};
-use io_model::{CountedRead, CountedWrite, write_all};
 use io_image::{Naming, ReleasedReader, Staging};
+use io_model::{CountedRead, CountedWrite, write_all};
 use std::alloc::{AllocError, Global};
 use std::sync::Wait;
 

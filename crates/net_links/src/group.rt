@@ -3,13 +3,13 @@
 use crate::hub::Hub;
 use crate::tcp_link::{TcpLink, WAKER};
 use mio::{Poll, Token, Waker};
-use vr_threads::party_at;
 use std::alloc::Global;
 use std::io;
 use std::io::ErrorKind;
 use std::net::{Net, TcpListener, TcpStream};
 use std::sync::{Arc, Wait};
 use std::time::Duration;
+use vr_threads::party_at;
 
 /// The links of a group, those of the replicas by their numbers and then those of the clients by theirs, each connected
 /// to each other: a connection for each pair, at a port of 127.0.0.1 that the system picks, where nothing listens

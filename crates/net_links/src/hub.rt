@@ -1,12 +1,12 @@
 //! Where ends of connections are handed over.
 
 use mio::Waker;
-use vr_threads::Cutter;
 use std::alloc::Global;
 use std::net::TcpStream;
 use std::sync::{Arc, Mutex, Wait};
 use std::{io, mem};
 use vr_model::Party;
+use vr_threads::Cutter;
 
 /// This end of a connection to the party with that place.
 #[derive(Drop)]

@@ -4,9 +4,9 @@ ghost use Rattle.std.specs.Prelude.{◌≡◌, [], filter};
 ghost use Rattle.net_links.specs.Own.{is_same as same_parties, is_between as between, AreTo};
 
 use mio::net::TcpStream as Wire;
+use net_ends::{Flow, Inbox, Outbox};
 use std::alloc::{AllocError, Global};
 use vr_model::{Message, Party};
-use net_ends::{Flow, Inbox, Outbox};
 
 /// A connection to another party.
 #[derive(Drop)]

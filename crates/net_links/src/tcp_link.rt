@@ -9,13 +9,13 @@ use crate::hub::{Arrival, Hub, TcpCutter};
 use crate::peer::Peer;
 use mio::net::TcpStream as Wire;
 use mio::{Events, Interest, Poll, Token};
-use vr_threads::{Input, Link, Relink, Unlinked};
 use std::alloc::{AllocError, Global};
 use std::io;
 use std::net::{Net, TcpListener, TcpStream};
 use std::sync::{Arc, Wait};
 use std::time::Duration;
 use vr_model::{Message, Party};
+use vr_threads::{Input, Link, Relink, Unlinked};
 
 /// So often in a row a link may give what came with no look at what else happened.
 const MOST_UNSEEN: u32 = 64;

@@ -3,14 +3,14 @@
 
 ghost use Rattle.plc.specs.Asked.{ServesAsAsked};
 
-use plc_console::send_commands;
 use il_model::Budget;
+use io_image::NewList;
 use io_model::{Counted, CountedWrite};
+use plc_console::send_commands;
 use plc_json::command_texts;
 use plc_serve::{ReportFile, Service, Settings};
 use plc_tool::{Fault, NewFile, change_to};
 use plc_words::{Words, WordsError, read_words};
-use io_image::NewList;
 use std::io::{BufWriter, Write};
 use std::marker::Brand;
 use std::net::TcpStream;

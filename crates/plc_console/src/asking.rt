@@ -11,10 +11,10 @@ ghost use Rattle.plc_console.specs.Asking.{way, joined, Hears, IsAnswered};
 use crate::session::Unanswered;
 use il_model::{Answer, Command};
 use io_image::GroupClient;
-use vr_threads::{Input, Link, send_all};
 use std::alloc::Global;
 use std::sync::Wait;
 use std::time::{Clock, Duration, Instant};
+use vr_threads::{Input, Link, send_all};
 
 /// Submits a command under the client's next number, and receives until it is answered: by the first REPLY with that
 /// number, whatever else comes meanwhile. After each period without it the same request is sent again, to all. It is

@@ -4,8 +4,8 @@ ghost use Rattle.std.specs.Prelude.{◌≡◌, ◌++◌, ◌∷◌, [], ◌↔�
 ghost use Rattle.plc_tool.specs.Named.{meant};
 ghost use Rattle.plc_console.specs.Lines.{kept, AsksFor, AsksForNothing, IsScan};
 
-use il_model::Command;
 use il_loader::Image;
+use il_model::Command;
 use plc_json::{JsonFault, NamedCommand, one_command};
 use plc_tool::meant;
 use std::alloc::{AllocError, Global};

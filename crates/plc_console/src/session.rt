@@ -11,9 +11,9 @@ ghost use Rattle.plc_console.specs.Lines.{kept, line_end, HasNoEnd};
 ghost use Rattle.plc_console.specs.Sessions.{scene, Serves, Stops, StopsAt, Takes, Talks, Writes};
 
 use crate::line::{LINE_END, Line, PIECE};
+use il_loader::{Image, LoadError, load};
 use il_model::{Answer, Command};
 use io_model::{CountedRead, CountedWrite, write_all};
-use il_loader::{Image, LoadError, load};
 use plc_tool::{Fault, put_line};
 use std::alloc::{AllocError, Global};
 use std::sync::Wait;

@@ -8,13 +8,12 @@ ghost use Rattle.plc_tool.specs.Status.{status_of};
 use crate::door::Door;
 use crate::places::Places;
 use crate::sessions::admit;
-use plc_console::{Submits, Unanswered, ask, serve_console};
-use il_model::{Answer, Command};
-use io_model::Counted;
 use il_loader::Image;
-use plc_tool::Fault;
+use il_model::{Answer, Command};
 use io_image::GroupClient;
-use vr_threads::{Cutter, Link, Relink};
+use io_model::Counted;
+use plc_console::{Submits, Unanswered, ask, serve_console};
+use plc_tool::Fault;
 use std::alloc::Global;
 use std::net::TcpStream;
 use std::sync::{Arc, Wait};
@@ -22,6 +21,7 @@ use std::thread;
 use std::thread::{JoinHandle, Threads};
 use std::time::{Clock, Duration};
 use vr_model::{ClientNumber, Config};
+use vr_threads::{Cutter, Link, Relink};
 
 /// The console's number among the clients.
 pub(crate) const CONSOLE: ClientNumber = ClientNumber { number: 1 };

@@ -5,12 +5,12 @@ ghost use Rattle.plc_tool.specs.Status.{status_of};
 ghost use Rattle.plc_tool.specs.declared.fault.Fault.TheVariants.{Store};
 
 use plc_tool::Fault;
-use vr_threads::FileStore;
 use std::alloc::{AllocError, Global};
 use std::fs;
 use std::io::ErrorKind;
 use std::rt::Files;
 use vr_model::Config;
+use vr_threads::FileStore;
 
 /// Where a group of replicas has its stores.
 #[derive(Clone, Copy)]

@@ -16,15 +16,15 @@ use crate::notice::{Notice, tell};
 use crate::pace::Pace;
 use crate::watch::Watch;
 use il_model::Answer;
+use io_image::{Naming, Pen, ReleasedWriter, ScanDriver, Staging};
 use io_model::CountedWrite;
 use plc_tool::Fault;
-use io_image::{Naming, Pen, ReleasedWriter, ScanDriver, Staging};
-use vr_threads::{Input, Link, Relink, Starts, send_all};
 use std::alloc::{AllocError, Global};
 use std::sync::Wait;
 use std::thread::Threads;
 use std::time::{Clock, Duration};
 use vr_model::{Body, Message};
+use vr_threads::{Input, Link, Relink, Starts, send_all};
 
 /// By what the scan was held or stopped whose answer the message brings, if it was.
 fn halt_in(message: &Message) -> Option<Notice>

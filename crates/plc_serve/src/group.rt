@@ -10,13 +10,13 @@ use crate::health::{Health, HealthGate, HealthStore};
 use crate::watch::Watch;
 use io_model::CountedWrite;
 use plc_tool::Fault;
-use vr_threads::{Cluster, ClusterError, FileStore, MachineClock, Relink, Seat, Starts};
 use std::alloc::{AllocError, Global};
 use std::rt::Files;
 use std::sync::{Arc, Wait};
 use std::thread::Threads;
 use std::time::{Clock, Duration};
 use vr_model::Config;
+use vr_threads::{Cluster, ClusterError, FileStore, MachineClock, Relink, Seat, Starts};
 
 /// For so many milliseconds a replica hears nothing of its view before it begins another.
 const TIMEOUT: u64 = 2000;

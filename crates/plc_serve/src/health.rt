@@ -1,11 +1,11 @@
 //! What the threads of the replicas show to the driver's.
 
-use vr_replica::{StoreFault, ViewStore};
-use vr_threads::{Gate, Starts};
 use std::alloc::{AllocError, Global};
 use std::sync::Arc;
 use std::sync::atomic::{AtomicBool, Ordering};
 use vr_model::Stored;
+use vr_replica::{StoreFault, ViewStore};
+use vr_threads::{Gate, Starts};
 
 /// What shows of one replica.
 #[derive(Drop)]

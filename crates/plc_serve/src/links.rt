@@ -4,14 +4,14 @@
 ghost use Rattle.std.specs.Prelude.{◌≡◌, IfErr};
 ghost use Rattle.plc_tool.specs.Status.{status_of};
 
+use net_links::{TcpLink, links};
 use plc_tool::Fault;
-use vr_threads::{ChannelLink, Switchboard, party_at};
 use std::alloc::{AllocError, Global};
 use std::net::{Net, TcpListener, TcpStream};
 use std::sync::{Arc, Wait};
 use std::time::{Clock, Duration};
-use net_links::{TcpLink, links};
 use vr_model::{Config, Party};
+use vr_threads::{ChannelLink, Switchboard, party_at};
 
 /// For so many milliseconds a link waits for a message: a clock may be late by that.
 const WAIT: u64 = 50;

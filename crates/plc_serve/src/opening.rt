@@ -6,14 +6,14 @@ ghost use Rattle.plc_serve.specs.Serving.{IsPortTold};
 
 use crate::desk::{NewConsole, OpenConsole};
 use crate::sessions::{OpenServer, Server};
+use io_image::{Naming, Stage};
 use io_model::CountedWrite;
 use plc_tool::Fault;
-use io_image::{Naming, Stage};
-use vr_threads::Relink;
 use std::alloc::Global;
 use std::sync::Wait;
 use std::thread::Threads;
 use std::time::Clock;
+use vr_threads::Relink;
 
 /// What takes connections. It can't be let go of but by `close`, which joins its threads.
 pub(crate) struct Open<J: Naming, R: Drop, L: Relink + Drop> {

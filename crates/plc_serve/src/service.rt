@@ -7,10 +7,10 @@ ghost use Rattle.plc_tool.specs.Status.{status_of};
 use crate::group::stores;
 use crate::serving::Settings;
 use plc_tool::Fault;
-use vr_threads::FileStore;
 use std::alloc::Global;
 use std::fs;
 use std::rt::Files;
+use vr_threads::FileStore;
 
 /// A controller that is to be served, with a store for each replica, none of which is opened yet.
 #[derive(Drop)]

@@ -23,12 +23,11 @@ use crate::places::Places;
 use crate::report::{Counts, open, put_report};
 use crate::sessions::Server;
 use crate::watch::Watch;
-use il_model::Budget;
-use io_model::CountedWrite;
 use il_loader::Image;
-use plc_tool::{Fault, ended, image};
+use il_model::Budget;
 use io_image::{Naming, NewList, Pen, ReleasedWriter, ScanDriver, SharedPen, released};
-use vr_threads::{Cluster, Relink, Starts};
+use io_model::CountedWrite;
+use plc_tool::{Fault, ended, image};
 use std::alloc::Global;
 use std::io::Write;
 use std::net::{Net, TcpListener, TcpStream};
@@ -37,6 +36,7 @@ use std::sync::Wait;
 use std::thread::Threads;
 use std::time::{Clock, Duration, Instant};
 use vr_model::Config;
+use vr_threads::{Cluster, Relink, Starts};
 
 /// So many sessions are served at once.
 const SESSIONS: usize = 16;

@@ -7,10 +7,10 @@ ghost use Rattle.plc_serve.specs.Serving.{port_line, IsPortTold};
 
 use crate::door::Door;
 use crate::places::Places;
+use io_image::{Naming, ReleasedReader, Stage, StageBook, Staging};
 use io_model::{Counted, CountedWrite};
 use modbus_server::serve_session;
 use plc_tool::{Fault, put};
-use io_image::{Naming, ReleasedReader, Stage, StageBook, Staging};
 use std::alloc::{AllocError, Global};
 use std::net::TcpStream;
 use std::sync::atomic::{AtomicU64, Ordering};

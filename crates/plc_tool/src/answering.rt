@@ -10,12 +10,12 @@ ghost use Rattle.plc_tool.specs.Meaning.{IsUntyped, IsTextFault, OrMemory};
 
 use crate::fault::Fault;
 use crate::naming::answers_of;
-use il_assembler::assemble;
 use ctl_debugger::Controller;
+use il_assembler::assemble;
 use il_declarations::resolve;
+use il_loader::{Image, LoadError, load};
 use il_model::{Answer, Budget, Program};
 use il_reader::read;
-use il_loader::{Image, LoadError, load};
 use plc_json::NamedCommand;
 use std::alloc::Global;
 

@@ -5,11 +5,11 @@ ghost use Rattle.plc_tool.specs.Simulated.{command_known, event_known, AreKnown,
 
 use crate::fault::Fault;
 use ctl_debugger::slot;
-use il_model::Command;
 use il_loader::Image;
+use il_model::Command;
 use plc_json::{NamedCommand, NamedEvent};
-use vr_schedules::{Kept, WorldEvent};
 use std::alloc::{AllocError, Global};
+use vr_schedules::{Kept, WorldEvent};
 
 /// The command that a named one is, or `None` where its name is no slot's.
 fn command_known(

@@ -7,9 +7,9 @@ ghost use Rattle.plc_tool.specs.Told.{of_read, of_declaration, of_assembly, of_l
 use crate::fault::Fault;
 use il_assembler::AsmError;
 use il_declarations::DeclError;
-use il_reader::ReadError;
 use il_lister::ListFault;
 use il_loader::{LoadError, LoadFault};
+use il_reader::ReadError;
 
 impl From<ReadError> for Fault {
     ghost from_gives = { λ error fault. fault ≡ of_read error };

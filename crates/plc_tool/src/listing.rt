@@ -6,9 +6,9 @@ ghost use Rattle.il_model.specs.Image.{spelling};
 ghost use Rattle.plc_tool.specs.Meaning.{IsListed, IsCutShort, IsImageFault, OrMemory};
 
 use crate::fault::Fault;
-use io_model::CountedWrite;
 use il_lister::list;
 use il_loader::{Image, load};
+use io_model::CountedWrite;
 use std::alloc::Global;
 
 /// The image that bytes are, or the first fault of bytes that are none.

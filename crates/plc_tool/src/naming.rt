@@ -6,8 +6,8 @@ ghost use Rattle.ctl_debugger.specs.Outcome.{outcome};
 ghost use Rattle.plc_tool.specs.Named.{IsNoSlot, slot_meant, meant, answers_by};
 
 use ctl_debugger::{Controller, prepare, slot};
-use il_model::{Answer, Command, Slot};
 use il_loader::Image;
+use il_model::{Answer, Command, Slot};
 use plc_json::NamedCommand;
 use std::alloc::{AllocError, Global};
 

@@ -6,9 +6,9 @@ ghost use Rattle.plc_tool.specs.Reports.{comma, length_text, entry_text, release
 ghost use Rattle.plc_tool.specs.Reports.{releases_text, released_text, ordered_text, report_text};
 
 use crate::line::AnswerLine;
-use vr_schedules::{Release, Trace};
 use std::fmt;
 use vr_model::Request;
+use vr_schedules::{Release, Trace};
 
 /// The report of a schedule, without its line's end: compact JSON (RFC 8259), its keys in order. It has the length of
 /// the committed list after each event, that list by clients and numbers, each release with its event, client, number

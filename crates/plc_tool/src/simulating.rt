@@ -11,13 +11,13 @@ use crate::answering::image;
 use crate::events::all_known;
 use crate::fault::Fault;
 use crate::report::ReportLine;
+use il_loader::Image;
 use il_model::Budget;
 use io_model::{CountedWrite, write_all};
-use il_loader::Image;
 use plc_json::NamedEvent;
-use vr_schedules::{Trace, WorldError, WorldEvent};
 use std::alloc::{AllocError, Global};
 use vr_model::Config;
+use vr_schedules::{Trace, WorldError, WorldEvent};
 use vr_world::run_world;
 
 /// The trace of a run of these events in which nothing was lost.

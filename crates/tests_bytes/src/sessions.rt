@@ -4,11 +4,11 @@ ghost use Rattle.std.specs.Prelude.{◌≡◌};
 use crate::clients::{Client, Pieces, Publishing, Writes, cut_at};
 use crate::notation::{behind, bytes_of, cells_of, otherwise, unreadable};
 use il_model::OutImage;
-use io_model::Counted;
-use modbus_server::{HeaderFault, Session, SessionEnd, SessionFault, serve_session};
 use io_image::{
     Naming, NewList, Release, ReleasedReader, Sample, Stage, StageBook, Staging, released,
 };
+use io_model::Counted;
+use modbus_server::{HeaderFault, Session, SessionEnd, SessionFault, serve_session};
 use std::alloc::{AllocError, Global};
 use std::io;
 use std::marker::Brand;

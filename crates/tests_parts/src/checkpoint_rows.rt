@@ -3,11 +3,11 @@
 use crate::images::{COUNTING, WIRE};
 use crate::replica_rows::{Store, new_replica, store_with};
 use il_model::{Answer, Command, InImage, OutImage};
-use vr_replica::{Replica, StepFault};
 use std::alloc::Global;
 use std::process::Abort;
 use std::test::Fail;
 use vr_model::{Body, ClientNumber, Event, Log, Message, Party, PrimaryState, Request};
+use vr_replica::{Replica, StepFault};
 
 /// What a message carries.
 #[derive(Clone, Copy)]

@@ -3,9 +3,9 @@ ghost use Rattle.std.specs.Prelude.{◌<◌, ◌≤◌, length, IfOk};
 ghost use Rattle.ctl_scan.specs.Kept.{IsCycleOf};
 
 use crate::images::{WIRE_AND_FIVE, image};
-use il_model::{Area, Budget, InImage, Loc, OutImage, Slot, Value};
-use il_loader::Image;
 use ctl_scan::{Breakpoints, ScanCycle, ScanOut};
+use il_loader::Image;
+use il_model::{Area, Budget, InImage, Loc, OutImage, Slot, Value};
 use std::alloc::{AllocError, Global};
 use std::process::Abort;
 use std::test::Fail;

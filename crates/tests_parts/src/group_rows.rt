@@ -3,11 +3,11 @@
 use crate::images::WIRE;
 use crate::replica_rows::{Store, new_replica, store_with};
 use il_model::{Answer, Command, InImage, OutImage};
-use vr_replica::Replica;
 use std::alloc::Global;
 use std::process::Abort;
 use std::test::Fail;
 use vr_model::{Body, ClientNumber, Event, Message, Party, Request};
+use vr_replica::Replica;
 
 /// What happens, to the replica of this number. Messages go by their places among all that were sent, from 0.
 #[derive(Clone, Copy)]

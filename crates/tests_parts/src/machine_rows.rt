@@ -2,9 +2,9 @@
 ghost use Rattle.ctl_machine.specs.Kept.{IsMachineOf};
 
 use crate::images::{THREE_STORES, image};
-use il_model::{InImage, Slot, Value};
-use il_loader::Image;
 use ctl_machine::{Machine, RunOut, StepOut};
+use il_loader::Image;
+use il_model::{InImage, Slot, Value};
 use std::process::Abort;
 use std::test::Fail;
 

@@ -2,13 +2,13 @@
 
 use crate::images::{WIRE, image};
 use il_model::{Answer, Budget, Command, Refusal};
-use vr_replica::{Replica, StepFault, StoreFault, ViewStore};
 use std::alloc::Global;
 use std::process::Abort;
 use std::test::Fail;
 use vr_model::{
     Body, ClientNumber, Config, Event, Log, Message, Party, PrimaryState, Request, Stored,
 };
+use vr_replica::{Replica, StepFault, StoreFault, ViewStore};
 
 /// A store in memory. So many calls of it fail; a save that fails leaves the new view or the old one.
 #[derive(Drop)]

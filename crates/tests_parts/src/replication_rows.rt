@@ -1,10 +1,10 @@
 //! The choice of a log, and the sizes of groups.
 
 use il_model::Command;
-use vr_log_choice::choose;
 use std::alloc::Global;
 use std::process::Abort;
 use std::test::Fail;
+use vr_log_choice::choose;
 use vr_model::{ClientNumber, Config, DoViewChange, Log, Request};
 
 /// The number of a replica, its last normal view, and how long its log is.

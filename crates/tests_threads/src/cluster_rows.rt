@@ -2,11 +2,9 @@
 ghost use Rattle.std.specs.Prelude.{None};
 
 use crate::shelf::{Shelf, WIRE, group_of_three};
-use il_model::{Answer, Command, InImage};
 use il_loader::{Image, load};
-use vr_threads::{
-    ChannelLink, Clock, Cluster, Gate, Input, Link, MachineClock, Relink, Seat, Switchboard, Tick,
-};
+use il_model::{Answer, Command, InImage};
+use net_links::links;
 use std::alloc::{AllocError, Global};
 use std::process::Abort;
 use std::sync::atomic::{AtomicBool, AtomicU64, Ordering};
@@ -15,8 +13,10 @@ use std::test::Fail;
 use std::thread::Threads;
 use std::time::Duration;
 use std::{thread, time};
-use net_links::links;
 use vr_model::{Body, ClientNumber, Message, Party, Request};
+use vr_threads::{
+    ChannelLink, Clock, Cluster, Gate, Input, Link, MachineClock, Relink, Seat, Switchboard, Tick,
+};
 
 fn wire(alloc: Global) -> Result<Image, Fail> {
     match load(alloc, WIRE) {

@@ -3,13 +3,12 @@
 
 ghost use Rattle.std.specs.Prelude.{◌≡◌};
 
-use plc_console::send_commands;
 use il_model::Budget;
+use io_image::NewList;
 use io_model::Counted;
+use plc_console::send_commands;
 use plc_json::command_texts;
 use plc_serve::{Settings, serve};
-use io_image::NewList;
-use vr_threads::FileStore;
 use std::alloc::Global;
 use std::io::{Read, Write};
 use std::marker::Brand;
@@ -20,6 +19,7 @@ use std::test::Fail;
 use std::time::Duration;
 use std::{fs, io};
 use vr_model::Config;
+use vr_threads::FileStore;
 
 /// A line is told, and then the operator asks these commands, as `plc ask` does, which prints this.
 type Row = (&'static [u8], &'static [u8], &'static [u8]);

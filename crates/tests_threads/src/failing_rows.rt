@@ -2,10 +2,9 @@
 ghost use Rattle.std.specs.Prelude.{◌≡◌};
 
 use il_model::Budget;
+use io_image::NewList;
 use io_model::Counted;
 use plc_serve::{Settings, serve};
-use io_image::NewList;
-use vr_threads::FileStore;
 use std::alloc::Global;
 use std::io::{Read, Write};
 use std::marker::Brand;
@@ -16,6 +15,7 @@ use std::test::Fail;
 use std::thread::{JoinHandle, Threads};
 use std::{fs, io, str, thread};
 use vr_model::Config;
+use vr_threads::FileStore;
 
 /// So many clients come at once.
 const CLIENTS: u8 = 16;

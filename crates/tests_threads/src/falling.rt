@@ -1,10 +1,10 @@
 //! Stores of replicas that fall silent.
 ghost use Rattle.std.specs.Prelude.{◌≡◌, IfOk, vec_len};
 
-use vr_replica::{StoreFault, ViewStore};
-use vr_threads::Starts;
 use std::alloc::{AllocError, Global};
 use vr_model::Stored;
+use vr_replica::{StoreFault, ViewStore};
+use vr_threads::Starts;
 
 /// A store that fails once it has counted the start of its replica, if it falls: so the replica is never up.
 #[derive(Drop)]

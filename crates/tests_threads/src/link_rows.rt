@@ -1,6 +1,7 @@
 //! Links over TCP: what comes, in which order, and how they end.
 
-use vr_threads::{Cutter, Input, Link, Relink};
+use net_ends::{Flow, Inbox};
+use net_links::{TcpLink, links, pair};
 use std::alloc::Global;
 use std::io::{Read, Write};
 use std::net::{Net, TcpListener, TcpStream};
@@ -9,9 +10,8 @@ use std::sync::Wait;
 use std::test::Fail;
 use std::thread;
 use std::time::{Duration, Instant};
-use net_links::{TcpLink, links, pair};
 use vr_model::{Body, Message, Party};
-use net_ends::{Flow, Inbox};
+use vr_threads::{Cutter, Input, Link, Relink};
 
 /// The links of two replicas, whose receives wait for so many milliseconds.
 fn two<R: Wait + Net<Listener = TcpListener, Stream = TcpStream> + Copy + Drop>(

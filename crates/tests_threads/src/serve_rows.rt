@@ -3,10 +3,10 @@ ghost use Rattle.std.specs.Prelude.{◌≡◌};
 
 use crate::clients::{ALL, Step, Visit, visit_once_told};
 use crate::falling::with_falling;
+use io_image::NewList;
 use io_model::Counted;
 use plc_serve::{ReportFile, Service, Settings, serve};
 use plc_words::{Words, read_words};
-use io_image::NewList;
 use std::alloc::Global;
 use std::io::Write;
 use std::marker::Brand;

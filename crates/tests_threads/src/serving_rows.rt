@@ -1,13 +1,13 @@
 //! The loop of one replica over scripted ends: what it polls, receives, tells its clock and calls its gate with.
 use crate::shelf::{Shelf, WIRE, group_of_three};
-use il_model::{Command, InImage};
 use il_loader::load;
-use vr_replica::Replica;
-use vr_threads::{Clock, Gate, Input, Link, Tick, serve};
+use il_model::{Command, InImage};
 use std::alloc::Global;
 use std::process::Abort;
 use std::test::Fail;
 use vr_model::{Body, ClientNumber, Message, Party, Request};
+use vr_replica::Replica;
+use vr_threads::{Clock, Gate, Input, Link, Tick, serve};
 
 /// What a receive gives: the request of this number, from client 0.
 #[derive(Clone, Copy)]

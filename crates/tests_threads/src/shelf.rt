@@ -1,10 +1,10 @@
 //! What the served replicas stand on: a group of three, a store in memory, and the image of a small program.
 
 use il_model::Budget;
-use vr_replica::{StoreFault, ViewStore};
-use vr_threads::Starts;
 use std::test::Fail;
 use vr_model::{Config, Stored};
+use vr_replica::{StoreFault, ViewStore};
+use vr_threads::Starts;
 
 /// A group of three, each scan within 100 instructions.
 pub fn group_of_three() -> Result<(Config, Budget), Fail> {

@@ -1,13 +1,13 @@
 //! A store on real files.
 
-use vr_replica::{StoreFault, ViewStore};
-use vr_threads::{FileStore, Starts};
 use std::io::Write;
 use std::process::Abort;
 use std::rt::Files;
 use std::test::Fail;
 use std::{fs, io};
 use vr_model::Stored;
+use vr_replica::{StoreFault, ViewStore};
+use vr_threads::{FileStore, Starts};
 
 fn put<R: Files>(rt: &R, path: &str, bytes: &[u8]) -> io::Result<()> {
     let mut file = fs::create(rt, path)?;

@@ -1,7 +1,7 @@
 //! As many variables, instances, instructions and bytes as a text or an image may have, and one more.
 
-use io_model::Counted;
 use il_loader::load;
+use io_model::Counted;
 use std::alloc::{AllocError, Global};
 use std::process::Abort;
 use std::test::Fail;

@@ -1,12 +1,12 @@
 //! A long run over three replicas: scans, two view changes, and a replica that crashes and recovers.
 
-use il_model::{Answer, Budget, Command, InImage, OutImage};
 use il_loader::load;
-use vr_schedules::{Trace, WorldEvent};
+use il_model::{Answer, Budget, Command, InImage, OutImage};
 use std::alloc::{AllocError, Global};
 use std::process::Abort;
 use std::test::Fail;
 use vr_model::Config;
+use vr_schedules::{Trace, WorldEvent};
 use vr_world::run_world;
 
 /// The image of `LD %IX0.0`, `ST %QX0.0`.

@@ -10,8 +10,8 @@ ghost use Rattle.vr_model.specs.World as world;
 ghost use Rattle.vr_core.specs.StandsFor.{member};
 ghost use Rattle.vr_replica.specs.Standing.{StandsFor, IsDown};
 
-use il_model::Budget;
 use il_loader::Image;
+use il_model::Budget;
 use std::alloc::{AllocError, Global};
 use vr_core::{Core, Status};
 use vr_model::{Config, Request};

@@ -1,9 +1,9 @@
 //! What a served replica stands on, beside its store.
 
-use vr_replica::{StoreFault, ViewStore};
 use std::alloc::AllocError;
 use thiserror::Error;
 use vr_model::{Message, Stored};
+use vr_replica::{StoreFault, ViewStore};
 
 /// What a receive gave.
 #[derive(Drop)]

@@ -6,13 +6,13 @@ ghost use Rattle.vr_threads.specs.Keeping.{stored_bytes, stored_from, MayHold, R
 
 use crate::ends::Starts;
 use byteorder::{BigEndian, ByteOrder};
-use vr_replica::{StoreFault, ViewStore};
 use std::alloc::{AllocError, Global};
 use std::fs::OpenFile;
 use std::io::{ErrorKind, Read, Write};
 use std::rt::Files;
 use std::{fs, io};
 use vr_model::Stored;
+use vr_replica::{StoreFault, ViewStore};
 
 const LENGTH: usize = 16;
 

@@ -5,9 +5,9 @@ ghost use Rattle.vr_replica.specs.Stepped.{StepResult};
 ghost use Rattle.vr_threads.specs.Serving.{StepsTo, Served, Turned, Grows, sends_in, scene};
 
 use crate::ends::{Clock, Gate, Input, Link, Tick};
-use vr_replica::{Replica, ViewStore};
 use std::alloc::Global;
 use vr_model::{Event, Message, Sends};
+use vr_replica::{Replica, ViewStore};
 
 /// Takes so many turns, or fewer where a receive gives Closed. Each takes one event at most, the clock's first, and
 /// hands on what `Replica::step` makes of it.

@@ -5,11 +5,11 @@ ghost use Rattle.vr_core.specs.StandsFor.{member};
 ghost use Rattle.vr_threads.specs.Starting.{HasStarted};
 
 use crate::ends::Starts;
-use il_model::Budget;
 use il_loader::Image;
-use vr_replica::Replica;
+use il_model::Budget;
 use std::alloc::{AllocError, Global};
 use vr_model::Config;
+use vr_replica::Replica;
 
 /// A replica that is to be served.
 #[derive(Drop)]

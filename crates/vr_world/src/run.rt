@@ -7,12 +7,12 @@ ghost use Rattle.vr_schedules.specs.Traces.{AreNew, IsTraced, Fails};
 ghost use Rattle.vr_world.specs.Released.{AllStandAtTheirPlaces};
 
 use crate::seat::Seat;
-use il_model::Budget;
 use il_loader::Image;
-use vr_replica::Replica;
-use vr_schedules::{Trace, WorldError, WorldEvent, run_schedule};
+use il_model::Budget;
 use std::alloc::{AllocError, Global};
 use vr_model::Config;
+use vr_replica::Replica;
+use vr_schedules::{Trace, WorldError, WorldEvent, run_schedule};
 
 /// The new replicas of a group, one for each number.
 fn group(

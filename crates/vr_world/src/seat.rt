@@ -1,10 +1,10 @@
 //! A replica as a member of a world.
 
 use crate::shelf::Shelf;
-use vr_replica::{Replica, StepFault};
-use vr_schedules::{Member, MemoryStore};
 use std::alloc::{AllocError, Global};
 use vr_model::{Event, Request, Sends};
+use vr_replica::{Replica, StepFault};
+use vr_schedules::{Member, MemoryStore};
 
 /// A replica over a store in memory.
 #[derive(Drop)]

@@ -1,8 +1,8 @@
 //! A store in memory, as the store of a replica.
 
+use vr_model::Stored;
 use vr_replica::{StoreFault, ViewStore};
 use vr_schedules::{Kept, MemoryStore};
-use vr_model::Stored;
 
 /// A store in memory for one step, and how often it failed in it.
 #[derive(Clone, Copy)]
