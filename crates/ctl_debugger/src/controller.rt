@@ -127,7 +127,7 @@ fn restored_phase(phase: SavedPhase) -> Phase
 }
 
 /// A scan has an input for each cell. For proofs; it does nothing.
-fn whole_inputs(command: &Command)
+fn know_whole_inputs(command: &Command)
     ensures { HasWholeInputs command.now }
 {
     if let Command::Scan { inputs, .. } = command {
@@ -185,8 +185,8 @@ impl Controller {
             (λ s. with_image s (spelling self.now.program) ≡ snapshot_of self.now.program self.now.control) }
         ensures lawful { IfOk result (λ s. IsController self.now) }
     {
-        self.cycle.whole();
-        self.image.lawful();
+        self.cycle.know_whole();
+        self.image.know_lawful();
         let mut snapshot = self.cycle.parts(alloc, &self.image)?;
         snapshot.breaks = break_positions(alloc, self.breaks.flags())?;
         snapshot.phase = saved_phase(self.phase, self.cycle.performed());
@@ -253,7 +253,7 @@ impl Controller {
         let Some(cycle) = ScanCycle::from_parts(alloc, &image, snapshot)? else {
             return Err(SnapError::BadBlock);
         };
-        cycle.whole();
+        cycle.know_whole();
         Ok(Controller {
             image,
             budget,
@@ -277,7 +277,7 @@ impl Controller {
     {
         match self.phase {
             Phase::Idle => {
-                self.image.lawful();
+                self.image.know_lawful();
                 self.cycle.begin(inputs, moment);
                 let out = self.cycle.run_to(&self.image, &self.breaks, self.budget);
                 tell(&mut self.phase, self.cycle.count(), out)
@@ -293,7 +293,7 @@ impl Controller {
     {
         match self.phase {
             Phase::Held => {
-                self.image.lawful();
+                self.image.know_lawful();
                 let out = self.cycle.step(&self.image, self.budget);
                 tell(&mut self.phase, self.cycle.count(), out)
             }
@@ -307,7 +307,7 @@ impl Controller {
     {
         match self.phase {
             Phase::Held => {
-                self.image.lawful();
+                self.image.know_lawful();
                 let out = self.cycle.step_over(&self.image, &self.breaks, self.budget);
                 tell(&mut self.phase, self.cycle.count(), out)
             }
@@ -422,8 +422,8 @@ impl Controller {
         ensures budget { self.new.budget ≡ self.old.budget }
         ensures outcome { (result, self.new) ≡ outcome self.old command.now }
     {
-        whole_inputs(command);
-        self.image.lawful();
+        know_whole_inputs(command);
+        self.image.know_lawful();
         self.answer(command)
     }
 
@@ -462,7 +462,7 @@ impl Controller {
             mut cycle,
             breaks,
         } = fresh;
-        image.lawful();
+        image.know_lawful();
         cycle.carry_over(&image, &self.cycle, &self.image);
         self.image = image;
         self.cycle = cycle;

@@ -20,9 +20,9 @@
 //! gives exactly the slot of a name. What `save` tells is restored, with the same image and budget, to the same
 //! controller; a snapshot is refused exactly where it doesn't fit, or where the words of a block are no state of it.
 //!
-//! Only tested: nothing; `debugger.rows` of `tests_rows` has sessions, `restored_rows` and `spoilt_rows` of
-//! `tests_parts` snapshots that are restored, and spoilt ones. Some sessions are computed from the tables as proofs
-//! (`proofs/WorkedRows`). By its code alone: that `save_over` moves the bytes of an image that is the same.
+//! Tests (nothing rests on them alone): `debugger.rows` of `tests_rows` has sessions, `controllers.rows` of
+//! `tests_bytes` commands, snapshots that are restored, and spoilt ones. Some sessions are computed from the tables as
+//! proofs (`proofs/WorkedRows`). By its code alone: that `save_over` moves the bytes of an image that is the same.
 #![tactic(auto)]
 
 ghost use Rattle.std.specs.Prelude.{◌≡◌, ℕ, List, Result};

@@ -33,7 +33,7 @@ fn variable_named(variables: &[Variable], name: &[u8]) -> Option<usize>
 fn variable_slot(image: &Image, name: &[u8]) -> Option<u16>
     ensures { result ≡ variable_slot image.now name.now }
 {
-    image.lawful();
+    image.know_lawful();
     let i = variable_named(image.variables(), name)?;
     Some(CodedOperand::Variable(i as u16).code() as u16)
 }
@@ -71,7 +71,7 @@ fn instance_slot(i: usize, instance: &Instance, field: &[u8]) -> Option<u16>
 fn field_slot(image: &Image, name: &[u8], field: &[u8]) -> Option<u16>
     ensures { result ≡ field_slot image.now name.now field.now }
 {
-    image.lawful();
+    image.know_lawful();
     let instances = image.instances();
     let i = instance_named(instances, name)?;
     instance_slot(i, &instances[i], field)

@@ -16,7 +16,7 @@ fn pass(types: &mut Types, image: &Image, n: u16)
     requires types { shape_at image.now n ≡ Ok types.old }
     ensures { shape_at image.now (n + 1) ≡ Ok types.new }
 {
-    image.lawful();
+    image.know_lawful();
     let _len = image.len();
     let line = image.at(n).fetched();
     let kind = kind_of(image.program(), line.source);

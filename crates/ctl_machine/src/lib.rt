@@ -16,8 +16,8 @@
 //! give the cold state; `carry_over` goes on with what a change of the program carries over; a snapshot's parts come
 //! back as the same machine.
 //!
-//! Only tested: nothing; `machine_rows` of `tests_parts` runs three stores. In no clause: that `run_straight`
-//! doesn't stop early for nothing; the figures in `bench/README.md` would show it.
+//! Tests (nothing rests on them alone): `machine_rows` of `tests_parts` runs three stores. In no clause: that
+//! `run_straight` doesn't stop early for nothing; the figures in `bench/README.md` would show it.
 #![tactic(auto)]
 
 mod arrival;

@@ -12,10 +12,10 @@
 //! ```
 //!
 //! Proved: the six laws, for every program, state, budget and list of commands. Worked sessions are computed from the
-//! table of commands as proofs in `debugger` (`proofs/WorkedRows`), so that the definitions themselves were seen to
+//! table of commands as proofs in `ctl_debugger` (`proofs/WorkedRows`), so that the definitions themselves were seen to
 //! give what was wanted.
 //!
-//! Only tested: nothing.
+//! No test is needed here.
 #![tactic(auto)]
 
 ghost use Rattle.std.specs.Prelude.{ℕ, Bool, List};

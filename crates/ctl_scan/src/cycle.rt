@@ -122,10 +122,10 @@ impl ScanCycle {
     }
 
     /// There is a place for the force of each input and output. For proofs; it does nothing.
-    pub fn whole(&self)
+    pub fn know_whole(&self)
         ensures { AreMasks self.now.cycle.forces }
     {
-        self.forces.whole();
+        self.forces.know_whole();
     }
 
     /// Begins a scan: it is counted, up to the greatest number of 64 bits; its moment, in milliseconds, is no less than
@@ -156,7 +156,7 @@ impl ScanCycle {
         ensures kept { IsCycleOf image.now self.new }
         ensures performed { self.new.cycle.performed < budget.instructions }
     {
-        image.lawful();
+        image.know_lawful();
         let came = run(
             &mut self.machine,
             image,
@@ -178,7 +178,7 @@ impl ScanCycle {
         ensures kept { IsCycleOf image.now self.new }
         ensures performed { self.new.cycle.performed < budget.instructions }
     {
-        image.lawful();
+        image.know_lawful();
         let came = run_over(
             &mut self.machine,
             image,

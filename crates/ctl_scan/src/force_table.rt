@@ -6,7 +6,7 @@ ghost use Rattle.ctl_model.specs.Snapshots.{forced_slots, fit_forces};
 ghost use Rattle.ctl_scan.specs.Parts.{AreMasks};
 
 use crate::forces::{
-    force, no_forces, restored_forces, saved_forces, unforce, whole_forces, with_forces,
+    force, know_whole_forces, no_forces, restored_forces, saved_forces, unforce, with_forces,
 };
 use ctl_model::Forces;
 use il_model::{Cells, ForcedSlot, Loc, Value};
@@ -71,10 +71,10 @@ impl ForceTable {
     }
 
     /// There is a place for the force of each input and output. For proofs; it does nothing.
-    pub fn whole(&self)
+    pub fn know_whole(&self)
         ensures { AreMasks self.now }
     {
-        whole_forces(&self.forces);
+        know_whole_forces(&self.forces);
     }
 
     /// The inputs with the forces laid over them.

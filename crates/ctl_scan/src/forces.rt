@@ -181,7 +181,7 @@ pub fn saved_forces(alloc: Global, forces: &Forces) -> Result<Vec<ForcedSlot>, A
 }
 
 /// A mask has a place for each cell of its area. For proofs; it does nothing.
-fn whole(mask: &Mask)
+fn know_whole(mask: &Mask)
     ensures { IsMask mask.now }
 {
     let _bit = mask.bits[0];
@@ -189,11 +189,11 @@ fn whole(mask: &Mask)
 }
 
 /// Forces have a place for each cell. For proofs; it does nothing.
-pub fn whole_forces(forces: &Forces)
+pub fn know_whole_forces(forces: &Forces)
     ensures { AreMasks forces.now }
 {
-    whole(&forces.input);
-    whole(&forces.output);
+    know_whole(&forces.input);
+    know_whole(&forces.output);
 }
 
 /// The forces of slots that rise and have values of their types.

@@ -10,9 +10,10 @@
 //!
 //! Proved: Ok wrote exactly the listing of the image's program (`specs/Listing`), over any writer that tells its bytes.
 //! It answers Device only where the writer failed in that call, and then a beginning of the listing went out. It takes
-//! no memory. That a listing is read as the same program is the law of `read_back`.
+//! no memory. That a listing is read as the same program is the law of `laws_listing`.
 //!
-//! Only tested: nothing; `images.rows` of `tests_rows` has listings, `tests_tool` a writer that fails in the middle.
+//! Tests (nothing rests on them alone): `images.rows` of `tests_rows` has listings, `tests_tool` a writer that fails in
+//! the middle.
 #![tactic(auto)]
 
 mod declaration;

@@ -1,7 +1,9 @@
 //! What was declared before the words of an image.
 
 use crate::instance::Instances;
+use crate::label::Labels;
 use crate::variable::Variables;
+use il_model::{Value, Version};
 use std::marker::Model;
 
 /// Variables and instances, to which the numbers in words point.
@@ -45,4 +47,13 @@ impl<'a, 'b> Declared<'a, 'b> {
     {
         self.instances
     }
+}
+
+/// The version of an image, and the tables before its words, to which their numbers point.
+#[derive(Drop)]
+pub struct SymbolTables<'a, 'b> {
+    pub version: Version,
+    pub declared: &'a Declared<'a, 'b>,
+    pub labels: &'a Labels<'b>,
+    pub constants: &'a [Value],
 }

@@ -7,7 +7,7 @@ ghost use Rattle.il_model.specs.Codes.{label_there, target_name, variable_named,
 ghost use Rattle.il_model.specs.Codes.{named_operand, value_operand, numbered_operand, word_operand, argument_operand};
 ghost use Rattle.il_loader.specs.Reading.{Gives};
 
-use crate::declared::Declared;
+use crate::declared::{Declared, SymbolTables};
 use crate::fault::LoadError;
 use crate::label::Labels;
 use il_model::{
@@ -120,36 +120,35 @@ fn value_operand(
 
 fn numbered_operand(
     alloc: Global,
-    ds: &Declared,
-    labels: &Labels,
-    constants: &[Value],
+    tables: &SymbolTables,
     op: Op,
     n: u16,
 ) -> Result<Option<Operand>, LoadError>
-    ensures { Gives (λ o. o) result (Ok (numbered_operand ds.now labels.now constants.now op n)) }
+    ensures { Gives (λ o. o) result
+        (Ok (numbered_operand tables.now.declared.now tables.now.labels.now tables.now.constants.now op n)) }
 {
     if op == Op::Jmp {
-        Ok(Some(Operand::Label(target_name(alloc, labels, n)?)))
+        Ok(Some(Operand::Label(target_name(alloc, tables.labels, n)?)))
     } else if op == Op::Cal {
-        instance_named(alloc, ds.instances().as_slice().get(n as usize))
+        let instances = tables.declared.instances().as_slice();
+        instance_named(alloc, instances.get(n as usize))
     } else {
-        value_operand(alloc, ds, constants, n)
+        value_operand(alloc, tables.declared, tables.constants, n)
     }
 }
 
 /// The operand of an instruction, where its operator takes one of this form.
 pub fn word_operand(
     alloc: Global,
-    ds: &Declared,
-    labels: &Labels,
-    constants: &[Value],
+    tables: &SymbolTables,
     op: Op,
     m: Modifier,
     n: u16,
 ) -> Result<Option<Operand>, LoadError>
-    ensures { Gives (λ o. o) result (Ok (word_operand ds.now labels.now constants.now op m n)) }
+    ensures { Gives (λ o. o) result
+        (Ok (word_operand tables.now.declared.now tables.now.labels.now tables.now.constants.now op m n)) }
 {
-    match numbered_operand(alloc, ds, labels, constants, op, n)? {
+    match numbered_operand(alloc, tables, op, n)? {
         Some(operand) => {
             if is_formed(op, m, &operand) {
                 Ok(Some(operand))

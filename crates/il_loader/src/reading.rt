@@ -10,7 +10,7 @@ ghost use Rattle.il_loader.specs.Reading.{instance_at, mark_at, constant_at, ins
 ghost use Rattle.il_loader.specs.Reading.{next_word};
 
 use crate::counts::Counts;
-use crate::declared::Declared;
+use crate::declared::SymbolTables;
 use crate::fault::{LoadError, LoadFault};
 use crate::instance::Instances;
 use crate::label::{Label, Labels};
@@ -329,25 +329,23 @@ fn argument_number(n: u8) -> Option<u8>
 #[tactic(auto, unfolding(crate::specs::Reading::instruction_at))]
 fn instruction_at<'a>(
     alloc: Global,
-    version: Version,
     position: usize,
-    ds: &Declared,
-    labels: &Labels,
-    constants: &[Value],
+    tables: &SymbolTables,
     n: usize,
     code: u8,
     bytes: &'a [u8],
 ) -> Result<(Word, &'a [u8]), LoadError>
     ensures { Gives (λ x. (x.0, x.1.now)) result
-        (instruction_at version position ds.now labels.now constants.now n code bytes.entry.now) }
+        (instruction_at tables.now.version position
+        tables.now.declared.now tables.now.labels.now tables.now.constants.now n code bytes.entry.now) }
 {
-    let op = lawful(position, op_in(version, code))?;
+    let op = lawful(position, op_in(tables.version, code))?;
     let (letters, rest) = u8_at(bytes)?;
     let modifier = lawful(position, letters_of(op, letters))?;
     let (code, rest) = u16_at(rest)?;
-    let operand = word_operand(alloc, ds, labels, constants, op, modifier, code)?;
+    let operand = word_operand(alloc, tables, op, modifier, code)?;
     let operand = lawful(position, operand)?;
-    let label = label_there(alloc, labels, n)?;
+    let label = label_there(alloc, tables.labels, n)?;
     let line = Instr {
         label,
         op,
@@ -364,17 +362,17 @@ fn instruction_at<'a>(
 fn argument_at<'a>(
     alloc: Global,
     position: usize,
-    ds: &Declared,
-    constants: &[Value],
+    tables: &SymbolTables,
     side: Side,
     bytes: &'a [u8],
 ) -> Result<(Word, &'a [u8]), LoadError>
-    ensures { Gives (λ x. (x.0, x.1.now)) result (argument_at position ds.now constants.now side bytes.entry.now) }
+    ensures { Gives (λ x. (x.0, x.1.now)) result
+        (argument_at position tables.now.declared.now tables.now.constants.now side bytes.entry.now) }
 {
     let (number, rest) = u8_at(bytes)?;
     let number = lawful(position, argument_number(number))?;
     let (code, rest) = u16_at(rest)?;
-    let operand = argument_operand(alloc, ds, constants, code)?;
+    let operand = argument_operand(alloc, tables.declared, tables.constants, code)?;
     let operand = lawful(position, operand)?;
     let content = Content::Argument(side, number, operand);
     Ok((Word { content, code }, rest))
@@ -383,23 +381,19 @@ fn argument_at<'a>(
 #[tactic(auto, unfolding(crate::specs::Reading::word_at))]
 fn word_at<'a>(
     alloc: Global,
-    version: Version,
     position: usize,
-    ds: &Declared,
-    labels: &Labels,
-    constants: &[Value],
+    tables: &SymbolTables,
     n: usize,
     bytes: &'a [u8],
 ) -> Result<(Word, &'a [u8]), LoadError>
     ensures { Gives (λ x. (x.0, x.1.now)) result
-        (word_at version position ds.now labels.now constants.now n bytes.entry.now) }
+        (word_at tables.now.version position
+        tables.now.declared.now tables.now.labels.now tables.now.constants.now n bytes.entry.now) }
 {
     let (code, rest) = u8_at(bytes)?;
     match side_of(code) {
-        Some(side) => argument_at(alloc, position, ds, constants, side, rest),
-        None => instruction_at(
-            alloc, version, position, ds, labels, constants, n, code, rest,
-        ),
+        Some(side) => argument_at(alloc, position, tables, side, rest),
+        None => instruction_at(alloc, position, tables, n, code, rest),
     }
 }
 
@@ -423,7 +417,7 @@ pub fn variables_of<'a>(
     Ok((seen, rest))
 }
 
-/// The instances, likewise.
+/// The instances, of which there are `count`, and the bytes behind them.
 pub fn instances_of<'a>(
     alloc: Global,
     total: usize,
@@ -444,7 +438,7 @@ pub fn instances_of<'a>(
     Ok((seen, rest))
 }
 
-/// The labels, likewise.
+/// The labels, of which there are `count`, and the bytes behind them.
 pub fn labels_of<'a>(
     alloc: Global,
     total: usize,
@@ -463,7 +457,7 @@ pub fn labels_of<'a>(
     Ok((seen, rest))
 }
 
-/// The constants, likewise.
+/// The constants, of which there are `count`, and the bytes behind them.
 pub fn constants_of(
     alloc: Global,
     version: Version,
@@ -486,57 +480,36 @@ pub fn constants_of(
 /// The word behind these.
 fn next_word<'a>(
     alloc: Global,
-    version: Version,
     total: usize,
-    ds: &Declared,
-    labels: &Labels,
-    constants: &[Value],
+    tables: &SymbolTables,
     seen: &[Word],
     bytes: &'a [u8],
 ) -> Result<(Word, &'a [u8]), LoadError>
     ensures { Gives (λ x. (x.0, x.1.now)) result
-        (next_word version total ds.now labels.now constants.now seen.now bytes.entry.now) }
+        (next_word tables.now.version total
+        tables.now.declared.now tables.now.labels.now tables.now.constants.now seen.now bytes.entry.now) }
 {
     let position = total.saturating_sub(bytes.len());
-    word_at(
-        alloc,
-        version,
-        position,
-        ds,
-        labels,
-        constants,
-        seen.len(),
-        bytes,
-    )
+    word_at(alloc, position, tables, seen.len(), bytes)
 }
 
-/// The words, likewise: instructions, and the arguments of calls.
+/// The words, of which there are `count`, and the bytes behind them: instructions, and the arguments of calls.
 pub fn words_of<'a>(
     alloc: Global,
-    version: Version,
     total: usize,
-    ds: &Declared,
-    labels: &Labels,
-    constants: &[Value],
+    tables: &SymbolTables,
     count: u16,
     bytes: &'a [u8],
 ) -> Result<(Vec<Word>, &'a [u8]), LoadError>
     ensures { Gives (λ x. (x.0.items, x.1.now)) result
-        (items_from (next_word version total ds.now labels.now constants.now) count [] bytes.entry.now) }
+        (items_from
+        (next_word tables.now.version total tables.now.declared.now tables.now.labels.now tables.now.constants.now)
+        count [] bytes.entry.now) }
 {
     let mut found = Vec::new(alloc);
     let mut rest = bytes;
     for _ in 0..count {
-        let (one, after) = next_word(
-            alloc,
-            version,
-            total,
-            ds,
-            labels,
-            constants,
-            found.as_slice(),
-            rest,
-        )?;
+        let (one, after) = next_word(alloc, total, tables, found.as_slice(), rest)?;
         found.push(one)?;
         rest = after;
     }

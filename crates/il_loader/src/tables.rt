@@ -4,7 +4,7 @@ ghost use Rattle.std.specs.Prelude.{◌≡◌};
 ghost use Rattle.il_loader.specs.Reading.{Gives, bodies_at, tables_at};
 
 use crate::counts::Counts;
-use crate::declared::Declared;
+use crate::declared::{Declared, SymbolTables};
 use crate::fault::{LoadError, LoadFault};
 use crate::instance::Instances;
 use crate::label::Labels;
@@ -57,16 +57,13 @@ fn bodies_at<'a>(
     let (instances, rest) = instances_of(alloc, total, &variables, counts.instances, rest)?;
     let (labels, rest) = labels_of(alloc, total, counts.labels, rest)?;
     let (constants, rest) = constants_of(alloc, version, total, counts.constants, rest)?;
-    let (words, rest) = words_of(
-        alloc,
+    let tables = SymbolTables {
         version,
-        total,
-        &Declared::of(&variables, &instances),
-        &labels,
-        constants.values(),
-        counts.words,
-        rest,
-    )?;
+        declared: &Declared::of(&variables, &instances),
+        labels: &labels,
+        constants: constants.values(),
+    };
+    let (words, rest) = words_of(alloc, total, &tables, counts.words, rest)?;
     agrees(LoadFault::Trailing, rest.len() == 0)?;
     Ok(ReadTables {
         version,

@@ -34,7 +34,7 @@ fn address_of(code: &[Instr], n: usize) -> usize
     address
 }
 
-/// The same fault with the number of the word where it stands, in place of the instruction's.
+/// A fault of typing, told by the number of the word where it stands in place of the instruction's.
 fn at_word(
     program: &IndexedProgram,
     typed: Result<(), (TypeFault, usize)>,

@@ -12,7 +12,7 @@
 //! which is its own typed program (`specs/ReadBack`). So it assembles to the same bytes. It joins four crates that
 //! don't know of one another: the lister with the reader, the declarations and the typing, each by its own definitions.
 //!
-//! Only tested: nothing; `images.rows` of `tests_rows` assembles listings again.
+//! Tests (nothing rests on them alone): `images.rows` of `tests_rows` assembles listings again.
 #![tactic(auto)]
 
 ghost use Rattle.il_model.specs.Program.{Program};

@@ -15,7 +15,7 @@ from_parts-requires-clause-forces c = fits_slots c.args.image c.args.budget.inst
 made_so : (c : goal.After-restored_phase) → IsMade c.args.image c.args.budget.instructions c.args.snapshot.now c.in-Some.cycle c.of-breaks.result c.restored_phase.result
 made_so c =
     made_of c.args.image c.args.budget.instructions c.args.snapshot.now c.in_ok-cycle.field-0 c.in-Some.cycle c.of-breaks.result c.restored_phase.result
-    (omega (arith, c.args.budget.at_least_one)) (sym c.fits.ensures ∙ c.if-not-fits.false) c.in-Some.is c.in_ok-cycle.ensures.kept c.in_ok-cycle.ensures.cycle c.whole.ensures
+    (omega (arith, c.args.budget.at_least_one)) (sym c.fits.ensures ∙ c.if-not-fits.false) c.in-Some.is c.in_ok-cycle.ensures.kept c.in_ok-cycle.ensures.cycle c.know_whole.ensures
     (ap length c.of-breaks.ensures ∙ c.in_ok-flags.ensures.each ∙ c.len.ensures.len) (ap break_positions c.of-breaks.ensures ∙ c.in_ok-flags.ensures.listed ∙ c.as_slice-2.ensures.value ∙ ap (λ (s : SavedController). s.breaks) c.snapshot.view_is)
     (subst (λ (p : SavedPhase). saved_phase c.restored_phase.result (performed_in p) ≡ p) (ap (λ (s : SavedController). s.phase) c.snapshot.view_is) c.restored_phase.ensures)
 

@@ -7,7 +7,7 @@ use Rattle.ctl_debugger.proofs.controller.Controller.scan.Goals as goal
 pub invariant_of-self : goal.invariant_of-self
 invariant_of-self c =
     let begun = c.begin.ensures.kept c.self.inside.image c.self.invariant.cycle in
-    let opened = run_opens c.self.inside.image c.self.inside.breaks c.self.inside.budget.instructions c.begin.new.self.cycle c.run_to-out.new.self.cycle c.run_to-out.result c.lawful.ensures.typed begun.suits c.run_to-out.ensures.run in
+    let opened = run_opens c.self.inside.image c.self.inside.breaks c.self.inside.budget.instructions c.begin.new.self.cycle c.run_to-out.new.self.cycle c.run_to-out.result c.know_lawful.ensures.typed begun.suits c.run_to-out.ensures.run in
     record {
       cycle = c.run_to-out.ensures.kept;
       breaks = c.self.invariant.breaks;

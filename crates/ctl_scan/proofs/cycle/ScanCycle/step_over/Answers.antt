@@ -4,4 +4,4 @@ use Rattle.ctl_scan.proofs.cycle.ScanCycle.step_over.Goals as goal
 
 pub returns-clause-runs : goal.returns-clause-runs
 returns-clause-runs c =
-    scan_runs_over c.args.image.now c.args.breaks.now c.args.budget.instructions c.args.self.now.cycle _ c.lawful.ensures.typed c.requires.kept.suits (search rules)
+    scan_runs_over c.args.image.now c.args.breaks.now c.args.budget.instructions c.args.self.now.cycle _ c.know_lawful.ensures.typed c.requires.kept.suits (search rules)
