@@ -1,4 +1,4 @@
--- A beginning of an order is an order of beginnings.
+-- A prefix of an order is an order of prefixes.
 use Rattle.std.proofs.Common.{◌≡◌, ℕ, Bool, true, false, cond, eqb, List, [], ◌∷◌, ◌++◌, refl, sym, ap, ◌∙◌, subst, append_assoc, length, Some}
 use Rattle.std.specs.Prelude.{slice_get}
 use Rattle.vr_model.specs.Agreement.{OneHistory}
@@ -6,7 +6,7 @@ use Rattle.vr_model.specs.Logs.{Request, IsPrefix, IsFrom}
 use Rattle.vr_model.specs.Messages.{Message}
 use Rattle.vr_model.specs.Replicas.{ReplicaState}
 use Rattle.vr_model.specs.World.{ClientState, World, executed, run, start}
-use Rattle.laws_history.proofs.Histories.{laws_history}
+use Rattle.laws_history.proofs.Histories.{one_history}
 use Rattle.laws_history.proofs.Prefixes.{take_all}
 use Rattle.vr_model.specs.Steps.{Step, LocalState, after, ends, AreSteps, first_local_state, ClientStep, client_after, AreClientSteps, first_client}
 use Rattle.vr_model.specs.Interleaving.{Move, OfReplica, OfClient, steps_of, client_steps_of, sent_by, AllTakeSent, events, move_events, EachByItself, InOneOrder, IsRun, RunAsOne}
@@ -73,7 +73,7 @@ pub run_as_one : {C A : Type 0} (f : ℕ) (answer : List C → A) (steps : ℕ �
 run_as_one {C} {A} f answer steps client_steps early late each order =
     let first : IsRun f answer (λ i. steps_of i early) (λ c. client_steps_of c early) early = front_run f answer steps client_steps early late each order in
     let w : World C A = run f answer (events early) start in
-    let h : OneHistory f answer (events early) (events late) = laws_history {C = C} {A = A} f answer (events early) (events late) in
+    let h : OneHistory f answer (events early) (events late) = one_history {C = C} {A = A} f answer (events early) (events late) in
     record {
       history = h;
       replicas = λ i l. subst (λ (r : ReplicaState C). IsPrefix (executed r) w.order) (first.end.replicas i)

@@ -40,7 +40,7 @@ pub record Elected {X : Type 0} (f : ℕ) (h : History X) (u last : ℕ) (mine :
   pub left : (r : ℕ) → r < group_size f → do_view_changes r ≡ true → u ≤ h.left r
   pub best : (r : ℕ) → r < group_size f → do_view_changes r ≡ true → (l : ℕ) × (theirs : List X) × Leaves h r u l theirs × ((l < last) ⊎ ((l ≡ last) × (length theirs ≤ length mine)))
 
--- the beginning of length n of v's log is one of this list
+-- the prefix of length n of v's log is one of this list
 abbrev pub Among : {X : Type 0} → History X → ℕ → ℕ → List X → Type 0
 Among h v n mine = (n ≤ length (h.log v)) × (n ≤ length mine) × (take n (h.log v) ≡ take n mine)
 

@@ -1,4 +1,4 @@
--- What could be committed in a view is a beginning of the first log of each later one, in a run.
+-- What could be committed in a view is a prefix of the first log of each later one, in a run.
 use Rattle.std.proofs.Common.{◌≡◌, ℕ, zero, suc, ◌<◌, ◌≤◌, true, false, leb, List, [], ◌∷◌, length, take, arith, refl, sym, ap, ◌∙◌, subst, inl, inr}
 use Rattle.std.proofs.lemmas.Bool.{le-leb, or_left, or_right, cases_lt}
 use Rattle.vr_model.specs.Logs.{Request, IsPrefix}
@@ -54,8 +54,8 @@ carried_over {C} {A} f answer events later view log below s could =
     was : ℕ → ℕ → Type 0
     was = WasNormalAbove f answer events
 
-    at : Since f answer was (run f answer (take could.beginning.moment events) (start {C = C} {A = A})) (world f answer events)
-    at = since f answer events start could.beginning.moment (start_ok f answer) (λ d j v x. record { moment = d; was = x })
+    at : Since f answer was (run f answer (take could.prefix.moment events) (start {C = C} {A = A})) (world f answer events)
+    at = since f answer events start could.prefix.moment (start_ok f answer) (λ d j v x. record { moment = d; was = x })
 
     n : WorldOk f answer (base_of at.early) was (world f answer events)
     n = at.late
@@ -67,17 +67,17 @@ carried_over {C} {A} f answer events later view log below s could =
     says = said f answer h (world f answer events).sent s.place _ n.sent s.is
 
     r : ReplicaState C
-    r = (run f answer (take could.beginning.moment events) (start {C = C} {A = A})).replicas (primary f view)
+    r = (run f answer (take could.prefix.moment events) (start {C = C} {A = A})).replicas (primary f view)
 
     normal : NormalOk f at.early.history (primary f view) r
-    normal = let ok = at.early.replicas (primary f view) (up_normal r.status could.beginning.normal) in ok.normal could.beginning.normal
+    normal = let ok = at.early.replicas (primary f view) (up_normal r.status could.prefix.normal) in ok.normal could.prefix.normal
 
     begun : at.early.history.started view ≡ true
-    begun = subst (λ v. at.early.history.started v ≡ true) could.beginning.view_is normal.stands.log.started
+    begun = subst (λ v. at.early.history.started v ≡ true) could.prefix.view_is normal.stands.log.started
 
     begins : IsPrefix log (h.log view)
-    begins = prefix_trans could.beginning.holds
-        (subst (λ xs. IsPrefix xs (h.log view)) (sym (normal.leads (ap (primary f) could.beginning.view_is) ∙ ap at.early.history.log could.beginning.view_is)) (n.later.log view))
+    begins = prefix_trans could.prefix.holds
+        (subst (λ xs. IsPrefix xs (h.log view)) (sym (normal.leads (ap (primary f) could.prefix.view_is) ∙ ap at.early.history.log could.prefix.view_is)) (n.later.log view))
 
     could_hold_it : (i : ℕ) → i < group_size f → could.who i ≡ true → could_hold h view (length log) i ≡ true
     could_hold_it i l e = elim (could.each i l e) [

@@ -1,4 +1,4 @@
--- Committed beginnings of logs.
+-- Committed prefixes of logs.
 use Rattle.std.proofs.Common.{◌≡◌, ℕ, zero, suc, ◌+◌, ◌<◌, ◌≤◌, max, min, Bool, true, false, cond, not, eqb, leb, ◌&&◌, take, arith, refl, sym, ap, ◌∙◌, subst, inl, inr}
 use Rattle.std.proofs.lemmas.Bool.{leb-true, le-leb, cases_lt, cases_eq, and_parts, eq-eqb}
 use Rattle.std.proofs.lemmas.Nat.{mod_below}

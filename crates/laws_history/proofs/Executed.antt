@@ -1,4 +1,4 @@
--- What replicas have executed: of two lists one is a beginning of the other.
+-- What replicas have executed: of two lists one is a prefix of the other.
 use Rattle.std.proofs.Common.{◌≡◌, ℕ, ◌<◌, ◌≤◌, Bool, true, false, cond, ltb, List, length, take, arith, refl, sym, ap, ◌∙◌, subst, inl, inr}
 use Rattle.std.proofs.lemmas.Grind.{common_steps}
 use Rattle.std.proofs.lemmas.Bool.{ltb-true, ltb-false, cases_lt}
@@ -12,7 +12,7 @@ use Rattle.laws_history.proofs.Committed.{committed_zero, committed_same}
 use Rattle.vr_model.specs.World.{executed, longer}
 use Rattle.laws_history.proofs.Prefixes.{prefix_nil}
 
--- some committed beginning of a view's log
+-- some committed prefix of a view's log
 pub record IsDone {X : Type 0} (f : ℕ) (h : History X) (done : List X) : Type 0 where
   pub view : ℕ
   pub count : ℕ
@@ -32,7 +32,7 @@ begun_is f h v sound l = go (h.started v) refl
     go true e = e
     go false e = absurd (let k : length (h.log v) ≡ 0 = ap length (sound.unstarted v e) in omega arith)
 
--- of two committed lists the shorter is a beginning of the longer
+-- of two committed lists the shorter is a prefix of the longer
 pub compare : {X : Type 0} (f : ℕ) (h : History X) (v k u n : ℕ) → IsSound f h → IsCommitted f h v k → IsCommitted f h u n → k ≤ n → IsPrefix (take k (h.log v)) (take n (h.log u))
 compare f h v k u n sound a b l = elim (cases_lt 0 k) [
   | inl some ↦

@@ -14,8 +14,8 @@ use Rattle.laws_history.proofs.Runs.{Always, run_ok, start_ok, first_base, base_
 use Rattle.laws_history.proofs.Reports.{once, to_end, order_is, each_map, explains}
 use Rattle.laws_history.proofs.CarriedOver.{carried_over, one_first, goes_on}
 
-pub laws_history : {C A : Type 0} (f : ℕ) (answer : List C → A) (early late : List (Event C × Completion)) → OneHistory f answer early late
-laws_history {C} {A} f answer early late =
+pub one_history : {C A : Type 0} (f : ℕ) (answer : List C → A) (early late : List (Event C × Completion)) → OneHistory f answer early late
+one_history {C} {A} f answer early late =
     let mid : World C A = run f answer early start in
     let first : WorldOk f answer first_base Always (start {C = C} {A = A}) = start_ok f answer in
     let k : WorldOk f answer first_base Always mid = run_ok f answer start early first (λ d j v n. tt) in

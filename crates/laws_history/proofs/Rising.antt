@@ -15,7 +15,7 @@ rising_prefix {C} {xs} {ys} p r = record {
   each = λ k m e. subst (λ (a : List (Request C)). is_above m.number (last_number a m.client) ≡ true) (prefix_take k p (omega (arith, e.within))) (r.each k m (entry_later p e));
 }
 
--- an entry of the whole is one of the beginning that reaches it
+-- an entry of the whole is one of the prefix that reaches it
 pub entry_before : {X : Type 0} {xs ys : List X} {k : ℕ} {m : X} → IsPrefix xs ys → k < length xs → IsEntry ys k m → IsEntry xs k m
 entry_before {X} {xs} {ys} {k} {m} p l e = record {
   within = l;

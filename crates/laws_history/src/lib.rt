@@ -2,7 +2,7 @@
 //! the runs that `vr_model` defines, and its empty body is proved to meet it. Each law is for every f, every type of
 //! commands and of answers, every answer function, and every list of events, each done, or lost for want of memory.
 //!
-//! A law is used by naming it in a function whose clause rests on it, as `schedules` does:
+//! A law is used by naming it in a function whose clause rests on it, as `vr_schedules` does:
 //!
 //! ```rust
 //! use il_model::{Answer, Command};
@@ -15,7 +15,7 @@
 //! `running_replicas_agree`). Worked schedules are computed from the same definitions, and rules that are wrong by one
 //! change are shown to break the law (`wrong_rules_show`).
 //!
-//! Only tested: nothing. The laws say nothing of progress: that anything is ever committed, answered or delivered.
+//! No test is needed here. The laws say nothing of progress: that anything is ever committed, answered or delivered.
 #![tactic(auto)]
 
 ghost use Rattle.std.specs.Prelude.{ℕ, List, [], ◌++◌};
@@ -30,11 +30,11 @@ ghost use Rattle.vr_model.specs.Steps.{Step, ClientStep, first_local_state, firs
 ghost use Rattle.vr_model.specs.Stores.{Observation, AreObservations, AreTold, first_known_state};
 ghost use Rattle.vr_model.specs.Interleaving.{Move, EachByItself, InOneOrder, IsRun, RunAsOne, AreMoves, AreLists};
 
-/// One history. The committed list only grows and is never revised; what any replica has executed is a beginning of it,
+/// One history. The committed list only grows and is never revised; what any replica has executed is a prefix of it,
 /// and some replica has executed it. No pair of client and number stands in it twice, a client's numbers rise in it,
 /// and it has only requests that were submitted by then. Every reply and every release has the answer of the commands
 /// up to its request's place. And what f+1 replicas accepted of a view's log, or could yet accept because they have not
-/// left that view, is a beginning of the first log of every later view that was started.
+/// left that view, is a prefix of the first log of every later view that was started.
 pub fn one_history<C, A>()
     ensures { (f : ℕ) (answer : List C → A) (early late : List (Event C × Completion))
         → OneHistory f answer early late }

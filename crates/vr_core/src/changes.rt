@@ -16,7 +16,7 @@ use vr_model::Request;
 /// The changes among some entries, ready to be executed in the order of the entries.
 #[derive(Drop)]
 pub struct ReadyChanges {
-    /// The next one is the last.
+    /// The next change is the last of this list.
     changes: Vec<Ready>,
 }
 
@@ -32,7 +32,7 @@ impl Model for ReadyChanges {
 impl ReadyChanges {
     ghost use Rattle.std.specs.Prelude.{◌∷◌, MatchOption};
 
-    /// None.
+    /// No changes.
     pub fn none(alloc: Global) -> ReadyChanges
         ensures { result ≡ [] }
     {
@@ -41,7 +41,7 @@ impl ReadyChanges {
         }
     }
 
-    /// The next one.
+    /// Takes the next change out, if there is one.
     pub(crate) fn next(&mut self) -> Option<Ready>
         ensures { MatchOption result (self.old ≡ []) (λ r. self.old ≡ r ∷ self.new) }
     {

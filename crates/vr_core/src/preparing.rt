@@ -36,7 +36,8 @@ impl Core {
         prepare_before(alloc, entries, ReadyChanges::none(alloc))
     }
 
-    /// The same where these entries come past an op number, in place of its own.
+    /// The changes among the entries that it will not have executed, up to an op number, ready in their order, once
+    /// these entries come past an op number in place of its own. It fails only where memory runs out.
     pub fn prepare_past(
         &self,
         alloc: Global,
@@ -57,7 +58,8 @@ impl Core {
         prepare_before(alloc, own, changes)
     }
 
-    /// The same of a log that is handed in: of the entries past its checkpoint that it has not executed.
+    /// The changes among the entries of a log that is handed in, past its checkpoint and past what this replica has
+    /// executed, up to this op number, ready in their order. It fails only where memory runs out.
     pub fn prepare_handed(
         &self,
         alloc: Global,

@@ -8,7 +8,7 @@
 //! lower replica number; of equal ones it's the first (`best`). That is what the rules' own recursion over the numbers
 //! of the replicas chooses (`rules`). The longest log alone would be wrong: that body is refused (`longest_log_wins`).
 //!
-//! Only tested: nothing; `replication_rows` of `tests_parts` has four choices.
+//! Tests (nothing rests on them alone): `replicas.rows` of `tests_bytes` has four choices.
 #![tactic(auto)]
 
 ghost use Rattle.std.specs.Prelude.{◌≡◌, ◌<◌, ◌↔◌, length, IsTrue};

@@ -16,12 +16,12 @@ committed f answer events = (world f answer events).order
 -- One list for every schedule, and the views that keep it.
 pub record OneHistory {C A : Type 0} (f : ℕ) (answer : List C → A)
     (early late : List (Event C × Completion)) : Type 0 where
-  -- the committed list grows and is never revised: it is a beginning of each later one
+  -- the committed list grows and is never revised: it is a prefix of each later one
   pub grows : IsPrefix (committed f answer early) (committed f answer (early ++ late))
   -- some replica has executed it by then
   pub was_executed : (moment : ℕ) × (i : ℕ)
       × (executed ((before f answer early moment).replicas i) ≡ committed f answer early)
-  -- whatever a replica has executed by then is a beginning of it
+  -- whatever a replica has executed by then is a prefix of it
   pub executed : (moment i : ℕ)
       → IsPrefix (executed ((before f answer early moment).replicas i)) (committed f answer early)
   -- no pair of client and number stands in it twice
@@ -42,7 +42,7 @@ pub record OneHistory {C A : Type 0} (f : ℕ) (answer : List C → A)
   -- and so has every release
   pub released : Each (λ (r : Release A). IsAnswered answer (committed f answer early) r.client r.number r.answer)
       (report f answer early).releases
-  -- what f+1 replicas accepted of a view's log, or could yet accept, is a beginning of the first log of every later
+  -- what f+1 replicas accepted of a view's log, or could yet accept, is a prefix of the first log of every later
   -- view that was started
   pub carried : (later view : ℕ) (log : List (Request C)) → view < later
       → (s : IsStarted (world f answer early).sent later) → CouldBeCommitted f answer early view log

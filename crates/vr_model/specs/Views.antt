@@ -1,4 +1,4 @@
--- The views of a run: what started one, who accepted a beginning of its log, and who has left it.
+-- The views of a run: what started one, who accepted a prefix of its log, and who has left it.
 use Rattle.std.specs.Prelude.{◌≡◌, ℕ, ◌<◌, ◌≤◌, ◌⊎◌, Bool, true, List, length, Some, slice_get}
 use Rattle.vr_model.specs.Logs.{Request, IsPrefix}
 use Rattle.vr_model.specs.Groups.{group_size, primary, IsQuorum}
@@ -48,9 +48,9 @@ module _ {C A : Type 0} (f : ℕ) (answer : List C → A) (events : List (Event 
     pub moment : ℕ
     pub was : IsNormalAbove ((before f answer events moment).replicas replica) view
 
-  -- At some moment of the run the view's primary was normal in it, and its log began with this: so this is a beginning
-  -- of the view's log, and its primary holds it.
-  pub record IsBeginning (view : ℕ) (log : List (Request C)) : Type 0 where
+  -- At some moment of the run the view's primary was normal in it, and this was a prefix of its log: so it is a prefix
+  -- of the view's log, and the primary holds it.
+  pub record WasPrefixOf (view : ℕ) (log : List (Request C)) : Type 0 where
     pub moment : ℕ
     pub normal : is_normal ((before f answer events moment).replicas (primary f view)).status ≡ true
     pub view_is : ((before f answer events moment).replicas (primary f view)).view ≡ view
@@ -64,10 +64,10 @@ module _ {C A : Type 0} (f : ℕ) (answer : List C → A) (events : List (Event 
     pub view_is : ((before f answer events moment).replicas replica).view ≡ view
     pub log_is : ((before f answer events moment).replicas replica).log ≡ log
 
-  -- A replica accepted a beginning of the view's log if it is the view's primary and holds it, or sent a PREPAREOK of
+  -- A replica accepted a prefix of the view's log if it is the view's primary and holds it, or sent a PREPAREOK of
   -- the view that reaches its end; also if it crashed since.
   pub data HasAccepted (view : ℕ) (log : List (Request C)) (replica : ℕ) : Type 0 where
-    Holds : replica ≡ primary f view → IsBeginning view log → HasAccepted view log replica
+    Holds : replica ≡ primary f view → WasPrefixOf view log → HasAccepted view log replica
     Acknowledged : IsAcknowledged world.sent replica view (length log) → HasAccepted view log replica
 
   -- it has left the view if it sent a DOVIEWCHANGE of a later view, or was normal in one
@@ -77,7 +77,7 @@ module _ {C A : Type 0} (f : ℕ) (answer : List C → A) (events : List (Event 
 
   -- what f+1 replicas accepted of a view's log, or could yet accept because they haven't left the view
   pub record CouldBeCommitted (view : ℕ) (log : List (Request C)) : Type 0 where
-    pub beginning : IsBeginning view log
+    pub prefix : WasPrefixOf view log
     pub who : ℕ → Bool
     pub quorum : IsQuorum f who
     pub each : (r : ℕ) → r < group_size f → who r ≡ true → HasAccepted view log r ⊎ (HasLeft view r → ⊥)

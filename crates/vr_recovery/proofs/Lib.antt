@@ -4,5 +4,5 @@ mod Restarting
 mod Table
 mod Ending
 mod CatchingUp
-mod NewState
+mod OnNewState
 pub mod UnfitResponse

@@ -8,10 +8,10 @@ use Rattle.vr_model.specs.Rules.{restarted}
 use Rattle.vr_model.specs.World.{first_replica}
 use Rattle.vr_core.specs.declared.state.Core.{Core}
 use Rattle.vr_core.specs.declared.state.Response.{Response}
-use Rattle.vr_core.specs.declared.state.Status.TheVariants as statuses
+use Rattle.vr_model.specs.declared.standing.Status.TheVariants as statuses
 use Rattle.vr_core.specs.StandsFor.{SlotStands, StandsFor, own_member}
 use Rattle.vr_core.proofs.WholeLogs.{is_own}
-use Rattle.vr_recovery.specs.ComingUp.{Begins}
+use Rattle.vr_recovery.specs.ComingUp.{IsUpAgain}
 
 -- no response of any of seven
 abbrev pub no_responses : List (Option Response)
@@ -30,11 +30,11 @@ none_at w (suc (suc (suc (suc (suc zero))))) l = tt
 none_at w (suc (suc (suc (suc (suc (suc zero)))))) l = tt
 none_at w (suc (suc (suc (suc (suc (suc (suc s))))))) l = absurd (omega arith)
 
-pub begins_anew : (old first begun : Core) (stored_view nonce : ℕ) → StandsFor first (own_member old) first_replica
+pub up_again : (old first begun : Core) (stored_view nonce : ℕ) → StandsFor first (own_member old) first_replica
     → begun ≡ record first { status = statuses.Recovering; stored_view = stored_view; nonce = nonce; responses = begun.responses }
-    → begun.responses.items ≡ no_responses → Begins old stored_view nonce begun
-begins_anew old first begun stored_view nonce fresh is none = record {
-  begins = λ w m.
+    → begun.responses.items ≡ no_responses → IsUpAgain old stored_view nonce begun
+up_again old first begun stored_view nonce fresh is none = record {
+  stands = λ w m.
       let st : StandsFor first w first_replica = subst (λ (x : Membership). StandsFor first x first_replica) (is_own old w m) fresh in
       let r : ReplicaState Command = restarted w.f w.number w.answer stored_view nonce in
       let now : Core = record first { status = statuses.Recovering; stored_view = stored_view; nonce = nonce; responses = begun.responses } in

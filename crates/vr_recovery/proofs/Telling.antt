@@ -18,7 +18,7 @@ use Rattle.vr_core.specs.declared.state.Response.{Response}
 use Rattle.vr_core.specs.StandsFor.{IsSavedAs}
 use Rattle.vr_core.specs.Follows.{Tells, message_from}
 use Rattle.vr_core.proofs.Sent.{sent_others}
-use Rattle.vr_recovery.specs.ComingUp.{Begins, ComesUp}
+use Rattle.vr_recovery.specs.ComingUp.{IsUpAgain, ComesUp}
 
 -- the same answer
 pub told_by : {X : Type 0} (core : Core) (f : Membership → ReplicaState Command → X) (x y : X) → Tells core f x → x ≡ y → Tells core f y
@@ -58,12 +58,12 @@ one_later core n view latest_below below here = record {
 
 -- It asks all others
 
-pub comes_up : (old begun : Core) (stored nonce : ℕ) (before sends : List sent.Message) → Begins old stored nonce begun → before ≡ []
+pub comes_up : (old begun : Core) (stored nonce : ℕ) (before sends : List sent.Message) → IsUpAgain old stored nonce begun → before ≡ []
     → sends ≡ before ++ map (message_from begun.number (says.Recovery nonce stored)) (others begun.number (group_size begun.config.f)) → ComesUp old stored nonce begun sends
-comes_up old begun stored nonce before sends begins none is = record {
-  begins = begins.begins;
+comes_up old begun stored nonce before sends up none is = record {
+  stands = up.stands;
   asks = λ w m.
-      let st = begins.begins w m in
+      let st = up.stands w m in
       let asked = map (message_from begun.number (says.Recovery nonce stored)) (others begun.number (group_size begun.config.f)) in
       subst (λ (ms : List sent.Message). AllStand IsSavedAs w ms (send_others w.f w.number w.answer (Recovery nonce stored))) (sym (is ∙ ap (λ (ms : List sent.Message). ms ++ asked) none))
       (sent_others w begun.number begun.config.f (says.Recovery nonce stored) [] st.member.number st.member.f tt).are;

@@ -3,7 +3,7 @@
 ghost use Rattle.std.specs.Prelude.{◌≡◌, ◌≤◌, ◌<◌, ◌-◌, ◌+◌, ◌&&◌, true, is_some, nat_le, nat_lt, List, length};
 ghost use Rattle.il_model.specs.declared.command.Command.{Command};
 ghost use Rattle.vr_model.specs.Logs as logs;
-ghost use Rattle.vr_model.specs.Messages.{NewState};
+ghost use Rattle.vr_model.specs.Messages as messages;
 ghost use Rattle.vr_model.specs.Rules as rules;
 ghost use Rattle.vr_model.specs.declared.message.Body.TheVariants as says;
 ghost use Rattle.vr_model.specs.Checkpoints.{requests_of};
@@ -18,6 +18,15 @@ use std::alloc::{AllocError, Global};
 use vr_core::{Core, is_reached};
 use vr_model::{Log, Request, Sends};
 
+/// What a NEWSTATE says: the view's log past this op number; or, if it has a checkpoint, past that.
+#[derive(Drop)]
+pub struct NewState {
+    pub view: u64,
+    pub op_number: u64,
+    pub commit_number: u64,
+    pub log: Log,
+}
+
 /// NEWSTATE: the view's log past an op number. A backup of that view appends what lies past its own log; who is behind
 /// adopts the view, if what it has executed is neither cut nor left behind. One whose checkpoint can't be taken up here
 /// is dropped.
@@ -25,25 +34,31 @@ pub fn on_new_state(
     core: &mut Core,
     alloc: Global,
     sender: u8,
-    view: u64,
-    op_number: u64,
-    commit_number: u64,
-    log: Log,
+    new_state: NewState,
 ) -> Result<Sends, AllocError>
     ensures rule { (l : List (logs.Request Command))
-        → IsCarriedPart IsSavedAs (own_member core.old) op_number commit_number log l
-        → DoesIfFits core.old (says.NewState view op_number commit_number log)
-        (receives_from sender (NewState view op_number commit_number l)) core.new result }
-    ensures dropped { IsUnfit core.old commit_number log → Drops core.old core.new result }
+        → IsCarriedPart IsSavedAs (own_member core.old) new_state.op_number new_state.commit_number new_state.log l
+        → DoesIfFits core.old
+        (says.NewState new_state.view new_state.op_number new_state.commit_number new_state.log)
+        (receives_from sender
+        (messages.NewState new_state.view new_state.op_number new_state.commit_number l)) core.new result }
+    ensures dropped { IsUnfit core.old new_state.commit_number new_state.log → Drops core.old core.new result }
 {
     if core.is_other(sender) {
-        new_state_of_other(core, alloc, view, op_number, commit_number, log)
+        new_state_of_other(
+            core,
+            alloc,
+            new_state.view,
+            new_state.op_number,
+            new_state.commit_number,
+            new_state.log,
+        )
     } else {
         Ok(Vec::new(alloc))
     }
 }
 
-/// That of another replica of the group.
+/// NEWSTATE of another replica of the group.
 fn new_state_of_other(
     core: &mut Core,
     alloc: Global,

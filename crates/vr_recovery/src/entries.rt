@@ -12,7 +12,7 @@ use std::alloc::{AllocError, Global};
 use vr_core::Core;
 use vr_model::{Request, Sends};
 
-/// Without its first entries.
+/// Drops the first entries of a list.
 fn forget_first(entries: &mut Vec<Request>, count: usize)
     requires { count ≤ vec_len entries.old }
     ensures { entries.new.items ≡ drop count entries.old.items }
@@ -45,7 +45,7 @@ pub(crate) fn go_on(
     Ok(hold(core, alloc, sends, commit_number, changes))
 }
 
-/// It adopts a view that another replica is the primary of, with these entries past an op number, and tells the
+/// The replica adopts a view that another one is the primary of, with these entries past an op number, and tells the
 /// primary.
 pub(crate) fn catch_up(
     core: &mut Core,
@@ -71,8 +71,8 @@ pub(crate) fn catch_up(
     Ok(hold(core, alloc, sends, commit_number, changes))
 }
 
-/// It adopts a view of its own, with these entries past an op number, replies to what it executes, and tells itself. No
-/// run comes to this.
+/// The replica adopts a view of its own, with these entries past an op number, replies to what it executes, and tells
+/// itself. No run comes to this.
 pub(crate) fn catch_up_as_primary(
     core: &mut Core,
     alloc: Global,

@@ -12,8 +12,8 @@ use std::alloc::Global;
 use vr_core::{Core, ReadyChanges};
 use vr_model::{Body, Message, Sends};
 
-/// It executes its log up to a commit number, where the changes among these entries are ready, and tells the primary
-/// how much it holds.
+/// A backup executes its log up to a commit number, where the changes among these entries are ready, and tells the
+/// primary how much it holds.
 pub(crate) fn hold(
     core: &mut Core,
     alloc: Global,
@@ -32,7 +32,8 @@ pub(crate) fn hold(
     sends
 }
 
-/// The same of a primary: it replies to what it executes, and tells itself.
+/// A primary executes its log up to a commit number, where the changes among these entries are ready, replies to what
+/// it executes, and tells itself how much it holds.
 pub(crate) fn hold_as_primary(
     core: &mut Core,
     alloc: Global,

@@ -6,7 +6,7 @@ ghost use Rattle.vr_model.specs.Groups.{group_size, how_many};
 ghost use Rattle.vr_model.specs.Choices as choices;
 ghost use Rattle.vr_model.specs.Rules as rules;
 ghost use Rattle.vr_model.specs.Replicas.{is_normal, is_recovering};
-ghost use Rattle.vr_core.specs.declared.state.Status.TheVariants.{Recovering};
+ghost use Rattle.vr_model.specs.declared.standing.Status.TheVariants.{Recovering};
 ghost use Rattle.vr_core.specs.declared.state.Response.{Response};
 ghost use Rattle.il_model.specs.declared.command.Command.{Command};
 ghost use Rattle.vr_model.specs.Messages.{RecoveryResponse, RecoveryResponseMessage};
@@ -21,8 +21,8 @@ ghost use Rattle.vr_recovery.specs.Recovering.{Recovers};
 use crate::responses::{count, is_told, keep, kept, latest, put, put_back, stays_kept};
 use ctl_debugger::{Controller, SnapError};
 use std::alloc::{AllocError, Global};
-use vr_core::{Core, ReadyChanges, Response, Status};
-use vr_model::{PrimaryState, Sends};
+use vr_core::{Core, ReadyChanges, Response};
+use vr_model::{PrimaryState, Sends, Status};
 
 /// RECOVERYRESPONSE with a nonce. It recovers when those of more than half of the group are kept, the latest view among
 /// them is no earlier than its stored view, and the primary of that view told its state. One whose checkpoint can't be
@@ -45,7 +45,7 @@ pub fn on_recovery_response(
     }
 }
 
-/// That of another replica of the group.
+/// RECOVERYRESPONSE of another replica of the group.
 fn response_of_other(
     core: &mut Core,
     alloc: Global,
@@ -106,7 +106,7 @@ fn recovers_with(core: &Core, nonce: u64) -> bool
     core.status == Status::Recovering && core.nonce == nonce
 }
 
-/// It recovers if it is told enough. It fails only where memory runs out, and then nothing changed.
+/// The replica recovers if it is told enough. It fails only where memory runs out, and then nothing changed.
 fn recover_if_told(core: &mut Core, alloc: Global) -> Result<(), AllocError>
     requires { core.old.status ≡ Recovering }
     ensures ok { OnOk result (FollowsIfKept core.old (λ w r. rules.recovers w.f w.number w.answer r) core.new []) }
@@ -170,7 +170,7 @@ fn is_enough(core: &Core, view: u64) -> bool
     core.config.f < count(core) && core.stored_view <= view
 }
 
-/// It adopts this view, with the log that its primary told, from what it begins with.
+/// The replica adopts this view, with the log that its primary told, from what it begins with.
 fn recover(
     core: &mut Core,
     alloc: Global,

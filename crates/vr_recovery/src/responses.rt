@@ -4,7 +4,7 @@ ghost use Rattle.std.specs.Prelude.{◌≡◌, ◌<◌, true, is_some, slice_set
 ghost use Rattle.std.specs.Option.{option_copied};
 ghost use Rattle.vr_model.specs.Groups.{group_size, how_many, primary};
 ghost use Rattle.vr_model.specs.Choices as choices;
-ghost use Rattle.vr_core.specs.declared.state.Status.TheVariants.{Recovering};
+ghost use Rattle.vr_model.specs.declared.standing.Status.TheVariants.{Recovering};
 ghost use Rattle.vr_core.specs.Follows.{Tells};
 ghost use Rattle.vr_recovery.specs.Responses.{kept_of, is_fresher, stays, told_length, with_back, HasState, Keeps};
 
@@ -49,8 +49,8 @@ pub(crate) fn stays_kept(core: &Core, replica: u8, response: &Response) -> bool
     }
 }
 
-/// It keeps one response of each sender: that of the later view, then that with the longer log, at a tie the first.
-/// Where this one takes the place of what was kept, it hands that back.
+/// The replica keeps one response of each sender: that of the later view, then that with the longer log, at a tie the
+/// first. Where this one takes the place of what was kept, it hands that back.
 pub(crate) fn keep(core: &mut Core, sender: u8, response: Response) -> Option<Option<Response>>
     requires recovers { core.old.status ≡ Recovering }
     requires member { sender < group_size core.old.config.f }

@@ -44,7 +44,9 @@ pub(crate) fn take_up(
     Ok(hold(core, alloc, sends, commit_number, changes))
 }
 
-/// The same of who is behind: it adopts a view that another replica is the primary of.
+/// A replica that is behind adopts a view that another one is the primary of, holds this log in place of its own, tells
+/// that primary, and executes. A checkpoint that can't be restored here is dropped. It fails only where memory runs
+/// out, and then nothing changed.
 pub(crate) fn adopt_and_take_up(
     core: &mut Core,
     alloc: Global,
@@ -73,8 +75,9 @@ pub(crate) fn adopt_and_take_up(
     Ok(hold(core, alloc, sends, commit_number, changes))
 }
 
-/// The same of a view of its own: it replies to what it executes. No run comes to this. Replies to what the checkpoint
-/// stands in place of can't be made: where it has not executed that, the event counts as lost.
+/// A replica that is behind adopts a view of its own, holds this log in place of its own, and replies to what it
+/// executes. No run comes to this. Replies to what the checkpoint stands in place of can't be made: where it has not
+/// executed that, the event counts as lost.
 pub(crate) fn take_up_as_primary(
     core: &mut Core,
     alloc: Global,

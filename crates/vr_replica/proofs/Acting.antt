@@ -13,7 +13,7 @@ use Rattle.vr_model.specs.Replicas.{is_down, is_recovering, ReplicaState, Outcom
 use Rattle.vr_model.specs.Rules.{keep}
 use Rattle.vr_model.specs.World.{down, executed}
 use Rattle.vr_model.specs.Messages.{Message}
-use Rattle.vr_model.specs.StandsFor.{Stands, Fits}
+use Rattle.vr_model.specs.StandsFor.{status_of, Stands, Fits}
 use Rattle.vr_model.specs.Steps.{Input, Takes, TimesOut, Resends, Matters, acts, by_rule}
 use Rattle.vr_core.specs.declared.state.Core.{Core}
 use Rattle.vr_core.specs.Down.{StandsForDown, Crashes}
@@ -50,7 +50,7 @@ stands_up replica m r st up none = record {
 pub stands_down : (replica : Replica) (m : Membership) (r : ReplicaState Command) → StandsForDown replica.core m r → StandsFor replica m r
 stands_down replica m r st = record {
   member = st.member;
-  status = st.status ∙ sym (ap core.status_of st.core_status);
+  status = st.status ∙ sym (ap status_of st.core_status);
   commit_number = st.commit_number ∙ sym st.core_commit_number;
   recovering = λ e. st.commit_number;
   up = λ e. absurd (let d : true ≡ false = sym (ap is_down st.status) ∙ e in cc);

@@ -5,7 +5,8 @@ use Rattle.vr_model.specs.declared.event.Event.{Event}
 use Rattle.vr_model.specs.declared.event.Event.TheVariants as event
 use Rattle.vr_model.specs.Membership.{Membership}
 use Rattle.vr_model.specs.Replicas.{is_down, is_recovering, ReplicaState}
-use Rattle.vr_core.specs.declared.state.Status.TheVariants as status
+use Rattle.vr_model.specs.StandsFor.{status_of}
+use Rattle.vr_model.specs.declared.standing.Status.TheVariants as status
 use Rattle.vr_core.specs.Down.{StandsForDown}
 use Rattle.vr_core.specs.StandsFor as core
 use Rattle.vr_replica.specs.declared.state.Replica.{Replica}
@@ -14,7 +15,7 @@ use Rattle.vr_replica.specs.declared.state.Replica.{Replica}
 -- record; while it is down its core stands for what a crash leaves.
 pub record StandsFor (replica : Replica) (w : Membership) (r : ReplicaState Command) : Type 0 where
   pub member : core.IsOf replica.core w
-  pub status : r.status ≡ core.status_of replica.core.status
+  pub status : r.status ≡ status_of replica.core.status
   pub commit_number : r.commit_number ≡ replica.core.commit_number
   pub recovering : is_recovering r.status ≡ true → r.commit_number ≡ 0  -- who recovers has executed nothing
   pub up : is_down r.status ≡ false → core.StandsFor replica.core w r

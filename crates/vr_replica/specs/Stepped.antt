@@ -48,8 +48,8 @@ module _ {S : Type 0} (load_gives : S → Option Stored → S → Type 0) (save_
   Saved s (Some view) t = save_gives s view true t
 
   -- the member m was the record r, and its store went from s to t
-  module _ (IsSavedAs : Program → ℕ → List Command → SavedController → Type 0) (NowStands : ReplicaState Command → Type 0)
-      (m : Membership) (r : ReplicaState Command) (s t : S) where
+  module _ (IsSavedAs : Program → ℕ → List Command → SavedController → Type 0)
+      (NowStands : ReplicaState Command → Type 0) (m : Membership) (r : ReplicaState Command) (s t : S) where
     -- the rule was done
     pub record Done (o : Outcome Command Answer) (out : List code.Message) : Type 0 where
       pub replica : NowStands o.replica

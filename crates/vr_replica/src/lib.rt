@@ -15,9 +15,9 @@
 //! nothing changed; or its store failed, and it's down and sends nothing. `Down` is answered exactly where it's down
 //! and the event is no restart, `Store` only where the store failed in this call.
 //!
-//! Only tested: nothing; `replica_rows`, `checkpoint_rows` and `group_rows` of `tests_parts` have tables of events
-//! with the exact messages or the fault. Which of two effects within one call comes first no clause can say: that the
-//! save does is that `step` returns what it sends.
+//! Tests (nothing rests on them alone): `replicas.rows` of `tests_bytes` has runs of events with the exact messages or
+//! the fault. Which of two effects within one call comes first no clause can say: that the save does is that `step`
+//! returns what it sends.
 #![tactic(auto)]
 
 mod fault;

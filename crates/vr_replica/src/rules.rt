@@ -15,8 +15,8 @@ ghost use Rattle.vr_replica.specs.Dropped.{IsUnfitBody, IsUnfitFrom, IsUnfitEven
 use std::alloc::{AllocError, Global};
 use vr_core::{Core, Response};
 use vr_model::{Body, DoViewChange, Event, Message, Party, Sends};
-use vr_normal::{on_commit, on_prepare, on_prepare_ok, on_request, resend};
-use vr_recovery::{on_get_state, on_new_state, on_recovery, on_recovery_response};
+use vr_normal::{Prepare, on_commit, on_prepare, on_prepare_ok, on_request, resend};
+use vr_recovery::{NewState, on_get_state, on_new_state, on_recovery, on_recovery_response};
 use vr_viewchange::{on_do_view_change, on_start_view, on_start_view_change, on_timeout};
 
 /// What the rules make of an event of a replica that is up: it drops a restart.
@@ -32,7 +32,7 @@ pub(crate) fn by_rule(core: &mut Core, alloc: Global, event: Event) -> Result<Se
     }
 }
 
-/// A message.
+/// What the rules make of a message.
 fn receive(core: &mut Core, alloc: Global, message: Message) -> Result<Sends, AllocError>
     ensures rule { (l : List (logs.Request Command)) → Carries IsSavedAs (own_member core.old) message.body l
         → DoesFrom core.old message.body
@@ -46,7 +46,7 @@ fn receive(core: &mut Core, alloc: Global, message: Message) -> Result<Sends, Al
     }
 }
 
-/// From a client: a request.
+/// What the rules make of a message of a client: of a request.
 fn from_client(core: &mut Core, alloc: Global, body: Body) -> Result<Sends, AllocError>
     ensures { (l : List (logs.Request Command))
         → DoesIfKept core.old (λ w r. rules.from_client w.f w.number w.answer r (body_with l body)) core.new result }
@@ -57,8 +57,8 @@ fn from_client(core: &mut Core, alloc: Global, body: Body) -> Result<Sends, Allo
     }
 }
 
-/// From a replica: all but requests and replies. It is sorted by protocol first, so that each function here is proved
-/// by the calls of one protocol.
+/// What the rules make of a message of a replica: of all but requests and replies. It is sorted by protocol first, so
+/// that each function here is proved by the calls of one protocol.
 fn from_replica(core: &mut Core, alloc: Global, sender: u8, body: Body) -> Result<Sends, AllocError>
     ensures rule { (l : List (logs.Request Command)) → Carries IsSavedAs (own_member core.old) body l
         → DoesFrom core.old body (receives_from sender (body_with l body)) core.new result }
@@ -80,7 +80,7 @@ fn from_replica(core: &mut Core, alloc: Global, sender: u8, body: Body) -> Resul
     }
 }
 
-/// A message of the normal case.
+/// What the rules make of a message of the normal case.
 fn in_normal_case(
     core: &mut Core,
     alloc: Global,
@@ -98,7 +98,15 @@ fn in_normal_case(
             request,
             op_number,
             commit_number,
-        } => on_prepare(core, alloc, sender, view, request, op_number, commit_number),
+        } => {
+            let prepare = Prepare {
+                view,
+                request,
+                op_number,
+                commit_number,
+            };
+            on_prepare(core, alloc, sender, prepare)
+        }
         Body::PrepareOk { view, op_number } => on_prepare_ok(core, alloc, sender, view, op_number),
         Body::Commit {
             view,
@@ -108,7 +116,7 @@ fn in_normal_case(
     }
 }
 
-/// A message of a view change.
+/// What the rules make of a message of a view change.
 fn in_view_change(
     core: &mut Core,
     alloc: Global,
@@ -145,7 +153,7 @@ fn in_view_change(
     }
 }
 
-/// A message of recovery or of state transfer.
+/// What the rules make of a message of recovery or of state transfer.
 fn in_recovery(core: &mut Core, alloc: Global, sender: u8, body: Body) -> Result<Sends, AllocError>
     requires part { protocol_of body ≡ Recovery }
     ensures rule { (l : List (logs.Request Command)) → Carries IsSavedAs (own_member core.old) body l
@@ -169,7 +177,15 @@ fn in_recovery(core: &mut Core, alloc: Global, sender: u8, body: Body) -> Result
             op_number,
             commit_number,
             log,
-        } => on_new_state(core, alloc, sender, view, op_number, commit_number, log),
+        } => {
+            let new_state = NewState {
+                view,
+                op_number,
+                commit_number,
+                log,
+            };
+            on_new_state(core, alloc, sender, new_state)
+        }
         _ => unreachable!(),
     }
 }

@@ -1,11 +1,12 @@
 //! A replica, and what it shows.
 
-ghost use Rattle.std.specs.Prelude.{◌≡◌, ◌↔◌, ◌⊎◌, ◌<◌, IfOk, IsTrue, None, Some, MatchOption};
+ghost use Rattle.std.specs.Prelude.{◌≡◌, ◌↔◌, ◌⊎◌, ◌<◌, ◌&&◌, IfOk, IsTrue, None, Some, MatchOption, if◌then◌else◌};
 ghost use Rattle.std.specs.List.{slice_get};
 ghost use Rattle.il_model.specs.declared.command.Command.{Command};
 ghost use Rattle.vr_model.specs.Membership.{Membership};
 ghost use Rattle.vr_model.specs.Replicas as model;
-ghost use Rattle.vr_model.specs.StandsFor.{request_of};
+ghost use Rattle.vr_model.specs.Rules as rules;
+ghost use Rattle.vr_model.specs.StandsFor.{request_of, status_of};
 ghost use Rattle.vr_model.specs.World as world;
 ghost use Rattle.vr_core.specs.StandsFor.{member};
 ghost use Rattle.vr_replica.specs.Standing.{StandsFor, IsDown};
@@ -13,8 +14,8 @@ ghost use Rattle.vr_replica.specs.Standing.{StandsFor, IsDown};
 use il_loader::Image;
 use il_model::Budget;
 use std::alloc::{AllocError, Global};
-use vr_core::{Core, Status};
-use vr_model::{Config, Request};
+use vr_core::Core;
+use vr_model::{Config, Request, Standing, Status};
 
 /// A replica of a group. What it keeps in memory goes with a crash; what its store keeps stays.
 #[derive(Drop)]
@@ -84,6 +85,26 @@ impl Replica {
             Status::Down => true,
             Status::Normal | Status::ViewChange | Status::Recovering => false,
         }
+    }
+
+    /// What it shows of itself: its status, its view (0 while it is down), and whether it is the normal primary of that
+    /// view.
+    pub fn standing(&self) -> Standing
+        ensures status { (m : Membership) (r : model.ReplicaState Command) → StandsFor self.now m r
+            → status_of result.status ≡ r.status }
+        ensures view { (m : Membership) (r : model.ReplicaState Command) → StandsFor self.now m r
+            → result.view ≡ (if model.is_down r.status then 0 else r.view) }
+        ensures is_primary { (m : Membership) (r : model.ReplicaState Command) → StandsFor self.now m r
+            → result.is_primary ≡ model.is_normal r.status && rules.is_primary m.f m.number m.answer r }
+    {
+        if self.is_down() {
+            return Standing {
+                status: Status::Down,
+                view: 0,
+                is_primary: false,
+            };
+        }
+        self.core.standing()
     }
 
     /// How many entries of its log it has executed.

@@ -79,7 +79,7 @@ impl Replica {
         }
     }
 
-    /// Its save failed: it is down until a restart, and the rule's sends are let go.
+    /// The save of a step failed: the replica is down until a restart, and the rule's sends are let go.
     fn go_down(&mut self, alloc: Global, sends: Sends) -> Result<Sends, StepFault>
         ensures answer { result ≡ Err fault.Store }
         ensures down { Crashes self.old.core self.new.core }

@@ -83,7 +83,7 @@ map_take f (suc n) (x ∷ xs) = ap (λ ys. f x ∷ ys) (map_take f n xs)
 pub requests_taken : (xs ys : List asked.Request) (n : ℕ) → xs ≡ take n ys → requests_of xs ≡ take n (requests_of ys)
 requests_taken xs ys n e = ap requests_of e ∙ map_take request_of n ys
 
--- what is a beginning of the committed list leaves it as it is
+-- what is a prefix of the committed list leaves it as it is
 pub stays : {X : Type 0} (order done : List X) → IsPrefix done order → longer order done ≡ order
 stays {X} order done k =
     let l : length done ≤ length order = omega (arith, ap length k.is, length-append done k.rest) in

@@ -8,7 +8,7 @@ use Rattle.vr_model.specs.Report.{Explains}
 
 -- the laws of replication that a run of a schedule rests on
 pub record Laws : Type 0 where
-  pub laws_history : (f : ℕ) (answer : List Command → Answer) (early late : List (Event Command × Completion))
+  pub one_history : (f : ℕ) (answer : List Command → Answer) (early late : List (Event Command × Completion))
       → OneHistory f answer early late
   pub keeps_executed : (f : ℕ) (answer : List Command → Answer) (events : List (Event Command × Completion))
       → RulesKeepExecuted f answer events

@@ -88,7 +88,7 @@ module _ (g : Membership) (past : List (Event Command × Completion)) where
   -- what is known of the world after the events so far, and after whatever happens next
   pub record IsSettled (w : World Command Answer) : Type 0 where
     pub leads : (e : Event Command) (c : Completion) → Leads (past ++ (e, c) ∷ []) w (happens g.f g.answer w e c)
-    -- what any replica has executed is a beginning of the committed list
+    -- what any replica has executed is a prefix of the committed list
     pub agreed : (i : ℕ) → IsPrefix (executed (w.replicas i)) w.order
     pub within : (i : ℕ) → (w.replicas i).commit_number ≤ length w.order
     -- and the log that the rules make of a message that was sent begins with it

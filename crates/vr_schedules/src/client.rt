@@ -31,7 +31,7 @@ impl Client {
         waits: None,
     };
 
-    /// It submits a command under its next number: the client then, and the request.
+    /// The client submits a command under its next number: the client as it is then, and the request.
     pub fn submit(
         &self,
         alloc: Global,
@@ -66,7 +66,7 @@ impl Client {
         Ok((client, request))
     }
 
-    /// It starts again: it still knows the view.
+    /// The client starts again: it still knows the view.
     pub fn restart(&self) -> Result<Client, Reason>
         ensures step { MatchResult result (λ _. restart_refusal (client_of self.now) ≡ None)
             (λ e. restart_refusal (client_of self.now) ≡ Some (number_of e)) }

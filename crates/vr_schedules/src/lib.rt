@@ -13,8 +13,8 @@
 //! requests, how long it was after each event, and each release with the answer of the commands up to its place.
 //! `BadSchedule` exactly at the first event that can't take place, with the lowest reason; else memory ran out.
 //!
-//! Only tested: nothing; `schedules.rows` and `long_schedule.rows` of `tests_rows` have reports that were known
-//! before, each with checkpoints never, after every command and after every 64.
+//! Tests (nothing rests on them alone): `schedules.rows` and `long_schedule.rows` of `tests_rows` have reports that
+//! were known before, each with checkpoints never, after every command and after every 64.
 #![tactic(auto)]
 
 mod client;

@@ -20,7 +20,7 @@ pub trait Member: Drop {
     // A controller that began with this program and has this budget is saved as this after these commands.
     ghost IsSavedAs: { Program → ℕ → List Command → SavedController → Type 0 };
 
-    // It stands for this record of the rules, as this member of its group.
+    // The member stands for this record of the rules, as this member of its group.
     ghost StandsFor: { Self → Membership → ReplicaState Command → Type 0 };
 
     /// Takes an event up, and answers what it sends: what its rule gives, where that keeps what was executed and the
@@ -41,7 +41,7 @@ pub trait Member: Drop {
             (λ _. Does IsSavedAs m (StandsFor self.new m) r store.old store.new
             (by_rules m store.old.view r t) true []) };
 
-    /// It is down, and has lost all but its store.
+    /// A crash: it is down, and has lost all but its store.
     fn crash(&mut self, alloc: Global)
         ensures { (m : Membership) (r : ReplicaState Command) → StandsFor self.old m r
             → StandsFor self.new m (down r) };

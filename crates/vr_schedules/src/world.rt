@@ -21,7 +21,7 @@ use crate::trace::{Release, Trace};
 use il_model::{Answer, Command};
 use std::alloc::{AllocError, Global};
 use std::collections::BTreeSet;
-use vr_model::{Body, ClientNumber, Config, Event, Message, Party, Request, Sends};
+use vr_model::{Body, CLIENTS, ClientNumber, Config, Event, Message, Party, Request, Sends};
 
 /// A replica, with its store and the nonces that it has used.
 #[derive(Drop)]
@@ -35,7 +35,7 @@ pub(crate) struct Node<M> {
 pub(crate) struct World<M> {
     pub config: Config,
     pub nodes: Vec<Node<M>>,
-    pub clients: [Client; 16],
+    pub clients: [Client; CLIENTS as usize],
     pub trace: Trace,
 }
 
@@ -54,7 +54,7 @@ fn request_message(client: ClientNumber, replica: u8, request: Request) -> Messa
 fn client_number(client: u64) -> Result<ClientNumber, Reason>
     ensures { MatchResult result (λ c. c.number ≡ client) (λ e. (e ≡ OutOfRange) × (client_count ≤ client)) }
 {
-    if client < 16 {
+    if client < u64::from(CLIENTS) {
         Ok(ClientNumber {
             number: client as u8,
         })
@@ -99,7 +99,7 @@ fn look_ahead<M: Member>(
     Err(AllocError)
 }
 
-/// Of what the committed list was, and what came behind it, stays what was committed or this replica has executed.
+/// Of the committed list, and of what came behind it, there stays what was committed or this replica has executed.
 fn settle<M: Member>(order: &mut Vec<Request>, committed: usize, member: &M)
     ensures { (m : Membership) (r : ReplicaState command.Command) → M.StandsFor member.now m r
         → order.new.items ≡ take (max committed r.commit_number) order.old.items }
@@ -119,7 +119,7 @@ impl<M: Member> Node<M> {
     ghost use Rattle.vr_schedules.specs.Standing.{first_node};
     ghost use Rattle.vr_schedules.specs.Events.{IsReason};
 
-    /// It has an empty store, and used no nonce.
+    /// The node of a member, with an empty store, and no nonce used.
     fn new(alloc: Global, member: M) -> Node<M>
         ensures { result ≡ first_node member }
     {
@@ -133,7 +133,7 @@ impl<M: Member> Node<M> {
         }
     }
 
-    /// It takes an event up.
+    /// The member takes an event up, over its store.
     fn step(&mut self, alloc: Global, event: Event) -> Result<Sends, AllocError>
         ensures used { self.new.used ≡ self.old.used }
         ensures does { (m : Membership) (r : ReplicaState command.Command) (t : Taken) → M.StandsFor self.old.member m r
@@ -147,7 +147,7 @@ impl<M: Member> Node<M> {
         self.member.step(alloc, event, &mut self.store)
     }
 
-    /// It is down.
+    /// The member crashes: it is down.
     fn crash(&mut self, alloc: Global)
         ensures used { self.new.used ≡ self.old.used }
         ensures store { self.new.store ≡ self.old.store }
@@ -157,14 +157,14 @@ impl<M: Member> Node<M> {
         self.member.crash(alloc);
     }
 
-    /// Its next save fails.
+    /// The next save of the member fails.
     fn fail_next_save(&mut self, kept: Kept)
         ensures { self.new ≡ record self.old { store = record self.old.store { failing = Some kept } } }
     {
         self.store.failing = Some(kept);
     }
 
-    /// It uses a nonce, to start again.
+    /// The member uses a nonce, to start again.
     fn take_nonce(&mut self, nonce: u64) -> Result<(), EventFault>
         ensures step { (m : Membership) (r : ReplicaState command.Command) → M.StandsFor self.old.member m r
             → MatchResult result
@@ -199,7 +199,7 @@ fn first_nodes<M: Member>(alloc: Global, members: Vec<M>) -> Result<Vec<Node<M>>
 }
 
 /// Sixteen clients that have submitted nothing.
-fn first_clients() -> [Client; 16]
+fn first_clients() -> [Client; CLIENTS as usize]
     ensures { result ≡ replicate client_count fresh_client }
 {
     [

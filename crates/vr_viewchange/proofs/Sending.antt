@@ -20,14 +20,14 @@ use Rattle.vr_model.specs.World.{executed}
 use Rattle.vr_model.specs.Checkpoints.{base_of}
 use Rattle.vr_model.specs.StandsFor.{DoViewChangeStands}
 use Rattle.vr_core.specs.declared.state.Core.{Core}
-use Rattle.vr_core.specs.declared.state.Status.TheVariants as status
+use Rattle.vr_model.specs.declared.standing.Status.TheVariants as status
 use Rattle.vr_model.specs.Membership.{Membership}
 use Rattle.vr_core.specs.StandsFor.{StandsFor, IsSavedAs, AreKept, own_member}
 use Rattle.vr_core.proofs.WholeLogs.{is_own}
 use Rattle.vr_core.specs.Follows.{Tells, AreSent, AreSaved, Leaves, FollowsIfKept, Loses, message_from}
 use Rattle.vr_core.proofs.Sent.{sent_to}
 use Rattle.vr_core.proofs.Keeping.{kept_as, kept_after, changing}
-use Rattle.vr_viewchange.specs.Begins.{notes, own_of}
+use Rattle.vr_viewchange.specs.BeginsView.{notes, own_of}
 use Rattle.vr_viewchange.proofs.Tables.{kept_one, put_other}
 use Rattle.vr_viewchange.proofs.Changed.{with_table, with_sent}
 use Rattle.vr_viewchange.proofs.Beginning.{begins_keeps_sent, kept_matters}

@@ -17,7 +17,7 @@ use Rattle.vr_model.specs.Membership.{Membership}
 use Rattle.vr_core.specs.StandsFor.{StandsFor, IsSavedAs, AreKept}
 use Rattle.vr_core.specs.Follows.{Tells, AreSent, AreSaved, Becomes, Leaves, Follows, message_from}
 use Rattle.vr_core.proofs.Sent.{sent_others, sent_to, sent_more}
-use Rattle.vr_viewchange.specs.Begins.{own_of}
+use Rattle.vr_viewchange.specs.BeginsView.{own_of}
 use Rattle.vr_viewchange.proofs.Sending.{own_stands}
 use Rattle.vr_viewchange.proofs.Tables.{kept_one, kept_nothing}
 use Rattle.vr_viewchange.proofs.Changed.{with_table, with_sent, with_noted}

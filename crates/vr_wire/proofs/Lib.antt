@@ -1,5 +1,5 @@
 pub mod Appends
-pub mod Beginnings
+pub mod Prefixes
 pub mod Bits
 pub mod Ends
 pub mod Fields

@@ -9,10 +9,11 @@ use Rattle.std.proofs.lemmas.Grind.{flat_map-append}
 use Rattle.io_model.specs.Stream.{Ending, Rest, Took, ending_of}
 use Rattle.io_model.proofs.Streams.{IsReadable}
 use Rattle.vr_model.specs.declared.message.Message.{Message}
+use Rattle.vr_model.specs.Logs.{IsPrefix}
 use Rattle.vr_wire.specs.declared.fault.WireFault.{WireFault}
 use Rattle.vr_wire.specs.Frames.{frame_of, message_bytes, told_length, IsFramed, IsPartial, IsBroken, IsShort}
 use Rattle.vr_wire.specs.Shown.{IsWhole}
-use Rattle.vr_wire.specs.Feeding.{frames, Begins, Fills}
+use Rattle.vr_wire.specs.Feeding.{frames, Fills}
 use Rattle.vr_wire.proofs.Fronts.{told_in, told_more, same_frame, partial_frame, broken_frame, one_fault, partial_broken, broken_more}
 
 -- ---- frame after frame
@@ -50,8 +51,8 @@ pub shorter : (bytes : List ℕ) (m : Message) (rest : List ℕ) → IsWhole byt
 shorter bytes m rest w = omega (arith, ap length w.parts, length-append (frame_of m) rest)
 
 module _ (stream bytes : List ℕ) (before out : List Message) (s : IsSoFar stream bytes before out) where
-  pub begins : Begins before out
-  begins = (s.added, s.is)
+  pub prefix_so_far : IsPrefix before out
+  prefix_so_far = record { rest = s.added; is = sym s.is }
 
   pub rests : IsPartial bytes → Took frames (Rest []) stream (ending_of bytes None) before out
   rests partial = record { items = s.added; added = s.is; fed = record { rest = bytes; whole = s.whole; each = s.each; ends = (refl, partial) } }
@@ -155,14 +156,24 @@ pub on_err : {A E p q : Type 0} (r : Result A E) → p → q → OnErr r (p × q
 on_err (Ok x) h k = tt
 on_err (Err e) h k = (h, k)
 
-pub taken_away : {X : Type 0} (before after : List X) → Begins before after → take (length before) after ≡ before
-taken_away before after b = rw b.1 (take_at before b.0 (length before) refl)
+pub taken_away : {X : Type 0} (before after : List X) → IsPrefix before after → take (length before) after ≡ before
+taken_away before after b = rw (sym b.is) (take_at before b.rest (length before) refl)
 
-pub begins_same : {X : Type 0} (before after : List X) → after ≡ before → Begins before after
-begins_same before after is = ([], is ∙ sym (append-nil before))
+pub prefix_same : {X : Type 0} (before after : List X) → after ≡ before → IsPrefix before after
+prefix_same before after is = record { rest = []; is = append-nil before ∙ sym is }
 
-pub begins_more : {X : Type 0} (before between after : List X) → Begins before between → Begins between after → Begins before after
-begins_more {X} before between after a b = (a.0 ++ b.0, b.1 ∙ (ap (λ (x : List X). x ++ b.0) a.1 ∙ append_assoc before a.0 b.0))
+pub prefix_with : {X : Type 0} (before added after : List X) → after ≡ before ++ added → IsPrefix before after
+prefix_with before added after is = record { rest = added; is = sym is }
+
+pub prefix_more : {X : Type 0} (before between after : List X) → IsPrefix before between → IsPrefix between after → IsPrefix before after
+prefix_more {X} before between after a b = record {
+  rest = a.rest ++ b.rest;
+  is = sym (append_assoc before a.rest b.rest) ∙ (ap (λ (x : List X). x ++ b.rest) a.is ∙ b.is);
+}
+
+-- what grows by an element and then keeps its prefix keeps what it had
+pub prefix_past : {X : Type 0} (before : List X) (x : X) (between after : List X) → between ≡ before ++ x ∷ [] → IsPrefix between after → IsPrefix before after
+prefix_past before x between after is b = prefix_more before between after (prefix_with before (x ∷ []) between is) b
 
 pub readable : IsReadable frames
 readable = record {

@@ -19,8 +19,8 @@ Feeding (Err (errors.Fault fault)) before piece after out out' = Took frames bef
     × (after ≡ Fault fault)
 Feeding (Err errors.Memory) before piece after out out' = Unit {0}
 
--- Where the bytes are a beginning of the frames of these messages, what they split into is a beginning of the messages,
--- in order, and no fault.
+-- Where the bytes are a prefix of the frames of these messages, what they split into is a prefix of the messages, in
+-- order, and no fault.
 abbrev pub OnlyFramed : Type 0
 OnlyFramed =
     (stream more : List ℕ) (sent given : List Message) (ending : Ending WireFault)
@@ -28,10 +28,6 @@ OnlyFramed =
     → (later : List Message) × (sent ≡ given ++ later) × IsRest ending
 
 -- ---- within a piece
-
--- these come first, and what was added behind them
-abbrev pub Begins : {X : Type 0} → List X → List X → Type 0
-Begins {X} before after = (added : List X) × (after ≡ before ++ added)
 
 -- What is held grew by bytes of the piece, until it's as long as its frame or the piece is used up; the rest is left.
 pub record Fills (before piece after rest : List ℕ) : Type 0 where

@@ -8,6 +8,7 @@ use Rattle.vr_model.specs.declared.message.PrimaryState.{PrimaryState}
 use Rattle.vr_model.specs.declared.message.Body.{Body}
 use Rattle.vr_model.specs.declared.message.Body.TheVariants as says
 use Rattle.vr_model.specs.declared.message.Message.{Message}
+use Rattle.vr_model.specs.Groups.{most_replicas}
 use Rattle.vr_model.specs.Checkpoints.{SavedCheckpoint}
 use Rattle.vr_wire.specs.declared.fault.WireFault.{WireFault}
 use Rattle.vr_wire.specs.declared.fault.WireFault.TheVariants.{BadFrame, TooLarge}
@@ -80,7 +81,7 @@ frame_of m = to_be_bytes w32 (length (message_bytes m)) ++ message_bytes m
 
 -- a replica of the largest group; where it may be, a client
 abbrev pub IsEnd : Bool → Party → Type 0
-IsEnd may_be_client (Replica s) = s < 7
+IsEnd may_be_client (Replica s) = s < most_replicas
 IsEnd may_be_client (Client c) = IsTrue may_be_client
 
 -- a client sends requests alone, and gets replies alone

@@ -13,7 +13,7 @@ use Rattle.vr_model.specs.declared.message.PrimaryState.{PrimaryState}
 use Rattle.vr_model.specs.declared.message.Body.{Body}
 use Rattle.vr_model.specs.declared.message.Body.TheVariants as says
 use Rattle.vr_model.specs.declared.message.Message.{Message}
-use Rattle.vr_model.specs.Groups.{client_count}
+use Rattle.vr_model.specs.Groups.{most_replicas, client_count}
 use Rattle.vr_model.specs.Checkpoints.{SavedCheckpoint, KeptLog, numbered}
 use Rattle.vr_wire.specs.declared.fault.WireFault.{WireFault}
 use Rattle.vr_wire.specs.declared.fault.WireFault.TheVariants.{BadFrame, TooLarge}
@@ -168,7 +168,7 @@ client_end true n = client_of n >>= λ c. Some (Client c)
 
 abbrev pub party_of_code : Bool → ℕ → Option Party
 party_of_code may_be_client n =
-    if nat_lt n 7 then Some (Replica n)
+    if nat_lt n most_replicas then Some (Replica n)
     else (if nat_lt n 128 then None else client_end may_be_client (n - 128))
 
 abbrev pub party_at : Bool → Reader Party

@@ -127,7 +127,7 @@ fn put_start_view(
     put_log(out, log)
 }
 
-/// That there is a state, where the tag doesn't say it.
+/// Writes the mark that there is a state, where the tag doesn't say it.
 fn put_mark(out: &mut Vec<u8>, log: &Log) -> Result<(), AllocError>
     ensures { OnOk result (out.new.items ≡ out.old.items ++ state_mark log.now.checkpoint) }
 {

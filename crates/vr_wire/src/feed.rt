@@ -2,8 +2,9 @@
 
 ghost use Rattle.std.specs.Prelude.{◌≡◌, ◌-◌, ◌++◌, [], List, length, take, drop, IfOk, OnErr, Err};
 ghost use Rattle.io_model.specs.Stream.{Rest, IsOneStream, Took, ending_of};
+ghost use Rattle.vr_model.specs.Logs.{IsPrefix};
 ghost use Rattle.vr_wire.specs.Frames.{IsShort};
-ghost use Rattle.vr_wire.specs.Feeding.{frames, Begins, Fills, Feeding, OnlyFramed};
+ghost use Rattle.vr_wire.specs.Feeding.{frames, Fills, Feeding, OnlyFramed};
 
 use crate::fault::{WireError, WireFault};
 use crate::front::{front_of, told_size};
@@ -19,7 +20,7 @@ fn frames_of<'a>(
 ) -> Result<(&'a [u8], Option<WireFault>), AllocError>
     ensures ok { IfOk result
         (λ x. Took frames (Rest []) bytes.now (ending_of x.0.now x.1) out.old.items out.new.items) }
-    ensures grown { Begins out.old.items out.new.items }
+    ensures grown { IsPrefix out.old.items out.new.items }
 {
     let mut rest = bytes;
     'frames: loop {
@@ -41,6 +42,7 @@ fn fill<'a>(held: &mut Vec<u8>, size: usize, piece: &'a [u8]) -> Result<&'a [u8]
         (λ rest. held.new.items ≡ held.old.items ++ take (size - length held.old.items) piece.now) }
     ensures rest { IfOk result (λ rest. rest.now ≡ drop (size - length held.old.items) piece.now) }
     ensures err { OnErr result (held.new.items ≡ held.old.items) }
+    ensures grown { IsPrefix held.old.items held.new.items }
 {
     let wanted = size.saturating_sub(held.len()).min(piece.len());
     let (front, rest) = piece.split_at(wanted);
@@ -52,7 +54,7 @@ fn fill<'a>(held: &mut Vec<u8>, size: usize, piece: &'a [u8]) -> Result<&'a [u8]
 fn fill_frame<'a>(held: &mut Vec<u8>, piece: &'a [u8]) -> Result<&'a [u8], AllocError>
     requires { IsShort held.old.items }
     ensures ok { IfOk result (λ rest. Fills held.old.items piece.now held.new.items rest.now) }
-    ensures grown { Begins held.old.items held.new.items }
+    ensures grown { IsPrefix held.old.items held.new.items }
 {
     let rest = fill(held, 4, piece)?;
     if held.len() < 4 {
@@ -73,7 +75,7 @@ fn go_on(
     ensures ok { IfOk result
         (λ fault. Took frames (Rest held.old.items) piece.now
         (ending_of held.new.items fault) out.old.items out.new.items) }
-    ensures err { OnErr result (Begins held.old.items held.new.items × Begins out.old.items out.new.items) }
+    ensures err { OnErr result (IsPrefix held.old.items held.new.items × IsPrefix out.old.items out.new.items) }
 {
     let rest = fill_frame(held, piece)?;
     match front_of(alloc, held.as_slice()) {
@@ -100,7 +102,7 @@ fn taken(
     ensures ok { IfOk result
         (λ fault. Took frames (Rest held.old.items) piece.now
         (ending_of held.new.items fault) out.old.items out.new.items) }
-    ensures err { OnErr result (Begins held.old.items held.new.items × Begins out.old.items out.new.items) }
+    ensures err { OnErr result (IsPrefix held.old.items held.new.items × IsPrefix out.old.items out.new.items) }
 {
     if !held.is_empty() {
         return go_on(alloc, held, piece, out);
@@ -130,7 +132,7 @@ impl Model for Feed {
 }
 
 impl Feed {
-    /// Of a stream of which nothing came yet.
+    /// The feed of a stream of which nothing came yet.
     pub fn new(alloc: Global) -> Feed
         ensures { result ≡ Rest [] }
     {
@@ -144,6 +146,7 @@ impl Feed {
     /// for good. Want of memory changes nothing: the same piece may be fed again.
     ///
     /// A frame that lies in the piece is read there. Bytes of a frame that is cut are copied once, to what is held.
+    #[tactic(auto, using(crate::proofs::Pieces::taken_away))]
     pub fn feed(
         &mut self,
         alloc: Global,
@@ -173,13 +176,13 @@ impl Feed {
     }
 }
 
-/// That a stream of frames has its messages and its ending in whatever pieces it comes, and no others; that what was
-/// framed is found; and that no frame begins another.
+/// The law that a stream of frames has its messages and its ending in whatever pieces it comes, and no others; that
+/// what was framed is found; and that no frame is a prefix of another.
 pub fn any_pieces()
     ensures { IsOneStream frames }
 {}
 
-/// That of a beginning of the frames of messages only a beginning of those messages is found, and no fault.
+/// The law that of a prefix of the frames of messages only a prefix of those messages is found, and no fault.
 pub fn only_framed_are_found()
     ensures { OnlyFramed }
 {}

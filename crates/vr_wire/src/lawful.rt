@@ -8,13 +8,13 @@ ghost use Rattle.vr_wire.specs.Frames.{IsEnd, may_send, may_receive, IsState, Is
 
 use crate::log::is_log;
 use il_model::{Answer, OutImage};
-use vr_model::{Body, Log, Message, Party, PrimaryState};
+use vr_model::{Body, Log, MOST_REPLICAS, Message, Party, PrimaryState};
 
 fn is_end(may_be_client: bool, party: Party) -> bool
     ensures { IsTrue result ↔ IsEnd may_be_client party }
 {
     match party {
-        Party::Replica(number) => number < 7,
+        Party::Replica(number) => usize::from(number) < MOST_REPLICAS,
         Party::Client(_) => may_be_client,
     }
 }

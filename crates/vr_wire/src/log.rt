@@ -18,7 +18,7 @@ use crate::request::{put_entries, whole_entries};
 use crate::snapshot::{is_snapshot, put_snapshot, snapshot_at};
 use crate::value::lawful;
 use std::alloc::{AllocError, Global};
-use vr_model::{Checkpoint, Executed, Log};
+use vr_model::{CLIENTS, Checkpoint, Executed, Log};
 
 // ---- the clients' answers
 
@@ -77,7 +77,7 @@ fn answered_count(clients: &[Option<Executed>]) -> u8
     count
 }
 
-/// Those that have one, in order.
+/// Writes the answers of the clients that have one, in order.
 fn put_answers(out: &mut Vec<u8>, clients: &[Option<Executed>]) -> Result<(), AllocError>
     requires { length clients.now ≤ client_count }
     ensures text { OnOk result (out.new.items ≡ out.old.items ++ flat_map client_bytes (answered_from 0 clients.now)) }
@@ -119,7 +119,7 @@ impl Field for ClientAnswer {
 
     fn read(_alloc: Global, bytes: &[u8]) -> Result<(ClientAnswer, &[u8]), ReadError> {
         let (client, rest) = u8_at(bytes)?;
-        if client >= 16 {
+        if client >= CLIENTS {
             return Err(ReadError::Malformed);
         }
         let (number, rest) = u64_at(rest)?;
@@ -149,9 +149,9 @@ fn next_of(client: u8, answers: &[ClientAnswer]) -> (Option<Executed>, &[ClientA
 fn table_of(alloc: Global, answers: &[ClientAnswer]) -> Result<Vec<Option<Executed>>, ReadError>
     ensures { Gives (λ table. table.items) result (table_of answers.now) }
 {
-    let mut table = Vec::with_capacity(alloc, 16)?;
+    let mut table = Vec::with_capacity(alloc, usize::from(CLIENTS))?;
     let mut rest = answers;
-    for client in 0..16u8 {
+    for client in 0..CLIENTS {
         let (executed, others) = next_of(client, rest);
         table.push(executed)?;
         rest = others;
@@ -197,7 +197,7 @@ fn is_checkpoint(c: &Checkpoint) -> bool
     ensures { IsTrue result ↔ IsCheckpoint c.now }
 {
     c.base > 0
-        && c.clients.len() == 16
+        && c.clients.len() == usize::from(CLIENTS)
         && are_executed(c.clients.as_slice())
         && is_snapshot(&c.snapshot)
 }

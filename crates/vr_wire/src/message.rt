@@ -11,7 +11,7 @@ use crate::numbers::{put_u8, u8_at};
 use crate::request::client_of;
 use crate::value::lawful;
 use std::alloc::{AllocError, Global};
-use vr_model::{Message, Party};
+use vr_model::{MOST_REPLICAS, Message, Party};
 
 fn party_code(party: Party) -> u8
     requires { party_code party < 256 }
@@ -47,7 +47,7 @@ fn client_end(may_be_client: bool, number: u8) -> Option<Party>
 fn party_of_code(may_be_client: bool, code: u8) -> Option<Party>
     ensures { result ≡ party_of_code may_be_client code }
 {
-    if code < 7 {
+    if usize::from(code) < MOST_REPLICAS {
         return Some(Party::Replica(code));
     }
     if code < 128 {

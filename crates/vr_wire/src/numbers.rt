@@ -78,7 +78,7 @@ pub(crate) fn u64_at(bytes: &[u8]) -> Result<(u64, &[u8]), ReadError>
     Ok((BigEndian::read_u64(front), rest))
 }
 
-/// That nothing is left to read.
+/// Fails where anything is left to read.
 pub(crate) fn ended(bytes: &[u8]) -> Result<(), ReadError>
     ensures { Gives (λ x. x) result (ended (tt) bytes.now) }
 {

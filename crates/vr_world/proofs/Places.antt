@@ -27,7 +27,7 @@ answer_from o (c ∷ cs) zero l = refl
 answer_from o (c ∷ []) (suc j) l = absurd (omega arith)
 answer_from o (c ∷ d ∷ ds) (suc j) l = answer_from (outcome o c).1 (d ∷ ds) j (omega arith)
 
--- the commands of a beginning
+-- the commands of a prefix
 commands_of_first : (n : ℕ) (log : List (Request Command)) → commands (take n log) ≡ take n (commands log)
 commands_of_first zero log = refl
 commands_of_first (suc n) [] = refl

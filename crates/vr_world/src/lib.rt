@@ -1,5 +1,5 @@
 //! Runs of schedules over replicas of one program, with clients and stores in memory. It may use the runner of
-//! `schedules` and the public calls of `replica`, and knows no rule of replication.
+//! `vr_schedules` and the public calls of `vr_replica`, and knows no rule of replication.
 //!
 //! ```rust
 //! use vr_schedules::WorldEvent;
@@ -16,8 +16,8 @@
 //! (`IsTraced`), and the report explains the run. Each answer that was released stands at its request's place among the
 //! answers of one controller to all commands of the trace's list (`AllStandAtTheirPlaces`).
 //!
-//! Only tested: nothing; a run of 200 scans with two view changes, a crash and a recovery stands in `tests_tool`
-//! (`world_rows`), for checkpoints never, after every command and after every 64.
+//! Tests (nothing rests on them alone): a run of 200 scans with two view changes, a crash and a recovery stands in
+//! `tests_tool` (`world_rows`), for checkpoints never, after every command and after every 64.
 #![tactic(auto)]
 
 mod run;

@@ -1,6 +1,6 @@
 use Rattle.std.proofs.Common.{true, false, sym, ◌∙◌}
 use Rattle.vr_core.proofs.Unfit.{not_some_unfit}
-use Rattle.vr_recovery.proofs.NewState.{mapped_some, entries_fit}
+use Rattle.vr_recovery.proofs.OnNewState.{mapped_some, entries_fit}
 use Rattle.vr_recovery.proofs.catching_up.new_state_of_other.Goals as goal
 
 pub on_checkpoint-requires : goal.on_checkpoint-requires

@@ -2,7 +2,7 @@ use Rattle.std.proofs.Common.{rules, true, false, Ok, ap, ◌∙◌, ◌-◌}
 use Rattle.vr_model.specs.Rules.{on_new_state}
 use Rattle.vr_core.specs.StandsFor.{own_member}
 use Rattle.vr_recovery.proofs.Telling.{told_by}
-use Rattle.vr_recovery.proofs.NewState.{whole_of, past_size, goes_fits, joins_fits, fits_of, not_past, not_catching}
+use Rattle.vr_recovery.proofs.OnNewState.{whole_of, past_size, goes_fits, joins_fits, fits_of, not_past, not_catching}
 use Rattle.vr_recovery.proofs.catching_up.on_checkpoint.Goals as goal
 
 pub returns-then-not-is_reached-clause-rule : goal.returns-then-not-is_reached-clause-rule

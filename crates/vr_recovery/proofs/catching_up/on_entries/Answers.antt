@@ -2,7 +2,7 @@ use Rattle.std.proofs.Common.{rules, true, false, sym, ◌∙◌}
 use Rattle.std.proofs.lemmas.List.{length-map}
 use Rattle.vr_model.specs.Checkpoints.{request_of, requests_of}
 use Rattle.vr_recovery.proofs.Telling.{told_by}
-use Rattle.vr_recovery.proofs.NewState.{goes_kept, joins_kept, not_past, not_catching}
+use Rattle.vr_recovery.proofs.OnNewState.{goes_kept, joins_kept, not_past, not_catching}
 use Rattle.vr_recovery.proofs.catching_up.on_entries.Goals as goal
 
 pub returns-then-goes_past : goal.returns-then-goes_past

@@ -4,20 +4,23 @@ use Rattle.vr_model.specs.declared.message.Message.{Message}
 use Rattle.vr_wire.specs.Frames.{IsPartial, IsBroken}
 use Rattle.vr_wire.specs.Shown.{IsWhole}
 use Rattle.vr_wire.specs.Feeding.{frames}
-use Rattle.vr_wire.proofs.Pieces.{goes_on_waiting, goes_on_broken, goes_on_whole, begins_same, begins_more, on_err}
+use Rattle.vr_wire.proofs.Pieces.{goes_on_waiting, goes_on_broken, goes_on_whole, prefix_same, prefix_past, on_err}
 use Rattle.vr_wire.proofs.feed.go_on.Goals as goal
+
+pub returns-in_err-rest-clause-err : goal.returns-in_err-rest-clause-err
+returns-in_err-rest-clause-err c = on_err c.from_residual.result c.fill_frame.ensures.grown (prefix_same c.args.out.now.items c.args.out.now.items refl)
 
 pub returns-in_err-push-in-Ok-Some-clause-err : goal.returns-in_err-push-in-Ok-Some-clause-err
 returns-in_err-push-in-Ok-Some-clause-err c =
-    on_err c.from_residual-in_err-push-in-Ok-Some.result c.fill_frame.ensures.grown (begins_same c.args.out.now.items c.push.new.self.items c.in_err-push-in-Ok-Some.ensures.items)
+    on_err c.from_residual-in_err-push-in-Ok-Some.result c.fill_frame.ensures.grown (prefix_same c.args.out.now.items c.push.new.self.items c.in_err-push-in-Ok-Some.ensures.items)
 
 pub returns-in_err-tail-in-Ok-Some-clause-err : goal.returns-in_err-tail-in-Ok-Some-clause-err
 returns-in_err-tail-in-Ok-Some-clause-err c =
-    on_err c.from_residual-in_err-tail-in-Ok-Some.result c.fill_frame.ensures.grown (begins_more c.args.out.now.items c.push.new.self.items c.frames_of.new.out.items (c.in-Ok-Some.message ∷ [], c.in_ok-push-in-Ok-Some.ensures.items) c.frames_of.ensures.grown)
+    on_err c.from_residual-in_err-tail-in-Ok-Some.result c.fill_frame.ensures.grown (prefix_past c.args.out.now.items c.in-Ok-Some.message c.push.new.self.items c.frames_of.new.out.items c.in_ok-push-in-Ok-Some.ensures.items c.frames_of.ensures.grown)
 
 pub returns-in_err-held-in-Ok-Some-clause-err : goal.returns-in_err-held-in-Ok-Some-clause-err
 returns-in_err-held-in-Ok-Some-clause-err c =
-    on_err c.from_residual-in_err-held-in-Ok-Some.result c.fill_frame.ensures.grown (begins_more c.args.out.now.items c.push.new.self.items c.frames_of.new.out.items (c.in-Ok-Some.message ∷ [], c.in_ok-push-in-Ok-Some.ensures.items) c.frames_of.ensures.grown)
+    on_err c.from_residual-in_err-held-in-Ok-Some.result c.fill_frame.ensures.grown (prefix_past c.args.out.now.items c.in-Ok-Some.message c.push.new.self.items c.frames_of.new.out.items c.in_ok-push-in-Ok-Some.ensures.items c.frames_of.ensures.grown)
 
 pub returns-in_ok-held-in-Ok-Some-clause-ok : goal.returns-in_ok-held-in-Ok-Some-clause-ok
 returns-in_ok-held-in-Ok-Some-clause-ok c =
@@ -42,4 +45,4 @@ returns-in-Err-Fault-clause-ok c =
     (goes_on_broken c.args.held.now.items c.args.piece.now c.fill_frame.new.held.items c.in_ok-rest.rest.now c.in_ok-rest.ensures.ok c.args.out.now.items c.in-Err-Fault.fault (subst (IsBroken c.in-Err-Fault.fault) c.as_slice.ensures.value shown))
 
 pub returns-in-Err-Memory-clause-err : goal.returns-in-Err-Memory-clause-err
-returns-in-Err-Memory-clause-err c = (c.fill_frame.ensures.grown, begins_same c.args.out.now.items c.args.out.now.items refl)
+returns-in-Err-Memory-clause-err c = (c.fill_frame.ensures.grown, prefix_same c.args.out.now.items c.args.out.now.items refl)

@@ -1,4 +1,4 @@
-use Rattle.vr_wire.proofs.Beginnings.{only_framed}
+use Rattle.vr_wire.proofs.Prefixes.{only_framed}
 use Rattle.vr_wire.proofs.feed.only_framed_are_found.Goals as goal
 
 pub returns : goal.returns

@@ -7,8 +7,9 @@ use Rattle.vr_core.proofs.state.Core.fresh.Goals as goal
 
 pub returns : goal.returns
 returns c =
-    let Q = c.args.image in
-    let budget = c.args.budget.instructions in
+    let start = c.args.start in
+    let Q = start.image in
+    let budget = start.budget.instructions in
     record {
       member = record { f = refl; number = refl; answer = refl; program = refl; budget = refl };
       status = refl;
@@ -16,8 +17,8 @@ returns c =
       log = search rules;
       reached = subst (λ (k : KeptLog). base_of k.checkpoint ≤ 0) (sym c.of.ensures) (omega arith);
       commit_number = refl;
-      executed = nothing_executed c.args.controller c.args.clients Q budget c.requires.controller c.requires.clients;
-      numbers = numbers_none c.args.clients c.requires.clients;
+      executed = nothing_executed start.controller start.clients Q budget c.requires.controller c.requires.clients;
+      numbers = numbers_none start.clients c.requires.clients;
       last_normal_view = refl;
       stored_view = refl;
       stored = λ e. omega arith;

@@ -7,7 +7,7 @@ use Rattle.vr_core.proofs.Restoring.{program_is, no_fault, unsound, judged_sound
 use Rattle.vr_core.proofs.state.Core.is_sound.Goals as goal
 
 pub returns-then-can_restore-clause-spoilt : goal.returns-then-can_restore-clause-spoilt
-returns-then-can_restore-clause-spoilt c = λ e. judged_sound c.args.self.now c.args.snapshot.now c.image-image.result.now c.can_restore.result c.lawful.ensures c.can_restore.ensures c.if-can_restore.true
+returns-then-can_restore-clause-spoilt c = λ e. judged_sound c.args.self.now c.args.snapshot.now c.image-image.result.now c.can_restore.result c.know_lawful.ensures c.can_restore.ensures c.if-can_restore.true
 
 pub returns-in-Ok-clause-stands : goal.returns-in-Ok-clause-stands
 returns-in-Ok-clause-stands c = λ e cs h.
