@@ -1,4 +1,4 @@
--- Beginnings of one rising list.
+-- Prefixes of one rising list.
 use Rattle.std.proofs.Common.{◌≡◌, ℕ, ◌+◌, ◌<◌, ◌≤◌, List, [], ◌∷◌, ◌++◌, length, refl, ap, sym, ◌∙◌, arith, length-append}
 use mathlib.Core.List.{IsPrefix}
 use Rattle.io_image.specs.declared.release.Release.{Release}
@@ -29,7 +29,7 @@ length-number n (x ∷ xs) h = omega (arith, length-number x.number xs h.1, h.0)
 pub number-rises : (n : ℕ) (xs : List Release) → IsRisingFrom n xs → n ≤ number_from n xs
 number-rises n xs h = omega (arith, length-number n xs h)
 
--- a beginning of a rising list with the same last number is the whole
+-- a prefix of a rising list with the same last number is the whole
 pub rising_whole : (n : ℕ) (xs ys : List Release) → IsRisingFrom n ys → IsPrefix xs ys → number_from n ys ≡ number_from n xs → xs ≡ ys
 rising_whole n [] [] h p e = refl
 rising_whole n [] (y ∷ ys) h p e = absurd (omega (arith, number-rises y.number ys h.1, h.0))
@@ -39,7 +39,7 @@ rising_whole n (x ∷ xs) (y ∷ ys) h p e =
     let same : number_from y.number ys ≡ number_from y.number xs = rw (ap (λ (r : Release). r.number) heads) at e in
     let rest = rising_whole y.number xs ys h.1 (p.0, cc (p.1)) same in cc (heads, rest)
 
--- of two beginnings of one list the shorter begins the longer
+-- of two prefixes of one list the shorter is a prefix of the longer
 pub prefix_shorter : {A : Type 0} (xs ys zs : List A) → IsPrefix xs zs → IsPrefix ys zs → length xs ≤ length ys → IsPrefix xs ys
 prefix_shorter [] ys zs p q le = (ys, refl)
 prefix_shorter (x ∷ xs) [] zs p q le = absurd (omega arith)

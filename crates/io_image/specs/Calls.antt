@@ -21,7 +21,7 @@ Does b (sample_gave cells next) c = (c ≡ sampled b) × (cells ≡ cells_of b) 
 Does b (wrote change ticket) c = (c ≡ with_change b change) × (ticket ≡ b.next) × (is_full b ≡ false)
 Does b refused c = c ≡ b
 
--- these calls, one behind another
+-- these calls, one after another
 abbrev pub Ran : Book → List Call → Book → Type 0
 Ran b [] c = c ≡ b
 Ran b (call ∷ calls) c = (m : Book) × Does b call m × Ran m calls c

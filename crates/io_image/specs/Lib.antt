@@ -4,5 +4,3 @@ pub mod Calls
 pub mod Staging
 pub mod Releases
 pub mod Releasing
-pub mod Client
-pub mod Driver

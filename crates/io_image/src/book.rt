@@ -1,6 +1,7 @@
 //! The book of staged writes.
 ghost use Rattle.std.specs.Prelude.{◌≡◌, ◌≢◌, ◌+◌, ◌<◌, ◌≤◌, ◌↔◌, true, false, length, IfOk, IfErr, OnErr, Err, IsTrue};
-ghost use Rattle.io_image.specs.Book.{Book, bits_at, words_at, mask_at, masked, cells_of, is_full, new_book, LiesInside};
+ghost use Rattle.io_image.specs.Book.{Book, bits_at, words_at, mask_at, masked, cells_of, is_full, new_book};
+ghost use Rattle.io_image.specs.Book.{LiesInside};
 ghost use Rattle.io_image.specs.Entries.{change_of};
 ghost use Rattle.io_image.specs.Calls.{Does, read_gave, sample_gave, wrote};
 
@@ -229,7 +230,9 @@ impl StageBook {
         self.take(Entry::Mask(address, and_mask, or_mask))
     }
 
-    /// As `write_words`, and then as `read`: the cells have this write.
+    /// Writes these words, the first at `address` of 0 to 63, all or none, and shows the cells just after it: they have
+    /// them. `Address` where one lies past the area, else `Full` at 4096 writes since the last sample or where the
+    /// tickets are used up, else `Memory` where a growth was refused.
     pub fn write_read(&mut self, address: usize, values: &[i16]) -> Result<Written, StageError>
         ensures wrote { IfOk result
             (λ w. Does self.old (wrote (words_at address values.now) w.ticket.number) self.new) }

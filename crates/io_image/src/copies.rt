@@ -1,4 +1,4 @@
-//! What lies in `left_right`'s two copies: a beginning of the list, and the number that threads share.
+//! What lies in `left_right`'s two copies: a prefix of the list, and the number that threads share.
 ghost use Rattle.std.specs.Prelude.{◌≡◌, ◌++◌, ◌∷◌, [], List, MatchResult};
 ghost use Rattle.io_image.specs.declared.release.Release.{Release};
 ghost use Rattle.left_right.specs.Handles.{published, pending};

@@ -24,7 +24,7 @@ pub enum PublishError {
     Memory,
 }
 
-/// The released images could not be made: want of memory, or a place for a reader that `left_right` refuses.
+/// The released images could not be made: out of memory, or a place for a reader that `left_right` refuses.
 #[derive(Clone, Copy, Debug, Error, PartialEq, Eq)]
 #[error("no memory or no place for the readers of the released images")]
 pub struct Unmade;
@@ -110,8 +110,8 @@ impl<J: Naming, P: Pen<J>> ReleasedWriter<J, P> {
 }
 
 impl<J: Naming> ReleasedReader<J> {
-    /// The last release of a list that begins with all that this reader saw before or learnt. Where the writer is gone
-    /// it is the last that the reader saw or learnt. It takes no memory, and waits for nobody.
+    /// The last release of a list of which all that this reader saw before or learnt is a prefix. Where the writer is
+    /// gone it is the last that the reader saw or learnt. It takes no memory, and waits for nobody.
     pub fn read(&mut self) -> View
         ensures shown { result ≡ shown self.new }
         ensures seen { IsPrefix self.old self.new }
@@ -134,8 +134,8 @@ impl<J: Naming> ReleasedReader<J> {
     }
 }
 
-/// Of what the writer told and what a reader saw or learnt, one list begins the other. It does nothing: its contract is
-/// a law.
+/// Of what the writer told and what a reader saw or learnt, one list is a prefix of the other. It does nothing: its
+/// contract is a law.
 pub fn agree<J: Naming>(told: &Told<J>, reader: &ReleasedReader<J>)
     ensures { IsPrefix told.now reader.now ⊎ IsPrefix reader.now told.now }
 {

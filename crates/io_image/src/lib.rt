@@ -1,7 +1,6 @@
-//! The images that threads share: staged inputs, each write of which stands whole in the next sample, and released
-//! outputs, whose readers wait for nobody and never go back; and the client that submits scans of the one and takes the
-//! other. It may use `il_model`, the messages and client rules of `vr_model`, and the ported crates, and knows no
-//! program and no field protocol.
+//! The process image of a plant, as threads share it: the staged inputs, each write of which stands whole in the next
+//! sample, and the released outputs, whose readers wait for nobody and never go back. It stands on the cells of
+//! `il_model`, and knows no program, no replication and no field protocol.
 //!
 //! ```rust
 //! use io_image::StageBook;
@@ -13,18 +12,16 @@
 //!
 //! Proved: over any list of calls each write that got a ticket stands whole, in ticket order, in the first sample after
 //! it (`each_sample_holds_its_writes`); a refusal changes nothing. A `read` of the outputs shows the last release of a
-//! list that begins with all that this reader saw before; of what a writer told and a reader saw, one list begins the
-//! other (`agree`). The `ScanDriver` is a client of the replication rules, and submits a scan of exactly its sample.
+//! list of which all that this reader saw before is a prefix; of what a writer told and a reader saw, one is a prefix
+//! of the other (`agree`).
 //!
-//! Only tested: that each call of a `Stage` is one hold of its lock, and one call of its book (`process_image_rows` of
-//! `tests_parts`, by threads, in many rounds). That a reader waits for nobody is `left_right`'s.
+//! Tests alone show that each call of a `Stage` is one hold of its lock, and one call of its book (`process_image_rows`
+//! of `tests_parts`, by threads, in many rounds). That a reader waits for nobody is `left_right`'s.
 #![tactic(auto)]
 
 mod book;
 mod calls;
-mod client;
 mod copies;
-mod driver;
 mod ends;
 mod list;
 mod release;
@@ -32,9 +29,7 @@ mod staging;
 
 pub use book::{Sample, StageBook, StageError, Ticket, Written};
 pub use calls::each_sample_holds_its_writes;
-pub use client::{Answered, GroupClient};
 pub use copies::{Pen, SharedPen};
-pub use driver::ScanDriver;
 pub use ends::{PublishError, ReleasedReader, ReleasedWriter, Told, Unmade, agree, released};
 pub use list::{Naming, NewList};
 pub use release::{Release, View};

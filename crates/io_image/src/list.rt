@@ -1,5 +1,5 @@
 //! The list of releases. It exists in the proofs alone: threads share the number of its last release, and each keeps a
-//! beginning of the list that it saw.
+//! prefix of the list, which it saw.
 ghost use Rattle.std.specs.Prelude.{◌≡◌, ◌<◌, ◌++◌, ◌∷◌, ◌⊎◌, [], MatchBool};
 ghost use mathlib.Core.List.{IsPrefix};
 ghost use Rattle.std.specs.Bool.{OnTrue};
@@ -98,7 +98,7 @@ impl NewList {
         }
     }
 
-    /// The number that threads share, and the beginning of the list that has nothing.
+    /// The number that threads share, and the empty prefix of the list.
     pub(crate) fn named<J: Naming>(self) -> (LastNumber<J>, Front<J>)
         requires { self ≡ J.book }
         ensures { result.1 ≡ [] }
@@ -132,7 +132,7 @@ fn is_same(one: &View, other: &View) -> bool
     *one == *other
 }
 
-/// A beginning of the list that was seen, with what it shows. Contracts see it as that list.
+/// A prefix of the list, which was seen, with what it shows. Contracts see it as that list.
 #[derive(Drop)]
 pub struct Front<J: Naming> {
     view: View,
@@ -163,7 +163,7 @@ impl<J: Naming> Front<J> {
         self.view
     }
 
-    /// A copy.
+    /// A copy of this prefix.
     pub(crate) fn again(&self) -> Front<J>
         ensures same { result ≡ self.now }
         ensures rising { IsRising self.now }
@@ -176,8 +176,8 @@ impl<J: Naming> Front<J> {
         }
     }
 
-    /// Takes the other beginning where that one is longer. Of two beginnings of one list the longer begins with the
-    /// shorter.
+    /// Takes the other prefix where that one is longer. Of two prefixes of one list the shorter is a prefix of the
+    /// longer.
     pub(crate) fn catch_up(&mut self, other: &Front<J>)
         ensures one { (self.new ≡ self.old) ⊎ (self.new ≡ other.now) }
         ensures this { IsPrefix self.old self.new }
@@ -192,7 +192,7 @@ impl<J: Naming> Front<J> {
         }
     }
 
-    /// Whether the other one is this one with the release after it.
+    /// Whether the other prefix is this one with the release after it.
     pub(crate) fn is_before(&self, other: &Front<J>, release: &Release) -> bool
         ensures { OnTrue result (other.now ≡ self.now ++ release.now ∷ []) }
     {

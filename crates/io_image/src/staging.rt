@@ -5,7 +5,7 @@ use crate::book::{Sample, StageBook, StageError, Ticket, Written};
 use il_model::{BITS, InImage, WORDS};
 use std::sync::{Mutex, Wait};
 
-/// Staged inputs. An implementation tells its book, or tells nothing, as one behind a lock.
+/// Staged inputs. An implementation tells its book, or tells nothing where other threads write between two calls.
 pub trait Staging {
     ghost use Rattle.std.specs.Prelude.{◌≡◌, ◌+◌, ◌<◌, ◌≤◌, ◌↔◌, true, length, IfOk, OnErr, Err, Option};
     ghost use Rattle.io_image.specs.Book.{Book, bits_at, words_at, mask_at, is_full, after_change};
@@ -15,30 +15,37 @@ pub trait Staging {
 
     ghost told: { Self → Option Book };
 
-    /// As `StageBook::read`.
+    /// The cells with each write so far. It takes no memory.
     fn read(&mut self) -> InImage
         ensures { Changed (told self.old) (told self.new) (λ b c. Does b (read_gave result.cells) c) };
 
-    /// As `StageBook::sample`.
+    /// The cells with each write so far, and the next ticket's number. It forgets the writes, and takes no memory.
     fn sample(&mut self) -> Sample
         ensures { Changed (told self.old) (told self.new)
             (λ b c. Does b (sample_gave result.inputs.cells result.next) c) };
 
-    /// As `StageBook::write_bits`.
+    /// Writes these bits, the first at `address` of 0 to 511, all or none. `Address` where one lies past the area, else
+    /// `Full` at 4096 writes since the last sample or where the tickets are used up, else `Memory` where a growth was
+    /// refused. After an `Err` the book is as it was.
     fn write_bits(&mut self, address: usize, values: &[bool]) -> Result<Ticket, StageError>
         ensures address { (result ≡ Err StageError.Address) ↔ (BITS < address + length values.now) }
         ensures told { Changed (told self.old) (told self.new)
             (λ b c. IfOk result (λ t. Does b (wrote (bits_at address values.now) t.number) c) × OnErr result (c ≡ b)
             × ((result ≡ Err StageError.Full) ↔ ((address + length values.now ≤ BITS) × (is_full b ≡ true)))) };
 
-    /// As `StageBook::write_words`.
+    /// Writes these words, the first at `address` of 0 to 63, all or none. `Address` where one lies past the area, else
+    /// `Full` at 4096 writes since the last sample or where the tickets are used up, else `Memory` where a growth was
+    /// refused. After an `Err` the book is as it was.
     fn write_words(&mut self, address: usize, values: &[i16]) -> Result<Ticket, StageError>
         ensures address { (result ≡ Err StageError.Address) ↔ (WORDS < address + length values.now) }
         ensures told { Changed (told self.old) (told self.new)
             (λ b c. IfOk result (λ t. Does b (wrote (words_at address values.now) t.number) c) × OnErr result (c ≡ b)
             × ((result ≡ Err StageError.Full) ↔ ((address + length values.now ≤ WORDS) × (is_full b ≡ true)))) };
 
-    /// As `StageBook::mask_word`.
+    /// Lays two masks on the word at `address` of 0 to 63 as it is now: the bits that are set in `and_mask` stay, the
+    /// others become those of `or_mask`. `Address` where there is no such word, else `Full` at 4096 writes since the
+    /// last sample or where the tickets are used up, else `Memory` where a growth was refused. After an `Err` the book
+    /// is as it was.
     fn mask_word(
         &mut self,
         address: usize,
@@ -50,7 +57,10 @@ pub trait Staging {
             (λ b c. IfOk result (λ t. Does b (wrote (mask_at address and_mask or_mask) t.number) c)
             × OnErr result (c ≡ b) × ((result ≡ Err StageError.Full) ↔ ((address < WORDS) × (is_full b ≡ true)))) };
 
-    /// As `StageBook::write_read`. Where nothing is told, too, the cells that it shows have this write.
+    /// Writes these words, the first at `address` of 0 to 63, all or none, and shows the cells just after it, which
+    /// have them, whether the book is told or not. `Address` where one lies past the area, else `Full` at 4096 writes
+    /// since the last sample or where the tickets are used up, else `Memory` where a growth was refused. After an `Err`
+    /// the book is as it was.
     fn write_read(&mut self, address: usize, values: &[i16]) -> Result<Written, StageError>
         ensures address { (result ≡ Err StageError.Address) ↔ (WORDS < address + length values.now) }
         ensures shown { IfOk result
@@ -95,7 +105,7 @@ impl Staging for StageBook {
     }
 }
 
-/// A book that threads share behind a lock. What lies behind it is a book whenever the lock is free.
+/// A book that threads share behind a lock. Whenever the lock is free, what it guards is a book.
 #[derive(Drop)]
 pub struct Stage {
     book: Mutex<StageBook>,

@@ -20,7 +20,7 @@ pub record Flushes (held held' : Option (List ℕ)) (waits waits' : List ℕ) : 
   pub rest : waits ≡ written ++ waits'
   pub went : Appends held held' written
 
--- what a stream has come to, and the bytes behind it that were read and not fed yet
+-- what a stream has come to, and the bytes after it that were read and not fed yet
 pub record Reading : Type 0 where
   pub stream : Ending WireFault
   pub kept : List ℕ
@@ -30,7 +30,7 @@ abbrev pub Goes : Ending WireFault → List ℕ → Ending WireFault → List Me
 Goes before piece after out out' = ((piece ≡ []) × (after ≡ before) × (out' ≡ out))
     ⊎ Took frames before piece after out out'
 
--- These bytes were read, behind those that were kept.
+-- These bytes were read, after those that were kept.
 pub record Filled (before after : Reading) (left left' : Option (List ℕ)) : Type 0 where
   pub came : List ℕ
   pub read : Consumes left left' came

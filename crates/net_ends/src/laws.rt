@@ -4,8 +4,8 @@ ghost use Rattle.vr_wire.specs.Feeding.{OnlyFramed};
 
 use vr_wire::only_framed_are_found;
 
-/// Where a connection gives one end a beginning of the bytes that were written at the other, what that end hands out
-/// is a beginning of the messages that were put there, in order.
+/// Where a connection gives one end a prefix of the bytes that were written at the other, what that end hands out is a
+/// prefix of the messages that were put there, in order.
 pub fn only_sent_is_given()
     ensures { OnlyFramed }
 {

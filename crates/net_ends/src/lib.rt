@@ -11,14 +11,14 @@
 //! let flow = inbox.read(alloc, reader, &mut messages); // one read, and the messages that are whole now
 //! ```
 //!
-//! Proved: a message is put whole behind what waits, or lost whole, exactly where it has no frame, where something
-//! waits and it would be more than 1 MiB with it, or for want of memory; a flush writes a beginning of what waits. What
-//! an inbox gives are the messages whose frames it read, in whatever pieces. Where what one end has read is a beginning
-//! of the frames that the other put, it gave a beginning of their messages, in order, and met no fault
+//! Proved: a message is put whole after what waits, or lost whole, exactly where it has no frame, where something waits
+//! and it would be more than 1 MiB with it, or where memory runs out; a flush writes a prefix of what waits. What an
+//! inbox gives are the messages whose frames it read, in whatever pieces. Where what one end has read is a prefix of
+//! the frames that the other put, it gave a prefix of their messages, in order, and met no fault
 //! (`only_sent_is_given`).
 //!
-//! Only tested: nothing; `link_rows` of `tests_threads` cuts a bad frame behind a good one at each byte. That TCP
-//! gives a beginning of what was written is the premise.
+//! Tests (nothing rests on them alone): `link_rows` of `tests_threads` cuts a bad frame after a good one at each byte.
+//! That TCP gives a prefix of what was written is the premise.
 #![tactic(auto)]
 
 mod inbox;

@@ -57,7 +57,7 @@ impl Outbox {
         }
     }
 
-    /// Puts the frame of a message behind what waits. A message that is lost changes nothing.
+    /// Puts the frame of a message after what waits. A message that is lost changes nothing.
     pub fn put(&mut self, alloc: Global, message: &Message) -> Result<(), Loss>
         ensures ok { OnOk result (self.new ≡ self.old ++ frame_of message.now) }
         ensures framed { OnOk result (IsFramed message.now) }
@@ -73,6 +73,7 @@ impl Outbox {
         }
     }
 
+    /// Puts the bytes of a frame after what waits, unless that would be too much, or memory runs out.
     fn add(&mut self, frame: &[u8]) -> Result<(), Loss>
         ensures ok { OnOk result (self.new ≡ self.old ++ frame.now) }
         ensures room { OnOk result (IsTooMuch self.old frame.now → ⊥) }

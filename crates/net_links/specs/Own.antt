@@ -4,8 +4,8 @@ use Rattle.std.specs.List.{All}
 use Rattle.vr_model.specs.declared.message.Party.{Party}
 use Rattle.vr_model.specs.declared.message.Party.TheVariants as parties
 use Rattle.vr_model.specs.declared.message.Message.{Message}
-use Rattle.vr_threads.specs.declared.ends.Input.{Input}
-use Rattle.vr_threads.specs.declared.ends.Input.TheVariants as inputs
+use Rattle.vr_ports.specs.declared.link.Input.{Input}
+use Rattle.vr_ports.specs.declared.link.Input.TheVariants as inputs
 
 abbrev pub is_same : Party → Party → Bool
 is_same (parties.Replica i) (parties.Replica j) = i == j

@@ -4,7 +4,7 @@ use std::io;
 use std::io::ErrorKind;
 use std::net::{Net, TcpListener, TcpStream};
 
-/// So many connections of others may come in while one is made.
+/// How many connections of others may come in while one is made.
 const STRANGERS: u32 = 1000;
 
 /// Both ends of a new connection to this listener: the one that was made, and the one that was accepted. Connections of

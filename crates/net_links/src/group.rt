@@ -9,7 +9,7 @@ use std::io::ErrorKind;
 use std::net::{Net, TcpListener, TcpStream};
 use std::sync::{Arc, Wait};
 use std::time::Duration;
-use vr_threads::party_at;
+use vr_ports::party_at;
 
 /// The links of a group, those of the replicas by their numbers and then those of the clients by theirs, each connected
 /// to each other: a connection for each pair, at a port of 127.0.0.1 that the system picks, where nothing listens
@@ -32,12 +32,12 @@ where
         };
         let poll = Poll::new(&rt)?;
         hub.add(alloc, party, Waker::new(poll.registry(), Token(WAKER))?)?;
-        polls.push((party, poll))?;
+        polls.push(poll)?;
     }
     let hub = Arc::new(alloc, hub)?;
     let mut links = Vec::new(alloc);
-    for (place, (party, poll)) in polls.into_iter().enumerate() {
-        links.push(TcpLink::new(rt, alloc, Arc::try_clone(&hub)?, place, party, poll, wait)?)?;
+    for (place, poll) in polls.into_iter().enumerate() {
+        links.push(TcpLink::new(rt, alloc, Arc::try_clone(&hub)?, place, poll, wait)?)?;
     }
     connect_all(links)
 }

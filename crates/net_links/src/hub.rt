@@ -1,4 +1,6 @@
-//! Where ends of connections are handed over.
+//! The mailboxes of the links of one process. The link that dials makes both sockets of a connection, keeps the near
+//! one and posts the far one to the mailbox of its peer, which takes it at its next receive. A mailbox also says that
+//! its link was cut.
 
 use mio::Waker;
 use std::alloc::Global;
@@ -6,16 +8,16 @@ use std::net::TcpStream;
 use std::sync::{Arc, Mutex, Wait};
 use std::{io, mem};
 use vr_model::Party;
-use vr_threads::Cutter;
+use vr_ports::Cutter;
 
-/// This end of a connection to the party with that place.
+/// The far end of a connection, for the peer of the party at the place that made it.
 #[derive(Drop)]
 pub(crate) struct Arrival {
     pub(crate) from: usize,
     pub(crate) stream: TcpStream,
 }
 
-/// What waits for a link.
+/// The mailbox of a link.
 #[derive(Drop)]
 struct Post {
     /// The earliest first.
@@ -46,6 +48,7 @@ pub(crate) struct Hub {
 }
 
 impl Hub {
+    /// No party has a place yet.
     pub(crate) fn new(alloc: Global) -> Hub {
         Hub {
             slots: Vec::new(alloc),
@@ -66,12 +69,12 @@ impl Hub {
         self.slots.len()
     }
 
-    /// Whose place it is.
+    /// The party at this place.
     pub(crate) fn party(&self, place: usize) -> Option<Party> {
         Some(self.slots.get(place)?.party)
     }
 
-    /// The link at this place is no more cut.
+    /// Opens the mailbox of the link at this place, which is cut no more. What was in it is closed.
     pub(crate) fn open<R: Wait>(&self, rt: &R, place: usize) {
         if let Some(slot) = self.slots.get(place) {
             let mut post = slot.post.lock(rt);
@@ -90,6 +93,7 @@ impl Hub {
         }
     }
 
+    /// Whether the link at this place is cut; so is one of no place.
     pub(crate) fn is_cut<R: Wait>(&self, rt: &R, place: usize) -> bool {
         match self.slots.get(place) {
             Some(slot) => slot.post.lock(rt).is_cut,

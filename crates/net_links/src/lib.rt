@@ -2,7 +2,7 @@
 //! connection for each pair of ends. What goes out and what comes in is told by the ends of a connection (`net_ends`).
 //!
 //! ```rust
-//! use vr_threads::{Cutter, Relink};
+//! use vr_ports::{Cutter, Relink};
 //! use net_links::links;
 //!
 //! // three replicas and a client, by number; a receive waits for 50 ms at most
@@ -14,7 +14,7 @@
 //! Proved: a message that a link gives is for its own party; of what a connection brings exactly the messages from its
 //! other party to this one are kept (`keep_own`). Each call is safe and returns, but for the wait of a poll.
 //!
-//! Only tested (`link_rows` of `tests_threads`): that messages come in order, that a link is closed once all others
+//! Tested (`link_rows` of `tests_threads`): that messages come in order, that a link is closed once all others
 //! are gone and where it's cut, and made anew, that a message of another sender is dropped, that a stranger who was
 //! faster is refused.
 //! In no clause: that a socket delivers, what a poll reports, that a send doesn't wait.

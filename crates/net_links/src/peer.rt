@@ -19,6 +19,7 @@ pub(crate) struct Peer {
     is_ready: bool,
 }
 
+/// Whether these are one party.
 fn is_same(party: Party, other: Party) -> bool
     ensures { result ≡ same_parties party other }
 {
@@ -49,6 +50,7 @@ fn keep_own(messages: &mut Vec<Message>, from: Party, to: Party)
 }
 
 impl Peer {
+    /// A connection to this party, over which nothing came yet. It fails only where memory runs out.
     pub(crate) fn new(alloc: Global, party: Party, wire: Wire) -> Result<Peer, AllocError> {
         Ok(Peer {
             party,
@@ -59,7 +61,7 @@ impl Peer {
         })
     }
 
-    /// There may be something to read, or the other end takes more. False where the connection is over.
+    /// Notes that there may be something to read, and writes what waits. False where the connection is over.
     pub(crate) fn wake(&mut self) -> bool {
         self.is_ready = true;
         self.outbox.flush(&mut self.wire)
@@ -97,7 +99,7 @@ impl Peer {
         true
     }
 
-    /// Reads once.
+    /// Reads once, and keeps what is from the party of this connection to `own`.
     fn read_piece(&mut self, alloc: Global, own: Party, came: &mut Vec<Message>) -> Flow
         ensures { AreTo own came.new.items }
     {

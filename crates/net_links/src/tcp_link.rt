@@ -11,16 +11,17 @@ use mio::net::TcpStream as Wire;
 use mio::{Events, Interest, Poll, Token};
 use std::alloc::{AllocError, Global};
 use std::io;
+use std::io::ErrorKind;
 use std::net::{Net, TcpListener, TcpStream};
 use std::sync::{Arc, Wait};
 use std::time::Duration;
 use vr_model::{Message, Party};
-use vr_threads::{Input, Link, Relink, Unlinked};
+use vr_ports::{Input, Link, Relink, Unlinked};
 
-/// So often in a row a link may give what came with no look at what else happened.
+/// How often in a row a link may give what came with no look at what else happened.
 const MOST_UNSEEN: u32 = 64;
 
-/// So many events are told at once.
+/// How many events are told at once, at most.
 const EVENTS: usize = 32;
 
 /// The token of what wakes a link: no connection has it.
@@ -50,16 +51,18 @@ pub struct TcpLink<R: Wait + Drop> {
 }
 
 impl<R: Wait + Net<Listener = TcpListener, Stream = TcpStream> + Copy + Drop> TcpLink<R> {
-    /// A link that has no connection yet.
+    /// The link of the party at this place, with no connection yet. `InvalidInput` where there is no such place.
     pub(crate) fn new(
         rt: R,
         alloc: Global,
         hub: Arc<Hub>,
         place: usize,
-        party: Party,
         poll: Poll,
         wait: Duration,
     ) -> io::Result<TcpLink<R>> {
+        let Some(party) = hub.party(place) else {
+            return Err(io::Error::from(ErrorKind::InvalidInput));
+        };
         let mut peers = Vec::new(alloc);
         for _ in 0..hub.count() {
             peers.push(None)?;
@@ -80,7 +83,7 @@ impl<R: Wait + Net<Listener = TcpListener, Stream = TcpStream> + Copy + Drop> Tc
         })
     }
 
-    /// From now on a receive waits for so long.
+    /// Sets how long a receive waits from now on.
     pub fn wait_for(&mut self, wait: Duration) {
         self.wait = wait;
     }
@@ -144,7 +147,7 @@ impl<R: Wait + Net<Listener = TcpListener, Stream = TcpStream> + Copy + Drop> Tc
         }
     }
 
-    /// Where one can't be kept, it's closed.
+    /// Keeps each of these ends; one that can't be kept is closed.
     fn keep_all(&mut self, arrivals: Vec<Arrival>)
         ensures { self.new.party ≡ self.old.party }
     {
@@ -163,6 +166,7 @@ impl<R: Wait + Net<Listener = TcpListener, Stream = TcpStream> + Copy + Drop> Tc
         self.arrived.clear();
     }
 
+    /// Whether it has a connection to any other party.
     fn is_connected(&self) -> bool {
         for slot in &self.peers {
             if slot.is_some() {
@@ -296,7 +300,7 @@ fn read(slot: &mut Option<Peer>, alloc: Global, own: Party, came: &mut Vec<Messa
     }
 }
 
-/// Sends a message over a connection, if it's to the party there. Whether it is.
+/// Sends a message over a connection, if it's to the party there. False where it isn't.
 fn send_over(slot: &mut Option<Peer>, alloc: Global, message: &Message) -> bool {
     let goes_on = match slot {
         Some(peer) if peer.party == message.to => peer.send(alloc, message),

@@ -8,15 +8,16 @@ use Rattle.vr_model.specs.declared.event.Stored.{Stored}
 use Rattle.vr_model.specs.declared.message.Message.{Message}
 use Rattle.vr_replica.specs.declared.state.Replica.{Replica}
 use Rattle.vr_replica.specs.Stepped.{StepResult}
+use Rattle.vr_ports.specs.Telling.{Grows}
 use Rattle.vr_threads.specs.Serving
 
-pub Grows-none : {X : Type 0} (o : Option (List X)) → Serving.Grows o o []
+pub Grows-none : {X : Type 0} (o : Option (List X)) → Grows o o []
 Grows-none None = refl
 Grows-none (Some l) = ap Some (sym (append-nil l))
 
-pub Grows-more : {X : Type 0} (a b c : Option (List X)) (xs ys : List X) → Serving.Grows a b xs → Serving.Grows b c ys → Serving.Grows a c (xs ++ ys)
-Grows-more {X} None b c xs ys h k = subst (λ (o : Option (List X)). Serving.Grows o c ys) h k
-Grows-more {X} (Some l) b c xs ys h k = subst (λ (o : Option (List X)). Serving.Grows o c ys) h k ∙ ap Some (append_assoc l xs ys)
+pub Grows-more : {X : Type 0} (a b c : Option (List X)) (xs ys : List X) → Grows a b xs → Grows b c ys → Grows a c (xs ++ ys)
+Grows-more {X} None b c xs ys h k = subst (λ (o : Option (List X)). Grows o c ys) h k
+Grows-more {X} (Some l) b c xs ys h k = subst (λ (o : Option (List X)). Grows o c ys) h k ∙ ap Some (append_assoc l xs ys)
 
 module _ {S : Type 0} (loads : S → Option Stored → S → Type 0) (saves : S → ℕ → Bool → S → Type 0) (faults : S → ℕ) where
   abbrev Runs : Replica → S → List Event → Replica → S → List Message → Type 0

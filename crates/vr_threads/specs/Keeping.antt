@@ -13,7 +13,7 @@ stored_bytes stored = big_bytes 8 stored.view ++ big_bytes 8 stored.starts
 abbrev pub stored_from : List ℕ → Stored
 stored_from bytes = record { view = big_number 8 bytes; starts = big_number 8 (drop 8 bytes) }
 
--- a view is kept only behind a start
+-- a view is kept only after a start
 abbrev pub IsLawful : Stored → Type 0
 IsLawful v = v.starts ≡ 0 → v.view ≡ 0
 
@@ -57,7 +57,7 @@ Saves Unknown view made after = (made ≡ false) × (after ≡ Unknown)
 Saves (OneOf a b) view made after = (made ≡ false) × (after ≡ OneOf a b)
 
 -- a start loads, and writes one start more; or its load failed, or its write, or there is no greater number
-abbrev pub Begins : Held → Option Stored → Held → Type 0
-Begins h (Some stored) after = (found : Stored) × MayHold h found × (stored ≡ started found) × (after ≡ One stored)
-Begins h None after = (after ≡ h)
+abbrev pub CountsStart : Held → Option Stored → Held → Type 0
+CountsStart h (Some stored) after = (found : Stored) × MayHold h found × (stored ≡ started found) × (after ≡ One stored)
+CountsStart h None after = (after ≡ h)
     ⊎ ((found : Stored) × MayHold h found × ((after ≡ One found) ⊎ (after ≡ OneOf found (started found))))

@@ -1,5 +1,5 @@
 pub mod Keeping
 pub mod Observed
-pub mod Parties
 pub mod Serving
+pub mod Showing
 pub mod Starting

@@ -14,17 +14,13 @@ use Rattle.vr_replica.specs.declared.state.Replica.{Replica}
 use Rattle.vr_replica.specs.declared.fault.StepFault.TheVariants as fault
 use Rattle.vr_replica.specs.Standing.{StandsFor, IsDeafTo}
 use Rattle.vr_replica.specs.Stepped.{Stepped, StepResult}
-use Rattle.vr_threads.specs.declared.ends.Tick.{Tick}
-use Rattle.vr_threads.specs.declared.ends.Tick.TheVariants as tick
-use Rattle.vr_threads.specs.declared.ends.Input.{Input}
-use Rattle.vr_threads.specs.declared.ends.Input.TheVariants as input
+use Rattle.vr_ports.specs.declared.timer.Tick.{Tick}
+use Rattle.vr_ports.specs.declared.timer.Tick.TheVariants as tick
+use Rattle.vr_ports.specs.declared.link.Input.{Input}
+use Rattle.vr_ports.specs.declared.link.Input.TheVariants as input
+use Rattle.vr_ports.specs.Telling.{Grows}
 
--- what an end told, and tells after these further items; one that tells nothing stays so
-abbrev pub Grows : {X : Type 0} → Option (List X) → Option (List X) → List X → Type 0
-Grows None after more = after ≡ None
-Grows (Some before) after more = after ≡ Some (before ++ more)
-
--- one turn: the clock's tick was the event; or the clock was quiet, and one receive gave this
+-- one turn: the timer's tick was the event; or the timer was quiet, and one receive gave this
 pub data Turn : Type 0 where
   TimedOut : Turn
   Resent : Turn
@@ -102,7 +98,7 @@ module _ {S : Type 0} (load_gives : S → Option Stored → S → Type 0) (save_
       (p : Replica) × (u : S) × (result : StepResult) × (rest : List Message) × StepsTo q s e p u result
       × Ran p u es r t rest × (sends ≡ sends_in result ++ rest)
 
-  -- What these turns did: the clock was polled once in each, and gave these ticks; the receives gave these inputs; and
+  -- What these turns did: the timer was polled once in each, and gave these ticks; the receives gave these inputs; and
   -- what was handed to be sent is, in order, what the steps on the turns' events handed out.
   pub record Did (turns : List Turn) (a b : Scene S) : Type 0 where
     pub sends : List Message

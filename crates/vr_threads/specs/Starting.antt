@@ -19,9 +19,10 @@ StartsWith m stored replica nonce =
     MatchBool (stored.starts == 1) ((stored.view ≡ 0) × (nonce ≡ None) × StandsFor replica m first_replica)
     ((nonce ≡ Some stored.starts) × StandsDown replica m)
 
--- the store began one start more; or it failed, and the replica is down for good
+-- the store counted one start more; or it failed, and the replica is down for good
 abbrev pub HasStarted : {S : Type 0} → (S → Option Stored → S → Type 0) → Membership → S → S → Replica → Option ℕ
-    → Type 0
-HasStarted begin_gives m s t replica nonce =
-    ((stored : Stored) × begin_gives s (Some stored) t × StartsWith m stored replica nonce)
-    ⊎ (begin_gives s None t × (nonce ≡ None) × StandsDown replica m)
+    → Option ℕ → Type 0
+HasStarted begin_gives m s t replica nonce starts =
+    ((stored : Stored) × begin_gives s (Some stored) t × (starts ≡ Some stored.starts)
+    × StartsWith m stored replica nonce)
+    ⊎ (begin_gives s None t × (starts ≡ None) × (nonce ≡ None) × StandsDown replica m)

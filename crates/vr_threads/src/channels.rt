@@ -2,15 +2,15 @@
 
 ghost use Rattle.std.specs.Prelude.{None};
 
-use crate::ends::{Cutter, Input, Link, Relink, Unlinked};
 use crossbeam_channel::{Receiver, RecvTimeoutError, Sender, unbounded};
 use std::alloc::{AllocError, Global};
 use std::sync::{Arc, Mutex, Wait};
 use std::time;
 use std::time::Duration;
 use vr_model::{Message, Party};
+use vr_ports::{Cutter, Input, Link, Relink, Unlinked};
 
-/// The way in to each party: to the replicas by their numbers, then to the clients by theirs.
+/// An in-process network: the way in to each party, to the replicas by their numbers and then to the clients by theirs.
 #[derive(Drop)]
 pub struct Switchboard {
     replicas: usize,

@@ -3,18 +3,19 @@
 ghost use Rattle.std.specs.Prelude.{◌≡◌, vec_len};
 ghost use Rattle.vr_model.specs.Groups.{group_size};
 
-use crate::ends::{Clock, Cutter, Gate, Relink, Starts, Unlinked};
-use crate::starting::{Started, start_from};
-use crate::working::{Seat, TellingGate, TellingSeat, Work, WorkHandle, spawned};
+use crate::seat::Seat;
+use crate::shown::{Shown, ShownReader, ShownWriter};
+use crate::starting::{Started, Starts, start_from};
+use crate::working::{ShownSeat, Work, WorkHandle, spawned};
 use crossbeam_channel::Sender;
 use il_loader::Image;
 use il_model::Budget;
 use std::alloc::{AllocError, AllocFailed, Global};
-use std::sync::atomic::{AtomicBool, Ordering};
-use std::sync::{Arc, Wait};
+use std::sync::Wait;
 use std::thread::Threads;
 use thiserror::Error;
 use vr_model::Config;
+use vr_ports::{Cutter, Gate, Relink, Timer, Unlinked};
 
 /// Why no replica was served, or one not again.
 #[derive(Clone, Copy, Debug, PartialEq, Eq, Error)]
@@ -60,31 +61,53 @@ impl From<Unlinked> for ClusterError {
     }
 }
 
-/// A replica: its thread, or what that gave back.
+/// What the replicas of a cluster have in common.
+#[derive(Clone, Copy)]
+pub struct ClusterConfig {
+    pub group: Config,
+    pub budget: Budget,
+    /// For so many turns each replica is served after each of its starts.
+    pub turns: u64,
+}
+
+/// A replica: its thread, or the parts that it gave back.
 #[derive(Drop)]
-struct Member<L: Relink + Drop, S: Drop, C: Drop, G: Drop> {
+struct Member<L: Relink + Drop, S: Drop, T: Drop, G: Drop> {
     cutter: L::Cutter,
-    normal: Arc<AtomicBool>,
-    thread: Option<WorkHandle<L, S, C, G>>,
-    seat: Option<TellingSeat<L, S, C, G>>,
+    shown: ShownReader,
+    thread: Option<WorkHandle<L, S, T, G>>,
+    parts: Option<ShownSeat<L, S, T, G>>,
 }
 
 /// A group of replicas, each served by its thread.
 #[derive(Drop)]
-pub struct Cluster<L: Relink + Drop, S: Drop, C: Drop, G: Drop> {
+pub struct Cluster<L: Relink + Drop, S: Drop, T: Drop, G: Drop> {
     alloc: Global,
-    config: Config,
+    config: ClusterConfig,
     image: Image,
-    budget: Budget,
-    turns: u64,
-    members: Vec<Member<L, S, C, G>>,
+    members: Vec<Member<L, S, T, G>>,
 }
 
-impl<L, S, C, G> Cluster<L, S, C, G>
+/// Seats whose replicas show what they are: none was started yet.
+fn shown_seats<L: Drop, S: Drop, T: Drop, G: Drop>(
+    alloc: Global,
+    seats: Vec<Seat<L, S, T, G>>,
+) -> Result<Vec<ShownSeat<L, S, T, G>>, ClusterError> {
+    let mut shown = Vec::new(alloc);
+    for seat in seats {
+        shown.push(ShownSeat {
+            seat,
+            shown: ShownWriter::new(alloc)?,
+        })?;
+    }
+    Ok(shown)
+}
+
+impl<L, S, T, G> Cluster<L, S, T, G>
 where
     L: Relink + Send + Drop + 'static,
     S: Starts + Send + Drop + 'static,
-    C: Clock + Send + Drop + 'static,
+    T: Timer + Send + Drop + 'static,
     G: Gate + Send + Drop + 'static,
 {
     /// Starts the replicas of a group, all or none: each counts a start more in its store, and is served for so many
@@ -92,22 +115,18 @@ where
     pub fn start<R: Threads + Wait + Copy + Send + 'static>(
         rt: &R,
         alloc: Global,
-        config: Config,
+        config: ClusterConfig,
         image: &Image,
-        budget: Budget,
-        turns: u64,
-        seats: Vec<Seat<L, S, C, G>>,
-    ) -> Result<Cluster<L, S, C, G>, ClusterError>
+        seats: Vec<Seat<L, S, T, G>>,
+    ) -> Result<Cluster<L, S, T, G>, ClusterError>
     where
-        requires { vec_len seats ≡ group_size config.f }
+        requires { vec_len seats ≡ group_size config.group.f }
     {
         // With room for each member, so that none is lost for want of memory.
         let mut cluster = Cluster {
             alloc,
             config,
             image: image.copy(alloc)?,
-            budget,
-            turns,
             members: Vec::with_capacity(alloc, seats.len())?,
         };
         match cluster.launch(rt, seats) {
@@ -119,12 +138,13 @@ where
         }
     }
 
-    /// Where it fails, the threads that there are end by themselves.
+    /// Gives each replica its thread and starts it. Where it fails, the threads that there are end by themselves.
     fn launch<R: Threads + Wait + Copy + Send + 'static>(
         &mut self,
         rt: &R,
-        seats: Vec<Seat<L, S, C, G>>,
+        seats: Vec<Seat<L, S, T, G>>,
     ) -> Result<(), ClusterError> {
+        let seats = shown_seats(self.alloc, seats)?;
         let orders = self.enrol_all(rt, &seats)?;
         let works = self.works(seats)?;
         for (order, work) in orders.into_iter().zip(works) {
@@ -137,83 +157,75 @@ where
     fn enrol_all<R: Threads + Wait + Copy + Send + 'static>(
         &mut self,
         rt: &R,
-        seats: &Vec<Seat<L, S, C, G>>,
-    ) -> Result<Vec<Sender<Work<L, S, C, G>>>, ClusterError> {
+        seats: &Vec<ShownSeat<L, S, T, G>>,
+    ) -> Result<Vec<Sender<Work<L, S, T, G>>>, ClusterError> {
         let mut orders = Vec::new(self.alloc);
         for seat in seats {
-            orders.push(self.enrol(rt, &seat.link)?)?;
+            orders.push(self.enrol(rt, seat)?)?;
         }
         Ok(orders)
     }
 
-    /// A member more, with this link and a thread that waits for its work.
+    /// A member more, with these parts and a thread that waits for its work.
     fn enrol<R: Threads + Wait + Copy + Send + 'static>(
         &mut self,
         rt: &R,
-        link: &L,
-    ) -> Result<Sender<Work<L, S, C, G>>, ClusterError> {
-        let cutter = link.cutter()?;
-        let normal = Arc::new(self.alloc, AtomicBool::new(false))?;
+        parts: &ShownSeat<L, S, T, G>,
+    ) -> Result<Sender<Work<L, S, T, G>>, ClusterError> {
+        let cutter = parts.seat.link.cutter()?;
+        let shown = parts.shown.reader()?;
         let Some((order, thread)) = spawned(rt, self.alloc)? else {
             return Err(ClusterError::Thread);
         };
         self.members.push(Member {
             cutter,
-            normal,
+            shown,
             thread: Some(thread),
-            seat: None,
+            parts: None,
         })?;
         Ok(order)
     }
 
     /// The work of each replica, by its number.
-    fn works(&self, seats: Vec<Seat<L, S, C, G>>) -> Result<Vec<Work<L, S, C, G>>, ClusterError> {
+    fn works(
+        &self,
+        seats: Vec<ShownSeat<L, S, T, G>>,
+    ) -> Result<Vec<Work<L, S, T, G>>, ClusterError> {
         let mut works = Vec::new(self.alloc);
-        for (number, seat) in (0..self.config.group_size()).zip(seats) {
-            works.push(self.work(number, seat)?)?;
+        for (number, parts) in (0..self.config.group.group_size()).zip(seats) {
+            works.push(self.work(number, parts)?)?;
         }
         Ok(works)
     }
 
-    /// The first work of a replica.
-    fn work(&self, number: u8, seat: Seat<L, S, C, G>) -> Result<Work<L, S, C, G>, ClusterError> {
-        let mut seat = self.telling(number, seat)?;
-        let started = self.started(number, &mut seat.store)?;
-        Ok(Work {
-            started,
-            seat,
-            turns: self.turns,
-        })
-    }
-
-    /// This seat, whose gate also tells the member whether it's normal.
-    fn telling(
+    /// The work of a replica that starts with these parts.
+    fn work(
         &self,
         number: u8,
-        seat: Seat<L, S, C, G>,
-    ) -> Result<TellingSeat<L, S, C, G>, ClusterError> {
-        let Some(member) = self.members.get(usize::from(number)) else {
-            return Err(ClusterError::Thread);
-        };
-        let normal = Arc::try_clone(&member.normal)?;
-        let Seat {
-            link,
-            store,
-            clock,
-            gate,
-        } = seat;
-        Ok(Seat {
-            link,
-            store,
-            clock,
-            gate: TellingGate { gate, normal },
+        mut parts: ShownSeat<L, S, T, G>,
+    ) -> Result<Work<L, S, T, G>, ClusterError> {
+        let started = self.started(number, &mut parts)?;
+        Ok(Work {
+            started,
+            parts,
+            turns: self.config.turns,
         })
     }
 
-    /// A replica from its store, which counts a start more.
-    fn started(&self, number: u8, store: &mut S) -> Result<Started, ClusterError> {
+    /// A replica from its store, which counts a start more: that shows from now on.
+    fn started(
+        &self,
+        number: u8,
+        parts: &mut ShownSeat<L, S, T, G>,
+    ) -> Result<Started, ClusterError> {
+        let ClusterConfig { group, budget, .. } = self.config;
         let image = self.image.copy(self.alloc)?;
-        Ok(start_from(self.alloc, self.config, number, image, self.budget, store)?)
+        let store = &mut parts.seat.store;
+        let started = start_from(self.alloc, group, number, image, budget, store)?;
+        parts
+            .shown
+            .show_start(started.replica.standing(), started.starts);
+        Ok(started)
     }
 
     /// Ends the thread of a replica, and drops its state. Of a replica that is down it does nothing.
@@ -221,9 +233,8 @@ where
         if let Some(member) = self.members.get_mut(usize::from(number)) {
             if let Some(thread) = member.thread.take() {
                 member.cutter.cut();
-                member.seat = thread.join(rt);
+                member.parts = thread.join(rt);
             }
-            member.normal.store(false, Ordering::SeqCst);
         }
     }
 
@@ -235,24 +246,24 @@ where
         number: u8,
     ) -> Result<(), ClusterError> {
         self.crash(rt, number);
-        let Some(mut seat) = self.take_seat(number) else {
+        let Some(mut parts) = self.take_parts(number) else {
             return Err(ClusterError::Thread);
         };
-        match self.ready(rt, number, &mut seat) {
+        match self.ready(rt, number, &mut parts) {
             Ok((order, started)) => {
-                let turns = self.turns;
+                let turns = self.config.turns;
                 let _ = order.send(
                     rt,
                     Work {
                         started,
-                        seat,
+                        parts,
                         turns,
                     },
                 );
                 Ok(())
             }
             Err(error) => {
-                self.give_back(number, seat);
+                self.give_back(number, parts);
                 Err(error)
             }
         }
@@ -264,11 +275,11 @@ where
         &mut self,
         rt: &R,
         number: u8,
-        seat: &mut TellingSeat<L, S, C, G>,
-    ) -> Result<(Sender<Work<L, S, C, G>>, Started), ClusterError> {
-        seat.link.renew()?;
+        parts: &mut ShownSeat<L, S, T, G>,
+    ) -> Result<(Sender<Work<L, S, T, G>>, Started), ClusterError> {
+        parts.seat.link.renew()?;
         let order = self.hire(rt, number)?;
-        Ok((order, self.started(number, &mut seat.store)?))
+        Ok((order, self.started(number, parts)?))
     }
 
     /// Gives a replica a thread that waits for its work.
@@ -276,7 +287,7 @@ where
         &mut self,
         rt: &R,
         number: u8,
-    ) -> Result<Sender<Work<L, S, C, G>>, ClusterError> {
+    ) -> Result<Sender<Work<L, S, T, G>>, ClusterError> {
         let Some((order, thread)) = spawned(rt, self.alloc)? else {
             return Err(ClusterError::Thread);
         };
@@ -286,24 +297,35 @@ where
         Ok(order)
     }
 
-    fn take_seat(&mut self, number: u8) -> Option<TellingSeat<L, S, C, G>> {
-        self.members.get_mut(usize::from(number))?.seat.take()
+    /// The parts of a replica that is down, which it has no more.
+    fn take_parts(&mut self, number: u8) -> Option<ShownSeat<L, S, T, G>> {
+        self.members.get_mut(usize::from(number))?.parts.take()
     }
 
-    /// The replica is down: a thread that it was given ends without work.
-    fn give_back(&mut self, number: u8, seat: TellingSeat<L, S, C, G>) {
+    /// Leaves a replica down, with these parts: a thread that it was given ends without work.
+    fn give_back(&mut self, number: u8, parts: ShownSeat<L, S, T, G>) {
         if let Some(member) = self.members.get_mut(usize::from(number)) {
             member.thread = None;
-            member.seat = Some(seat);
+            member.parts = Some(parts);
         }
     }
 
-    /// What the thread of a replica told last, since it was started last; false until then.
-    pub fn is_normal(&self, number: u8) -> bool {
-        match self.members.get(usize::from(number)) {
-            Some(member) => member.normal.load(Ordering::SeqCst),
-            None => false,
+    /// What shows of a replica now. Of a number that no replica has it is what shows before any start.
+    pub fn shown(&mut self, number: u8) -> Shown {
+        match self.members.get_mut(usize::from(number)) {
+            Some(member) => member.shown.read(),
+            None => Shown::nothing(),
         }
+    }
+
+    /// Readers of what shows of the replicas, by their numbers, which any thread may have. It fails only where memory
+    /// runs out.
+    pub fn readers(&self) -> Result<Vec<ShownReader>, AllocError> {
+        let mut readers = Vec::new(self.alloc);
+        for member in &self.members {
+            readers.push(member.shown.another()?)?;
+        }
+        Ok(readers)
     }
 
     /// Closes the link of each replica, which ends its thread.
@@ -318,9 +340,9 @@ where
         for member in self.members {
             let Member {
                 cutter: _,
-                normal: _,
+                shown: _,
                 thread,
-                seat: _,
+                parts: _,
             } = member;
             if let Some(thread) = thread {
                 let _ = thread.join(rt);

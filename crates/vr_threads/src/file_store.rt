@@ -4,7 +4,7 @@ ghost use Rattle.std.specs.Prelude.{◌≡◌, ◌≤◌, ◌↔◌, IsTrue, Mat
 ghost use Rattle.io_model.specs.Counted.{Failed};
 ghost use Rattle.vr_threads.specs.Keeping.{stored_bytes, stored_from, MayHold, Rose, Writes};
 
-use crate::ends::Starts;
+use crate::starting::Starts;
 use byteorder::{BigEndian, ByteOrder};
 use std::alloc::{AllocError, Global};
 use std::fs::OpenFile;
@@ -28,7 +28,7 @@ pub(crate) enum Held {
 }
 
 impl Held {
-    /// Whether it may hold this: a view is kept only behind a start.
+    /// Whether the file may hold this: a view is kept only after a start.
     fn has(self, stored: Stored) -> bool
         ensures { IsTrue result ↔ MayHold self stored }
     {
@@ -43,9 +43,9 @@ impl Held {
     }
 }
 
-/// The view and the starts of a replica, in a file: written beside it, flushed, and renamed. It counts its failures,
-/// and the writes that went well. A replica that starts again is handed the store that it had: another one would not
-/// know what the file may hold.
+/// Stable storage of a replica: its view and its starts, in a file. They are written beside it, flushed, and renamed.
+/// The store counts its failures, and the writes that went well. A replica that starts again is handed the store that
+/// it had: another one would not know what the file may hold.
 #[derive(Drop)]
 pub struct FileStore<R: Files + Drop> {
     rt: R,
@@ -57,7 +57,7 @@ pub struct FileStore<R: Files + Drop> {
     writes: u64,
 }
 
-/// As it stands in the file.
+/// The bytes of a file that keeps this.
 fn spelt(stored: Stored) -> [u8; LENGTH]
     ensures { result ≡ stored_bytes stored }
 {
@@ -96,12 +96,12 @@ impl<R: Files + Drop> FileStore<R> {
         })
     }
 
-    /// Where its file is, or will be.
+    /// The path of its file, which is made by the first start.
     pub fn path(&self) -> &str {
         self.path.as_str()
     }
 
-    /// Takes its file away, as far as that can be done: that of a replica that never served.
+    /// Removes its file, as far as that can be done, where its replica never served.
     pub fn remove(self) {
         let _ = fs::remove_file(&self.rt, self.beside.as_str());
         let _ = fs::remove_file(&self.rt, self.path.as_str());
@@ -126,7 +126,7 @@ impl<R: Files + Drop> FileStore<R> {
         Ok(stored)
     }
 
-    /// Writes it beside the file, and puts that in its place.
+    /// Writes this beside the file, flushes it, and puts it in the file's place.
     fn write(&self, stored: Stored) -> io::Result<()> {
         {
             let mut file = fs::create(&self.rt, self.beside.as_str())?;
@@ -137,7 +137,7 @@ impl<R: Files + Drop> FileStore<R> {
         fs::open(&self.rt, self.directory.as_str())?.sync_all()
     }
 
-    /// Writes it over what was found.
+    /// Writes this over what was found in the file.
     fn keep(&mut self, found: Stored, stored: Stored) -> Result<(), StoreFault>
         ensures gives { MatchResult result (λ _. Writes found stored true self.new.held)
             (λ _. Writes found stored false self.new.held) }
@@ -205,9 +205,10 @@ impl<R: Files + Drop> ViewStore for FileStore<R> {
 
 impl<R: Files + Drop> Starts for FileStore<R> {
     ghost use Rattle.std.specs.Prelude.{IfSome};
-    ghost use Rattle.vr_threads.specs.Keeping.{Begins, Rose};
+    ghost use Rattle.vr_threads.specs.Keeping.{CountsStart, Rose};
 
-    ghost begin_gives = { λ s stored t. Begins s.held stored t.held × IfSome stored (λ _. Rose s.writes t.writes) };
+    ghost begin_gives = { λ s stored t. CountsStart s.held stored t.held
+        × IfSome stored (λ _. Rose s.writes t.writes) };
 
     fn begin(&mut self) -> Result<Stored, StoreFault> {
         let found = self.load()?;

@@ -1,5 +1,5 @@
-//! Replicas, each served by a thread of its own: the loop of that thread over any link, clock, gate and store; links
-//! over channels; and a store in a file.
+//! Replicas, each served by a thread of its own: the loop of that thread over any link, timer, gate and store; links
+//! over channels; a store in a file; and what shows of each replica to other threads.
 //!
 //! ```rust
 //! use vr_threads::{FileStore, Starts};
@@ -9,11 +9,11 @@
 //! ```
 //!
 //! Proved: `serve` takes exactly its turns, or fewer where the link is closed; each takes one event at most, and what
-//! was handed to `send` is, in order, the sends of `Replica::step` on these events. From whatever record is known of
-//! the replica that is a list of observations, right by the rules (`served_is_observed`), and so is a restart
-//! (`restart_is_observed`). `FileStore`: what its file may hold after each load, save and start, by what the calls
-//! answered. The first start finds the replica normal in view 0, each later one finds it down, with the count as its
-//! nonce.
+//! was handed to `send` is, in order, the sends of `Replica::step` on these events. From whatever is known of the
+//! replica a restart is an observation that is right by the rules (`restart_is_observed`); how the steps of a group
+//! come to one history is said in `laws_threads`. `FileStore`: what its file may hold after each load, save and start,
+//! by what the calls answered. The first start finds the replica normal in view 0, each later one finds it down, with
+//! the count as its nonce. What `serve` showed last is what the replica is after its last step (`Shown`).
 //!
 //! Only tested: that replicas run at once, that a group over channels answers, that one which was started before
 //! recovers (`cluster_rows` of `tests_threads`), and stores on real files (`store_rows`). No contract says that a
@@ -22,21 +22,21 @@
 
 mod channels;
 mod cluster;
-mod ends;
 mod file_store;
 mod laws;
-mod machine_clock;
-mod party;
+mod machine_timer;
+mod seat;
 mod serving;
+mod shown;
 mod starting;
 mod working;
 
 pub use channels::{ChannelCutter, ChannelLink, Switchboard};
-pub use cluster::{Cluster, ClusterError};
-pub use ends::{Clock, Cutter, Gate, Input, Link, Relink, Starts, Tick, Unlinked};
+pub use cluster::{Cluster, ClusterConfig, ClusterError};
 pub use file_store::FileStore;
-pub use laws::{observations_join, restart_is_observed, served_is_observed};
-pub use machine_clock::MachineClock;
-pub use party::party_at;
-pub use serving::{send_all, serve};
-pub use working::Seat;
+pub use laws::{observations_join, restart_is_observed};
+pub use machine_timer::MachineTimer;
+pub use seat::Seat;
+pub use serving::serve;
+pub use shown::{Shown, ShownReader, ShownWriter};
+pub use starting::Starts;

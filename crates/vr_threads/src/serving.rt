@@ -1,84 +1,78 @@
 //! The loop of a thread that owns a replica.
 
 ghost use Rattle.std.specs.Prelude.{◌≡◌};
+ghost use Rattle.vr_ports.specs.Telling.{Grows};
 ghost use Rattle.vr_replica.specs.Stepped.{StepResult};
-ghost use Rattle.vr_threads.specs.Serving.{StepsTo, Served, Turned, Grows, sends_in, scene};
+ghost use Rattle.vr_threads.specs.Serving.{StepsTo, Served, Turned, sends_in, scene};
+ghost use Rattle.vr_threads.specs.Showing.{ShowsStep, KeepsShowing, IsStandingOf, is_store_fault};
 
-use crate::ends::{Clock, Gate, Input, Link, Tick};
+use crate::seat::Seat;
+use crate::shown::ShownWriter;
 use std::alloc::Global;
-use vr_model::{Event, Message, Sends};
-use vr_replica::{Replica, ViewStore};
+use vr_model::{Event, Standing};
+use vr_ports::{Gate, Input, Link, Tick, Timer, send_all};
+use vr_replica::{Replica, StepFault, ViewStore};
 
-/// Takes so many turns, or fewer where a receive gives Closed. Each takes one event at most, the clock's first, and
-/// hands on what `Replica::step` makes of it.
-pub fn serve<L: Link, S: ViewStore, C: Clock, G: Gate>(
+/// Serves a replica for so many turns, or fewer where a receive gives Closed. Each turn takes one event at most, the
+/// timer's first, hands on what `Replica::step` makes of it, and shows what the replica is then. The gate counts the
+/// steps from 1.
+pub fn serve<L: Link, S: ViewStore, T: Timer, G: Gate>(
     alloc: Global,
     replica: &mut Replica,
-    link: &mut L,
-    store: &mut S,
-    clock: &mut C,
-    gate: &mut G,
+    seat: &mut Seat<L, S, T, G>,
+    shown: &mut ShownWriter,
     turns: u64,
 )
-    ensures { Served S.load_gives S.save_gives S.faults turns
-        (scene (C.ticks clock.old) (L.inputs link.old) (L.sent link.old) replica.old store.old)
-        (scene (C.ticks clock.new) (L.inputs link.new) (L.sent link.new) replica.new store.new) }
+    ensures served { Served S.load_gives S.save_gives S.faults turns
+        (scene (T.ticks seat.old.timer) (L.inputs seat.old.link) (L.sent seat.old.link) replica.old seat.old.store)
+        (scene (T.ticks seat.new.timer) (L.inputs seat.new.link) (L.sent seat.new.link) replica.new seat.new.store) }
+    ensures shown { KeepsShowing replica.old replica.new shown.old shown.new }
 {
-    serve_from(1, alloc, replica, link, store, clock, gate, turns);
+    serve_from(1, alloc, replica, seat, shown, turns);
 }
 
-/// The same, where the gate counts from this call.
-pub(crate) fn serve_from<L: Link, S: ViewStore, C: Clock, G: Gate>(
+/// Serves a replica as `serve` does, where the gate counts from this call.
+pub(crate) fn serve_from<L: Link, S: ViewStore, T: Timer, G: Gate>(
     first: u64,
     alloc: Global,
     replica: &mut Replica,
-    link: &mut L,
-    store: &mut S,
-    clock: &mut C,
-    gate: &mut G,
+    seat: &mut Seat<L, S, T, G>,
+    shown: &mut ShownWriter,
     turns: u64,
 )
-    ensures { Served S.load_gives S.save_gives S.faults turns
-        (scene (C.ticks clock.old) (L.inputs link.old) (L.sent link.old) replica.old store.old)
-        (scene (C.ticks clock.new) (L.inputs link.new) (L.sent link.new) replica.new store.new) }
+    ensures served { Served S.load_gives S.save_gives S.faults turns
+        (scene (T.ticks seat.old.timer) (L.inputs seat.old.link) (L.sent seat.old.link) replica.old seat.old.store)
+        (scene (T.ticks seat.new.timer) (L.inputs seat.new.link) (L.sent seat.new.link) replica.new seat.new.store) }
+    ensures shown { KeepsShowing replica.old replica.new shown.old shown.new }
 {
     let mut call = first;
     for _ in 0..turns {
-        if !turn(alloc, replica, link, store, clock, gate, &mut call) {
+        if !turn(alloc, replica, seat, shown, &mut call) {
             return;
         }
     }
 }
 
 /// One turn. False where the link is closed.
-fn turn<L: Link, S: ViewStore, C: Clock, G: Gate>(
+fn turn<L: Link, S: ViewStore, T: Timer, G: Gate>(
     alloc: Global,
     replica: &mut Replica,
-    link: &mut L,
-    store: &mut S,
-    clock: &mut C,
-    gate: &mut G,
+    seat: &mut Seat<L, S, T, G>,
+    shown: &mut ShownWriter,
     call: &mut u64,
 ) -> bool
-    ensures { Turned S.load_gives S.save_gives S.faults result
-        (scene (C.ticks clock.old) (L.inputs link.old) (L.sent link.old) replica.old store.old)
-        (scene (C.ticks clock.new) (L.inputs link.new) (L.sent link.new) replica.new store.new) }
+    ensures turned { Turned S.load_gives S.save_gives S.faults result
+        (scene (T.ticks seat.old.timer) (L.inputs seat.old.link) (L.sent seat.old.link) replica.old seat.old.store)
+        (scene (T.ticks seat.new.timer) (L.inputs seat.new.link) (L.sent seat.new.link) replica.new seat.new.store) }
+    ensures shown { KeepsShowing replica.old replica.new shown.old shown.new }
 {
-    match clock.poll() {
-        Tick::Timeout => act(alloc, replica, link, store, gate, call, Event::Timeout),
-        Tick::Resend => act(alloc, replica, link, store, gate, call, Event::Resend),
-        Tick::None => match link.recv() {
+    match seat.timer.poll() {
+        Tick::Timeout => act(alloc, replica, seat, shown, call, Event::Timeout),
+        Tick::Resend => act(alloc, replica, seat, shown, call, Event::Resend),
+        Tick::None => match seat.link.recv() {
             Input::Message(message) => {
-                clock.heard(&message);
-                act(
-                    alloc,
-                    replica,
-                    link,
-                    store,
-                    gate,
-                    call,
-                    Event::Message(message),
-                );
+                seat.timer.heard(&message);
+                act(alloc, replica, seat, shown, call, Event::Message(message));
             }
             Input::Nothing => {}
             Input::Closed => return false,
@@ -88,35 +82,42 @@ fn turn<L: Link, S: ViewStore, C: Clock, G: Gate>(
 }
 
 /// One step of the replica, inside the gate, and then its sends.
-pub(crate) fn act<L: Link, S: ViewStore, G: Gate>(
+pub(crate) fn act<L: Link, S: ViewStore, T: Timer, G: Gate>(
     alloc: Global,
     replica: &mut Replica,
-    link: &mut L,
-    store: &mut S,
-    gate: &mut G,
+    seat: &mut Seat<L, S, T, G>,
+    shown: &mut ShownWriter,
     call: &mut u64,
     event: Event,
 )
     ensures did { (result : StepResult)
-        × StepsTo S.load_gives S.save_gives S.faults replica.old store.old event replica.new store.new result
-        × Grows (L.sent link.old) (L.sent link.new) (sends_in result) }
-    ensures same { L.inputs link.new ≡ L.inputs link.old }
+        × StepsTo S.load_gives S.save_gives S.faults replica.old seat.old.store event replica.new seat.new.store result
+        × Grows (L.sent seat.old.link) (L.sent seat.new.link) (sends_in result)
+        × ShowsStep replica.new result shown.old shown.new }
+    ensures inputs { L.inputs seat.new.link ≡ L.inputs seat.old.link }
+    ensures ticks { T.ticks seat.new.timer ≡ T.ticks seat.old.timer }
 {
-    gate.before(*call);
-    let sends = replica.step(alloc, event, store);
-    gate.after(*call, replica.is_normal());
+    seat.gate.before(*call);
+    let stepped = replica.step(alloc, event, &mut seat.store);
+    let standing = standing_of(replica);
+    shown.show_step(standing, is_store_fault(&stepped));
+    seat.gate.after(*call, standing);
     *call = call.saturating_add(1);
-    if let Ok(sends) = sends {
-        send_all(link, sends);
+    if let Ok(sends) = stepped {
+        send_all(&mut seat.link, sends);
     }
 }
 
-/// Hands each message to the link, in order.
-pub fn send_all<L: Link>(link: &mut L, sends: Sends)
-    ensures took { Grows (L.sent link.old) (L.sent link.new) sends.items }
-    ensures same { L.inputs link.new ≡ L.inputs link.old }
+/// What a replica shows of itself.
+fn standing_of(replica: &Replica) -> Standing
+    ensures { IsStandingOf replica.now result }
 {
-    for message in sends {
-        link.send(message);
-    }
+    replica.standing()
+}
+
+/// Whether the store failed in a step.
+fn is_store_fault(stepped: &Result<vr_model::Sends, StepFault>) -> bool
+    ensures { result ≡ is_store_fault stepped.now }
+{
+    matches!(stepped, Err(StepFault::Store))
 }

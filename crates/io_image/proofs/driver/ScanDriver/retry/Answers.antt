@@ -1,4 +1,0 @@
-use Rattle.io_image.proofs.driver.ScanDriver.retry.Goals as goal
-
-pub returns : goal.returns
-returns c = rw (← c.self.view_is) c.retry.ensures

@@ -1,0 +1,12 @@
+pub mod Tables
+pub mod Resolving
+pub mod Running
+pub mod OneRun
+pub mod Stepping
+pub mod Handed
+pub mod Appending
+pub mod Seated
+pub mod Along
+pub mod FileKept
+pub mod Ordering
+pub mod Serving

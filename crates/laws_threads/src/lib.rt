@@ -1,0 +1,136 @@
+//! The road from threads to one history. There is no code here, as in `laws_history`: each function's clause states a
+//! law, and its empty body is proved to meet it.
+//!
+//! ```rust
+//! use vr_threads::FileStore;
+//!
+//! laws_threads::threads_are_one_run::<FileStore<R>>(); // for whoever's clause rests on it
+//! ```
+//!
+//! Proved, for each group and each store of which it's said what it may hold (`Kept`; a `FileStore` is one):
+//!
+//! - What `serve` does is moves of its replica's own list (`serving_is_own_moves`). Such lists join, one start after
+//!   another (`own_moves_join`).
+//! - The lists of all replicas and of all clients, each right by itself, in any one order in which each message that is
+//!   taken was handed out before to its taker, are moves that are right along it (`lists_are_moves`).
+//! - Such moves are one run of the group as `laws_history` has it, with one history: each replica that runs stands for
+//!   the record that its list leads to, and the messages stand for those of that run (`threads_are_one_run`). What a
+//!   step presupposes of a message, the run so far gives (`next_moves_may_presuppose`, `step_is_observed`).
+//!
+//! Premises that are left to the links, to disks and to people: there is one order in which a link hands out only what
+//! was handed out before, to that party; a replica's first start comes once, and finds a store that holds no view; each
+//! later one finds what the one before was left with, and has a nonce that no other start of that replica had; all
+//! start with one program and one budget. None of it speaks of one process: each replica may run in its own.
+//!
+//! Only tested: nothing.
+#![tactic(auto)]
+
+ghost use Rattle.std.specs.Prelude.{ℕ, Bool, List, Option, ◌++◌};
+ghost use Rattle.il_model.specs.declared.command.Command.{Command};
+ghost use Rattle.il_model.specs.declared.command.Answer.{Answer};
+ghost use Rattle.vr_model.specs.declared.event.Event.{Event};
+ghost use Rattle.vr_model.specs.Membership.{Membership};
+ghost use Rattle.vr_model.specs.Steps.{Input};
+ghost use Rattle.vr_model.specs.Stores.{KnownState};
+ghost use Rattle.vr_replica.specs.declared.state.Replica.{Replica};
+ghost use Rattle.vr_replica.specs.Standing.{StandsFor};
+ghost use Rattle.vr_replica.specs.Stepped.{StepResult, KeepsExecuted};
+ghost use Rattle.vr_threads.specs.Serving.{StepsTo, Scene, Turn, Did, sends_in};
+ghost use Rattle.laws_threads.specs.ObservedMoves.{ObservedMove, AreFromTheFirst, IsOneRun, MayPresuppose};
+ghost use Rattle.laws_threads.specs.CodeMoves.{CodeMove, Seat, AreFromTheStart, AreOneRun};
+ghost use Rattle.laws_threads.specs.OwnMoves.{OwnMove, AreOwnMoves, EachInOneOrder, IsServed, seat_after, given_after};
+ghost use Rattle.laws_threads.specs.ObservedSteps.{Means, FitsIn, observation_of, IsShownAs};
+
+use il_model::{Answer, Command};
+use std::rt::Files;
+use vr_replica::ViewStore;
+use vr_threads::{FileStore, Starts};
+
+/// A store of which it is said what views it may hold.
+pub trait Kept: Starts {
+    ghost use Rattle.std.specs.Prelude.{ℕ, Bool};
+    ghost use Rattle.laws_threads.specs.KeptViews.{KeepsViews};
+
+    // It holds no other view than these.
+    ghost holds: { Self → (ℕ → Bool) → Type 0 };
+
+    /// The law of what it may hold. There is nothing to do.
+    fn know_kept()
+        ensures { KeepsViews Self.load_gives Self.save_gives Self.begin_gives Self.holds };
+}
+
+impl<R: Files + Drop> Kept for FileStore<R> {
+    ghost use Rattle.laws_threads.specs.KeptViews.{HoldsNoOther};
+
+    ghost holds = { λ s k. HoldsNoOther s.held k };
+
+    fn know_kept() {}
+}
+
+/// Moves as the threads of a group see them, each right from what is known of its replica by then, and each message
+/// taken one that was sent before to its taker, are one run of the group, with one history.
+pub fn observed_moves_are_one_run<C, A>()
+    ensures { (f : ℕ) (answer : List C → A) (early late : List (ObservedMove C A))
+        → AreFromTheFirst f answer (early ++ late) → IsOneRun f answer early late }
+{
+    laws_history::moves_are_lists::<C, A>();
+    laws_history::running_replicas_agree::<C, A>();
+}
+
+/// After any such moves a replica may presuppose of a message that was sent what its rules need of it.
+pub fn next_moves_may_presuppose<C, A>()
+    ensures { (f : ℕ) (answer : List C → A) (moves : List (ObservedMove C A))
+        → AreFromTheFirst f answer moves → MayPresuppose f answer moves }
+{
+    laws_history::moves_are_lists::<C, A>();
+    laws_history::interleave::<C, A>();
+    laws_history::rules_keep_executed::<C, A>();
+    laws_history::new_states_hand_logs_on::<C, A>();
+}
+
+/// One step of a replica, from its contract, is one observation of what it took up: done, lost for want of memory, or a
+/// save that failed, by its result. What its rule needs holds where the replica is known to be.
+pub fn step_is_observed<S: ViewStore>()
+    ensures { (q r : Replica) (s t : S) (e : Event) (result : StepResult) (m : Membership) (known : KnownState Command)
+        (input : Input Command Answer)
+        → StepsTo S.load_gives S.save_gives S.faults q s e r t result → StandsFor q m known.replica → Means m e input
+        → KeepsExecuted m known.replica input → FitsIn m known.replica e input
+        → IsShownAs m known (observation_of m known.replica input result) r (sends_in result) }
+{}
+
+/// The starts and steps of a group's replicas, and the steps of its clients, in any one order in which each message
+/// that is taken was handed out before to its taker, are one run of the group, with one history. Each replica may start
+/// again and again, from a store that holds what it was left with, each time with a nonce that it never had.
+pub fn threads_are_one_run<S: Kept>()
+    ensures { (group : Membership) (early late : List (CodeMove S))
+        → AreFromTheStart S.load_gives S.save_gives S.faults S.begin_gives S.holds group (early ++ late)
+        → AreOneRun group early late }
+{
+    S::know_kept();
+    observed_moves_are_one_run::<Command, Answer>();
+    next_moves_may_presuppose::<Command, Answer>();
+}
+
+/// What a thread serves, from its clause, is moves of its replica's own list: a step for each event of its turns.
+pub fn serving_is_own_moves<S: Kept>()
+    ensures { (turns : List Turn) (a b : Scene S) (did : Did S.load_gives S.save_gives S.faults turns a b)
+        (group : Membership) (i : ℕ) (given : ℕ → Bool)
+        → IsServed S.load_gives S.save_gives S.faults S.begin_gives S.holds group i given turns a b did.sends }
+{}
+
+/// Lists of moves of a replica, one behind the other, are one list: those of one start, and then those of the next.
+pub fn own_moves_join<S: Kept>()
+    ensures { (group : Membership) (i : ℕ) (seat : Option (Seat S)) (given : ℕ → Bool) (early late : List (OwnMove S))
+        → AreOwnMoves S.load_gives S.save_gives S.faults S.begin_gives S.holds group i seat given early
+        → AreOwnMoves S.load_gives S.save_gives S.faults S.begin_gives S.holds group i
+        (seat_after seat early) (given_after given early) late
+        → AreOwnMoves S.load_gives S.save_gives S.faults S.begin_gives S.holds group i seat given (early ++ late) }
+{}
+
+/// Lists of replicas and of clients that are right by themselves, in one order in which each message that is taken was
+/// handed out before to its taker, are moves that are right along it.
+pub fn lists_are_moves<S: Kept>()
+    ensures { (group : Membership) (moves : List (CodeMove S))
+        → EachInOneOrder S.load_gives S.save_gives S.faults S.begin_gives S.holds group moves
+        → AreFromTheStart S.load_gives S.save_gives S.faults S.begin_gives S.holds group moves }
+{}

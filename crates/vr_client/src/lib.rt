@@ -1,0 +1,28 @@
+//! A client of a replicated controller, as a value: it says which messages go out, is told which came in, and gives the
+//! answer to what it submitted. It stands on the messages and the client rules of `vr_model` and on the commands of
+//! `il_model` alone: it knows no plant, no link and no thread, so whatever submits commands can use it.
+//!
+//! ```rust
+//! use vr_client::{GroupClient, RetryTimer};
+//!
+//! let mut client = GroupClient::new(&config, ClientNumber { number: 1 }, 0); // one that never started before
+//! let request = client.submit(Command::Reset, Command::Reset); // the REQUEST, for the primary that it knows of
+//! let mut timer = RetryTimer::new(period, Some(now)); // it was sent now
+//! let is_due = timer.is_due(later); // whether a period went by since: then send it again
+//! let again = client.retry(alloc)?; // the same request, for every replica
+//! let answered = client.on_reply(&message); // Some where the message is the first REPLY to it
+//! ```
+//!
+//! Proved: `submit` does what the rules let a client do, and gives its message; `retry` and `on_reply` likewise. The
+//! answer is that of the first REPLY with the number that waits, whatever else comes, and nothing waits after it. A
+//! `RetryTimer` is due exactly where a period went by since the request was sent last.
+//!
+//! Tests: `driver_rows` of `tests_parts` goes through the steps of the client that submits scans. Nothing rests on them
+//! alone.
+#![tactic(auto)]
+
+mod client;
+mod retry_timer;
+
+pub use client::{Answered, GroupClient};
+pub use retry_timer::RetryTimer;
