@@ -8,17 +8,15 @@ use Rattle.std.proofs.lemmas.List.{append-nil}
 use Rattle.std.proofs.lemmas.List.Concat.{flat_map-cons}
 use Rattle.std.proofs.lemmas.Grind.{flat_map-append}
 use Rattle.io_model.specs.Counted.{Failed}
-use Rattle.io_model.specs.Stream.{Ending, Rest, Fault, IsRest, Took, Starts}
-use Rattle.io_model.proofs.Streams.{goes_on}
-use Rattle.modbus_server.specs.declared.header.HeaderFault.{HeaderFault}
-use Rattle.modbus_server.specs.Frames.{Adu, frame_of, IsFramed, adus}
+use Rattle.io_model.specs.Stream.{Ending, Rest, Fault, IsRest, IsOneStream, Feeds, Splits, Took, Starts}
+use Rattle.modbus_wire.specs.declared.header.HeaderFault.{HeaderFault}
+use Rattle.modbus_wire.specs.declared.session.SessionFault.{SessionFault}
+use Rattle.modbus_wire.specs.declared.session.SessionFault.TheVariants as faults
+use Rattle.modbus_wire.specs.Frames.{Adu, frame_of, IsFramed, adus}
+use Rattle.modbus_wire.specs.Feeding.{Feeding}
 use Rattle.modbus_server.specs.Sessions.{Images, Answers, AnswersAll, Adds, AnswersSome, Serves, Breaks, BreaksAfter, Stops, Talks}
 use Rattle.modbus_server.specs.declared.serve.SessionEnd.{SessionEnd}
 use Rattle.modbus_server.specs.declared.serve.SessionEnd.TheVariants as ends
-use Rattle.modbus_server.specs.declared.session.SessionFault.{SessionFault}
-use Rattle.modbus_server.specs.declared.session.SessionFault.TheVariants as faults
-use Rattle.modbus_server.specs.Feeding.{Feeding}
-use Rattle.modbus_server.proofs.Units.{readable}
 
 -- ---- requests, one behind another
 
@@ -69,7 +67,7 @@ breaks_written stream images images' held held' requests replies count first ans
   output = take count (flat_map frame_of replies);
   first = first;
   answered = answered;
-  begins = (drop count (flat_map frame_of replies), take-append-drop count (flat_map frame_of replies));
+  prefix = (drop count (flat_map frame_of replies), take-append-drop count (flat_map frame_of replies));
   written = written;
 }
 
@@ -88,7 +86,7 @@ breaks_silent stream images images' held requests first some =
         each = framed_take requests some.0 first.each;
       };
       answered = some.2;
-      begins = (flat_map frame_of some.1, refl);
+      prefix = (flat_map frame_of some.1, refl);
       written = Appends-nil held;
     }
 
@@ -119,6 +117,11 @@ written_after (Rest bytes) piece images images' held held' requests out out' cou
     breaks_written (bytes ++ piece) images images' held held' requests t.replies count first t.answered (subst (λ (l : List ℕ). Appends held held' (take count l)) sent written)
 written_after (Fault fault) piece images images' held held' requests out out' count first none t written = absurd first
 
+-- a call failed
+pub on_err : {A E : Type 0} (P : Type 0) (r : Result A E) → P → OnErr r P
+on_err P (Ok x) p = tt
+on_err P (Err e) p = p
+
 pub err_holds : {A E : Type 0} (P : Type 0) (r : Result A E) → is_err r ≡ true → OnErr r P → P
 err_holds P (Ok x) e p = absurd cc
 err_holds P (Err x) e p = p
@@ -141,12 +144,21 @@ serves_none images held = record {
 frames_both : (as' bs : List Adu) → flat_map frame_of (as' ++ bs) ≡ flat_map frame_of as' ++ flat_map frame_of bs
 frames_both as' bs = flat_map-append frame_of as' bs
 
-pub serves_more : (input piece : List ℕ) (between to : Ending HeaderFault) (a b c : Images) (h k m : Option (List ℕ))
+-- a stream of which a piece more comes
+goes_on : IsOneStream adus → (input piece : List ℕ) (items more : List Adu) (between to : Ending HeaderFault)
+    → Splits adus input items between → Feeds adus between piece more to → Splits adus (input ++ piece) (items ++ more) to
+goes_on one input piece items more between to fed fed' =
+    let others : more ≡ more ++ [] = sym (append-nil more) in
+    let stream : flat_map (λ (p : List ℕ). p) (input ∷ piece ∷ []) ≡ input ++ piece = flat_map-cons (λ (p : List ℕ). p) input (piece ∷ []) ∙ ap (λ (l : List ℕ). input ++ l) (flat_map-cons (λ (p : List ℕ). p) piece [] ∙ append-nil piece) in
+    subst (λ (l : List ℕ). Splits adus l (items ++ more) to) stream
+    (one.whole (input ∷ piece ∷ []) (items ++ more) to (items, more, between, fed, (more, [], to, fed', (refl, refl), others), refl))
+
+pub serves_more : IsOneStream adus → (input piece : List ℕ) (between to : Ending HeaderFault) (a b c : Images) (h k m : Option (List ℕ))
     → Serves (Rest []) input between a b h k → Serves between piece to b c k m → Serves (Rest []) (input ++ piece) to a c h m
-serves_more input piece between to a b c h k m s t = record {
+serves_more one input piece between to a b c h k m s t = record {
   requests = s.requests ++ t.requests;
   replies = s.replies ++ t.replies;
-  fed = goes_on adus readable input piece s.requests t.requests between to s.fed t.fed;
+  fed = goes_on one input piece s.requests t.requests between to s.fed t.fed;
   answered = both_answered a b c s.requests t.requests s.replies t.replies s.answered t.answered;
   written = subst (Appends h m) (sym (frames_both s.replies t.replies)) (Appends-trans h k m (flat_map frame_of s.replies) (flat_map frame_of t.replies) s.written t.written);
 }
@@ -170,7 +182,7 @@ breaks_rest input piece bytes a b c h k m s t =
       output = sent ++ t.output;
       first = record { rest = t.first.rest; whole = whole ∙ more; each = all_both s.requests t.requests s.fed.each t.first.each };
       answered = both_answered a b c s.requests t.requests s.replies t.replies s.answered t.answered;
-      begins = (t.begins.0, append_assoc sent t.output t.begins.0 ∙ (ap (λ (l : List ℕ). sent ++ l) t.begins.1 ∙ sym (frames_both s.replies t.replies)));
+      prefix = (t.prefix.0, append_assoc sent t.output t.prefix.0 ∙ (ap (λ (l : List ℕ). sent ++ l) t.prefix.1 ∙ sym (frames_both s.replies t.replies)));
       written = Appends-trans h k m sent t.output s.written t.written;
     }
 
@@ -187,7 +199,7 @@ serves_breaks input to a b h k s = record {
   output = flat_map frame_of s.replies;
   first = record { rest = s.fed.rest; whole = s.fed.whole; each = s.fed.each };
   answered = s.answered;
-  begins = ([], append-nil (flat_map frame_of s.replies));
+  prefix = ([], append-nil (flat_map frame_of s.replies));
   written = s.written;
 }
 
@@ -219,34 +231,34 @@ served_none left held r w images = record {
 }
 
 -- a session goes on by one piece
-pub goes_further : (left left1 left2 : Option (List ℕ)) (r r1 r2 : ℕ) (held held1 held2 : Option (List ℕ)) (w w1 w2 : ℕ) (images images1 images2 : Images) (between to : Ending HeaderFault) (piece : List ℕ)
+pub goes_further : IsOneStream adus → (left left1 left2 : Option (List ℕ)) (r r1 r2 : ℕ) (held held1 held2 : Option (List ℕ)) (w w1 w2 : ℕ) (images images1 images2 : Images) (between to : Ending HeaderFault) (piece : List ℕ)
     → IsServed left left1 r r1 held held1 w w1 images images1 between → Consumes left1 left2 piece → r1 ≤ r2 → Serves between piece to images1 images2 held1 held2 → IsRest to → w1 ≤ w2
     → IsServed left left2 r r2 held held2 w w2 images images2 to
-goes_further left left1 left2 r r1 r2 held held1 held2 w w1 w2 images images1 images2 between to piece s read reads serves rest writes = record {
+goes_further one left left1 left2 r r1 r2 held held1 held2 w w1 w2 images images1 images2 between to piece s read reads serves rest writes = record {
   input = s.input ++ piece;
   read = Consumes-trans left left1 left2 s.input piece s.read read;
-  served = serves_more s.input piece between to images images1 images2 held held1 held2 s.served serves;
+  served = serves_more one s.input piece between to images images1 images2 held held1 held2 s.served serves;
   rest = rest;
   reads = omega (arith, s.reads, reads);
   writes = omega (arith, s.writes, writes);
 }
 
 -- a session ends over one piece
-pub ends_with : (end : SessionEnd) (left left1 left2 : Option (List ℕ)) (r r1 r2 : ℕ) (held held1 held2 : Option (List ℕ)) (w w1 w2 : ℕ) (images images1 images2 : Images) (between : Ending HeaderFault) (piece : List ℕ)
+pub ends_with : IsOneStream adus → (end : SessionEnd) (left left1 left2 : Option (List ℕ)) (r r1 r2 : ℕ) (held held1 held2 : Option (List ℕ)) (w w1 w2 : ℕ) (images images1 images2 : Images) (between : Ending HeaderFault) (piece : List ℕ)
     → IsServed left left1 r r1 held held1 w w1 images images1 between → Consumes left1 left2 piece → Stops end between piece (Failed w1 w2) images1 images2 held1 held2 → w1 ≤ w2
     → Talks end left left2 r r2 held held2 w w2 images images2
-ends_with ends.Closed left left1 left2 r r1 r2 held held1 held2 w w1 w2 images images1 images2 between piece s read stops writes = absurd stops
-ends_with (ends.Fault (faults.Header fault)) left left1 left2 r r1 r2 held held1 held2 w w1 w2 images images1 images2 between piece s read stops writes = record {
+ends_with one ends.Closed left left1 left2 r r1 r2 held held1 held2 w w1 w2 images images1 images2 between piece s read stops writes = absurd stops
+ends_with one (ends.Header fault) left left1 left2 r r1 r2 held held1 held2 w w1 w2 images images1 images2 between piece s read stops writes = record {
   input = s.input ++ piece;
   read = Consumes-trans left left1 left2 s.input piece s.read read;
-  ended = serves_more s.input piece between (Fault fault) images images1 images2 held held1 held2 s.served stops;
+  ended = serves_more one s.input piece between (Fault fault) images images1 images2 held held1 held2 s.served stops;
 }
-ends_with (ends.Fault faults.Memory) left left1 left2 r r1 r2 held held1 held2 w w1 w2 images images1 images2 between piece s read stops writes = record {
+ends_with one ends.Memory left left1 left2 r r1 r2 held held1 held2 w w1 w2 images images1 images2 between piece s read stops writes = record {
   input = s.input ++ piece;
   read = Consumes-trans left left1 left2 s.input piece s.read read;
   ended = breaks_more s.input piece between images images1 images2 held held1 held2 s.served stops;
 }
-ends_with ends.Device left left1 left2 r r1 r2 held held1 held2 w w1 w2 images images1 images2 between piece s read stops writes = record {
+ends_with one ends.Device left left1 left2 r r1 r2 held held1 held2 w w1 w2 images images1 images2 between piece s read stops writes = record {
   input = s.input ++ piece;
   read = Consumes-trans left left1 left2 s.input piece s.read read;
   ended = (inr (failed_later w w1 w2 s.writes writes stops.0), breaks_more s.input piece between images images1 images2 held held1 held2 s.served stops.1);

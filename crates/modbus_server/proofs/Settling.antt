@@ -10,13 +10,14 @@ use Rattle.io_image.specs.declared.book.Ticket.{Ticket}
 use Rattle.io_image.specs.declared.book.Written.{Written}
 use Rattle.io_image.specs.declared.book.StageError.{StageError}
 use Rattle.io_image.specs.declared.book.StageError.TheVariants.{Full}
-use Rattle.modbus_server.specs.declared.request.Exception.TheVariants.{ServerDeviceFailure}
-use Rattle.modbus_server.specs.declared.request.Image.{Image}
-use Rattle.modbus_server.specs.declared.request.Image.TheVariants.{Staged, Released}
+use Rattle.modbus_wire.specs.declared.exception.Exception.TheVariants.{ServerDeviceFailure}
+use Rattle.modbus_wire.specs.declared.function.Table.{Table}
+use Rattle.modbus_wire.specs.declared.function.Table.TheVariants.{ReadWrite, ReadOnly}
 use Rattle.std.proofs.lemmas.Slice.{between_to_end}
-use Rattle.modbus_server.specs.Frames.{number_at}
-use Rattle.modbus_server.specs.Packing.{words_of_bytes}
-use Rattle.modbus_server.specs.Replies.{Replies, LooksAt, image_cells, read_outcome, write_outcome, words_written, exception_of}
+use Rattle.modbus_wire.specs.Frames.{number_at}
+use Rattle.modbus_wire.specs.Packing.{words_of_bytes}
+use Rattle.modbus_wire.specs.Replies.{exception_of}
+use Rattle.modbus_server.specs.Replies.{Replies, LooksAt, table_cells, read_outcome, write_outcome, words_written}
 
 -- nothing was asked of the staging
 pub untouched : (told : Option Book) (answer : List ℕ) → Replies told told (λ staged refused. read_outcome answer) answer
@@ -30,11 +31,11 @@ looked None after f answer cells h e = (h, cells, false, e)
 looked (Some b) None f answer cells h e = absurd h
 looked (Some b) (Some c) f answer cells h e = (is_full b, λ z. z, h.0, e ∙ ap f h.1)
 
--- the cells of an image were looked at
-pub shown : (image : Image) (before after : Option Book) (released cells : Cells) (f : Cells → List ℕ) (answer : List ℕ) → LooksAt image before after released cells → answer ≡ f cells
-    → Replies before after (λ staged refused. read_outcome (f (image_cells image staged released))) answer
-shown Staged before after released cells f answer h e = looked before after f answer cells h e
-shown Released before after released cells f answer h e = rw (h.0, e, h.1) (untouched before (f released))
+-- the cells of a table were looked at
+pub shown : (table : Table) (before after : Option Book) (released cells : Cells) (f : Cells → List ℕ) (answer : List ℕ) → LooksAt table before after released cells → answer ≡ f cells
+    → Replies before after (λ staged refused. read_outcome (f (table_cells table staged released))) answer
+shown ReadWrite before after released cells f answer h e = looked before after f answer cells h e
+shown ReadOnly before after released cells f answer h e = rw (h.0, e, h.1) (untouched before (f released))
 
 -- what a write tells of its book
 abbrev pub Wrote : Change → Type 0 → Result Ticket StageError → Book → Book → Type 0

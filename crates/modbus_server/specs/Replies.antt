@@ -1,38 +1,24 @@
 -- The reply to a request, and the write that it makes.
-use Rattle.std.specs.Prelude.{◌≡◌, ℕ, ◌+◌, ◌==◌, Bool, true, bit_or, if◌then◌else◌, List, [], ◌∷◌, length, take, drop}
-use Rattle.std.specs.Prelude.{slice_index, slice_range, Option, Some, None, Result, Ok, Err}
+use Rattle.std.specs.Prelude.{◌≡◌, ℕ, ◌+◌, ◌==◌, Bool, true, if◌then◌else◌, List, [], ◌∷◌, take, drop, slice_range}
+use Rattle.std.specs.Prelude.{Option, Some, None, Result, Ok, Err}
 use Rattle.std.specs.Int.{w16, cast_signed}
 use Rattle.il_model.specs.declared.cells.Cells.{Cells}
 use Rattle.io_image.specs.Book.{Book, Change, bits_at, words_at, mask_at, after_change, cells_of, with_change}
 use Rattle.io_image.specs.Book.{is_full}
 use Rattle.io_image.specs.Calls.{Does, read_gave}
 use Rattle.io_image.specs.Staging.{Changed}
-use Rattle.modbus_server.specs.declared.request.Image.{Image}
-use Rattle.modbus_server.specs.declared.request.Image.TheVariants.{Staged, Released}
-use Rattle.modbus_server.specs.declared.request.Function.{Function}
-use Rattle.modbus_server.specs.declared.request.Function.TheVariants.{ReadBits, ReadWords, WriteBit, WriteWord}
-use Rattle.modbus_server.specs.declared.request.Function.TheVariants.{WriteBits, WriteWords, MaskWord, WriteReadWords}
-use Rattle.modbus_server.specs.declared.request.Exception.{Exception}
-use Rattle.modbus_server.specs.declared.request.Exception.TheVariants.{IllegalFunction, IllegalDataAddress}
-use Rattle.modbus_server.specs.declared.request.Exception.TheVariants.{IllegalDataValue, ServerDeviceFailure}
-use Rattle.modbus_server.specs.declared.request.Request.{Request}
-use Rattle.modbus_server.specs.Frames.{number_at}
+use Rattle.modbus_wire.specs.declared.function.Table.{Table}
+use Rattle.modbus_wire.specs.declared.function.Table.TheVariants.{ReadWrite, ReadOnly}
+use Rattle.modbus_wire.specs.declared.function.Function.{Function}
+use Rattle.modbus_wire.specs.declared.function.Function.TheVariants.{ReadBits, ReadWords, WriteBit, WriteWord}
+use Rattle.modbus_wire.specs.declared.function.Function.TheVariants.{WriteBits, WriteWords, MaskWord, WriteReadWords}
+use Rattle.modbus_wire.specs.declared.exception.Exception.{Exception}
+use Rattle.modbus_wire.specs.declared.exception.Exception.TheVariants.{ServerDeviceFailure}
+use Rattle.modbus_wire.specs.Frames.{number_at}
+use Rattle.modbus_wire.specs.Packing.{bytes_of_bits, bits_of_bytes, bytes_of_words, words_of_bytes}
+use Rattle.modbus_wire.specs.Replies.{exception_of, data_reply}
+use Rattle.modbus_server.specs.declared.request.Asked.{Asked}
 use Rattle.modbus_server.specs.Requests.{request_of}
-use Rattle.modbus_server.specs.Packing.{bytes_of_bits, bits_of_bytes, bytes_of_words, words_of_bytes}
-
-abbrev pub number_of : Exception → ℕ
-number_of IllegalFunction = 1
-number_of IllegalDataAddress = 2
-number_of IllegalDataValue = 3
-number_of ServerDeviceFailure = 4
-
--- the function code with bit 7 set, then the exception's number
-abbrev pub exception_of : List ℕ → Exception → List ℕ
-exception_of pdu e = bit_or (slice_index pdu 0) 128 ∷ number_of e ∷ []
-
--- the function code, a byte count and the bytes
-abbrev pub data_reply : List ℕ → List ℕ → List ℕ
-data_reply pdu bytes = slice_index pdu 0 ∷ length bytes ∷ bytes
 
 -- what is staged, if something is, and the reply
 pub record Outcome : Type 0 where
@@ -60,22 +46,23 @@ abbrev pub write_read_outcome : Bool → List ℕ → Cells → ℕ → ℕ → 
 write_read_outcome refused pdu staged at count = write_outcome refused pdu (words_written pdu)
     (data_reply pdu (bytes_of_words (slice_range (after_change staged (words_written pdu)).words at (at + count))))
 
-abbrev pub image_cells : Image → Cells → Cells → Cells
-image_cells Staged staged released = staged
-image_cells Released staged released = released
+-- a client may write staged inputs, and only read released outputs
+abbrev pub table_cells : Table → Cells → Cells → Cells
+table_cells ReadWrite staged released = staged
+table_cells ReadOnly staged released = released
 
--- the cells of an image, as a staging gave them or as they were released
-abbrev pub LooksAt : Image → Option Book → Option Book → Cells → Cells → Type 0
-LooksAt Staged before after released cells = Changed before after (λ b c. Does b (read_gave cells) c)
-LooksAt Released before after released cells = (after ≡ before) × (cells ≡ released)
+-- the cells of a table, as a staging gave them or as they were released
+abbrev pub LooksAt : Table → Option Book → Option Book → Cells → Cells → Type 0
+LooksAt ReadWrite before after released cells = Changed before after (λ b c. Does b (read_gave cells) c)
+LooksAt ReadOnly before after released cells = (after ≡ before) × (cells ≡ released)
 
 -- a request that passed each check, from its address on for so many cells
 abbrev pub outcome_by : List ℕ → Cells → Cells → Bool → Function → ℕ → ℕ → Outcome
-outcome_by pdu staged released refused (ReadBits image) at count =
-    read_outcome (data_reply pdu (bytes_of_bits (slice_range (image_cells image staged released).bits at (at + count))))
-outcome_by pdu staged released refused (ReadWords image) at count =
+outcome_by pdu staged released refused (ReadBits table) at count =
+    read_outcome (data_reply pdu (bytes_of_bits (slice_range (table_cells table staged released).bits at (at + count))))
+outcome_by pdu staged released refused (ReadWords table) at count =
     read_outcome
-    (data_reply pdu (bytes_of_words (slice_range (image_cells image staged released).words at (at + count))))
+    (data_reply pdu (bytes_of_words (slice_range (table_cells table staged released).words at (at + count))))
 outcome_by pdu staged released refused WriteBit at count =
     write_outcome refused pdu (bits_at at ((number_at pdu 3 == 65280) ∷ [])) pdu
 outcome_by pdu staged released refused WriteWord at count =
@@ -87,7 +74,7 @@ outcome_by pdu staged released refused WriteWords at count =
 outcome_by pdu staged released refused MaskWord at count = mask_outcome refused pdu at
 outcome_by pdu staged released refused WriteReadWords at count = write_read_outcome refused pdu staged at count
 
-abbrev pub outcome_of : List ℕ → Cells → Cells → Bool → Result Request Exception → Outcome
+abbrev pub outcome_of : List ℕ → Cells → Cells → Bool → Result Asked Exception → Outcome
 outcome_of pdu staged released refused (Err e) = read_outcome (exception_of pdu e)
 outcome_of pdu staged released refused (Ok r) = outcome_by pdu staged released refused r.function r.address r.quantity
 

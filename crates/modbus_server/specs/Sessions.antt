@@ -8,10 +8,9 @@ use Rattle.io_model.specs.Stream.{Ending, Rest, Fault, Feeds, Starts}
 use Rattle.io_image.specs.Book.{Book}
 use Rattle.io_image.specs.Releases.{IsRising, shown}
 use Rattle.io_image.specs.declared.release.Release.{Release}
-use Rattle.modbus_server.specs.Frames.{Adu, frame_of, adus}
+use Rattle.modbus_wire.specs.Frames.{Adu, frame_of, adus}
+use Rattle.modbus_wire.specs.declared.header.HeaderFault.{HeaderFault}
 use Rattle.modbus_server.specs.Replies.{Replies, modbus_reply}
-use Rattle.modbus_server.specs.declared.header.HeaderFault.{HeaderFault}
-use Rattle.modbus_server.specs.declared.session.SessionFault.TheVariants as faults
 use Rattle.modbus_server.specs.declared.serve.SessionEnd.{SessionEnd}
 use Rattle.modbus_server.specs.declared.serve.SessionEnd.TheVariants as ends
 
@@ -49,14 +48,14 @@ pub record Serves (from : Ending HeaderFault) (input : List ℕ) (to : Ending He
   pub answered : AnswersAll images requests replies images'
   pub written : Appends held held' (flat_map frame_of replies)
 
--- The first requests of the stream were answered, and a beginning of the answers went out.
+-- The first requests of the stream were answered, and a prefix of the answers went out.
 pub record Breaks (stream : List ℕ) (images images' : Images) (held held' : Option (List ℕ)) : Type 0 where
   pub requests : List Adu
   pub replies : List Adu
   pub output : List ℕ
   pub first : Starts adus stream requests
   pub answered : AnswersAll images requests replies images'
-  pub begins : IsPrefix output (flat_map frame_of replies)
+  pub prefix : IsPrefix output (flat_map frame_of replies)
   pub written : Appends held held' output
 
 -- These requests were answered, and the bytes of the answers were added.
@@ -79,9 +78,9 @@ BreaksAfter (Fault fault) piece images images' held held' = ⊥
 abbrev pub Stops : SessionEnd → Ending HeaderFault → List ℕ → Type 0 → Images → Images → Option (List ℕ)
     → Option (List ℕ) → Type 0
 Stops ends.Closed from piece fails images images' held held' = ⊥
-Stops (ends.Fault (faults.Header fault)) from piece fails images images' held held' =
+Stops (ends.Header fault) from piece fails images images' held held' =
     Serves from piece (Fault fault) images images' held held'
-Stops (ends.Fault faults.Memory) from piece fails images images' held held' =
+Stops ends.Memory from piece fails images images' held held' =
     BreaksAfter from piece images images' held held'
 Stops ends.Device from piece fails images images' held held' = fails × BreaksAfter from piece images images' held held'
 
@@ -90,9 +89,9 @@ abbrev pub Ended : SessionEnd → List ℕ → Option (List ℕ) → Type 0 → 
     → Type 0
 Ended ends.Closed input left fails images images' held held' = IsAtEnd left × (rest : List ℕ)
     × Serves (Rest []) input (Rest rest) images images' held held'
-Ended (ends.Fault (faults.Header fault)) input left fails images images' held held' =
+Ended (ends.Header fault) input left fails images images' held held' =
     Serves (Rest []) input (Fault fault) images images' held held'
-Ended (ends.Fault faults.Memory) input left fails images images' held held' = Breaks input images images' held held'
+Ended ends.Memory input left fails images images' held held' = Breaks input images images' held held'
 Ended ends.Device input left fails images images' held held' = fails × Breaks input images images' held held'
 
 -- what a session did, by what its reader had left and its writer held before and after, and how often each had failed

@@ -1,58 +1,43 @@
 //! Replies to requests, over any staging.
 ghost use Rattle.std.specs.Prelude.{◌≡◌, ◌+◌, ◌<◌, ◌≤◌, length, slice_range};
-ghost use Rattle.modbus_server.specs.declared.request.Function.TheVariants.{MaskWord, WriteReadWords};
-ghost use Rattle.modbus_server.specs.Requests.{HasLength, IsSound};
-ghost use Rattle.modbus_server.specs.Replies.{exception_of, data_reply, mask_outcome, write_read_outcome, LooksAt};
+ghost use Rattle.modbus_wire.specs.declared.function.Function.TheVariants.{MaskWord, WriteReadWords};
+ghost use Rattle.modbus_wire.specs.Functions.{HasLength};
+ghost use Rattle.modbus_wire.specs.Packing.{bytes_of_bits, bytes_of_words};
+ghost use Rattle.modbus_wire.specs.Replies.{data_reply};
+ghost use Rattle.modbus_server.specs.Requests.{IsSound};
+ghost use Rattle.modbus_server.specs.Replies.{mask_outcome, write_read_outcome, LooksAt};
 ghost use Rattle.modbus_server.specs.Replies.{outcome_by, modbus_reply, Replies};
-ghost use Rattle.modbus_server.specs.Packing.{bytes_of_bits, bytes_of_words};
 
-use crate::adu::{Pdu, pdu_of};
-use crate::header::number_at;
-use crate::packing::{bits_of, put_bits, put_words, words_of};
-use crate::request::{Exception, Function, Image, Request, request_of};
+use crate::request::{Asked, request_of};
 use il_model::{BITS, Cells, WORDS};
 use io_image::{Staging, View};
+use modbus_wire::{
+    Exception, Function, Pdu, Table, bits_of, bits_reply, exception_reply, number_at, pdu_of,
+    words_of, words_reply,
+};
 
-/// The function code with bit 7 set, then the exception's number.
-fn exception(pdu: &[u8], exception: Exception) -> Pdu
-    requires { 0 < length pdu.now }
-    ensures { result.items ≡ exception_of pdu.now exception }
-{
-    let number = match exception {
-        Exception::IllegalFunction => 1,
-        Exception::IllegalDataAddress => 2,
-        Exception::IllegalDataValue => 3,
-        Exception::ServerDeviceFailure => 4,
-    };
-    pdu_of(&[pdu[0] | 0x80, number])
-}
-
-#[tactic(auto, using(crate::proofs::Lengths::length_between_bits))]
 fn shown_bits(pdu: &[u8], bits: &[bool], at: usize, count: usize) -> Pdu
     requires { (0 < length pdu.now) × (at + count ≤ length bits.now) × (length bits.now ≡ BITS) }
     ensures { result.items ≡ data_reply pdu.now (bytes_of_bits (slice_range bits.now at (at + count))) }
 {
-    let mut reply = pdu_of(&[pdu[0], ((count + 7) / 8) as u8]);
-    put_bits(&mut reply, &bits[at..at + count]);
-    reply
+    bits_reply(pdu, &bits[at..at + count])
 }
 
-#[tactic(auto, using(crate::proofs::Lengths::length_between_words))]
 fn shown_words(pdu: &[u8], words: &[i16], at: usize, count: usize) -> Pdu
     requires { (0 < length pdu.now) × (at + count ≤ length words.now) × (length words.now ≡ WORDS) }
     ensures { result.items ≡ data_reply pdu.now (bytes_of_words (slice_range words.now at (at + count))) }
 {
-    let mut reply = pdu_of(&[pdu[0], (2 * count) as u8]);
-    put_words(&mut reply, &words[at..at + count]);
-    reply
+    words_reply(pdu, &words[at..at + count])
 }
 
-fn cells_of<S: Staging>(image: Image, staging: &mut S, released: &View) -> Cells
-    ensures { LooksAt image (S.told staging.old) (S.told staging.new) released.now.image.cells result }
+/// The cells of a table: of those that a client may write, the staged inputs with each write so far; of the others, the
+/// released outputs.
+fn cells_of<S: Staging>(table: Table, staging: &mut S, released: &View) -> Cells
+    ensures { LooksAt table (S.told staging.old) (S.told staging.new) released.now.image.cells result }
 {
-    match image {
-        Image::Staged => staging.read().cells,
-        Image::Released => released.image.cells,
+    match table {
+        Table::ReadWrite => staging.read().cells,
+        Table::ReadOnly => released.image.cells,
     }
 }
 
@@ -64,7 +49,7 @@ fn mask_word<S: Staging>(pdu: &[u8], at: usize, staging: &mut S) -> Pdu
 {
     match staging.mask_word(at, number_at(pdu, 3), number_at(pdu, 5)) {
         Ok(_) => pdu_of(pdu),
-        Err(_) => exception(pdu, Exception::ServerDeviceFailure),
+        Err(_) => exception_reply(pdu, Exception::ServerDeviceFailure),
     }
 }
 
@@ -77,12 +62,12 @@ fn write_read<S: Staging>(pdu: &[u8], at: usize, count: usize, staging: &mut S) 
     let words = words_of(&pdu[10..], usize::from(number_at(pdu, 7)));
     match staging.write_read(usize::from(number_at(pdu, 5)), words.as_slice()) {
         Ok(written) => shown_words(pdu, &written.inputs.cells.words, at, count),
-        Err(_) => exception(pdu, Exception::ServerDeviceFailure),
+        Err(_) => exception_reply(pdu, Exception::ServerDeviceFailure),
     }
 }
 
 /// Acts on a request that passed each check.
-fn perform<S: Staging>(pdu: &[u8], request: Request, staging: &mut S, released: &View) -> Pdu
+fn perform<S: Staging>(pdu: &[u8], request: Asked, staging: &mut S, released: &View) -> Pdu
     requires { (0 < length pdu.now) × (length pdu.now ≤ 253) × IsSound pdu.now request }
     ensures { Replies (S.told staging.old) (S.told staging.new)
         (λ staged refused.
@@ -91,30 +76,30 @@ fn perform<S: Staging>(pdu: &[u8], request: Request, staging: &mut S, released: 
     let at = request.address;
     let count = request.quantity;
     match request.function {
-        Function::ReadBits(image) => {
-            shown_bits(pdu, &cells_of(image, staging, released).bits, at, count)
+        Function::ReadBits(table) => {
+            shown_bits(pdu, &cells_of(table, staging, released).bits, at, count)
         }
-        Function::ReadWords(image) => {
-            shown_words(pdu, &cells_of(image, staging, released).words, at, count)
+        Function::ReadWords(table) => {
+            shown_words(pdu, &cells_of(table, staging, released).words, at, count)
         }
         Function::WriteBit => match staging.write_bits(at, &[number_at(pdu, 3) == 0xff00]) {
             Ok(_) => pdu_of(pdu),
-            Err(_) => exception(pdu, Exception::ServerDeviceFailure),
+            Err(_) => exception_reply(pdu, Exception::ServerDeviceFailure),
         },
         Function::WriteWord => match staging.write_words(at, &[number_at(pdu, 3).cast_signed()]) {
             Ok(_) => pdu_of(pdu),
-            Err(_) => exception(pdu, Exception::ServerDeviceFailure),
+            Err(_) => exception_reply(pdu, Exception::ServerDeviceFailure),
         },
         Function::WriteBits => {
             match staging.write_bits(at, bits_of(&pdu[6..], count).as_slice()) {
                 Ok(_) => pdu_of(&pdu[..5]),
-                Err(_) => exception(pdu, Exception::ServerDeviceFailure),
+                Err(_) => exception_reply(pdu, Exception::ServerDeviceFailure),
             }
         }
         Function::WriteWords => {
             match staging.write_words(at, words_of(&pdu[6..], count).as_slice()) {
                 Ok(_) => pdu_of(&pdu[..5]),
-                Err(_) => exception(pdu, Exception::ServerDeviceFailure),
+                Err(_) => exception_reply(pdu, Exception::ServerDeviceFailure),
             }
         }
         Function::MaskWord => mask_word(pdu, at, staging),
@@ -133,6 +118,6 @@ pub fn reply<S: Staging>(pdu: &[u8], staging: &mut S, released: &View) -> Pdu
 {
     match request_of(pdu) {
         Ok(request) => perform(pdu, request, staging, released),
-        Err(fault) => exception(pdu, fault),
+        Err(fault) => exception_reply(pdu, fault),
     }
 }

@@ -2,16 +2,16 @@
 ghost use Rattle.std.specs.Prelude.{◌≡◌, ◌≤◌, [], length, OnOk, OnErr, MatchResult};
 ghost use Rattle.std.specs.List.{AllByRecursion};
 ghost use Rattle.io_model.specs.Counted.{Failed};
-ghost use Rattle.modbus_server.specs.Frames.{IsFramed};
 ghost use Rattle.io_model.specs.Stream.{IsRest};
+ghost use Rattle.modbus_wire.specs.Frames.{IsFramed};
 ghost use Rattle.modbus_server.specs.Sessions.{images_of, Answers, Adds, AnswersSome, Serves, Stops, Talks};
 
-use crate::adu::Adu;
 use crate::replies::reply;
-use crate::session::{Session, SessionFault};
 use io_image::{Naming, ReleasedReader, Staging};
 use io_model::{CountedRead, CountedWrite, write_all};
-use std::alloc::{AllocError, Global};
+use modbus_wire::{Adu, HeaderFault, Session, SessionFault, know_any_pieces};
+use plc_host::{Host, Traffic};
+use std::alloc::AllocError;
 use std::sync::Wait;
 
 /// So many bytes are read at once.
@@ -22,10 +22,12 @@ const PIECE: usize = 4096;
 pub enum SessionEnd {
     /// The reader came to its end.
     Closed,
-    /// The stream met a fault, whose earlier requests are answered, or memory ran out.
-    Fault(SessionFault),
+    /// The stream met a fault; the requests before it are answered.
+    Header(HeaderFault),
     /// The reader or the writer failed.
     Device,
+    /// Memory ran out.
+    Memory,
 }
 
 fn answer<S: Staging, J: Naming>(
@@ -75,10 +77,11 @@ struct Buffers {
     replies: Vec<u8>,
 }
 
-/// Answers each request that is whole with this piece, in one write.
+/// Answers each request that is whole with this piece, in one write, and counts them once it went out.
 fn serve_piece<W: CountedWrite, S: Staging, J: Naming>(
     piece: &[u8],
     buffers: &mut Buffers,
+    traffic: &Traffic,
     writer: &mut W,
     staging: &mut S,
     released: &mut ReleasedReader<J>,
@@ -102,24 +105,26 @@ fn serve_piece<W: CountedWrite, S: Staging, J: Naming>(
     replies.clear();
     let fed = session.feed(piece, requests);
     if answer_all(requests.as_slice(), replies, staging, released).is_err() {
-        return Err(SessionEnd::Fault(SessionFault::Memory));
+        return Err(SessionEnd::Memory);
     }
     if write_all(writer, replies.as_slice()).is_err() {
         return Err(SessionEnd::Device);
     }
+    traffic.add_requests(requests.len() as u64);
     match fed {
         Ok(()) => Ok(()),
-        Err(fault) => Err(SessionEnd::Fault(fault)),
+        Err(SessionFault::Header(fault)) => Err(SessionEnd::Header(fault)),
+        Err(SessionFault::Memory) => Err(SessionEnd::Memory),
     }
 }
 
 /// Serves a session to its end. It reads requests in pieces, as they come, and writes the replies in order: those to
 /// the requests that a piece makes whole in one write, each by what `released` shows when its turn comes. Where it ends
-/// by `Device`, or for want of memory, a beginning of the replies went out, and requests whose replies didn't may have
-/// been done.
-pub fn serve_session<H: Wait, R: CountedRead, W: CountedWrite, S: Staging, J: Naming>(
-    rt: &H,
-    alloc: Global,
+/// by `Device`, or for want of memory, a prefix of the replies went out, and requests whose replies didn't may have been
+/// done. `traffic` counts the requests that were answered, as they are.
+pub fn serve_session<H: Wait + Copy, R: CountedRead, W: CountedWrite, S: Staging, J: Naming>(
+    host: &Host<H>,
+    traffic: &Traffic,
     reader: &mut R,
     writer: &mut W,
     staging: &mut S,
@@ -131,18 +136,20 @@ pub fn serve_session<H: Wait, R: CountedRead, W: CountedWrite, S: Staging, J: Na
 {
     let mut buffers = Buffers {
         session: Session::new(),
-        requests: Vec::new(alloc),
-        replies: Vec::new(alloc),
+        requests: Vec::new(host.alloc),
+        replies: Vec::new(host.alloc),
     };
     let mut piece = [0; PIECE];
-    for _ in rt.forever() {
+    know_any_pieces();
+    for _ in host.rt.forever() {
         let Ok(count) = reader.read(&mut piece) else {
             return SessionEnd::Device;
         };
         if count == 0 {
             return SessionEnd::Closed;
         }
-        if let Err(end) = serve_piece(&piece[..count], &mut buffers, writer, staging, released) {
+        let piece = &piece[..count];
+        if let Err(end) = serve_piece(piece, &mut buffers, traffic, writer, staging, released) {
             return end;
         }
     }

@@ -15,4 +15,4 @@ returns-in-Err g c =
     let pdu = c.args.pdu.now in
     let at = c.args.at in
     rw (← c.number_at.ensures, ← c.number_at-2.ensures)
-    (declined (g.S.Staging.told c.args.staging.now) (g.S.Staging.told c.mask_word.new.self) c.in-Err.field-0 (mask_at at c.number_at.result c.number_at-2.result) (at < 64) pdu c.exception.result.items pdu c.in-Err.ensures.told c.exception.ensures)
+    (declined (g.S.Staging.told c.args.staging.now) (g.S.Staging.told c.mask_word.new.self) c.in-Err.field-0 (mask_at at c.number_at.result c.number_at-2.result) (at < 64) pdu c.exception_reply.result.items pdu c.in-Err.ensures.told c.exception_reply.ensures)

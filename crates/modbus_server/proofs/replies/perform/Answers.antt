@@ -4,9 +4,9 @@ use mir.Val.{SFits, to_z, of_z}
 use Rattle.std.proofs.lemmas.Int.{to_z-of_z}
 use Rattle.std.proofs.lemmas.Slice.{between_to_end}
 use Rattle.io_image.specs.Book.{bits_at, words_at}
-use Rattle.modbus_server.specs.Frames.{number_at}
-use Rattle.modbus_server.specs.Packing.{bytes_of_bits, bytes_of_words, bits_of_bytes, words_of_bytes}
-use Rattle.modbus_server.specs.Replies.{data_reply}
+use Rattle.modbus_wire.specs.Frames.{number_at}
+use Rattle.modbus_wire.specs.Packing.{bytes_of_bits, bytes_of_words, bits_of_bytes, words_of_bytes}
+use Rattle.modbus_wire.specs.Replies.{data_reply}
 use Rattle.modbus_server.proofs.Settling.{shown, took, declined}
 use Rattle.modbus_server.proofs.replies.perform.Goals as goal
 
@@ -15,14 +15,14 @@ returns-in-ReadBits g c =
     let at = c.args.request.address in
     let count = c.args.request.quantity in
     rw c.in-ReadBits.is
-    (shown c.in-ReadBits.image (g.S.Staging.told c.args.staging.now) (g.S.Staging.told c.cells_of.new.staging) c.args.released.now.image.cells c.cells_of.result (λ cells. data_reply c.args.pdu.now (bytes_of_bits (slice_range cells.bits at (at + count)))) c.shown_bits.result.items c.cells_of.ensures c.shown_bits.ensures)
+    (shown c.in-ReadBits.table (g.S.Staging.told c.args.staging.now) (g.S.Staging.told c.cells_of.new.staging) c.args.released.now.image.cells c.cells_of.result (λ cells. data_reply c.args.pdu.now (bytes_of_bits (slice_range cells.bits at (at + count)))) c.shown_bits.result.items c.cells_of.ensures c.shown_bits.ensures)
 
 pub returns-in-ReadWords : goal.returns-in-ReadWords
 returns-in-ReadWords g c =
     let at = c.args.request.address in
     let count = c.args.request.quantity in
     rw c.in-ReadWords.is
-    (shown c.in-ReadWords.image (g.S.Staging.told c.args.staging.now) (g.S.Staging.told c.cells_of-in-ReadWords.new.staging) c.args.released.now.image.cells c.cells_of-in-ReadWords.result (λ cells. data_reply c.args.pdu.now (bytes_of_words (slice_range cells.words at (at + count)))) c.shown_words.result.items c.cells_of-in-ReadWords.ensures c.shown_words.ensures)
+    (shown c.in-ReadWords.table (g.S.Staging.told c.args.staging.now) (g.S.Staging.told c.cells_of-in-ReadWords.new.staging) c.args.released.now.image.cells c.cells_of-in-ReadWords.result (λ cells. data_reply c.args.pdu.now (bytes_of_words (slice_range cells.words at (at + count)))) c.shown_words.result.items c.cells_of-in-ReadWords.ensures c.shown_words.ensures)
 
 pub returns-in-Ok : goal.returns-in-Ok
 returns-in-Ok g c =
@@ -34,7 +34,7 @@ pub returns-in-Err : goal.returns-in-Err
 returns-in-Err g c =
     let pdu = c.args.pdu.now in
     let at = c.args.request.address in
-    rw c.in-WriteBit.is (declined (g.S.Staging.told c.args.staging.now) (g.S.Staging.told c.write_bits.new.self) c.in-Err.field-0 (bits_at at ((number_at pdu 3 == 65280) ∷ [])) (at + 1 ≤ 512) pdu c.exception.result.items pdu c.in-Err.ensures.told c.exception.ensures)
+    rw c.in-WriteBit.is (declined (g.S.Staging.told c.args.staging.now) (g.S.Staging.told c.write_bits.new.self) c.in-Err.field-0 (bits_at at ((number_at pdu 3 == 65280) ∷ [])) (at + 1 ≤ 512) pdu c.exception_reply.result.items pdu c.in-Err.ensures.told c.exception_reply.ensures)
 
 pub returns-in-Ok-write_words : goal.returns-in-Ok-write_words
 returns-in-Ok-write_words g c =
@@ -48,7 +48,7 @@ pub returns-in-Err-write_words : goal.returns-in-Err-write_words
 returns-in-Err-write_words g c =
     let pdu = c.args.pdu.now in
     let at = c.args.request.address in
-    rw c.in-WriteWord.is (declined (g.S.Staging.told c.args.staging.now) (g.S.Staging.told c.write_words.new.self) c.in-Err-write_words.field-0 (words_at at (cast_signed w16 (number_at pdu 3) ∷ [])) (at + 1 ≤ 64) pdu c.exception-in-Err-write_words.result.items pdu c.in-Err-write_words.ensures.told c.exception-in-Err-write_words.ensures)
+    rw c.in-WriteWord.is (declined (g.S.Staging.told c.args.staging.now) (g.S.Staging.told c.write_words.new.self) c.in-Err-write_words.field-0 (words_at at (cast_signed w16 (number_at pdu 3) ∷ [])) (at + 1 ≤ 64) pdu c.exception_reply-in-Err-write_words.result.items pdu c.in-Err-write_words.ensures.told c.exception_reply-in-Err-write_words.ensures)
 
 pub returns-in-Ok-write_bits : goal.returns-in-Ok-write_bits
 returns-in-Ok-write_bits g c =
@@ -63,7 +63,7 @@ returns-in-Err-write_bits g c =
     let pdu : List ℕ = c.args.pdu.now in
     let at = c.args.request.address in
     let count = c.args.request.quantity in
-    rw c.in-WriteBits.is (declined (g.S.Staging.told c.args.staging.now) (g.S.Staging.told c.write_bits-in-WriteBits.new.self) c.in-Err-write_bits.field-0 (bits_at at (bits_of_bytes (drop 6 pdu) count)) (at + length c.as_slice.result.now ≤ 512) pdu c.exception-in-Err-write_bits.result.items (take 5 pdu) c.in-Err-write_bits.ensures.told c.exception-in-Err-write_bits.ensures)
+    rw c.in-WriteBits.is (declined (g.S.Staging.told c.args.staging.now) (g.S.Staging.told c.write_bits-in-WriteBits.new.self) c.in-Err-write_bits.field-0 (bits_at at (bits_of_bytes (drop 6 pdu) count)) (at + length c.as_slice.result.now ≤ 512) pdu c.exception_reply-in-Err-write_bits.result.items (take 5 pdu) c.in-Err-write_bits.ensures.told c.exception_reply-in-Err-write_bits.ensures)
 
 pub returns-in-Ok-write_words-2 : goal.returns-in-Ok-write_words-2
 returns-in-Ok-write_words-2 g c =
@@ -78,4 +78,4 @@ returns-in-Err-write_words-2 g c =
     let pdu : List ℕ = c.args.pdu.now in
     let at = c.args.request.address in
     let count = c.args.request.quantity in
-    rw c.in-WriteWords.is (declined (g.S.Staging.told c.args.staging.now) (g.S.Staging.told c.write_words-in-WriteWords.new.self) c.in-Err-write_words-2.field-0 (words_at at (words_of_bytes (drop 6 pdu) count)) (at + length c.as_slice-in-WriteWords.result.now ≤ 64) pdu c.exception-in-Err-write_words-2.result.items (take 5 pdu) c.in-Err-write_words-2.ensures.told c.exception-in-Err-write_words-2.ensures)
+    rw c.in-WriteWords.is (declined (g.S.Staging.told c.args.staging.now) (g.S.Staging.told c.write_words-in-WriteWords.new.self) c.in-Err-write_words-2.field-0 (words_at at (words_of_bytes (drop 6 pdu) count)) (at + length c.as_slice-in-WriteWords.result.now ≤ 64) pdu c.exception_reply-in-Err-write_words-2.result.items (take 5 pdu) c.in-Err-write_words-2.ensures.told c.exception_reply-in-Err-write_words-2.ensures)

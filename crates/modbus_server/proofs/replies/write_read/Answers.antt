@@ -1,7 +1,8 @@
 use Rattle.std.proofs.Common.{◌≡◌, ◌+◌, ◌≤◌, ℕ, List, length, ◌∙◌, subst, Option, slice_range}
 use Rattle.io_image.specs.Book.{Book, Change, words_at, after_change}
-use Rattle.modbus_server.specs.Packing.{bytes_of_words}
-use Rattle.modbus_server.specs.Replies.{Replies, data_reply, words_written, write_outcome}
+use Rattle.modbus_wire.specs.Packing.{bytes_of_words}
+use Rattle.modbus_wire.specs.Replies.{data_reply}
+use Rattle.modbus_server.specs.Replies.{Replies, words_written, write_outcome}
 use Rattle.modbus_server.proofs.Settling.{took_and_read, declined_to_read, written_change}
 use Rattle.modbus_server.proofs.replies.write_read.Goals as goal
 
@@ -24,5 +25,5 @@ returns-in-Err g c =
     let at = c.args.at in
     let count = c.args.count in
     let v : words_at c.from-2.result c.as_slice.result.now ≡ words_written pdu = written_change pdu c.from-2.result c.from.result c.as_slice.result.now (c.from-2.ensures ∙ c.number_at-2.ensures) (c.from.ensures ∙ c.number_at.ensures) (c.as_slice.ensures.value ∙ c.words_of-words.ensures) in
-    subst (shows_with pdu at count (g.S.Staging.told c.args.staging.now) (g.S.Staging.told c.write_read.new.self) c.exception.result.items) v (declined_to_read (g.S.Staging.told c.args.staging.now) (g.S.Staging.told c.write_read.new.self) c.in-Err.field-0 (words_at c.from-2.result c.as_slice.result.now) (c.from-2.result + length c.as_slice.result.now ≤ 64) pdu c.exception.result.items
-    (λ cells. data_reply pdu (bytes_of_words (slice_range cells.words at (at + count)))) c.in-Err.ensures.told c.exception.ensures)
+    subst (shows_with pdu at count (g.S.Staging.told c.args.staging.now) (g.S.Staging.told c.write_read.new.self) c.exception_reply.result.items) v (declined_to_read (g.S.Staging.told c.args.staging.now) (g.S.Staging.told c.write_read.new.self) c.in-Err.field-0 (words_at c.from-2.result c.as_slice.result.now) (c.from-2.result + length c.as_slice.result.now ≤ 64) pdu c.exception_reply.result.items
+    (λ cells. data_reply pdu (bytes_of_words (slice_range cells.words at (at + count)))) c.in-Err.ensures.told c.exception_reply.ensures)

@@ -1,8 +1,7 @@
 use Rattle.std.proofs.Common.{◌≡◌, ◌+◌, ◌∷◌, [], ◌++◌, take, ap, sym, ◌∙◌}
 use Rattle.std.proofs.lemmas.List.{take_more}
-use Rattle.modbus_server.specs.Frames.{Adu}
-use Rattle.modbus_server.proofs.Feeds.{on_err}
-use Rattle.modbus_server.proofs.Sessions.{adds_more, answers_more}
+use Rattle.modbus_wire.specs.Frames.{Adu}
+use Rattle.modbus_server.proofs.Sessions.{adds_more, answers_more, on_err}
 use Rattle.modbus_server.proofs.serve.answer_all.Goals as goal
 
 pub returns-in_err-write_to-clause-err : goal.returns-in_err-write_to-clause-err

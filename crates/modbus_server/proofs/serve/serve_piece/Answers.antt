@@ -1,7 +1,7 @@
 use Rattle.std.proofs.Common.{ℕ, List, take, sym, ◌∙◌}
 use Rattle.std.specs.Io.KnownBytes.{Appends}
 use Rattle.io_model.specs.Counted.{Failed}
-use Rattle.modbus_server.specs.Frames.{Adu}
+use Rattle.modbus_wire.specs.Frames.{Adu}
 use Rattle.modbus_server.specs.Sessions.{Images, AnswersSome, Adds}
 use Rattle.modbus_server.proofs.Sessions.{fed_starts, silent_after, written_after, err_holds, ok_holds}
 use Rattle.modbus_server.proofs.serve.serve_piece.Goals as goal

@@ -17,7 +17,7 @@ returns-in-Err g c =
     let before : Images = record { told = g.S.Staging.told c.args.staging.now; seen = c.args.released.now } in
     let between : Images = record { told = g.S.Staging.told c.loop.staging; seen = c.loop.released } in
     let after : Images = record { told = g.S.Staging.told c.serve_piece.new.staging; seen = c.serve_piece.new.released } in
-    ends_with c.in-Err.end (g.R.CountedRead.left c.args.reader.now) (g.R.CountedRead.left c.loop.reader) (g.R.CountedRead.left c.read.new.self)
+    ends_with c.know_any_pieces.ensures c.in-Err.end (g.R.CountedRead.left c.args.reader.now) (g.R.CountedRead.left c.loop.reader) (g.R.CountedRead.left c.read.new.self)
     (g.R.CountedRead.faults c.args.reader.now) (g.R.CountedRead.faults c.loop.reader) (g.R.CountedRead.faults c.read.new.self)
     (g.W.CountedWrite.held c.args.writer.now) (g.W.CountedWrite.held c.loop.writer) (g.W.CountedWrite.held c.serve_piece.new.writer)
     (g.W.CountedWrite.faults c.args.writer.now) (g.W.CountedWrite.faults c.loop.writer) (g.W.CountedWrite.faults c.serve_piece.new.writer)
@@ -28,7 +28,7 @@ loop-preserved g c =
     let before : Images = record { told = g.S.Staging.told c.args.staging.now; seen = c.args.released.now } in
     let between : Images = record { told = g.S.Staging.told c.loop.staging; seen = c.loop.released } in
     let after : Images = record { told = g.S.Staging.told c.serve_piece.new.staging; seen = c.serve_piece.new.released } in
-    goes_further (g.R.CountedRead.left c.args.reader.now) (g.R.CountedRead.left c.loop.reader) (g.R.CountedRead.left c.read.new.self)
+    goes_further c.know_any_pieces.ensures (g.R.CountedRead.left c.args.reader.now) (g.R.CountedRead.left c.loop.reader) (g.R.CountedRead.left c.read.new.self)
     (g.R.CountedRead.faults c.args.reader.now) (g.R.CountedRead.faults c.loop.reader) (g.R.CountedRead.faults c.read.new.self)
     (g.W.CountedWrite.held c.args.writer.now) (g.W.CountedWrite.held c.loop.writer) (g.W.CountedWrite.held c.serve_piece.new.writer)
     (g.W.CountedWrite.faults c.args.writer.now) (g.W.CountedWrite.faults c.loop.writer) (g.W.CountedWrite.faults c.serve_piece.new.writer)

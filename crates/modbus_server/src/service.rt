@@ -1,0 +1,133 @@
+//! The service: a port for Modbus clients, each with a session of its own.
+
+use crate::serve::serve_session;
+use io_image::{Naming, ReleasedReader, Stage, StageBook, Staging};
+use io_model::Counted;
+use plc_host::{Failed, Host, ServiceRuntime, Traffic};
+use plc_listener::{Door, Listener, OpenListener, Session};
+use std::alloc::{AllocError, Global};
+use std::net::TcpStream;
+use std::sync::{Arc, Wait};
+use std::time::Duration;
+
+/// What one client at a time is served with: where its writes go, and what it reads.
+#[derive(Drop)]
+struct Seat<J: Naming> {
+    stage: Arc<Stage>,
+    released: ReleasedReader<J>,
+    traffic: Arc<Traffic>,
+}
+
+impl<R: Wait + Copy, J: Naming> Session<R> for Seat<J> {
+    fn serve(&mut self, host: &Host<R>, stream: &TcpStream) {
+        self.traffic.add_session();
+        let _ = serve_session(
+            host,
+            &self.traffic,
+            &mut Counted::new(stream),
+            &mut Counted::new(stream),
+            &mut self.stage.handle(&host.rt),
+            &mut self.released,
+        );
+    }
+}
+
+/// A server that lets no client in yet.
+#[derive(Drop)]
+pub struct Server<R: ServiceRuntime, J: Naming> {
+    host: Host<R>,
+    listener: Listener<R, Seat<J>>,
+    stage: Arc<Stage>,
+    traffic: Arc<Traffic>,
+}
+
+/// A seat for each of these readers.
+fn seats<J: Naming>(
+    alloc: Global,
+    stage: &Arc<Stage>,
+    traffic: &Arc<Traffic>,
+    readers: Vec<ReleasedReader<J>>,
+) -> Result<Vec<Seat<J>>, AllocError> {
+    let mut seats = Vec::new(alloc);
+    for released in readers {
+        seats.push(Seat {
+            stage: Arc::try_clone(stage)?,
+            released,
+            traffic: Arc::try_clone(traffic)?,
+        })?;
+    }
+    Ok(seats)
+}
+
+impl<R: ServiceRuntime, J: Naming + Send + Sync + 'static> Server<R, J> {
+    /// So many clients at this door are served at once as there are readers of the released outputs. No input is staged
+    /// yet. A session ends whose client sends nothing, or takes nothing, for as long as `idle`. `traffic` counts the
+    /// sessions, and the requests that were answered.
+    pub fn new(
+        host: Host<R>,
+        door: Door,
+        readers: Vec<ReleasedReader<J>>,
+        idle: Duration,
+        traffic: Arc<Traffic>,
+    ) -> Result<Server<R, J>, Failed> {
+        let stage = Arc::new(host.alloc, Stage::new(StageBook::new(host.alloc)))?;
+        let seats = seats(host.alloc, &stage, &traffic, readers)?;
+        Ok(Server {
+            host,
+            listener: Listener::new(host, door, seats, idle)?,
+            stage,
+            traffic,
+        })
+    }
+
+    /// Lets clients in from now on.
+    pub fn open(self) -> Result<OpenServer<R, J>, Failed> {
+        let Server {
+            host,
+            listener,
+            stage,
+            traffic,
+        } = self;
+        Ok(OpenServer {
+            host,
+            listener: listener.open()?,
+            stage,
+            traffic,
+        })
+    }
+}
+
+/// A server that clients are served by. It can't be let go of but by `close`, which joins its threads.
+pub struct OpenServer<R: ServiceRuntime, J: Naming> {
+    host: Host<R>,
+    listener: OpenListener<R, Seat<J>>,
+    stage: Arc<Stage>,
+    traffic: Arc<Traffic>,
+}
+
+impl<R: ServiceRuntime, J: Naming> OpenServer<R, J> {
+    /// The port, of 127.0.0.1.
+    pub fn port(&self) -> u16 {
+        self.listener.port()
+    }
+
+    /// The inputs that the sessions stage.
+    pub fn stage(&self) -> &Stage {
+        &self.stage
+    }
+
+    /// Lets no client in any more, and ends each session and the threads. How many connections were given a session,
+    /// and how many writes got a ticket.
+    pub fn close(self) -> (u64, u64) {
+        let OpenServer {
+            host,
+            listener,
+            stage,
+            traffic,
+        } = self;
+        listener.close();
+        // Tickets are numbered from 0.
+        let writes = stage.handle(&host.rt).sample().next;
+        (traffic.sessions(), writes)
+    }
+}
