@@ -1,29 +1,32 @@
 //! The program `plc`: the words of its call, the files that they name, and the status it ends with.
 #![tactic(auto)]
 
-ghost use Rattle.plc.specs.Asked.{ServesAsAsked};
+ghost use Rattle.std.specs.Prelude.{◌≡◌, IfOk};
+ghost use Rattle.plc.specs.Asked.{ServesAsAsked, IsLostAfterAMinute};
 
 use il_model::Budget;
+use il_text::{Fault, tell};
+use io_file::NewFile;
 use io_image::NewList;
 use io_model::{Counted, CountedWrite};
 use plc_console::send_commands;
+use plc_host::{Failed, Host};
 use plc_json::command_texts;
-use plc_serve::{ReportFile, Service, Settings};
-use plc_tool::{Fault, NewFile, change_to};
-use plc_words::{Words, WordsError, read_words};
+use plc_serve::{Service, fault_of as fault_of_failed, serve};
+use plc_settings::Settings;
+use plc_status::ReportFile;
+use plc_tool::{Group, change_to, fault_of};
+use plc_words::{Words, WordsError, read_words, tell_words};
 use std::io::{BufWriter, Write};
 use std::marker::Brand;
 use std::net::TcpStream;
 use std::os::fd::{AsRawFd, IntoRawFd};
 use std::process::ExitCode;
 use std::{env, fs, io};
-use vr_model::Config;
+use vr_threads::FileStore;
 
 /// Standard input, standard output and standard error are the descriptors below it.
 const STREAMS: i32 = 3;
-
-/// In seconds: a served controller ends after so long without a majority of its replicas.
-const LOST_AFTER: u32 = 60;
 
 /// What the words of the call came to.
 #[derive(Drop)]
@@ -31,40 +34,32 @@ enum Outcome {
     /// It's done, with this status.
     Done(u8),
     /// A controller is to be served.
-    Serve(Service<HostRuntime>),
+    Serve {
+        service: Service<FileStore<HostRuntime>>,
+        /// The path of the report's file, if one is wanted.
+        report: Option<String>,
+    },
 }
 
 /// Threads and sockets are used here alone.
 fn main(rt: HostRuntime) -> ExitCode {
     let mut err = Counted::new(rt.stderr());
     if let Err(error) = hold_streams(&rt) {
-        return ExitCode::from(plc_tool::tell(Fault::from(error), &mut err));
+        return ExitCode::from(tell(Fault::from(error), &mut err));
     }
     let status = match BufWriter::new(rt.alloc(), rt.stdout()) {
         Ok(mut out) => match called(&rt, &mut out, &mut err) {
             Outcome::Done(status) => status,
-            Outcome::Serve(
-                Service {
-                    source,
-                    directory,
-                    report,
-                    stores,
-                    settings,
-                },
-            ) => plc_serve::serve::<Brand, _, _, _, _, _>(
-                rt,
-                rt.alloc(),
+            Outcome::Serve { service, report } => serve::<Brand, _, _, _, _, _>(
+                host_of(&rt),
                 NewList::new(),
-                source.as_slice(),
-                directory,
-                stores,
-                settings,
+                service,
                 &mut Counted::new(ReportFile::at(&rt, text_of(&report))),
                 &mut out,
                 &mut err,
             ),
         },
-        Err(error) => plc_tool::tell(Fault::from(error), &mut err),
+        Err(error) => tell(Fault::from(error), &mut err),
     };
     ExitCode::from(status)
 }
@@ -91,14 +86,17 @@ fn hold_streams(rt: &HostRuntime) -> io::Result<()> {
 }
 
 /// Does what the words of the call ask for, unless that is to serve a controller.
-fn called<W: Write, E: CountedWrite>(rt: &HostRuntime, out: &mut W, err: &mut E) -> Outcome {
+#[tactic(auto, using(crate::proofs::Minute::as_asked))]
+fn called<W: Write, E: CountedWrite>(rt: &HostRuntime, out: &mut W, err: &mut E) -> Outcome
+    ensures { IsLostAfterAMinute result }
+{
     let given = match given_words(rt) {
         Ok(given) => given,
-        Err(error) => return Outcome::Done(plc_tool::tell_words(&error, out, err)),
+        Err(error) => return Outcome::Done(tell_words(&error, out, err)),
     };
     match read_words(rt.alloc(), given.as_slice()) {
         Ok(words) => perform(rt, words, out, err),
-        Err(error) => Outcome::Done(plc_tool::tell_words(&error, out, err)),
+        Err(error) => Outcome::Done(tell_words(&error, out, err)),
     }
 }
 
@@ -123,41 +121,43 @@ fn perform<W: Write, E: CountedWrite>(
             schedule,
             config,
             budget,
-        } => sim(rt, source, schedule, &config, budget, out, err),
+        } => sim(rt, source, schedule, &Group { config, budget }, out, err),
         Words::Ask { port, commands } => ask(rt, port, commands, out, err),
         Words::Change { port, source } => change(rt, port, source, out, err),
         Words::Serve {
             source,
             store,
-            scans,
-            config,
-            port,
-            period,
-            budget,
-            idle,
-            over_tcp,
-            crash,
             report,
-            console,
-        } => {
-            let settings = Settings {
-                config,
-                budget,
-                port,
-                period,
-                scans,
-                idle,
-                over_tcp,
-                crash,
-                lost_after: LOST_AFTER,
-                console,
-            };
-            match Service::new(*rt, source, store, report, settings) {
-                Ok(service) => return Outcome::Serve(service),
-                Err(fault) => plc_tool::tell(fault, err),
-            }
-        }
+            settings,
+        } => match to_serve(rt, source, store, report, settings) {
+            Ok((service, report)) => return Outcome::Serve { service, report },
+            Err(failed) => tell(fault_of_failed(failed), err),
+        },
     })
+}
+
+fn host_of(rt: &HostRuntime) -> Host<HostRuntime> {
+    Host {
+        rt: *rt,
+        alloc: rt.alloc(),
+    }
+}
+
+/// A controller that is to be served from this file and this directory, and the path of its report.
+fn to_serve(
+    rt: &HostRuntime,
+    source: &str,
+    store: &str,
+    report: Option<&str>,
+    settings: Settings,
+) -> Result<(Service<FileStore<HostRuntime>>, Option<String>), Failed>
+    ensures { IfOk result (λ r. r.0.settings ≡ settings) }
+{
+    let report = match report {
+        Some(path) => Some(String::from_str(rt.alloc(), path)?),
+        None => None,
+    };
+    Ok((Service::new(host_of(rt), source, store, settings)?, report))
 }
 
 fn given_words(rt: &HostRuntime) -> Result<Vec<String>, WordsError> {
@@ -166,23 +166,6 @@ fn given_words(rt: &HostRuntime) -> Result<Vec<String>, WordsError> {
 
 fn file(rt: &HostRuntime, path: &str) -> Result<Vec<u8>, Fault> {
     Ok(fs::read(rt, path)?)
-}
-
-/// A source and another file; or the status, where one can't be read. The source is judged before the other is missed.
-fn both<E: CountedWrite>(
-    rt: &HostRuntime,
-    source: &str,
-    other: &str,
-    err: &mut E,
-) -> Result<(Vec<u8>, Vec<u8>), u8> {
-    let source = match file(rt, source) {
-        Ok(source) => source,
-        Err(fault) => return Err(plc_tool::tell(fault, err)),
-    };
-    match file(rt, other) {
-        Ok(other) => Ok((source, other)),
-        Err(fault) => Err(plc_tool::run_unread(rt.alloc(), source.as_slice(), fault, err)),
-    }
 }
 
 fn asm<W: Write, E: CountedWrite>(
@@ -205,14 +188,14 @@ fn asm<W: Write, E: CountedWrite>(
             );
             flushed(status, out, err)
         }
-        Err(fault) => plc_tool::tell(fault, err),
+        Err(fault) => tell(fault, err),
     }
 }
 
 fn list<W: Write, E: CountedWrite>(rt: &HostRuntime, image: &str, out: &mut W, err: &mut E) -> u8 {
     let image = match file(rt, image) {
         Ok(image) => image,
-        Err(fault) => return plc_tool::tell(fault, err),
+        Err(fault) => return tell(fault, err),
     };
     let mut counted = Counted::new(&mut *out);
     let status = plc_tool::list(rt.alloc(), image.as_slice(), &mut counted, err);
@@ -227,9 +210,15 @@ fn run<W: Write, E: CountedWrite>(
     out: &mut W,
     err: &mut E,
 ) -> u8 {
-    let (source, commands) = match both(rt, source, commands, err) {
-        Ok(files) => files,
-        Err(status) => return status,
+    let source = match file(rt, source) {
+        Ok(source) => source,
+        Err(fault) => return tell(fault, err),
+    };
+    let commands = match file(rt, commands) {
+        Ok(commands) => commands,
+        Err(fault) => {
+            return plc_tool::run_without_commands(rt.alloc(), source.as_slice(), fault, err);
+        }
     };
     let mut counted = Counted::new(&mut *out);
     let status = plc_tool::run(
@@ -247,22 +236,26 @@ fn sim<W: Write, E: CountedWrite>(
     rt: &HostRuntime,
     source: &str,
     schedule: &str,
-    config: &Config,
-    budget: Budget,
+    group: &Group,
     out: &mut W,
     err: &mut E,
 ) -> u8 {
-    let (source, schedule) = match both(rt, source, schedule, err) {
-        Ok(files) => files,
-        Err(status) => return status,
+    let source = match file(rt, source) {
+        Ok(source) => source,
+        Err(fault) => return tell(fault, err),
+    };
+    let schedule = match file(rt, schedule) {
+        Ok(schedule) => schedule,
+        Err(fault) => {
+            return plc_tool::sim_without_schedule(rt.alloc(), source.as_slice(), fault, err);
+        }
     };
     let mut counted = Counted::new(&mut *out);
     let status = plc_tool::sim(
         rt.alloc(),
         source.as_slice(),
         schedule.as_slice(),
-        config,
-        budget,
+        group,
         &mut counted,
         err,
     );
@@ -278,15 +271,17 @@ fn ask<W: Write, E: CountedWrite>(
 ) -> u8 {
     let status = match asked(rt, port, commands, out) {
         Ok(()) => 0,
-        Err(fault) => plc_tool::tell(fault, err),
+        Err(fault) => tell(fault, err),
     };
     flushed(status, out, err)
 }
 
 /// Sends each command of a file to the console at a port, and prints its answer.
 fn asked<W: Write>(rt: &HostRuntime, port: u16, commands: &str, out: &mut W) -> Result<(), Fault> {
-    let commands = command_texts(rt.alloc(), file(rt, commands)?.as_slice())?;
-    send(rt, port, commands.as_slice(), out)
+    match command_texts(rt.alloc(), file(rt, commands)?.as_slice()) {
+        Ok(commands) => send(rt, port, commands.as_slice(), out),
+        Err(fault) => Err(fault_of(fault)),
+    }
 }
 
 fn change<W: Write, E: CountedWrite>(
@@ -298,7 +293,7 @@ fn change<W: Write, E: CountedWrite>(
 ) -> u8 {
     let status = match changed(rt, port, source, out) {
         Ok(()) => 0,
-        Err(fault) => plc_tool::tell(fault, err),
+        Err(fault) => tell(fault, err),
     };
     flushed(status, out, err)
 }
@@ -329,7 +324,7 @@ fn send<W: Write>(
 /// The status of what was written, once it is flushed.
 fn flushed<W: Write, E: CountedWrite>(status: u8, out: &mut W, err: &mut E) -> u8 {
     match out.flush() {
-        Err(error) if status == 0 => plc_tool::tell(Fault::from(error), err),
+        Err(error) if status == 0 => tell(Fault::from(error), err),
         _ => status,
     }
 }

@@ -6,7 +6,7 @@ use Rattle.std.proofs.lemmas.Bool.{cases_Bool, leb-true, leb-false, le-leb, lt-l
 use Rattle.il_model.specs.Program.{Program}
 use Rattle.plc_json.specs.declared.command.NamedCommand.{NamedCommand}
 use Rattle.plc_json.specs.Single.{HasCommand, HasNoCommand}
-use Rattle.plc_tool.specs.Named.{meant}
+use Rattle.plc_names.specs.Named.{meant}
 use Rattle.plc_console.specs.Lines.{longest_line, kept, IsScan, AsksFor, AsksForScan, AsksForNothing}
 
 kept_short : (line : List ℕ) → length line ≤ longest_line → kept line ≡ Some line

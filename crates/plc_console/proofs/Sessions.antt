@@ -11,9 +11,9 @@ use Rattle.io_model.specs.Counted.{Failed}
 use Rattle.il_model.specs.declared.command.Answer.{Answer}
 use Rattle.il_model.specs.declared.command.Command.{Command}
 use Rattle.il_model.specs.Program.{Program}
-use Rattle.vr_threads.specs.Serving.{Grows}
-use Rattle.plc_console.specs.declared.session.ConsoleEnd.{ConsoleEnd}
-use Rattle.plc_console.specs.declared.session.ConsoleEnd.TheVariants as ends
+use Rattle.vr_ports.specs.Telling.{Grows}
+use Rattle.plc_console.specs.declared.session.SessionEnd.{SessionEnd}
+use Rattle.plc_console.specs.declared.session.SessionEnd.TheVariants as ends
 use Rattle.plc_console.specs.InForce.{brought_by, goes_on_with, in_force_after}
 use Rattle.plc_console.specs.Lines.{line_end, HasNoEnd, kept, AsksFor, AsksForNothing, Outcome, Submitted, Refused, IsOutcome, FitsCommand, text_of, submitted_by}
 use Rattle.plc_console.specs.Sessions.{Turn, line_of, AreTurns, lines_of, texts_of, submitted_in, Scene, scene, Serves, Breaks, Stops, Ended, Talks, Takes, TakesShort, StopsAt, IsWhyUnwritten, Writes}
@@ -154,13 +154,13 @@ failed_later w v w' low high (inl h) = inl (omega arith)
 failed_later w v w' low high (inr h) = elim (le_cases w v low) [ inl e ↦ inr (e ∙ h) | inr l ↦ inl (omega arith) ]
 
 -- an end over a later piece; the failures are those of both calls
-pub stops_more : (end : ConsoleEnd) (a p b q : List ℕ) (w v w' : ℕ) (s t u : Scene) → w ≤ v → v ≤ w' → Serves a p b s t → Stops end b q (Failed v w') t u → Stops end a (p ++ q) (Failed w w') s u
+pub stops_more : (end : SessionEnd) (a p b q : List ℕ) (w v w' : ℕ) (s t u : Scene) → w ≤ v → v ≤ w' → Serves a p b s t → Stops end b q (Failed v w') t u → Stops end a (p ++ q) (Failed w w') s u
 stops_more ends.Closed a p b q w v w' s t u low high h k = absurd k
 stops_more ends.Device a p b q w v w' s t u low high h k = (failed_later w v w' low high k.0, breaks_more a p b q s t u h k.1)
 stops_more ends.Memory a p b q w v w' s t u low high h k = breaks_more a p b q s t u h k
 stops_more ends.Unanswered a p b q w v w' s t u low high h k = breaks_more a p b q s t u h k
 
-pub stops_early : (end : ConsoleEnd) (a p q : List ℕ) (fails : Type 0) (s t : Scene) → Stops end a p fails s t → Stops end a (p ++ q) fails s t
+pub stops_early : (end : SessionEnd) (a p q : List ℕ) (fails : Type 0) (s t : Scene) → Stops end a p fails s t → Stops end a (p ++ q) fails s t
 stops_early ends.Closed a p q fails s t k = absurd k
 stops_early ends.Device a p q fails s t k = (k.0, breaks_early a p q s t k.1)
 stops_early ends.Memory a p q fails s t k = breaks_early a p q s t k
@@ -224,7 +224,7 @@ takes_short rest command s t unended known h = record {
   written = h.written;
 }
 
-pub stops_at : (end : ConsoleEnd) (rest : List ℕ) (command : Option Command) (fails : Type 0) (s t : Scene) → HasNoEnd rest → IsKnown s.program rest command → StopsAt end command fails s t → Stops end rest (line_end ∷ []) fails s t
+pub stops_at : (end : SessionEnd) (rest : List ℕ) (command : Option Command) (fails : Type 0) (s t : Scene) → HasNoEnd rest → IsKnown s.program rest command → StopsAt end command fails s t → Stops end rest (line_end ∷ []) fails s t
 stops_at ends.Closed rest command fails s t unended known k = absurd k
 stops_at ends.Device rest command fails s t unended known k = (k.0, takes_short rest command s t unended known k.1)
 stops_at ends.Memory rest command fails s t unended known k = elim k [
@@ -245,14 +245,14 @@ short command outcome s t n fits submitted program written = record {
   written = written;
 }
 
-took_short : (end : ConsoleEnd) (command : Option Command) (outcome : Outcome) (fails : Type 0) (s t : Scene) → FitsCommand command outcome → Grows s.answered t.answered (submitted_by outcome) → t.program ≡ in_force_after s.program (submitted_by outcome) → IsWhyUnwritten end fails → (n : ℕ) → Appends s.held t.held (take n (text_of outcome)) → StopsAt end command fails s t
+took_short : (end : SessionEnd) (command : Option Command) (outcome : Outcome) (fails : Type 0) (s t : Scene) → FitsCommand command outcome → Grows s.answered t.answered (submitted_by outcome) → t.program ≡ in_force_after s.program (submitted_by outcome) → IsWhyUnwritten end fails → (n : ℕ) → Appends s.held t.held (take n (text_of outcome)) → StopsAt end command fails s t
 took_short ends.Closed command outcome fails s t fits submitted program why n written = absurd why
 took_short ends.Device command outcome fails s t fits submitted program why n written = (why, short command outcome s t n fits submitted program written)
 took_short ends.Memory command outcome fails s t fits submitted program why n written = inr (short command outcome s t n fits submitted program written)
 took_short ends.Unanswered command outcome fails s t fits submitted program why n written = absurd why
 
 -- what one line came to, by how its answer was written
-pub took : (result : Result (Unit {0}) ConsoleEnd) (command : Option Command) (outcome : Outcome) (fails : Type 0) (s t : Scene) → FitsCommand command outcome → Grows s.answered t.answered (submitted_by outcome) → t.program ≡ in_force_after s.program (submitted_by outcome) → Writes result (text_of outcome) fails s.held t.held
+pub took : (result : Result (Unit {0}) SessionEnd) (command : Option Command) (outcome : Outcome) (fails : Type 0) (s t : Scene) → FitsCommand command outcome → Grows s.answered t.answered (submitted_by outcome) → t.program ≡ in_force_after s.program (submitted_by outcome) → Writes result (text_of outcome) fails s.held t.held
     → MatchResult result (λ done. Takes command s t) (λ end. StopsAt end command fails s t)
 took (Ok done) command outcome fails s t fits submitted program wrote = record { outcome = outcome; fits = fits; submitted = submitted; program = program; written = wrote }
 took (Err end) command outcome fails s t fits submitted program wrote = took_short end command outcome fails s t fits submitted program wrote.0 wrote.1 wrote.2
@@ -261,17 +261,17 @@ fits_none : (command : Option Command) → command ≡ None → FitsCommand comm
 fits_none command is = subst (λ (c : Option Command). FitsCommand c Refused) (sym is) tt
 
 -- a refused line
-pub refused : (result : Result (Unit {0}) ConsoleEnd) (command : Option Command) (fails : Type 0) (answered : Option (List (Command × Answer))) (held held' : Option (List ℕ)) (Q : Program) → command ≡ None → Writes result (text_of Refused) fails held held'
+pub refused : (result : Result (Unit {0}) SessionEnd) (command : Option Command) (fails : Type 0) (answered : Option (List (Command × Answer))) (held held' : Option (List ℕ)) (Q : Program) → command ≡ None → Writes result (text_of Refused) fails held held'
     → MatchResult result (λ done. Takes command (scene answered held Q) (scene answered held' Q)) (λ end. StopsAt end command fails (scene answered held Q) (scene answered held' Q))
 refused result command fails answered held held' Q is wrote = took result command Refused fails (scene answered held Q) (scene answered held' Q) (fits_none command is) (grows_none answered) refl wrote
 
 -- a command that was answered
-pub answered_one : (result : Result (Unit {0}) ConsoleEnd) (fails : Type 0) (command : Command) (answer : Answer) (a b : Option (List (Command × Answer))) (held held' : Option (List ℕ)) (Q R : Program) → Grows a b ((command, answer) ∷ []) → R ≡ goes_on_with Q (brought_by command) answer → Writes result (text_of (Submitted command answer)) fails held held'
+pub answered_one : (result : Result (Unit {0}) SessionEnd) (fails : Type 0) (command : Command) (answer : Answer) (a b : Option (List (Command × Answer))) (held held' : Option (List ℕ)) (Q R : Program) → Grows a b ((command, answer) ∷ []) → R ≡ goes_on_with Q (brought_by command) answer → Writes result (text_of (Submitted command answer)) fails held held'
     → MatchResult result (λ done. Takes (Some command) (scene a held Q) (scene b held' R)) (λ end. StopsAt end (Some command) fails (scene a held Q) (scene b held' R))
 answered_one result fails command answer a b held held' Q R submitted program wrote = took result (Some command) (Submitted command answer) fails (scene a held Q) (scene b held' R) refl submitted program wrote
 
 -- a line that was ended
-pub ended_line : (result : Result (Unit {0}) ConsoleEnd) (rest : List ℕ) (command : Option Command) (line : Option (List ℕ)) (fails : Type 0) (s t : Scene) → line ≡ kept [] → HasNoEnd rest → IsKnown s.program rest command
+pub ended_line : (result : Result (Unit {0}) SessionEnd) (rest : List ℕ) (command : Option Command) (line : Option (List ℕ)) (fails : Type 0) (s t : Scene) → line ≡ kept [] → HasNoEnd rest → IsKnown s.program rest command
     → MatchResult result (λ done. Takes command s t) (λ end. StopsAt end command fails s t)
     → MatchResult result (λ done. (line ≡ kept []) × Serves rest (line_end ∷ []) [] s t) (λ end. Stops end rest (line_end ∷ []) fails s t)
 ended_line (Ok done) rest command line fails s t is unended known h = (is, takes_turn rest command s t unended known h)
@@ -283,12 +283,12 @@ known Q (Some command) line some none rest is = some rest is
 known Q None line some none rest is = none rest is
 
 -- one byte more on the line, or memory ran out
-pub extended : (result : Result (Unit {0}) ConsoleEnd) (byte : ℕ) (line line' : Option (List ℕ)) (fails : Type 0) (s : Scene) → (byte ≡ line_end → ⊥)
+pub extended : (result : Result (Unit {0}) SessionEnd) (byte : ℕ) (line line' : Option (List ℕ)) (fails : Type 0) (s : Scene) → (byte ≡ line_end → ⊥)
     → MatchResult result (λ done. (rest : List ℕ) → line ≡ kept rest → line' ≡ kept (rest ++ byte ∷ [])) (λ end. end ≡ ends.Memory)
     → (rest : List ℕ) → HasNoEnd rest → line ≡ kept rest
     → MatchResult result (λ done. (rest' : List ℕ) × (line' ≡ kept rest') × Serves rest (byte ∷ []) rest' s s) (λ end. Stops end rest (byte ∷ []) fails s s)
 extended (Ok done) byte line line' fails s other went rest unended is = (rest ++ byte ∷ [], went rest is, goes_on rest byte s unended other)
-extended (Err end) byte line line' fails s other went rest unended is = subst (λ (e : ConsoleEnd). Stops e rest (byte ∷ []) fails s s) (sym went) (breaks_none rest (byte ∷ []) s)
+extended (Err end) byte line line' fails s other went rest unended is = subst (λ (e : SessionEnd). Stops e rest (byte ∷ []) fails s s) (sym went) (breaks_none rest (byte ∷ []) s)
 
 -- ---- the session
 
@@ -335,13 +335,13 @@ goes_further left left1 left2 r r1 r2 w w1 w2 line line' s t u piece h read read
     }
 
 -- what a stop over the whole input is
-ended : (end : ConsoleEnd) (input : List ℕ) (left : Option (List ℕ)) (fails : Type 0) (other : Type 0) (s t : Scene) → Stops end [] input fails s t → Ended end input left (other ⊎ fails) s t
+ended : (end : SessionEnd) (input : List ℕ) (left : Option (List ℕ)) (fails : Type 0) (other : Type 0) (s t : Scene) → Stops end [] input fails s t → Ended end input left (other ⊎ fails) s t
 ended ends.Closed input left fails other s t k = absurd k
 ended ends.Device input left fails other s t k = (inr k.0, k.1)
 ended ends.Memory input left fails other s t k = k
 ended ends.Unanswered input left fails other s t k = k
 
-pub ends_with : (end : ConsoleEnd) (left left1 left2 : Option (List ℕ)) (r r1 r2 w w1 w2 : ℕ) (line : Option (List ℕ)) (s t u : Scene) (piece : List ℕ)
+pub ends_with : (end : SessionEnd) (left left1 left2 : Option (List ℕ)) (r r1 r2 w w1 w2 : ℕ) (line : Option (List ℕ)) (s t u : Scene) (piece : List ℕ)
     → GoesOn left left1 r r1 w w1 line s t → Consumes left1 left2 piece → w1 ≤ w2 → ((rest : List ℕ) → HasNoEnd rest → line ≡ kept rest → Stops end rest piece (Failed w1 w2) t u) → Talks end left left2 r r2 w w2 s u
 ends_with end left left1 left2 r r1 r2 w w1 w2 line s t u piece h read writes stops = record {
   input = h.input ++ piece;
@@ -370,11 +370,11 @@ ends_closed left left1 left2 r r1 r2 w w1 line s t h read over = record {
 -- ---- byte after byte
 
 -- how a piece ended a session
-abbrev pub PieceStopped : ConsoleEnd → List ℕ → Option (List ℕ) → Type 0 → Scene → Scene → Type 0
+abbrev pub PieceStopped : SessionEnd → List ℕ → Option (List ℕ) → Type 0 → Scene → Scene → Type 0
 PieceStopped end piece line fails before after = (rest : List ℕ) → HasNoEnd rest → line ≡ kept rest → Stops end rest piece fails before after
 
 -- what one piece did, or how it ended the session
-abbrev pub PieceWent : Result (Unit {0}) ConsoleEnd → List ℕ → Option (List ℕ) → Option (List ℕ) → Type 0 → Scene → Scene → Type 0
+abbrev pub PieceWent : Result (Unit {0}) SessionEnd → List ℕ → Option (List ℕ) → Option (List ℕ) → Type 0 → Scene → Scene → Type 0
 PieceWent result piece line line' fails before after =
     (rest : List ℕ) → HasNoEnd rest → line ≡ kept rest → MatchResult result
     (λ done. (rest' : List ℕ) × (line' ≡ kept rest') × Serves rest piece rest' before after)
@@ -389,7 +389,7 @@ piece_more p q line line' line'' s t u first then = λ rest unended is.
     let b = then a.0 a.2.unended a.1 in
     (b.0, b.1, serves_more rest p a.0 q b.0 s t u a.2 b.2)
 
-pub piece_stops : (end : ConsoleEnd) (p q more : List ℕ) (line line' : Option (List ℕ)) (w v w' : ℕ) (s t u : Scene) → w ≤ v → v ≤ w' → PieceServed p line line' s t → PieceStopped end q line' (Failed v w') t u → PieceStopped end ((p ++ q) ++ more) line (Failed w w') s u
+pub piece_stops : (end : SessionEnd) (p q more : List ℕ) (line line' : Option (List ℕ)) (w v w' : ℕ) (s t u : Scene) → w ≤ v → v ≤ w' → PieceServed p line line' s t → PieceStopped end q line' (Failed v w') t u → PieceStopped end ((p ++ q) ++ more) line (Failed w w') s u
 piece_stops end p q more line line' w v w' s t u low high first then = λ rest unended is.
     let a = first rest unended is in
     stops_early end rest (p ++ q) more (Failed w w') s u (stops_more end rest p a.0 q w v w' s t u low high a.2 (then a.0 a.2.unended a.1))

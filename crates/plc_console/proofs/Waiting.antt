@@ -16,10 +16,10 @@ use Rattle.vr_model.specs.Logs.{Request}
 use Rattle.vr_model.specs.StandsFor.{body_with}
 use Rattle.vr_model.specs.Steps.{Retries, heard}
 use Rattle.vr_model.specs.World.{next_number, next_request, is_waiting, replied}
-use Rattle.vr_threads.specs.Serving.{Grows}
-use Rattle.vr_threads.specs.declared.ends.Input.{Input}
-use Rattle.vr_threads.specs.declared.ends.Input.TheVariants as input
-use Rattle.io_image.specs.Client.{Client, SendsAt, SubmitsCommand, answer_by}
+use Rattle.vr_ports.specs.Telling.{Grows}
+use Rattle.vr_ports.specs.declared.link.Input.{Input}
+use Rattle.vr_ports.specs.declared.link.Input.TheVariants as input
+use Rattle.vr_client.specs.Client.{Client, SendsAt, SubmitsCommand, answer_by}
 use Rattle.plc_console.specs.Asking.{Way, reply_of, IsNoReplyTo, joined, Waits, IsAnswered, answer_in, IsAfter, Hears}
 
 pub grows_none : {X : Type 0} (o : Option (List X)) → Grows o o []

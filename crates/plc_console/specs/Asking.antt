@@ -9,10 +9,10 @@ use Rattle.vr_model.specs.declared.message.Message.{Message}
 use Rattle.vr_model.specs.StandsFor.{body_with, message_with}
 use Rattle.vr_model.specs.World.{next_number}
 use Rattle.vr_model.specs.Steps.{Retries, Hears as Heard}
-use Rattle.vr_threads.specs.declared.ends.Input.{Input}
-use Rattle.vr_threads.specs.declared.ends.Input.TheVariants as input
-use Rattle.vr_threads.specs.Serving.{Grows}
-use Rattle.io_image.specs.Client.{Client, SendsAt, BecomesAt, SubmitsCommand, answer_by}
+use Rattle.vr_ports.specs.declared.link.Input.{Input}
+use Rattle.vr_ports.specs.declared.link.Input.TheVariants as input
+use Rattle.vr_ports.specs.Telling.{Grows}
+use Rattle.vr_client.specs.Client.{Client, SendsAt, BecomesAt, SubmitsCommand, answer_by}
 
 -- what shows of a link: what its receives gave, and what it was handed to send
 pub record Way : Type 0 where

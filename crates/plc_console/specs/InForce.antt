@@ -1,5 +1,5 @@
 -- The program in force while the commands of a console are answered: that whose variables its names mean.
-use Rattle.std.specs.Prelude.{◌≡◌, List, [], ◌∷◌, Option, Some, None, Result, Ok, Err, unwrap_or}
+use Rattle.std.specs.Prelude.{List, [], ◌∷◌, Option, Some, None, Result, Ok, Err, unwrap_or}
 use Rattle.il_model.specs.declared.command.Answer.{Answer}
 use Rattle.il_model.specs.declared.command.Answer.TheVariants.{Done}
 use Rattle.il_model.specs.declared.command.Command.{Command}

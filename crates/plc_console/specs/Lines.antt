@@ -8,10 +8,10 @@ use Rattle.il_model.specs.Program.{Program}
 use Rattle.plc_json.specs.declared.command.NamedCommand.{NamedCommand}
 use Rattle.plc_json.specs.declared.command.NamedCommand.TheVariants as named
 use Rattle.plc_json.specs.Single.{HasCommand, HasNoCommand}
-use Rattle.plc_tool.specs.Lines.{line_text}
-use Rattle.plc_tool.specs.Named.{meant}
-use Rattle.plc_tool.specs.Telling.{fault_line}
-use Rattle.plc_tool.specs.declared.fault.Fault.TheVariants.{Commands}
+use Rattle.il_text.specs.Lines.{line_text}
+use Rattle.plc_names.specs.Named.{meant}
+use Rattle.il_text.specs.Telling.{fault_line}
+use Rattle.il_text.specs.declared.fault.Fault.TheVariants.{Commands}
 
 -- LF, which ends a line
 abbrev pub line_end : ℕ

@@ -18,7 +18,7 @@ pub record AskedOne (command : List ℕ) (left left' held held' out out' : Optio
   pub sent : Appends held held' (command ++ line_end ∷ [])
   pub answered : Passed left left' out out'
 
--- The same of each of these, one behind the other.
+-- Each of these was sent and its answer passed on, one behind the other.
 abbrev pub Asked : List (List ℕ) → Option (List ℕ) → Option (List ℕ) → Option (List ℕ) → Option (List ℕ)
     → Option (List ℕ) → Option (List ℕ) → Type 0
 Asked [] left left' held held' out out' = Consumes left left' [] × (Appends held held' [] × Appends out out' [])

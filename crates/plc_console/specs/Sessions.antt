@@ -1,14 +1,14 @@
 -- What a session of an operator's console reads, submits and writes.
 use Rattle.std.specs.Prelude.{◌≡◌, ◌⊎◌, ℕ, List, [], ◌∷◌, ◌++◌, take, Option, Result, MatchResult}
-use Rattle.std.specs.List.{flat_map, AllByRecursion}
+use Rattle.std.specs.List.{flat_map}
 use Rattle.std.specs.Io.KnownBytes.{Appends, Consumes, IsAtEnd}
 use Rattle.io_model.specs.Counted.{Failed}
 use Rattle.il_model.specs.declared.command.Answer.{Answer}
 use Rattle.il_model.specs.declared.command.Command.{Command}
 use Rattle.il_model.specs.Program.{Program}
-use Rattle.vr_threads.specs.Serving.{Grows}
-use Rattle.plc_console.specs.declared.session.ConsoleEnd.{ConsoleEnd}
-use Rattle.plc_console.specs.declared.session.ConsoleEnd.TheVariants as ends
+use Rattle.vr_ports.specs.Telling.{Grows}
+use Rattle.plc_console.specs.declared.session.SessionEnd.{SessionEnd}
+use Rattle.plc_console.specs.declared.session.SessionEnd.TheVariants as ends
 use Rattle.plc_console.specs.InForce.{in_force_after}
 use Rattle.plc_console.specs.Lines.{line_end, HasNoEnd, Outcome, IsOutcome, FitsCommand, text_of, submitted_by}
 
@@ -24,7 +24,7 @@ line_of turn = turn.line ++ line_end ∷ []
 abbrev pub IsTurn : Program → Turn → Type 0
 IsTurn Q turn = HasNoEnd turn.line × IsOutcome Q turn.line turn.outcome
 
--- the same of lines, one behind another; names of each are those of the program in force then
+-- whole lines, one behind another, and what each comes to; names of each are those of the program in force then
 abbrev pub AreTurns : Program → List Turn → Type 0
 AreTurns Q [] = Unit {0}
 AreTurns Q (turn ∷ more) = IsTurn Q turn × AreTurns (in_force_after Q (submitted_by turn.outcome)) more
@@ -74,34 +74,34 @@ pub record Breaks (rest piece : List ℕ) (before after : Scene) : Type 0 where
   pub written : Appends before.held after.held output
 
 -- how a session ended over one piece; its reader or its writer failed
-abbrev pub Stops : ConsoleEnd → List ℕ → List ℕ → Type 0 → Scene → Scene → Type 0
+abbrev pub Stops : SessionEnd → List ℕ → List ℕ → Type 0 → Scene → Scene → Type 0
 Stops ends.Closed rest piece fails before after = ⊥
 Stops ends.Device rest piece fails before after = fails × Breaks rest piece before after
 Stops ends.Memory rest piece fails before after = Breaks rest piece before after
 Stops ends.Unanswered rest piece fails before after = Breaks rest piece before after
 
 -- how a session ended that read this input; what its reader had left then, and whether its reader or its writer failed
-abbrev pub Ended : ConsoleEnd → List ℕ → Option (List ℕ) → Type 0 → Scene → Scene → Type 0
+abbrev pub Ended : SessionEnd → List ℕ → Option (List ℕ) → Type 0 → Scene → Scene → Type 0
 Ended ends.Closed input left fails before after = IsAtEnd left × (rest : List ℕ) × Serves [] input rest before after
 Ended ends.Device input left fails before after = fails × Breaks [] input before after
 Ended ends.Memory input left fails before after = Breaks [] input before after
 Ended ends.Unanswered input left fails before after = Breaks [] input before after
 
 -- what a session did, by what its reader had left before and after, and how often its reader and its writer had failed
-pub record Talks (end : ConsoleEnd) (left left' : Option (List ℕ)) (r r' w w' : ℕ) (before after : Scene) : Type 0 where
+pub record Talks (end : SessionEnd) (left left' : Option (List ℕ)) (r r' w w' : ℕ) (before after : Scene) : Type 0 where
   pub input : List ℕ
   pub read : Consumes left left' input
   pub ended : Ended end input left' (Failed r r' ⊎ Failed w w') before after
 
 -- why a line wasn't written: the writer failed, or memory ran out
-abbrev pub IsWhyUnwritten : ConsoleEnd → Type 0 → Type 0
+abbrev pub IsWhyUnwritten : SessionEnd → Type 0 → Type 0
 IsWhyUnwritten ends.Device fails = fails
 IsWhyUnwritten ends.Memory fails = Unit {0}
 IsWhyUnwritten ends.Closed fails = ⊥
 IsWhyUnwritten ends.Unanswered fails = ⊥
 
 -- all of the text went out, or a beginning of it
-abbrev pub Writes : Result (Unit {0}) ConsoleEnd → List ℕ → Type 0 → Option (List ℕ) → Option (List ℕ) → Type 0
+abbrev pub Writes : Result (Unit {0}) SessionEnd → List ℕ → Type 0 → Option (List ℕ) → Option (List ℕ) → Type 0
 Writes result text fails held held' =
     MatchResult result (λ done. Appends held held' text)
     (λ end. IsWhyUnwritten end fails × (n : ℕ) × Appends held held' (take n text))
@@ -114,7 +114,7 @@ pub record Takes (command : Option Command) (before after : Scene) : Type 0 wher
   pub program : after.program ≡ in_force_after before.program (submitted_by outcome)
   pub written : Appends before.held after.held (text_of outcome)
 
--- The same, and a beginning of its answer went out.
+-- One line had its turn, of which this command was known, if any, and a beginning of its answer went out.
 pub record TakesShort (command : Option Command) (before after : Scene) : Type 0 where
   pub outcome : Outcome
   pub fits : FitsCommand command outcome
@@ -126,7 +126,7 @@ pub record TakesShort (command : Option Command) (before after : Scene) : Type 0
   pub written : Appends before.held after.held output
 
 -- how a session ended at one line; where memory ran out for the program of a change, nothing was submitted
-abbrev pub StopsAt : ConsoleEnd → Option Command → Type 0 → Scene → Scene → Type 0
+abbrev pub StopsAt : SessionEnd → Option Command → Type 0 → Scene → Scene → Type 0
 StopsAt ends.Closed command fails before after = ⊥
 StopsAt ends.Device command fails before after = fails × TakesShort command before after
 StopsAt ends.Memory command fails before after = (after ≡ before) ⊎ TakesShort command before after

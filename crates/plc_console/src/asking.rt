@@ -4,17 +4,17 @@ ghost use Rattle.std.specs.Prelude.{◌≡◌, ◌⊎◌, IfOk, List};
 ghost use Rattle.std.specs.List.{AllByRecursion};
 ghost use Rattle.vr_model.specs.declared.message.Message.{Message as Sent};
 ghost use Rattle.vr_model.specs.Steps.{Retries};
-ghost use Rattle.vr_threads.specs.Serving.{Grows};
-ghost use Rattle.io_image.specs.Client.{SendsAt};
+ghost use Rattle.vr_ports.specs.Telling.{Grows};
+ghost use Rattle.vr_client.specs.Client.{SendsAt};
 ghost use Rattle.plc_console.specs.Asking.{way, joined, Hears, IsAnswered};
 
 use crate::session::Unanswered;
 use il_model::{Answer, Command};
-use io_image::GroupClient;
 use std::alloc::Global;
 use std::sync::Wait;
 use std::time::{Clock, Duration, Instant};
-use vr_threads::{Input, Link, send_all};
+use vr_client::{GroupClient, RetryTimer};
+use vr_ports::{Input, Link, send_all};
 
 /// Submits a command under the client's next number, and receives until it is answered: by the first REPLY with that
 /// number, whatever else comes meanwhile. After each period without it the same request is sent again, to all. It is
@@ -41,12 +41,12 @@ pub fn ask<R: Wait + Clock, L: Link>(
         return Err(Unanswered);
     };
     link.send(request);
-    let mut asked = Instant::now(rt).ok();
+    let mut timer = RetryTimer::new(period, Instant::now(rt).ok());
     for _ in rt.forever() {
         if let Some(answer) = hear(client, link)? {
             return Ok(answer);
         }
-        asked = ask_again(rt, alloc, period, client, link, asked);
+        ask_again(rt, alloc, client, link, &mut timer);
     }
     unreachable!()
 }
@@ -66,28 +66,25 @@ fn hear<L: Link>(client: &mut GroupClient, link: &mut L) -> Result<Option<Answer
     }
 }
 
-/// Sends the request that waits to all where a period went by since it was sent last: when it was sent last, where the
-/// machine's time could be read.
+/// Sends the request that waits to all where that is due and the machine's time can be read.
 fn ask_again<R: Clock, L: Link>(
     rt: &R,
     alloc: Global,
-    period: Duration,
     client: &GroupClient,
     link: &mut L,
-    asked: Option<Instant>,
-) -> Option<Instant>
+    timer: &mut RetryTimer,
+)
     ensures sent { (again : List (List Sent)) × AllByRecursion (SendsAt client.now Retries) again
         × Grows (L.sent link.old) (L.sent link.new) (joined again) }
     ensures same { L.inputs link.new ≡ L.inputs link.old }
 {
     let Ok(now) = Instant::now(rt) else {
-        return asked;
+        return;
     };
-    if !is_over(now, asked, period) {
-        return Some(asked.unwrap_or(now));
+    if !timer.is_due(now) {
+        return;
     }
     send_again(alloc, client, link);
-    Some(now)
 }
 
 /// Sends the request that waits to all. Where memory runs out nothing is sent, until a later time.
@@ -98,13 +95,5 @@ fn send_again<L: Link>(alloc: Global, client: &GroupClient, link: &mut L)
 {
     if let Ok(sends) = client.retry(alloc) {
         send_all(link, sends);
-    }
-}
-
-/// Whether so much time went by since then.
-fn is_over(now: Instant, since: Option<Instant>, time: Duration) -> bool {
-    match since {
-        Some(since) => now.saturating_duration_since(since) >= time,
-        None => false,
     }
 }

@@ -1,12 +1,12 @@
 //! An operator's console: commands of a controller as lines that come in, each submitted as a client of the group and
-//! answered by its line. It knows no threads and no sockets: a session runs over any reader and writer and over
-//! whatever submits its commands, and a command is asked for over any link.
+//! answered by its line. A session runs over any reader and writer and over whatever submits its commands, and a
+//! command is asked for over any link; the service has both behind a port of this machine, one connection at a time.
 //!
 //! ```rust
-//! use plc_console::serve_console;
-//!
-//! // Of the lines that come in, `desk` submits each that is a command; `image` is that of the program in force.
-//! let end = serve_console(&rt, alloc, &mut image, &mut reader, &mut writer, &mut desk); // Closed at the reader's end
+//! let desk = Desk::new(host, config, link, Duration::from_millis(100)); // client 1 of the group, over this link
+//! let console = Console::new(host, Door::open(&rt, 5021)?, desk, &image, Duration::from_secs(60))?;
+//! let open = console.open()?; // lines are answered from now on
+//! open.close(); // ends the session, also one that waits for an answer
 //! ```
 //!
 //! Proved: `serve_console` gives each whole line its turn, in order. Its command is submitted and answered once, a name
@@ -17,15 +17,19 @@
 //! its number. `send_commands` answers Ok only where each command went out as a line, and what came back up to the end
 //! of a line was printed before the next.
 //!
-//! Only tested: that a request is sent again when a period went by, and sessions over sockets, with a group behind them
-//! that loses its primary (`console_rows` of `tests_threads`, `tools/try-serve`). Nothing says that an answer comes.
+//! Only tested: that a request is sent again when a period went by, and the service, with a group behind it that loses
+//! its primary (`console_rows` of `tests_threads`, `tools/try-serve`). Nothing says that an answer comes.
 #![tactic(auto)]
 
 mod asking;
+mod desk;
 mod line;
 mod sending;
+mod service;
 mod session;
 
 pub use asking::ask;
+pub use desk::Desk;
 pub use sending::send_commands;
-pub use session::{ConsoleEnd, Submits, Unanswered, serve_console};
+pub use service::{Console, OpenConsole};
+pub use session::{SessionEnd, Submits, Unanswered, serve_console};

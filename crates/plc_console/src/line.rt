@@ -1,13 +1,13 @@
 //! The line that comes in.
 
 ghost use Rattle.std.specs.Prelude.{◌≡◌, ◌++◌, ◌∷◌, [], ◌↔◌, List, ℕ, true, IfOk, IfSome, IfNone, OnErr, OnOk};
-ghost use Rattle.plc_tool.specs.Named.{meant};
+ghost use Rattle.plc_names.specs.Named.{meant};
 ghost use Rattle.plc_console.specs.Lines.{kept, AsksFor, AsksForNothing, IsScan};
 
 use il_loader::Image;
 use il_model::Command;
 use plc_json::{JsonFault, NamedCommand, one_command};
-use plc_tool::meant;
+use plc_names::meant;
 use std::alloc::{AllocError, Global};
 use std::marker::Model;
 

@@ -24,7 +24,7 @@ pub fn send_commands<R: CountedRead, W: CountedWrite, O: CountedWrite>(
     Ok(())
 }
 
-/// The same of one.
+/// Sends one command as a line, and prints its answer.
 fn send_command<R: CountedRead, W: CountedWrite, O: CountedWrite>(
     command: &[u8],
     reader: &mut R,

@@ -2,10 +2,10 @@
 
 ghost use Rattle.std.specs.Prelude.{◌≡◌, ◌≤◌, ◌++◌, ◌∷◌, [], List, ℕ, Some, IfOk, MatchResult};
 ghost use Rattle.io_model.specs.Counted.{Failed};
-ghost use Rattle.plc_tool.specs.Lines.{line_text};
-ghost use Rattle.plc_tool.specs.Telling.{fault_line};
-ghost use Rattle.plc_tool.specs.declared.fault.Fault.TheVariants.{Commands};
-ghost use Rattle.plc_console.specs.declared.session.ConsoleEnd.TheVariants as ends;
+ghost use Rattle.il_text.specs.Lines.{line_text};
+ghost use Rattle.il_text.specs.Telling.{fault_line};
+ghost use Rattle.il_text.specs.declared.fault.Fault.TheVariants.{Commands};
+ghost use Rattle.plc_console.specs.declared.session.SessionEnd.TheVariants as ends;
 ghost use Rattle.plc_console.specs.InForce.{brought_by, goes_on_with};
 ghost use Rattle.plc_console.specs.Lines.{kept, line_end, HasNoEnd};
 ghost use Rattle.plc_console.specs.Sessions.{scene, Serves, Stops, StopsAt, Takes, Talks, Writes};
@@ -13,8 +13,8 @@ ghost use Rattle.plc_console.specs.Sessions.{scene, Serves, Stops, StopsAt, Take
 use crate::line::{LINE_END, Line, PIECE};
 use il_loader::{Image, LoadError, load};
 use il_model::{Answer, Command};
+use il_text::{Fault, put_line};
 use io_model::{CountedRead, CountedWrite, write_all};
-use plc_tool::{Fault, put_line};
 use std::alloc::{AllocError, Global};
 use std::sync::Wait;
 use thiserror::Error;
@@ -29,7 +29,7 @@ pub trait Submits {
     ghost use Rattle.std.specs.Prelude.{◌≡◌, [], ◌∷◌, List, Option, IfOk, OnErr};
     ghost use Rattle.il_model.specs.declared.command.Answer.{Answer};
     ghost use Rattle.il_model.specs.declared.command.Command.{Command};
-    ghost use Rattle.vr_threads.specs.Serving.{Grows};
+    ghost use Rattle.vr_ports.specs.Telling.{Grows};
 
     // The commands that were answered so far, each with its answer, if it tells.
     ghost answered: { Self → Option (List (Command × Answer)) };
@@ -43,7 +43,7 @@ pub trait Submits {
 
 /// How a session ended.
 #[derive(Clone, Copy, PartialEq, Eq)]
-pub enum ConsoleEnd {
+pub enum SessionEnd {
     /// The reader came to its end.
     Closed,
     /// The reader or the writer failed.
@@ -54,14 +54,14 @@ pub enum ConsoleEnd {
 }
 
 /// Writes that a line is no command.
-fn refuse<W: CountedWrite>(writer: &mut W) -> Result<(), ConsoleEnd>
+fn refuse<W: CountedWrite>(writer: &mut W) -> Result<(), SessionEnd>
     ensures wrote { Writes result (fault_line Commands) (Failed (W.faults writer.old) (W.faults writer.new))
         (W.held writer.old) (W.held writer.new) }
     ensures counts { W.faults writer.old ≤ W.faults writer.new }
 {
     match write_all(writer, b"plc: commands\n") {
         Ok(()) => Ok(()),
-        Err(_) => Err(ConsoleEnd::Device),
+        Err(_) => Err(SessionEnd::Device),
     }
 }
 
@@ -70,15 +70,15 @@ fn put_answer<W: CountedWrite>(
     alloc: Global,
     answer: &Answer,
     writer: &mut W,
-) -> Result<(), ConsoleEnd>
+) -> Result<(), SessionEnd>
     ensures wrote { Writes result (line_text answer.now) (Failed (W.faults writer.old) (W.faults writer.new))
         (W.held writer.old) (W.held writer.new) }
     ensures counts { W.faults writer.old ≤ W.faults writer.new }
 {
     match put_line(alloc, answer, writer) {
         Ok(()) => Ok(()),
-        Err(Fault::Memory) => Err(ConsoleEnd::Memory),
-        Err(_) => Err(ConsoleEnd::Device),
+        Err(Fault::Memory) => Err(SessionEnd::Memory),
+        Err(_) => Err(SessionEnd::Device),
     }
 }
 
@@ -113,7 +113,7 @@ fn submit<W: CountedWrite, D: Submits>(
     image: &mut Image,
     writer: &mut W,
     desk: &mut D,
-) -> Result<(), ConsoleEnd>
+) -> Result<(), SessionEnd>
     ensures took { MatchResult result
         (λ _. Takes (Some command.now) (scene (D.answered desk.old) (W.held writer.old) image.old)
         (scene (D.answered desk.new) (W.held writer.new) image.new))
@@ -123,14 +123,14 @@ fn submit<W: CountedWrite, D: Submits>(
     ensures counts { W.faults writer.old ≤ W.faults writer.new }
 {
     let Ok(brought) = brought(alloc, command) else {
-        return Err(ConsoleEnd::Memory);
+        return Err(SessionEnd::Memory);
     };
     match desk.submit(command) {
         Ok(answer) => {
             follow(brought, &answer, image);
             put_answer(alloc, &answer, writer)
         }
-        Err(Unanswered) => Err(ConsoleEnd::Unanswered),
+        Err(Unanswered) => Err(SessionEnd::Unanswered),
     }
 }
 
@@ -141,7 +141,7 @@ fn take_turn<W: CountedWrite, D: Submits>(
     image: &mut Image,
     writer: &mut W,
     desk: &mut D,
-) -> Result<(), ConsoleEnd>
+) -> Result<(), SessionEnd>
     ensures took { MatchResult result
         (λ _. Takes command (scene (D.answered desk.old) (W.held writer.old) image.old)
         (scene (D.answered desk.new) (W.held writer.new) image.new))
@@ -157,13 +157,13 @@ fn take_turn<W: CountedWrite, D: Submits>(
 }
 
 /// Takes one byte that doesn't end a line.
-fn extend(byte: u8, line: &mut Line) -> Result<(), ConsoleEnd>
+fn extend(byte: u8, line: &mut Line) -> Result<(), SessionEnd>
     ensures { MatchResult result (λ _. (rest : List ℕ) → line.old ≡ kept rest → line.new ≡ kept (rest ++ byte ∷ []))
         (λ end. end ≡ ends.Memory) }
 {
     match line.push(byte) {
         Ok(()) => Ok(()),
-        Err(_) => Err(ConsoleEnd::Memory),
+        Err(_) => Err(SessionEnd::Memory),
     }
 }
 
@@ -174,7 +174,7 @@ fn end_line<W: CountedWrite, D: Submits>(
     line: &mut Line,
     writer: &mut W,
     desk: &mut D,
-) -> Result<(), ConsoleEnd>
+) -> Result<(), SessionEnd>
     ensures served { (rest : List ℕ) → HasNoEnd rest → line.old ≡ kept rest → MatchResult result
         (λ _. (line.new ≡ kept [])
         × Serves rest (line_end ∷ []) [] (scene (D.answered desk.old) (W.held writer.old) image.old)
@@ -189,7 +189,7 @@ fn end_line<W: CountedWrite, D: Submits>(
             line.clear();
             take_turn(alloc, command, image, writer, desk)
         }
-        Err(_) => Err(ConsoleEnd::Memory),
+        Err(_) => Err(SessionEnd::Memory),
     }
 }
 
@@ -201,7 +201,7 @@ fn take_byte<W: CountedWrite, D: Submits>(
     line: &mut Line,
     writer: &mut W,
     desk: &mut D,
-) -> Result<(), ConsoleEnd>
+) -> Result<(), SessionEnd>
     ensures served { (rest : List ℕ) → HasNoEnd rest → line.old ≡ kept rest → MatchResult result
         (λ _. (rest' : List ℕ) × (line.new ≡ kept rest')
         × Serves rest (byte ∷ []) rest' (scene (D.answered desk.old) (W.held writer.old) image.old)
@@ -226,7 +226,7 @@ fn serve_piece<W: CountedWrite, D: Submits>(
     line: &mut Line,
     writer: &mut W,
     desk: &mut D,
-) -> Result<(), ConsoleEnd>
+) -> Result<(), SessionEnd>
     ensures served { (rest : List ℕ) → HasNoEnd rest → line.old ≡ kept rest → MatchResult result
         (λ _. (rest' : List ℕ) × (line.new ≡ kept rest')
         × Serves rest piece.now rest' (scene (D.answered desk.old) (W.held writer.old) image.old)
@@ -257,7 +257,7 @@ pub fn serve_console<H: Wait, R: CountedRead, W: CountedWrite, D: Submits>(
     reader: &mut R,
     writer: &mut W,
     desk: &mut D,
-) -> ConsoleEnd
+) -> SessionEnd
     ensures { Talks result (R.left reader.old) (R.left reader.new) (R.faults reader.old) (R.faults reader.new)
         (W.faults writer.old) (W.faults writer.new) (scene (D.answered desk.old) (W.held writer.old) image.old)
         (scene (D.answered desk.new) (W.held writer.new) image.new) }
@@ -266,10 +266,10 @@ pub fn serve_console<H: Wait, R: CountedRead, W: CountedWrite, D: Submits>(
     let mut piece = [0; PIECE];
     for _ in rt.forever() {
         let Ok(count) = reader.read(&mut piece) else {
-            return ConsoleEnd::Device;
+            return SessionEnd::Device;
         };
         if count == 0 {
-            return ConsoleEnd::Closed;
+            return SessionEnd::Closed;
         }
         if let Err(end) = serve_piece(alloc, image, &piece[..count], &mut line, writer, desk) {
             return end;

@@ -68,7 +68,7 @@ pub fn change_text(alloc: Global, image: &ImageBytes) -> Result<Vec<u8>, AllocEr
     Ok(json.to_vec(alloc)?)
 }
 
-/// The same as a value.
+/// The command that goes on with the program of this image, as a value of JSON.
 fn change_value(alloc: Global, image: &ImageBytes) -> Result<Json, AllocError>
     ensures says { IfOk result (λ v. command_of (view v) ≡ Some (Plain (Change image.now))) }
     ensures nests { IfOk result (λ v. depth (view v) ≤ max_depth) }

@@ -1,2 +1,1 @@
 mod Endings
-mod Noticed

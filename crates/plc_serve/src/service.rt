@@ -1,12 +1,15 @@
 //! What a controller is served from: a file with its text, and a directory.
 
-ghost use Rattle.std.specs.Prelude.{◌≡◌, IfErr, IfOk, vec_len};
+ghost use Rattle.std.specs.Prelude.{◌≡◌, IfErr, IfOk, OnOk, vec_len};
 ghost use Rattle.vr_model.specs.Groups.{group_size};
-ghost use Rattle.plc_tool.specs.Status.{status_of};
+ghost use Rattle.il_text.specs.Meaning.{IsGoodText, IsTypedProgramOfText, IsTextFault, OrMemory};
 
-use crate::group::stores;
-use crate::serving::Settings;
-use plc_tool::Fault;
+use il_loader::Image;
+use il_text::{Fault, image};
+use plc_driver::Directory;
+use plc_host::{Failed, Host};
+use plc_settings::Settings;
+use plc_status::StatusWriter;
 use std::alloc::Global;
 use std::fs;
 use std::rt::Files;
@@ -14,38 +17,76 @@ use vr_threads::FileStore;
 
 /// A controller that is to be served, with a store for each replica, none of which is opened yet.
 #[derive(Drop)]
-pub struct Service<R: Files + Drop> {
+pub struct Service<S: Drop> {
     pub source: Vec<u8>,
     pub directory: String,
-    /// The path of the report's file, if one is wanted.
-    pub report: Option<String>,
-    pub stores: Vec<FileStore<R>>,
+    pub stores: Vec<S>,
     pub settings: Settings,
+    /// What is shown of it while it's served: a reader of it is to be had before.
+    pub status: StatusWriter,
     ghost one_each: { vec_len stores ≡ group_size settings.config.f },
 }
 
-impl<R: Files + Alloc<A = Global> + Copy + Drop> Service<R> {
-    /// Of the text that this file holds, with stores in this directory, and a report at this path, if one is wanted.
+impl<R: Files + Alloc<A = Global> + Copy + Drop> Service<FileStore<R>> {
+    /// Of the text that this file holds, with stores in this directory.
     pub fn new(
-        rt: R,
+        host: Host<R>,
         source: &str,
         directory: &str,
-        report: Option<&str>,
         settings: Settings,
-    ) -> Result<Service<R>, Fault>
-        ensures settings { IfOk result (λ service. service.settings ≡ settings) }
-        ensures err { IfErr result (λ e. status_of e ≡ 2) }
+    ) -> Result<Service<FileStore<R>>, Failed>
+        ensures { IfOk result (λ service. service.settings ≡ settings) }
     {
-        let alloc = rt.alloc();
+        let Host { rt, alloc } = host;
+        let place = Directory {
+            path: directory,
+            config: settings.config,
+        };
         Ok(Service {
             source: fs::read(&rt, source)?,
             directory: format!(in alloc; "{directory}")?,
-            report: match report {
-                Some(path) => Some(String::from_str(alloc, path)?),
-                None => None,
-            },
-            stores: stores(rt, alloc, settings.config, directory)?,
+            stores: place.stores(rt, alloc)?,
             settings,
+            status: StatusWriter::new(alloc)?,
+        })
+    }
+}
+
+/// A controller that is to be served, with the image of its text's program.
+#[derive(Drop)]
+pub(crate) struct Loaded<S: Drop> {
+    pub(crate) source: Vec<u8>,
+    pub(crate) image: Image,
+    pub(crate) directory: String,
+    pub(crate) stores: Vec<S>,
+    pub(crate) settings: Settings,
+    pub(crate) status: StatusWriter,
+    ghost one_each: { vec_len stores ≡ group_size settings.config.f },
+}
+
+impl<S: Drop> Loaded<S> {
+    /// Judges the text.
+    pub(crate) fn of(alloc: Global, service: Service<S>) -> Result<Loaded<S>, Fault>
+        ensures source { IfOk result (λ loaded. loaded.source ≡ service.source) }
+        ensures program { IfOk result (λ loaded. IsTypedProgramOfText loaded.source.items loaded.image) }
+        ensures good { OnOk result (IsGoodText service.source.items) }
+        ensures settings { IfOk result (λ loaded. loaded.settings ≡ service.settings) }
+        ensures refused { IfErr result (OrMemory (IsTextFault service.source.items)) }
+    {
+        let Service {
+            source,
+            directory,
+            stores,
+            settings,
+            status,
+        } = service;
+        Ok(Loaded {
+            image: image(alloc, source.as_slice())?,
+            source,
+            directory,
+            stores,
+            settings,
+            status,
         })
     }
 }

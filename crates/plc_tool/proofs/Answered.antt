@@ -6,11 +6,13 @@ use Rattle.il_model.specs.Typing.{IsTyped}
 use Rattle.io_model.specs.declared.counted.CountedWrite.{Ghosts as CountedWriter}
 use Rattle.ctl_debugger.specs.Owned.{Owned, cold_owned}
 use Rattle.plc_json.specs.declared.command.NamedCommand.{NamedCommand}
-use Rattle.plc_tool.specs.declared.fault.Fault.{Fault}
-use Rattle.plc_tool.specs.Lines.{lines_of}
-use Rattle.plc_tool.specs.Meaning.{IsTypedProgramOfText, IsAnswered, IsTextFault, OrMemory}
-use Rattle.plc_tool.specs.Named.{answers_by}
-use Rattle.plc_tool.specs.Putting.{Puts, IsRun, IsRunCutShort, IsWhyStopped}
+use Rattle.il_text.specs.declared.fault.Fault.{Fault}
+use Rattle.il_text.specs.Lines.{lines_of}
+use Rattle.il_text.specs.Meaning.{IsTypedProgramOfText, IsTextFault, OrMemory}
+use Rattle.plc_tool.specs.Calls.{IsAnswered}
+use Rattle.plc_names.specs.Named.{answers_by}
+use Rattle.il_text.specs.Putting.{Puts, IsWhyStopped}
+use Rattle.plc_tool.specs.Calls.{IsRun, IsRunCutShort}
 
 pub are_answers : (text : List ℕ) (budget : ℕ) (commands : List NamedCommand) (Q : Program) (c : Owned) → IsTypedProgramOfText text Q → IsTyped Q → c ≡ cold_owned Q budget → IsAnswered text budget commands (answers_by c commands)
 are_answers text budget commands Q c is typed cold = record {

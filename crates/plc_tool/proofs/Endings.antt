@@ -8,13 +8,15 @@ use Rattle.plc_json.specs.declared.command.JsonFault.TheVariants.{Shape, Memory}
 use Rattle.plc_json.specs.declared.event.NamedEvent.{NamedEvent}
 use Rattle.plc_json.specs.Commands.{HasNoCommands}
 use Rattle.plc_json.specs.Events.{HasSchedule, HasNoSchedule}
-use Rattle.plc_tool.specs.declared.fault.Fault.{Fault}
-use Rattle.plc_tool.specs.declared.fault.Fault.TheVariants as faults
-use Rattle.plc_tool.specs.Meaning.{IsTextFault, IsGoodText, OrMemory, IsRefused, IsFirstFault}
-use Rattle.plc_tool.specs.Putting.{IsWhyStopped, IsFaultOfRun}
+use Rattle.il_text.specs.declared.fault.Fault.{Fault}
+use Rattle.il_text.specs.declared.fault.Fault.TheVariants as faults
+use Rattle.il_text.specs.Meaning.{IsTextFault, IsGoodText, OrMemory, IsRefused, IsFirstFault}
+use Rattle.il_text.specs.Putting.{IsWhyStopped}
+use Rattle.plc_tool.specs.Calls.{IsFaultOfRun}
 use Rattle.plc_tool.specs.Simulated.{IsToldOf, IsFaultOfSchedule}
-use Rattle.plc_tool.specs.Status.{status_of, fault_of}
-use Rattle.plc_tool.specs.Telling.{Ends, EndsTold, StopsShort, WentOut, fault_line}
+use Rattle.il_text.specs.Status.{status_of}
+use Rattle.plc_tool.specs.Calls.{fault_of}
+use Rattle.il_text.specs.Telling.{Ends, EndsTold, StopsShort, WentOut, fault_line}
 
 -- a device's fault and want of memory are no refusal of input
 no_input : {Y : Type 0} (e : Fault) → (e ≡ faults.Device) ⊎ (e ≡ faults.Memory) → status_of e ≡ 1 → Y

@@ -3,11 +3,11 @@ use Rattle.std.proofs.Common.{◌≡◌, inl, inr, ℕ, List, ap, ◌∙◌, ref
 use Rattle.il_loader.specs.declared.fault.LoadFault.{LoadFault}
 use Rattle.il_loader.specs.declared.fault.LoadFault.TheVariants.{Truncated, BadMagic, BadVersion, BadCount, BadWord, BadType, BadTarget, Trailing}
 use Rattle.plc_json.specs.declared.event.NamedEvent.{NamedEvent}
-use Rattle.plc_tool.specs.declared.fault.Fault.{Fault}
-use Rattle.plc_tool.specs.Meaning.{IsTextFault, IsImageFault}
+use Rattle.il_text.specs.declared.fault.Fault.{Fault}
+use Rattle.il_text.specs.Meaning.{IsTextFault, IsImageFault}
 use Rattle.plc_tool.specs.Simulated.{IsToldOf}
-use Rattle.plc_tool.specs.Status.{status_of}
-use Rattle.plc_tool.specs.Told.{of_bytes}
+use Rattle.il_text.specs.Status.{status_of}
+use Rattle.il_text.specs.Told.{of_bytes}
 
 pub of_text : (text : List ℕ) (told : Fault) → IsTextFault text told → status_of told ≡ 1
 of_text text told (inl (inl read)) = ap status_of read.is

@@ -2,7 +2,7 @@
 use Rattle.std.proofs.Common.{◌≡◌, ◌+◌, ◌<◌, ℕ, List, length, get_or, subst}
 use Rattle.std.specs.Fmt.{HasWritten}
 use Rattle.std.specs.declared.fmt.Formatter.{Formatter}
-use Rattle.plc_tool.proofs.Numbered.{texts_before, more_written}
+use Rattle.il_text.proofs.Numbered.{texts_before, more_written}
 
 module _ {W : Type 0} (took : W → List ℕ → W → Type 0) {X : Type 0} (text : ℕ × X → List ℕ) (xs : List X) where
   -- the item that was read there

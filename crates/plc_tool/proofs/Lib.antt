@@ -1,5 +1,3 @@
-pub mod Imaged
-mod Numbered
 mod Parts
 mod Told
 mod Unchanged
@@ -9,4 +7,3 @@ mod Known
 mod Reported
 mod Endings
 mod Inputs
-mod OneMeaning

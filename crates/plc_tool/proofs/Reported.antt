@@ -8,9 +8,9 @@ use Rattle.vr_core.specs.StandsFor.{member, IsSavedAs}
 use Rattle.vr_schedules.specs.declared.event.WorldEvent.{WorldEvent}
 use Rattle.vr_schedules.specs.declared.trace.Trace.{Trace}
 use Rattle.vr_schedules.specs.Traces.{IsTraced}
-use Rattle.plc_tool.specs.declared.fault.Fault.{Fault}
-use Rattle.plc_tool.specs.Meaning.{IsTypedProgramOfText, OrMemory}
-use Rattle.plc_tool.specs.Putting.{Puts, IsWhyStopped}
+use Rattle.il_text.specs.declared.fault.Fault.{Fault}
+use Rattle.il_text.specs.Meaning.{IsTypedProgramOfText, OrMemory}
+use Rattle.il_text.specs.Putting.{Puts, IsWhyStopped}
 use Rattle.plc_tool.specs.Simulated.{AreKnown, IsSimulated, IsReportCutShort, IsToldOf, report_line}
 
 module _ {W : Type 0} (w : CountedWriter W) (trace : Trace) (old new : W) where

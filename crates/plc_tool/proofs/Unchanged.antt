@@ -2,9 +2,10 @@
 use Rattle.std.proofs.Common.{◌≡◌, ◌<◌, ◌≤◌, ◌⊎◌, inl, inr, ℕ, List, length, Bool, false, true, Result, Ok, Err, IfErr, Vec, Global, refl, subst, sym, arith}
 use Rattle.std.specs.Result.{IsErrAnd}
 use Rattle.il_model.specs.declared.limits.TheConstants.{MOST_IMAGE_BYTES}
-use Rattle.plc_tool.specs.declared.fault.Fault.{Fault}
-use Rattle.plc_tool.specs.declared.fault.Fault.TheVariants as faults
-use Rattle.plc_tool.specs.Meaning.{IsFaultOfChange, IsImageOfText, IsTextFault, OrMemory}
+use Rattle.il_text.specs.declared.fault.Fault.{Fault}
+use Rattle.il_text.specs.declared.fault.Fault.TheVariants as faults
+use Rattle.plc_tool.specs.Calls.{IsFaultOfChange}
+use Rattle.il_text.specs.Meaning.{IsImageOfText, IsTextFault, OrMemory}
 
 wider : (text : List ℕ) (e : Fault) → OrMemory (IsTextFault text) e → OrMemory (IsFaultOfChange text) e
 wider text e (inl h) = inl (inl h)

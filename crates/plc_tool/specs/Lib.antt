@@ -1,9 +1,3 @@
-pub mod Lines
-pub mod Meaning
-pub mod Named
-pub mod Putting
-pub mod Status
-pub mod Told
-pub mod Telling
+pub mod Calls
 pub mod Reports
 pub mod Simulated

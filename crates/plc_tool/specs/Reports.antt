@@ -5,7 +5,7 @@ use Rattle.std.specs.Fmt.{decimal}
 use Rattle.vr_model.specs.declared.message.Request.{Request}
 use Rattle.vr_schedules.specs.declared.trace.Release.{Release}
 use Rattle.vr_schedules.specs.declared.trace.Trace.{Trace}
-use Rattle.plc_tool.specs.Lines.{answer_text}
+use Rattle.il_text.specs.Lines.{answer_text}
 
 -- what stands before item n: a comma, but nothing before the first
 abbrev pub comma : ℕ → List ℕ

@@ -20,10 +20,10 @@ use Rattle.plc_json.specs.declared.command.NamedCommand.TheVariants as named
 use Rattle.plc_json.specs.declared.event.NamedEvent.{NamedEvent}
 use Rattle.plc_json.specs.declared.event.NamedEvent.TheVariants as asked
 use Rattle.plc_json.specs.Events.{HasSchedule, HasNoSchedule}
-use Rattle.plc_tool.specs.Meaning.{IsTypedProgramOfText, IsTextFault, IsGoodText}
+use Rattle.il_text.specs.Meaning.{IsTypedProgramOfText, IsTextFault, IsGoodText}
 use Rattle.plc_tool.specs.Reports.{report_text}
-use Rattle.plc_tool.specs.declared.fault.Fault.{Fault}
-use Rattle.plc_tool.specs.declared.fault.Fault.TheVariants as faults
+use Rattle.il_text.specs.declared.fault.Fault.{Fault}
+use Rattle.il_text.specs.declared.fault.Fault.TheVariants as faults
 
 -- the command that a named one is, where its name is one of a slot of the program
 abbrev pub command_known : Program → NamedCommand → Option Command
@@ -86,7 +86,7 @@ pub record IsSimulated (text : List ℕ) (f budget : ℕ) (named : List NamedEve
   pub none_lost : trace.lost.items ≡ []
   pub written : Appends old new (report_line trace)
 
--- a beginning of that report was written, before the writer failed in the call or memory ran out
+-- a prefix of that report was written, before the writer failed in the call or memory ran out
 pub record IsReportCutShort (text : List ℕ) (f budget : ℕ) (named : List NamedEvent)
     (old new : Option (List ℕ)) : Type 0 where
   pub program : Program

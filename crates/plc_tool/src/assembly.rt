@@ -4,10 +4,10 @@ ghost use Rattle.std.specs.Prelude.{◌≡◌, ◌⊎◌, ◌<◌, ◌≤◌, �
 ghost use Rattle.il_model.specs.Program.{Program};
 ghost use Rattle.il_model.specs.Marks.{words_in};
 ghost use Rattle.il_model.specs.Image.{spelling};
-ghost use Rattle.plc_tool.specs.Meaning.{IsAssembled, IsAssemblyCutShort, IsTextFault, OrMemory, words_line};
+ghost use Rattle.plc_tool.specs.Calls.{IsAssembled, IsAssemblyCutShort, words_line};
+ghost use Rattle.il_text.specs.Meaning.{IsTextFault, OrMemory};
 
-use crate::answering::image_bytes;
-use crate::fault::Fault;
+use il_text::{Fault, image_bytes};
 use io_model::{CountedWrite, write_all};
 use std::alloc::{AllocError, Global};
 
@@ -31,7 +31,7 @@ fn words_line(alloc: Global, image: &[u8]) -> Result<String, AllocError>
 
 /// Writes the image of a text, then the line that tells the count of its words. Of a text that is refused it tells the
 /// first fault, or that memory ran out, and writes nothing. It answers Device only where a writer failed in this call:
-/// that of the image behind a beginning of it, or the other behind the whole image and a beginning of the line.
+/// that of the image after a prefix of it, or the other after the whole image and a prefix of the line.
 pub fn put_image<I: CountedWrite, W: CountedWrite>(
     alloc: Global,
     text: &[u8],

@@ -1,37 +1,35 @@
 //! The calls of the program, over byte slices and writers, each answering the status.
 
-ghost use Rattle.std.specs.Prelude.{◌≡◌, ◌≤◌, ◌⊎◌, List, IfErr, IsErr, IsOk, OnOk};
+ghost use Rattle.std.specs.Prelude.{◌≡◌, ◌≤◌, ◌⊎◌, List};
 ghost use Rattle.io_model.specs.Counted.{Failed};
-ghost use Rattle.plc_tool.specs.Meaning.{IsAssembled, IsAssemblyCutShort, IsListed, IsCutShort, IsTextFault};
-ghost use Rattle.plc_tool.specs.Meaning.{IsImageFault, IsRefused, IsFirstFault};
+ghost use Rattle.plc_tool.specs.Calls.{IsAssembled, IsAssemblyCutShort, IsListed, IsCutShort};
+ghost use Rattle.il_text.specs.Meaning.{IsTextFault, IsImageFault, IsRefused, IsFirstFault};
 ghost use Rattle.plc_json.specs.declared.command.NamedCommand.{NamedCommand};
 ghost use Rattle.plc_json.specs.declared.event.NamedEvent.{NamedEvent};
 ghost use Rattle.plc_json.specs.Commands.{HasCommands};
 ghost use Rattle.plc_json.specs.Events.{HasSchedule};
-ghost use Rattle.plc_tool.specs.Putting.{IsRun, IsRunCutShort, IsFaultOfRun};
+ghost use Rattle.plc_tool.specs.Calls.{IsRun, IsRunCutShort, IsFaultOfRun};
 ghost use Rattle.plc_tool.specs.Simulated.{IsSimulated, IsReportCutShort, IsToldOf, IsFaultOfSchedule};
-ghost use Rattle.plc_tool.specs.Status.{status_of as status_told};
-ghost use Rattle.plc_tool.specs.Telling.{Ends, EndsTold, StopsShort, WentOut, fault_line};
-ghost use Rattle.plc_tool.specs.declared.fault.Fault as told;
+ghost use Rattle.il_text.specs.Status.{status_of as status_told};
+ghost use Rattle.il_text.specs.Telling.{EndsTold, StopsShort, WentOut, fault_line};
+ghost use Rattle.il_text.specs.declared.fault.Fault as told;
 
-use crate::answering::image;
 use crate::assembly::put_image;
-use crate::fault::Fault;
+use crate::fault::fault_of;
 use crate::listing::put_listing;
 use crate::running::put_run;
-use crate::simulating::put_report;
-use crate::telling::tell;
+use crate::simulating::{Group, put_report};
 use il_model::Budget;
+use il_text::{Fault, ended, image, tell};
 use io_model::CountedWrite;
 use plc_json::{JsonFault, NamedCommand, NamedEvent};
 use std::alloc::Global;
-use vr_model::Config;
 
 /// Assembles a source and answers the status: the bytes of its image on `image_out`, and then on `out` one line that
 /// tells how many words the image has, those of arguments too; or one line on `err` for the first fault. Of a source
 /// that is refused nothing is written. It answers 2 for a device only where one of the two failed in this call: that of
-/// the image behind a beginning of it, or the other behind the whole image and a beginning of the line. Whoever owns
-/// the two flushes them.
+/// the image after a prefix of it, or the other after the whole image and a prefix of the line. Whoever owns the two
+/// flushes them.
 pub fn asm<I: CountedWrite, W: CountedWrite, E: CountedWrite>(
     alloc: Global,
     source: &[u8],
@@ -54,7 +52,7 @@ pub fn asm<I: CountedWrite, W: CountedWrite, E: CountedWrite>(
 }
 
 /// Lists an image and answers the status: its listing on `out`, or one line on `err` for the first fault. It answers 2
-/// for a device only where `out` failed in this call; then a beginning of the listing went out. Of bytes that are no
+/// for a device only where `out` failed in this call; then a prefix of the listing went out. Of bytes that are no
 /// image nothing does.
 pub fn list<W: CountedWrite, E: CountedWrite>(
     alloc: Global,
@@ -90,7 +88,7 @@ pub fn run<W: CountedWrite, E: CountedWrite>(
         × IsRun source.now budget.instructions named (W.held out.old) (W.held out.new) }
     ensures refused { result ≡ 1 → IsRefused (IsFaultOfRun source.now commands.now) }
     ensures unwritten { result ≡ 1 → out.new ≡ out.old }
-    // A device is told only where `out` failed in this call. Where memory ran out, a beginning was written, or nothing.
+    // A device is told only where `out` failed in this call. Where memory ran out, a prefix was written, or nothing.
     ensures cut { result ≡ 2 → StopsShort E.CountedWrite
         ((named : List NamedCommand) × HasCommands commands.now named
         × IsRunCutShort W.CountedWrite source.now budget.instructions named out.old out.new
@@ -102,7 +100,7 @@ pub fn run<W: CountedWrite, E: CountedWrite>(
 {
     match plc_json::commands(alloc, commands) {
         Ok(named) => run_commands(alloc, source, named.as_slice(), budget, out, err),
-        Err(fault) => run_unread(alloc, source, Fault::from(fault), err),
+        Err(fault) => run_without_commands(alloc, source, fault_of(fault), err),
     }
 }
 
@@ -121,7 +119,7 @@ pub fn run_commands<W: CountedWrite, E: CountedWrite>(
     ensures answered { result ≡ 0
         → IsRun source.now budget.instructions commands.now (W.held out.old) (W.held out.new) }
     ensures refused { result ≡ 1 → IsRefused (IsTextFault source.now) × (out.new ≡ out.old) }
-    // A device is told only where `out` failed in this call. Where memory ran out, a beginning was written, or nothing.
+    // A device is told only where `out` failed in this call. Where memory ran out, a prefix was written, or nothing.
     ensures cut { result ≡ 2 → StopsShort E.CountedWrite
         (IsRunCutShort W.CountedWrite source.now budget.instructions commands.now out.old out.new
         × Failed (W.faults out.old) (W.faults out.new))
@@ -132,9 +130,30 @@ pub fn run_commands<W: CountedWrite, E: CountedWrite>(
     ended(put_run(alloc, source, budget, commands, out), err)
 }
 
-/// As `run` or `sim` where the other file couldn't be read, by this fault: a source that is refused is still answered
-/// before it.
-pub fn run_unread<E: CountedWrite>(alloc: Global, source: &[u8], fault: Fault, err: &mut E) -> u8
+/// Answers the status of a run whose file of commands couldn't be read, by this fault: a source that is refused is told
+/// before it, by one line on `err`.
+pub fn run_without_commands<E: CountedWrite>(
+    alloc: Global,
+    source: &[u8],
+    fault: Fault,
+    err: &mut E,
+) -> u8
+    ensures status { (result ≡ 1) ⊎ (result ≡ 2) }
+    ensures refused { result ≡ 1 → IsRefused (IsTextFault source.now) ⊎ (status_told fault ≡ 1) }
+    ensures told { (first : told.Fault) × IsFirstFault source.now fault first × (result ≡ status_told first)
+        × WentOut E.CountedWrite (fault_line first) err.old err.new }
+{
+    tell(first_fault(alloc, source, fault), err)
+}
+
+/// Answers the status of a schedule whose file couldn't be read, by this fault: a source that is refused is told before
+/// it, by one line on `err`.
+pub fn sim_without_schedule<E: CountedWrite>(
+    alloc: Global,
+    source: &[u8],
+    fault: Fault,
+    err: &mut E,
+) -> u8
     ensures status { (result ≡ 1) ⊎ (result ≡ 2) }
     ensures refused { result ≡ 1 → IsRefused (IsTextFault source.now) ⊎ (status_told fault ≡ 1) }
     ensures told { (first : told.Fault) × IsFirstFault source.now fault first × (result ≡ status_told first)
@@ -151,61 +170,68 @@ pub fn sim<W: CountedWrite, E: CountedWrite>(
     alloc: Global,
     source: &[u8],
     schedule: &[u8],
-    config: &Config,
-    budget: Budget,
+    group: &Group,
     out: &mut W,
     err: &mut E,
 ) -> u8
     ensures status { result ≤ 2 }
     ensures simulated { result ≡ 0 → (named : List NamedEvent) × HasSchedule schedule.now named
-        × IsSimulated source.now config.now.f budget.instructions named (W.held out.old) (W.held out.new) }
+        × IsSimulated source.now group.now.config.f group.now.budget.instructions named
+        (W.held out.old) (W.held out.new) }
     ensures refused { result ≡ 1
-        → IsRefused (IsFaultOfSchedule source.now config.now.f budget.instructions schedule.now) }
+        → IsRefused (IsFaultOfSchedule source.now group.now.config.f group.now.budget.instructions schedule.now) }
     ensures unwritten { result ≡ 1 → out.new ≡ out.old }
-    // A device is told only where `out` failed in this call. Where memory ran out, a beginning was written, or nothing.
+    // A device is told only where `out` failed in this call. Where memory ran out, a prefix was written, or nothing.
     ensures cut { result ≡ 2 → StopsShort E.CountedWrite
         ((named : List NamedEvent) × HasSchedule schedule.now named
-        × IsReportCutShort source.now config.now.f budget.instructions named (W.held out.old) (W.held out.new)
+        × IsReportCutShort source.now group.now.config.f group.now.budget.instructions named
+        (W.held out.old) (W.held out.new)
         × Failed (W.faults out.old) (W.faults out.new))
         (((named : List NamedEvent) × HasSchedule schedule.now named
-        × IsReportCutShort source.now config.now.f budget.instructions named (W.held out.old) (W.held out.new))
+        × IsReportCutShort source.now group.now.config.f group.now.budget.instructions named
+        (W.held out.old) (W.held out.new))
         ⊎ (out.new ≡ out.old)) err.old err.new }
     ensures told { EndsTold E.CountedWrite
-        (IsFaultOfSchedule source.now config.now.f budget.instructions schedule.now) result err.old err.new }
+        (IsFaultOfSchedule source.now group.now.config.f group.now.budget.instructions schedule.now)
+        result err.old err.new }
 {
     match plc_json::schedule(alloc, schedule) {
-        Ok(named) => sim_events(alloc, source, named.as_slice(), config, budget, out, err),
-        Err(JsonFault::Shape) => run_unread(alloc, source, Fault::Schedule, err),
-        Err(JsonFault::Memory) => run_unread(alloc, source, Fault::Memory, err),
+        Ok(named) => sim_events(alloc, source, named.as_slice(), group, out, err),
+        Err(JsonFault::Shape) => sim_without_schedule(alloc, source, Fault::Schedule, err),
+        Err(JsonFault::Memory) => sim_without_schedule(alloc, source, Fault::Memory, err),
     }
 }
 
-/// As `sim`, of events that were read: a source or a schedule that is refused is told by its first fault, and nothing
-/// is written on `out`.
+/// Runs the events of a schedule over a group of replicas of a source, and answers the status: the report, one line on
+/// `out`, or one line on `err` for the first fault. Of a source or an event that is refused nothing is written on
+/// `out`.
 pub fn sim_events<W: CountedWrite, E: CountedWrite>(
     alloc: Global,
     source: &[u8],
     named: &[NamedEvent],
-    config: &Config,
-    budget: Budget,
+    group: &Group,
     out: &mut W,
     err: &mut E,
 ) -> u8
     ensures status { result ≤ 2 }
     ensures simulated { result ≡ 0
-        → IsSimulated source.now config.now.f budget.instructions named.now (W.held out.old) (W.held out.new) }
+        → IsSimulated source.now group.now.config.f group.now.budget.instructions named.now
+        (W.held out.old) (W.held out.new) }
     ensures refused { result ≡ 1
-        → IsRefused (IsToldOf source.now config.now.f budget.instructions named.now) × (out.new ≡ out.old) }
-    // A device is told only where `out` failed in this call. Where memory ran out, a beginning was written, or nothing.
+        → IsRefused (IsToldOf source.now group.now.config.f group.now.budget.instructions named.now)
+        × (out.new ≡ out.old) }
+    // A device is told only where `out` failed in this call. Where memory ran out, a prefix was written, or nothing.
     ensures cut { result ≡ 2 → StopsShort E.CountedWrite
-        (IsReportCutShort source.now config.now.f budget.instructions named.now (W.held out.old) (W.held out.new)
+        (IsReportCutShort source.now group.now.config.f group.now.budget.instructions named.now
+        (W.held out.old) (W.held out.new)
         × Failed (W.faults out.old) (W.faults out.new))
-        (IsReportCutShort source.now config.now.f budget.instructions named.now (W.held out.old) (W.held out.new)
+        (IsReportCutShort source.now group.now.config.f group.now.budget.instructions named.now
+        (W.held out.old) (W.held out.new)
         ⊎ (out.new ≡ out.old)) err.old err.new }
     ensures told { EndsTold E.CountedWrite
-        (IsToldOf source.now config.now.f budget.instructions named.now) result err.old err.new }
+        (IsToldOf source.now group.now.config.f group.now.budget.instructions named.now) result err.old err.new }
 {
-    ended(put_report(alloc, source, named, config, budget, out), err)
+    ended(put_report(alloc, source, named, group, out), err)
 }
 
 /// A fault of the source comes before that of the commands.
@@ -215,20 +241,5 @@ fn first_fault(alloc: Global, source: &[u8], fault: Fault) -> Fault
     match image(alloc, source) {
         Ok(_) => fault,
         Err(of_source) => of_source,
-    }
-}
-
-/// The status of what was done, its fault told.
-pub fn ended<E: CountedWrite>(done: Result<(), Fault>, err: &mut E) -> u8
-    ensures status { result ≤ 2 }
-    ensures good { result ≡ 0 → IsOk done }
-    ensures told { IfErr done (λ e. result ≡ status_told e) }
-    ensures faulty { result ≡ 1 → IsErr done }
-    ensures done { OnOk done (result ≡ 0) }
-    ensures ends { Ends E.CountedWrite done result err.old err.new }
-{
-    match done {
-        Ok(()) => 0,
-        Err(fault) => tell(fault, err),
     }
 }

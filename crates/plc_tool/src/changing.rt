@@ -1,11 +1,11 @@
 //! The command that goes on with the program of a text.
 
 ghost use Rattle.std.specs.Prelude.{IfOk, IfErr};
-ghost use Rattle.plc_tool.specs.Meaning.{IsChangeTo, IsFaultOfChange, OrMemory};
+ghost use Rattle.plc_tool.specs.Calls.{IsChangeTo, IsFaultOfChange};
+ghost use Rattle.il_text.specs.Meaning.{OrMemory};
 
-use crate::answering::image_bytes;
-use crate::fault::Fault;
 use il_model::ImageBytes;
+use il_text::{Fault, image_bytes};
 use plc_json::change_text;
 use std::alloc::Global;
 

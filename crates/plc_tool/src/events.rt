@@ -3,10 +3,10 @@
 ghost use Rattle.std.specs.Prelude.{◌≡◌, IfOk, IfErr};
 ghost use Rattle.plc_tool.specs.Simulated.{command_known, event_known, AreKnown, IsWhyUnknown};
 
-use crate::fault::Fault;
 use ctl_debugger::slot;
 use il_loader::Image;
 use il_model::Command;
+use il_text::Fault;
 use plc_json::{NamedCommand, NamedEvent};
 use std::alloc::{AllocError, Global};
 use vr_schedules::{Kept, WorldEvent};

@@ -1,5 +1,5 @@
 //! What the program does, over byte slices and writers: tests call it with slices and vectors, `main` with files and
-//! streams. It may use every layer below and knows no runtime; the only file that it opens is a `NewFile`.
+//! streams. It may use every layer below, opens no file and knows no runtime.
 //!
 //! ```rust
 //! use il_model::Budget;
@@ -19,11 +19,11 @@
 //!
 //! Proved: a status of 0 only with exactly the lines of the answers (`run`), the image's bytes (`asm`), the listing
 //! (`list`) or the report of a run of the schedule (`sim`) written; 1 only where the text or the other file has the
-//! fault that is told, and nothing else was written; 2 only with a beginning of it, and a device is told only where a
-//! writer failed. Each text has one typed program or one fault, and never both (`a_text_means_one_thing`).
+//! fault that is told, and nothing else was written; 2 only with a prefix of it, and a device is told only where a
+//! writer failed.
 //!
-//! Only tested: `NewFile`, which makes the file of an image at its first write (`image_rows` of `tests_threads`). Rows
-//! of `tests_rows` have every printed line; `tests_tool` has streams that fail.
+//! Tests (nothing rests on them alone): rows of `tests_rows` have every printed line, and `tests_tool` has streams that
+//! fail.
 #![tactic(auto)]
 
 mod answering;
@@ -32,24 +32,16 @@ mod calls;
 mod changing;
 mod events;
 mod fault;
-mod layers;
-mod line;
 mod listing;
-mod naming;
-mod new_file;
-mod one_meaning;
 mod report;
 mod running;
 mod simulating;
-mod telling;
 
-pub use answering::{answers, image, image_bytes};
-pub use calls::{asm, ended, list, run, run_commands, run_unread, sim, sim_events};
+pub use answering::answers;
+pub use calls::{
+    asm, list, run, run_commands, run_without_commands, sim, sim_events, sim_without_schedule,
+};
 pub use changing::change_to;
-pub use fault::Fault;
-pub use line::{AnswerLine, put_line};
-pub use naming::meant;
-pub use new_file::NewFile;
-pub use one_meaning::a_text_means_one_thing;
+pub use fault::fault_of;
 pub use report::ReportLine;
-pub use telling::{put, tell, tell_words};
+pub use simulating::Group;

@@ -3,11 +3,12 @@
 ghost use Rattle.std.specs.Prelude.{◌≡◌, ◌≤◌, ◌⊎◌, IfErr, IfOk, OnOk};
 ghost use Rattle.il_model.specs.Fits.{IsImage};
 ghost use Rattle.il_model.specs.Image.{spelling};
-ghost use Rattle.plc_tool.specs.Meaning.{IsListed, IsCutShort, IsImageFault, OrMemory};
+ghost use Rattle.plc_tool.specs.Calls.{IsListed, IsCutShort};
+ghost use Rattle.il_text.specs.Meaning.{IsImageFault, OrMemory};
 
-use crate::fault::Fault;
-use il_lister::list;
+use il_lister::{ListFault, list};
 use il_loader::{Image, load};
+use il_text::Fault;
 use io_model::CountedWrite;
 use std::alloc::Global;
 
@@ -20,7 +21,7 @@ fn image_in(alloc: Global, bytes: &[u8]) -> Result<Image, Fault>
 }
 
 /// Writes the listing of the image that bytes are. Of bytes that are no image it tells the first fault, or that memory
-/// ran out, and writes nothing. It answers Device only where the writer failed in this call; then a beginning of the
+/// ran out, and writes nothing. It answers Device only where the writer failed in this call; then a prefix of the
 /// listing went out.
 pub fn put_listing<W: CountedWrite>(alloc: Global, bytes: &[u8], out: &mut W) -> Result<(), Fault>
     ensures ok { OnOk result (IsListed bytes.now (W.held out.old) (W.held out.new)) }
@@ -29,5 +30,8 @@ pub fn put_listing<W: CountedWrite>(alloc: Global, bytes: &[u8], out: &mut W) ->
     ensures counts { W.faults out.old ≤ W.faults out.new }
 {
     let image = image_in(alloc, bytes)?;
-    Ok(list(&image, out)?)
+    match list(&image, out) {
+        Ok(()) => Ok(()),
+        Err(ListFault::Device) => Err(Fault::Device),
+    }
 }

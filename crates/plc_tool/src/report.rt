@@ -5,7 +5,7 @@ ghost use Rattle.std.specs.Fmt.{DisplaysOnOk};
 ghost use Rattle.plc_tool.specs.Reports.{comma, length_text, entry_text, release_text, lengths_text, order_text};
 ghost use Rattle.plc_tool.specs.Reports.{releases_text, released_text, ordered_text, report_text};
 
-use crate::line::AnswerLine;
+use il_text::AnswerLine;
 use std::fmt;
 use vr_model::Request;
 use vr_schedules::{Release, Trace};

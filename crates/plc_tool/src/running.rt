@@ -1,19 +1,18 @@
 //! The answers of a text to commands, each written as it comes.
 
 ghost use Rattle.std.specs.Prelude.{◌≡◌, ◌≤◌, ◌⊎◌, IfErr, OnOk};
-ghost use Rattle.plc_tool.specs.Lines.{lines_of};
-ghost use Rattle.plc_tool.specs.Meaning.{IsTextFault, OrMemory};
-ghost use Rattle.plc_tool.specs.Named.{answers_by};
-ghost use Rattle.plc_tool.specs.Putting.{Puts, IsRun, IsRunCutShort, IsWhyStopped};
+ghost use Rattle.il_text.specs.Lines.{lines_of};
+ghost use Rattle.il_text.specs.Meaning.{IsTextFault, OrMemory};
+ghost use Rattle.plc_names.specs.Named.{answers_by};
+ghost use Rattle.il_text.specs.Putting.{Puts, IsWhyStopped};
+ghost use Rattle.plc_tool.specs.Calls.{IsRun, IsRunCutShort};
 
-use crate::answering::image;
-use crate::fault::Fault;
-use crate::line::put_line;
-use crate::naming::answer;
 use ctl_debugger::Controller;
 use il_model::Budget;
+use il_text::{Fault, image, put_line};
 use io_model::CountedWrite;
 use plc_json::NamedCommand;
+use plc_names::answer;
 use std::alloc::Global;
 
 /// Applies commands to a controller, one after another; each name is looked up at its command's turn, and the line of
@@ -34,7 +33,7 @@ fn put_answers<W: CountedWrite>(
 }
 
 /// Writes the answers of a text to commands, a line each, each scan within the budget. Of a text that is refused it
-/// tells the first fault and writes nothing. Where the writer fails or memory runs out, a beginning of the lines went
+/// tells the first fault and writes nothing. Where the writer fails or memory runs out, a prefix of the lines went
 /// out.
 pub fn put_run<W: CountedWrite>(
     alloc: Global,
@@ -50,7 +49,7 @@ pub fn put_run<W: CountedWrite>(
     ensures counts { W.faults out.old ≤ W.faults out.new }
 {
     let image = image(alloc, text)?;
-    image.lawful();
+    image.know_lawful();
     let mut controller = Controller::new(alloc, image, budget)?;
     put_answers(alloc, &mut controller, commands, out)
 }

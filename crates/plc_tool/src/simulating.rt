@@ -3,22 +3,30 @@
 ghost use Rattle.std.specs.Prelude.{◌≡◌, ◌⊎◌, [], IfOk, IfErr, OnOk, string_bytes};
 ghost use Rattle.vr_core.specs.StandsFor.{member, IsSavedAs};
 ghost use Rattle.vr_schedules.specs.Traces.{IsTraced};
-ghost use Rattle.plc_tool.specs.Meaning.{OrMemory};
-ghost use Rattle.plc_tool.specs.Putting.{Puts, IsWhyStopped};
+ghost use Rattle.il_text.specs.Meaning.{OrMemory};
+ghost use Rattle.il_text.specs.Putting.{Puts, IsWhyStopped};
 ghost use Rattle.plc_tool.specs.Simulated.{IsSimulated, IsReportCutShort, IsWhyNoReport, IsToldOf, report_line};
 
-use crate::answering::image;
 use crate::events::all_known;
-use crate::fault::Fault;
 use crate::report::ReportLine;
 use il_loader::Image;
 use il_model::Budget;
+use il_text::{Fault, image};
 use io_model::{CountedWrite, write_all};
 use plc_json::NamedEvent;
 use std::alloc::{AllocError, Global};
 use vr_model::Config;
 use vr_schedules::{Trace, WorldError, WorldEvent};
 use vr_world::run_world;
+
+/// A group of replicas that a schedule is run over.
+#[derive(Clone, Copy)]
+pub struct Group {
+    /// Its size, and how often its replicas make checkpoints.
+    pub config: Config,
+    /// How many instructions a scan of theirs may perform.
+    pub budget: Budget,
+}
 
 /// The trace of a run of these events in which nothing was lost.
 fn whole_trace(
@@ -73,24 +81,32 @@ fn put_trace<W: CountedWrite>(alloc: Global, trace: &Trace, out: &mut W) -> Resu
 
 /// Writes the report of named events that replicas of a text's program run, each scan within the budget. The text is
 /// judged first, then the names of all events, and nothing runs before both are good. Of input that is refused it tells
-/// the first fault and writes nothing. Where the writer fails or memory runs out, a beginning of the report's line went
+/// the first fault and writes nothing. Where the writer fails or memory runs out, a prefix of the report's line went
 /// out.
 pub fn put_report<W: CountedWrite>(
     alloc: Global,
     text: &[u8],
     named: &[NamedEvent],
-    config: &Config,
-    budget: Budget,
+    group: &Group,
     out: &mut W,
 ) -> Result<(), Fault>
     ensures simulated { OnOk result (
-        IsSimulated text.now config.now.f budget.instructions named.now (W.held out.old) (W.held out.new)) }
+        IsSimulated text.now group.now.config.f group.now.budget.instructions named.now
+        (W.held out.old) (W.held out.new)) }
     ensures err { IfErr result (λ e. (IsWhyStopped e (W.faults out.old) (W.faults out.new)
-        × IsReportCutShort text.now config.now.f budget.instructions named.now (W.held out.old) (W.held out.new))
-        ⊎ (OrMemory (IsToldOf text.now config.now.f budget.instructions named.now) e × (out.new ≡ out.old))) }
+        × IsReportCutShort text.now group.now.config.f group.now.budget.instructions named.now
+        (W.held out.old) (W.held out.new))
+        ⊎ (OrMemory (IsToldOf text.now group.now.config.f group.now.budget.instructions named.now) e
+        × (out.new ≡ out.old))) }
 {
     let image = image(alloc, text)?;
     let events = all_known(alloc, &image, named)?;
-    let trace = whole_trace(alloc, config, &image, budget, events.as_slice())?;
+    let trace = whole_trace(
+        alloc,
+        &group.config,
+        &image,
+        group.budget,
+        events.as_slice(),
+    )?;
     put_trace(alloc, &trace, out)
 }

@@ -1,9 +1,13 @@
 //! The forms of a call.
 
+ghost use Rattle.std.specs.Prelude.{◌≡◌, IfOk, IfSome};
+ghost use Rattle.plc_words.specs.Asked.{IsLostAfterAMinute};
+
 use crate::error::WordsError;
 use clap::builder::ValueParser;
 use clap::{Arg, ArgAction, ArgMatches, Command, value_parser};
 use il_model::Budget;
+use plc_settings::{Links, Settings};
 use std::alloc::{AllocError, Global};
 use std::convert::AsStr;
 use vr_model::Config;
@@ -52,6 +56,9 @@ const CONSOLE: &str = "console";
 
 /// The word of the option `--change`.
 const CHANGE: &str = "change";
+
+/// In seconds: a served controller ends after so long without a majority of its replicas.
+const LOST_AFTER: u32 = 60;
 
 const NO_FORM: &str = "error: the words name no form of call\n";
 
@@ -174,9 +181,10 @@ up.
 
 const SERVING: &str = with_source_faults!(
     "Takes connections of Modbus TCP on 127.0.0.1, and says so by the line 'serving on 127.0.0.1:P' on
-standard error. Each period the 2F+1 replicas scan the inputs that clients wrote. After N scans it
-ends, and prints 'scans N'. Up to 16 clients are served at once; a connection beyond is closed. So is
-one whose client sent nothing for S seconds, or takes no reply for so long.
+standard error. Each period the 2F+1 replicas scan the inputs that clients wrote, until it's
+interrupted; with --scans N it ends after N scans, and prints 'scans N'. Up to 16 clients are served
+at once; a connection beyond is closed. So is one whose client sent nothing for S seconds, or takes
+no reply for so long.
 Bits are numbered 0 to 511 (%IXb.n is 8b+n), registers 0 to 63:
   functions 1, 5, 15         read and write the bits of %I
   functions 3, 6, 16         read and write its words
@@ -203,7 +211,7 @@ With --console P an operator's console is served at port P of 127.0.0.1, to one 
 line is one of the commands of 'plc run' in JSON, but no scan, and is answered by its line; any other
 line by 'plc: commands'. At a breakpoint all outputs stay as they are until the scan goes on.
 
-The report is one line of JSON, written at the end before 'scans N':
+The report is one line of JSON, written before 'scans N':
   crashes                    how often a replica was crashed by --crash
   scans                      how many scans were released
   sessions                   how many clients were served
@@ -252,26 +260,13 @@ pub enum Words<'a> {
         config: Config,
         budget: Budget,
     },
-    /// Serves the program of a file to Modbus clients at a port, by a group of replicas with stores in a directory: a
-    /// scan each period, in milliseconds and within the budget, until there were so many. A client that's idle for so
-    /// many seconds is let go.
+    /// Serves the program of a file to Modbus clients, by a group of replicas with stores in a directory.
     Serve {
         source: &'a str,
         store: &'a str,
-        scans: u32,
-        config: Config,
-        port: u16,
-        period: u32,
-        budget: Budget,
-        idle: u32,
-        /// Over connections, and not through channels.
-        over_tcp: bool,
-        /// Behind so many releases a replica crashes, if that is asked for.
-        crash: Option<u32>,
         /// The file of the report, if one is wanted.
         report: Option<&'a str>,
-        /// The port of an operator's console, if one is wanted.
-        console: Option<u16>,
+        settings: Settings,
     },
     /// Sends the commands of a file to the console at a port, and prints what it answers.
     Ask {
@@ -286,7 +281,10 @@ pub enum Words<'a> {
 }
 
 /// What the words of a call ask for; the first word is the program's own name.
-pub fn read_words<'a, S: AsStr>(alloc: Global, given: &'a [S]) -> Result<Words<'a>, WordsError> {
+pub fn read_words<'a, S: AsStr>(alloc: Global, given: &'a [S]) -> Result<Words<'a>, WordsError>
+    // A controller that is served ends after a minute without a majority of its replicas, whatever the words.
+    ensures lost { IfOk result IsLostAfterAMinute }
+{
     let matches = match program(alloc)?.try_get_matches_from(given) {
         Ok(matches) => matches,
         Err(error) => return Err(WordsError::of(alloc, &error)),
@@ -354,11 +352,9 @@ fn serve_command<'a>(alloc: Global) -> Result<Command<'a>, AllocError> {
         .after_help(SERVING)
         .arg(file(alloc, "SOURCE").help("The program's text, in Instruction List"))?
         .arg(directory(alloc))?
-        .arg(
-            count(alloc, SCANS, "N")
-                .required(true)
-                .help("After how many scans it ends"),
-        )?
+        .arg(count(alloc, SCANS, "N").help(
+            "After how many scans it ends; without it, it goes on until it's interrupted",
+        ))?
         .arg(failures(alloc))?
         .arg(every(alloc))?
         .arg(port(alloc))?
@@ -507,7 +503,31 @@ fn group(inner: &ArgMatches) -> Option<Config> {
     Config::new(inner.get_one::<u8>(FAILURES)?, inner.get_one::<u16>(EVERY)?)
 }
 
-fn form_of<'a>(matches: &ArgMatches<'a>) -> Option<Words<'a>> {
+/// How a controller is to be served.
+fn settings(inner: &ArgMatches) -> Option<Settings>
+    ensures { IfSome result (λ settings. settings.lost_after ≡ 60) }
+{
+    Some(Settings {
+        config: group(inner)?,
+        budget: Budget::new(inner.get_one::<u32>(BUDGET)?)?,
+        port: inner.get_one::<u16>(PORT)?,
+        period: inner.get_one::<u32>(PERIOD)?,
+        scans: inner.get_one::<u32>(SCANS),
+        idle: inner.get_one::<u32>(IDLE)?,
+        links: if inner.get_str(LINKS)? == TCP {
+            Links::Tcp
+        } else {
+            Links::Channels
+        },
+        crash: inner.get_one::<u32>(CRASH),
+        lost_after: LOST_AFTER,
+        console: inner.get_one::<u16>(CONSOLE),
+    })
+}
+
+fn form_of<'a>(matches: &ArgMatches<'a>) -> Option<Words<'a>>
+    ensures { IfSome result IsLostAfterAMinute }
+{
     let (name, inner) = matches.subcommand()?;
     match name {
         "asm" => Some(Words::Asm {
@@ -531,16 +551,8 @@ fn form_of<'a>(matches: &ArgMatches<'a>) -> Option<Words<'a>> {
         "serve" => Some(Words::Serve {
             source: inner.get_str("SOURCE")?,
             store: inner.get_str(STORE)?,
-            scans: inner.get_one::<u32>(SCANS)?,
-            config: group(inner)?,
-            port: inner.get_one::<u16>(PORT)?,
-            period: inner.get_one::<u32>(PERIOD)?,
-            budget: Budget::new(inner.get_one::<u32>(BUDGET)?)?,
-            idle: inner.get_one::<u32>(IDLE)?,
-            over_tcp: inner.get_str(LINKS)? == TCP,
-            crash: inner.get_one::<u32>(CRASH),
             report: inner.get_str(REPORT),
-            console: inner.get_one::<u16>(CONSOLE),
+            settings: settings(inner)?,
         }),
         "ask" => asked(inner),
         _ => None,
@@ -548,7 +560,9 @@ fn form_of<'a>(matches: &ArgMatches<'a>) -> Option<Words<'a>> {
 }
 
 /// What is sent to a console: the commands of a file, or a change of the program.
-fn asked<'a>(inner: &ArgMatches<'a>) -> Option<Words<'a>> {
+fn asked<'a>(inner: &ArgMatches<'a>) -> Option<Words<'a>>
+    ensures { IfSome result IsLostAfterAMinute }
+{
     let port = inner.get_one::<u16>("PORT")?;
     match inner.get_str(CHANGE) {
         Some(source) => Some(Words::Change { port, source }),

@@ -1,5 +1,5 @@
-//! The words that the program is called with, read by `clap`. It knows the forms of a call and their texts of help,
-//! opens no file and prints nothing.
+//! The words that the program is called with, read by `clap`. It knows the forms of a call and their texts of help, and
+//! opens no file.
 //!
 //! ```rust
 //! use plc_words::{Words, read_words};
@@ -7,8 +7,9 @@
 //! let words = read_words(alloc, &["plc", "run", "a.il", "b.json"]).ok()?; // Words::Run, with a budget of 10000
 //! ```
 //!
-//! Proved: that it returns and is safe, and that want of memory is told as such. What words mean is `clap`'s, by that
-//! crate's statements; no clause here says which words give which form.
+//! Proved: that it returns and is safe, that want of memory is told as such, and what is printed where words ask for no
+//! work (`tell_words`). What words mean is `clap`'s, by that crate's statements; no clause here says which words give
+//! which form.
 //!
 //! Only tested: the forms with their options and defaults, words that are refused, and the usage lines (`word_rows` of
 //! `tests_tool`). Neither: the texts of help, which say by hand what `docs/FAULTS.md` says.
@@ -16,6 +17,8 @@
 
 mod error;
 mod forms;
+mod telling;
 
 pub use error::WordsError;
 pub use forms::{Words, read_words};
+pub use telling::tell_words;

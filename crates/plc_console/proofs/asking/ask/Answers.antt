@@ -1,6 +1,6 @@
 use Rattle.std.proofs.Common.{subst}
 use Rattle.il_model.specs.declared.command.Command.{Command}
-use Rattle.io_image.specs.Client.{SubmitsCommand}
+use Rattle.vr_client.specs.Client.{SubmitsCommand}
 use Rattle.plc_console.proofs.Waiting.{begins, hears, answers, asks_again}
 use Rattle.plc_console.proofs.asking.ask.Goals as goal
 
@@ -18,5 +18,5 @@ pub loop-preserved : goal.loop-preserved
 loop-preserved g c = record {
   can_next = tt;
   finite = tt;
-  waits = asks_again _ _ _ _ _ _ _ (hears _ _ _ _ _ _ _ _ c.loop.invariant.waits c.in_ok-answer.ensures.heard cc) c.ask_again-asked.ensures.sent.1 c.ask_again-asked.ensures.sent.2 c.ask_again-asked.ensures.same;
+  waits = asks_again _ _ _ _ _ _ _ (hears _ _ _ _ _ _ _ _ c.loop.invariant.waits c.in_ok-answer.ensures.heard cc) c.ask_again.ensures.sent.1 c.ask_again.ensures.sent.2 c.ask_again.ensures.same;
 }

@@ -1,5 +1,5 @@
 use Rattle.std.proofs.Common.{inl}
-use Rattle.plc_tool.specs.Meaning.{IsTextFault}
+use Rattle.il_text.specs.Meaning.{IsTextFault}
 use Rattle.plc_tool.proofs.Endings.{by_end, told_at_1, unwritten, refused, stops_short}
 use Rattle.plc_tool.proofs.Inputs.{of_text}
 use Rattle.plc_tool.proofs.calls.asm.Goals as goal

@@ -1,6 +1,6 @@
 use Rattle.std.proofs.Common.{inl, inr, ℕ, List, subst, sym}
-use Rattle.plc_tool.specs.declared.fault.Fault.{Fault}
-use Rattle.plc_tool.specs.Meaning.{IsTextFault, IsFirstFault, OrMemory}
+use Rattle.il_text.specs.declared.fault.Fault.{Fault}
+use Rattle.il_text.specs.Meaning.{IsTextFault, IsFirstFault, OrMemory}
 use Rattle.plc_tool.proofs.calls.first_fault.Goals as goal
 use Rattle.plc_tool.proofs.calls.first_fault.Goals.{in-Ok, in-Err}
 

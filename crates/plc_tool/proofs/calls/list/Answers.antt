@@ -1,5 +1,5 @@
 use Rattle.std.proofs.Common.{inl}
-use Rattle.plc_tool.specs.Meaning.{IsImageFault}
+use Rattle.il_text.specs.Meaning.{IsImageFault}
 use Rattle.plc_tool.proofs.Endings.{by_end, stops_short}
 use Rattle.plc_tool.proofs.Inputs.{of_image}
 use Rattle.plc_tool.proofs.calls.list.Goals as goal

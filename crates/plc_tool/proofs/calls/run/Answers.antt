@@ -1,9 +1,9 @@
 use Rattle.std.proofs.Common.{◌≡◌, inl, inr}
 use Rattle.plc_json.specs.Commands.{HasNoCommands}
-use Rattle.plc_tool.specs.declared.fault.Fault.{Fault}
-use Rattle.plc_tool.specs.declared.fault.Fault.TheVariants as faults
-use Rattle.plc_tool.specs.Meaning.{IsTextFault}
-use Rattle.plc_tool.specs.Putting.{IsFaultOfRun}
+use Rattle.il_text.specs.declared.fault.Fault.{Fault}
+use Rattle.il_text.specs.declared.fault.Fault.TheVariants as faults
+use Rattle.il_text.specs.Meaning.{IsTextFault}
+use Rattle.plc_tool.specs.Calls.{IsFaultOfRun}
 use Rattle.plc_tool.proofs.Endings.{wider, told_at_1, refused, first_told, no_commands, of_run}
 use Rattle.plc_tool.proofs.calls.run.Goals as goal
 
@@ -16,13 +16,13 @@ returns-in-Ok-clause-refused g c = λ one. refused (IsFaultOfRun c.args.source.n
 
 pub returns-in-Err-clause-told : goal.returns-in-Err-clause-told
 returns-in-Err-clause-told g c =
-    let t = c.run_unread.ensures.told in
+    let t = c.run_without_commands.ensures.told in
     inr (record {
       fault = t.0;
       answered = t.2;
       is = λ one. of_run c.args.source.now c.args.commands.now t.0
-          (first_told c.args.source.now (λ (f : Fault). (f ≡ faults.Commands) × HasNoCommands c.args.commands.now) c.from.result t.0 t.1
-          (no_commands c.args.commands.now c.in-Err.fault c.from.result c.from.ensures c.in-Err.ensures.refused) one);
+          (first_told c.args.source.now (λ (f : Fault). (f ≡ faults.Commands) × HasNoCommands c.args.commands.now) c.fault_of.result t.0 t.1
+          (no_commands c.args.commands.now c.in-Err.fault c.fault_of.result c.fault_of.ensures c.in-Err.ensures.refused) one);
       line = t.3;
     })
 

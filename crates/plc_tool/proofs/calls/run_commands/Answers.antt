@@ -1,6 +1,6 @@
 use Rattle.plc_tool.proofs.Endings.{by_end, told_at_1, unwritten, refused, stops_late, why_stopped}
 use Rattle.plc_tool.proofs.Inputs.{of_text}
-use Rattle.plc_tool.specs.Meaning.{IsTextFault}
+use Rattle.il_text.specs.Meaning.{IsTextFault}
 use Rattle.plc_tool.proofs.calls.run_commands.Goals as goal
 
 pub returns-clause-told : goal.returns-clause-told

@@ -1,7 +1,7 @@
 use Rattle.std.proofs.Common.{◌≡◌, inr, refl}
 use Rattle.plc_json.specs.Events.{HasSchedule, HasNoSchedule}
-use Rattle.plc_tool.specs.declared.fault.Fault.{Fault}
-use Rattle.plc_tool.specs.declared.fault.Fault.TheVariants as faults
+use Rattle.il_text.specs.declared.fault.Fault.{Fault}
+use Rattle.il_text.specs.declared.fault.Fault.TheVariants as faults
 use Rattle.plc_tool.specs.Simulated.{IsToldOf, IsFaultOfSchedule}
 use Rattle.plc_tool.proofs.Endings.{wider, told_at_1, refused, first_told, of_events, no_schedule, no_memory}
 use Rattle.plc_tool.proofs.calls.sim.Goals as goal
@@ -9,42 +9,42 @@ use Rattle.plc_tool.proofs.calls.sim.Goals as goal
 pub returns-in-Ok-clause-told : goal.returns-in-Ok-clause-told
 returns-in-Ok-clause-told g c =
     let has : HasSchedule c.args.schedule.now c.as_slice.result.now = rw c.as_slice.ensures.value c.in-Ok.ensures.found in
-    wider g.E.CountedWrite (IsToldOf c.args.source.now c.args.config.now.f c.args.budget.instructions c.as_slice.result.now) _ _ _
-    (IsFaultOfSchedule c.args.source.now c.args.config.now.f c.args.budget.instructions c.args.schedule.now)
-    (of_events c.args.source.now c.args.config.now.f c.args.budget.instructions c.args.schedule.now c.as_slice.result.now has) c.sim_events.ensures.told
+    wider g.E.CountedWrite (IsToldOf c.args.source.now c.args.group.now.config.f c.args.group.now.budget.instructions c.as_slice.result.now) _ _ _
+    (IsFaultOfSchedule c.args.source.now c.args.group.now.config.f c.args.group.now.budget.instructions c.args.schedule.now)
+    (of_events c.args.source.now c.args.group.now.config.f c.args.group.now.budget.instructions c.args.schedule.now c.as_slice.result.now has) c.sim_events.ensures.told
 
 pub returns-in-Ok-clause-refused : goal.returns-in-Ok-clause-refused
 returns-in-Ok-clause-refused g c = λ one.
-    refused (IsFaultOfSchedule c.args.source.now c.args.config.now.f c.args.budget.instructions c.args.schedule.now)
+    refused (IsFaultOfSchedule c.args.source.now c.args.group.now.config.f c.args.group.now.budget.instructions c.args.schedule.now)
     (told_at_1 g.E.CountedWrite _ _ _ _ (returns-in-Ok-clause-told g c) one)
 
 pub returns-in-Err-Shape-clause-told : goal.returns-in-Err-Shape-clause-told
 returns-in-Err-Shape-clause-told g c =
-    let t = c.run_unread.ensures.told in
+    let t = c.sim_without_schedule.ensures.told in
     inr (record {
       fault = t.0;
       answered = t.2;
-      is = λ one. no_schedule c.args.source.now c.args.config.now.f c.args.budget.instructions c.args.schedule.now t.0
+      is = λ one. no_schedule c.args.source.now c.args.group.now.config.f c.args.group.now.budget.instructions c.args.schedule.now t.0
           (first_told c.args.source.now (λ (f : Fault). (f ≡ faults.Schedule) × HasNoSchedule c.args.schedule.now) faults.Schedule t.0 t.1 (λ s. (refl, c.in-Err-Shape.ensures.refused c.in-Err-Shape.field-0-is)) one);
       line = t.3;
     })
 
 pub returns-in-Err-Shape-clause-refused : goal.returns-in-Err-Shape-clause-refused
 returns-in-Err-Shape-clause-refused g c = λ one.
-    refused (IsFaultOfSchedule c.args.source.now c.args.config.now.f c.args.budget.instructions c.args.schedule.now)
+    refused (IsFaultOfSchedule c.args.source.now c.args.group.now.config.f c.args.group.now.budget.instructions c.args.schedule.now)
     (told_at_1 g.E.CountedWrite _ _ _ _ (returns-in-Err-Shape-clause-told g c) one)
 
 pub returns-in-Err-Memory-clause-told : goal.returns-in-Err-Memory-clause-told
 returns-in-Err-Memory-clause-told g c =
-    let t = c.run_unread-in-Err-Memory.ensures.told in
+    let t = c.sim_without_schedule-in-Err-Memory.ensures.told in
     inr (record {
       fault = t.0;
       answered = t.2;
-      is = no_memory c.args.source.now c.args.config.now.f c.args.budget.instructions c.args.schedule.now t.0 t.1;
+      is = no_memory c.args.source.now c.args.group.now.config.f c.args.group.now.budget.instructions c.args.schedule.now t.0 t.1;
       line = t.3;
     })
 
 pub returns-in-Err-Memory-clause-refused : goal.returns-in-Err-Memory-clause-refused
 returns-in-Err-Memory-clause-refused g c = λ one.
-    refused (IsFaultOfSchedule c.args.source.now c.args.config.now.f c.args.budget.instructions c.args.schedule.now)
+    refused (IsFaultOfSchedule c.args.source.now c.args.group.now.config.f c.args.group.now.budget.instructions c.args.schedule.now)
     (told_at_1 g.E.CountedWrite _ _ _ _ (returns-in-Err-Memory-clause-told g c) one)

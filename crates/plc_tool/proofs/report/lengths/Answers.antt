@@ -1,6 +1,6 @@
 use Rattle.std.proofs.Common.{arith, refl}
 use Rattle.plc_tool.specs.Reports.{length_text}
-use Rattle.plc_tool.proofs.Numbered.{none_written, more_written, all_written}
+use Rattle.il_text.proofs.Numbered.{none_written, more_written, all_written}
 use Rattle.plc_tool.proofs.report.lengths.Goals as goal
 
 pub loop-index-init : goal.loop-index-init

@@ -1,6 +1,6 @@
 use Rattle.std.specs.Fmt.{HasWritten, IsPlainFormatter}
 use Rattle.plc_tool.specs.Reports.{length_text}
-use Rattle.plc_tool.proofs.Numbered.{texts_before}
+use Rattle.il_text.proofs.Numbered.{texts_before}
 use Rattle.plc_tool.proofs.report.lengths.Given as goal
 
 abbrev pub invariant-loop-index : goal.invariant-loop-index

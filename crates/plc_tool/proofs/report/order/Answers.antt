@@ -1,7 +1,7 @@
 use Rattle.std.proofs.Common.{arith, refl}
 use Rattle.plc_tool.specs.Reports.{entry_text}
 use Rattle.plc_tool.proofs.Items.{item_written}
-use Rattle.plc_tool.proofs.Numbered.{none_written, all_written}
+use Rattle.il_text.proofs.Numbered.{none_written, all_written}
 use Rattle.plc_tool.proofs.report.order.Goals as goal
 
 pub loop-index-init : goal.loop-index-init

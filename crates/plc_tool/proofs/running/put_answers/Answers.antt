@@ -1,6 +1,6 @@
 use Rattle.std.proofs.Common.{◌++◌, ◌+◌, drop, arith}
-use Rattle.plc_tool.specs.Lines.{line_text, lines_of}
-use Rattle.plc_tool.specs.Named.{answers_by}
+use Rattle.il_text.specs.Lines.{line_text, lines_of}
+use Rattle.plc_names.specs.Named.{answers_by}
 use Rattle.plc_tool.proofs.Parts.{equally, handed_on, stop, then, unput}
 use Rattle.plc_tool.proofs.Told.{lines_around, lines_more}
 use Rattle.plc_tool.proofs.running.put_answers.Goals as goal

@@ -1,0 +1,3 @@
+pub mod Imaged
+pub mod Numbered
+mod OneMeaning

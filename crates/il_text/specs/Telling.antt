@@ -1,0 +1,71 @@
+-- The line that tells a fault, and what telling it does to a counted writer.
+use Rattle.std.specs.Prelude.{◌≡◌, ◌≤◌, ◌⊎◌, ℕ, List, ◌++◌, codes, Option, Result, Ok, Err, OnOk, OnErr}
+use Rattle.std.specs.Fmt.{decimal}
+use Rattle.std.specs.Io.KnownBytes.{Appends}
+use Rattle.io_model.specs.declared.counted.CountedWrite.{Ghosts as CountedWriter}
+use Rattle.io_model.specs.declared.counted.DeviceFault.{DeviceFault}
+use Rattle.io_model.specs.Counted.{Failed}
+use Rattle.il_text.specs.declared.fault.Fault.{Fault}
+use Rattle.il_text.specs.declared.fault.Fault.TheVariants as faults
+use Rattle.il_text.specs.Status.{status_of}
+
+-- a number behind a text
+abbrev pub numbered : List ℕ → ℕ → List ℕ
+numbered text number = text ++ decimal number
+
+-- two numbers behind their texts, as those of a fault and of its place: 3 at 7
+abbrev pub pair_text : List ℕ → ℕ → List ℕ → ℕ → List ℕ
+pair_text text number between other = numbered text number ++ (numbered between other ++ codes "\n")
+
+-- the number of a fault, and its line and column: 3 at 7:1
+abbrev pub placed_text : List ℕ → ℕ → ℕ → ℕ → List ℕ
+placed_text text number line column =
+    numbered text number ++ (numbered (codes " at ") line ++ (numbered (codes ":") column ++ codes "\n"))
+
+abbrev pub fault_line : Fault → List ℕ
+fault_line (faults.Read number line column) = placed_text (codes "plc: read ") number line column
+fault_line (faults.Declaration number line column) = placed_text (codes "plc: decl ") number line column
+fault_line (faults.Assembly number instruction) = pair_text (codes "plc: asm ") number (codes " at ") instruction
+fault_line (faults.Load number) = numbered (codes "plc: load ") number ++ codes "\n"
+fault_line (faults.LoadAt number position) = pair_text (codes "plc: load ") number (codes " at ") position
+fault_line faults.Commands = codes "plc: commands\n"
+fault_line faults.Schedule = codes "plc: schedule\n"
+fault_line (faults.ScheduleAt index reason) = pair_text (codes "plc: schedule ") index (codes " ") reason
+fault_line faults.Store = codes "plc: store\n"
+fault_line faults.Device = codes "plc: device\n"
+fault_line faults.Memory = codes "plc: memory\n"
+
+-- all of the text went out; an error is answered where the writer failed in the call
+pub record Sends {W : Type 0} (w : CountedWriter W) (text : List ℕ) (old new : W)
+    (result : Result (Unit {0}) DeviceFault) : Type 0 where
+  pub sent : OnOk result (Appends (w.held old) (w.held new) text)
+  pub device : OnErr result (Failed (w.faults old) (w.faults new))
+  pub counts : w.faults old ≤ w.faults new
+
+-- all of the text went out, unless the writer failed in the call
+abbrev pub WentOut : {W : Type 0} → CountedWriter W → List ℕ → W → W → Type 0
+WentOut w text old new = Appends (w.held old) (w.held new) text ⊎ Failed (w.faults old) (w.faults new)
+
+-- how a call ends, by the status: well, and nothing is told; or with the line of its fault
+abbrev pub Ends : {W : Type 0} → CountedWriter W → Result (Unit {0}) Fault → ℕ → W → W → Type 0
+Ends w (Ok done) status old new = (status ≡ 0) × (new ≡ old)
+Ends w (Err fault) status old new = (status ≡ status_of fault) × WentOut w (fault_line fault) old new
+
+-- a fault was told by its line, and its status answered; of input that is refused it is one of these
+pub record IsTold {W : Type 0} (w : CountedWriter W) (IsFault : Fault → Type 0) (status : ℕ) (old new : W)
+    : Type 0 where
+  pub fault : Fault
+  pub answered : status ≡ status_of fault
+  pub is : status_of fault ≡ 1 → IsFault fault
+  pub line : WentOut w (fault_line fault) old new
+
+-- the call ended well, and nothing was told; or its fault was
+abbrev pub EndsTold : {W : Type 0} → CountedWriter W → (Fault → Type 0) → ℕ → W → W → Type 0
+EndsTold w IsFault status old new = ((status ≡ 0) × (new ≡ old)) ⊎ IsTold w IsFault status old new
+
+-- A call stopped short: this is how a device's failure left it, and the device is told; or that is how want of memory
+-- did, and it is told.
+abbrev pub StopsShort : {W : Type 0} → CountedWriter W → Type 0 → Type 0 → W → W → Type 0
+StopsShort w IsLeftByDevice IsLeftByMemory old new =
+    (IsLeftByDevice × WentOut w (fault_line faults.Device) old new)
+    ⊎ (IsLeftByMemory × WentOut w (fault_line faults.Memory) old new)

@@ -1,0 +1,19 @@
+-- What is served as the words ask for it is lost after the minute that each of them has.
+use Rattle.std.proofs.Common.{◌≡◌, ap, ◌∙◌}
+use Rattle.plc_settings.specs.declared.Settings.{Settings}
+use Rattle.plc_words.specs.declared.forms.Words.{Words}
+use Rattle.plc_words.specs.declared.forms.Words.TheVariants as words
+use Rattle.plc_words.specs.Asked.{IsLostAfterAMinute as AsksForAMinute}
+use Rattle.plc.specs.declared.Outcome.{Outcome}
+use Rattle.plc.specs.declared.Outcome.TheVariants as outcomes
+use Rattle.plc.specs.Asked.{ServesAsAsked, IsLostAfterAMinute}
+
+pub as_asked : (asked : Words) (outcome : Outcome) → AsksForAMinute asked → ServesAsAsked asked outcome → IsLostAfterAMinute outcome
+as_asked asked (outcomes.Done status) minute serves = tt
+as_asked (words.Serve source store report settings) (outcomes.Serve service path) minute serves = ap (λ (s : Settings). s.lost_after) serves ∙ minute
+as_asked (words.Asm source image) (outcomes.Serve service path) minute serves = absurd serves
+as_asked (words.List image) (outcomes.Serve service path) minute serves = absurd serves
+as_asked (words.Run source commands budget) (outcomes.Serve service path) minute serves = absurd serves
+as_asked (words.Sim source schedule config budget) (outcomes.Serve service path) minute serves = absurd serves
+as_asked (words.Ask port commands) (outcomes.Serve service path) minute serves = absurd serves
+as_asked (words.Change port source) (outcomes.Serve service path) minute serves = absurd serves

@@ -1,0 +1,60 @@
+-- What the driver of a group publishes, and why a group doesn't start.
+use Rattle.std.specs.Prelude.{◌≡◌, ℕ, ◌+◌, length, Result, IfOk, Bool, List, [], ◌∷◌, ◌++◌, Option, Some, None, is_some}
+use Rattle.il_model.specs.declared.command.Command.{Command}
+use Rattle.il_model.specs.declared.command.Answer.{Answer}
+use Rattle.il_model.specs.declared.command.Answer.TheVariants as answers
+use Rattle.vr_model.specs.declared.message.Message.{Message}
+use Rattle.vr_model.specs.Logs.{Request}
+use Rattle.vr_model.specs.Messages.{Body, Reply}
+use Rattle.vr_model.specs.StandsFor.{body_with}
+use Rattle.vr_model.specs.World.{ClientState}
+use Rattle.io_driver.specs.Driver.{release_by}
+use Rattle.io_image.specs.declared.release.Release.{Release}
+use Rattle.plc_host.specs.declared.failed.Failed.{Failed}
+use Rattle.plc_host.specs.declared.failed.Failed.TheVariants as failures
+use Rattle.vr_threads.specs.declared.cluster.ClusterError.{ClusterError}
+use Rattle.vr_threads.specs.declared.cluster.ClusterError.TheVariants as starts
+use Rattle.plc_driver.specs.declared.drive.Scanned.{Scanned}
+use Rattle.plc_status.specs.declared.notice.Notice.{Notice}
+use Rattle.plc_status.specs.declared.notice.Notice.TheVariants as notices
+
+-- the releases that there are of a message: one or none
+abbrev pub releases : Option Release → List Release
+releases (Some release) = release ∷ []
+releases None = []
+
+-- what a message releases was published, and nothing else, and whether there was something is told
+abbrev pub Publishes : Option Release → Bool → List Release → List Release → Type 0
+Publishes release is_released old new = (new ≡ old ++ releases release) × (is_released ≡ is_some release)
+
+-- what a scan was held or stopped by, if it was: with its place
+abbrev pub halt_of : Answer → Option Notice
+halt_of (answers.Held position) = Some (notices.Held position)
+halt_of (answers.Stopped stop position image) = Some (notices.Stopped stop position)
+halt_of (answers.Outputs count image) = None
+halt_of (answers.Value value) = None
+halt_of answers.Done = None
+halt_of (answers.Refused refusal) = None
+
+abbrev pub halt_by : Body Command Answer → Option Notice
+halt_by (Reply view number answer) = halt_of answer
+halt_by _ = None
+
+-- There is a message whose release was published, if it has one, and by which the scan was held or stopped, if it was;
+-- whatever log is meant by what it carries.
+pub record Scans (scanned : Scanned) (old new : List Release) : Type 0 where
+  pub message : Message
+  pub knows : ClientState Command
+  pub halts : (log : List (Request Command)) → scanned.halt ≡ halt_by (body_with log message.body)
+  pub published : (log : List (Request Command))
+      → Publishes (release_by knows (body_with log message.body)) scanned.is_released old new
+
+-- A good end comes after as many scans as were asked for, each of which released once more.
+abbrev pub HasRun : Option ℕ → List Release → List Release → Result ℕ Failed → Type 0
+HasRun asked old new result = IfOk result (λ scans. (asked ≡ Some scans) × (length new ≡ length old + scans))
+
+-- why no replica runs: a thread or connections that aren't to be had are a device's failure
+abbrev pub start_failed : ClusterError → Failed
+start_failed starts.Memory = failures.Memory
+start_failed starts.Thread = failures.Device
+start_failed starts.Link = failures.Device

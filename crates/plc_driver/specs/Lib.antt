@@ -1,0 +1,4 @@
+pub mod Driving
+pub mod Pacing
+pub mod Tending
+pub mod Watching

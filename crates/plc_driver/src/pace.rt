@@ -1,0 +1,91 @@
+//! The periods of the scans, by the machine's time.
+
+ghost use Rattle.std.specs.Prelude.{◌≡◌, ◌*◌, ◌-◌, ◌/◌, ◌^◌, min, IfOk};
+ghost use Rattle.std.specs.Duration.{as_nanos};
+ghost use Rattle.plc_driver.specs.Pacing.{next_due, IsAwaited, WorkedDues};
+
+use plc_host::Failed;
+use std::thread;
+use std::time::{Clock, Duration, Instant};
+
+/// In milliseconds: the longest that it sleeps at once before a scan is nearly due.
+const NAP: u64 = 500;
+
+/// When the next scan is due, since a beginning.
+#[derive(Clone, Copy)]
+pub(crate) struct Pace {
+    begun: Instant,
+    period: Duration,
+    due: Duration,
+}
+
+impl Pace {
+    /// So many milliseconds to a period. The first scan is due at once.
+    pub(crate) fn new(begun: Instant, period: u32) -> Pace
+        ensures period { as_nanos result.period ≡ period * 1_000_000 }
+        ensures due { as_nanos result.due ≡ 0 }
+    {
+        Pace {
+            begun,
+            period: Duration::from_millis(u64::from(period)),
+            due: Duration::from_millis(0),
+        }
+    }
+
+    /// How long it is since the beginning.
+    pub(crate) fn elapsed<R: Clock>(&self, rt: &R) -> Result<Duration, Failed> {
+        Ok(Instant::now(rt)?.saturating_duration_since(self.begun))
+    }
+
+    /// Sleeps for a while, unless the next scan is due within it: whether it is.
+    pub(crate) fn rest<R: Clock>(&self, rt: &R) -> Result<bool, Failed> {
+        let nap = Duration::from_millis(NAP);
+        if self.due.saturating_sub(self.elapsed(rt)?) <= nap {
+            return Ok(true);
+        }
+        thread::sleep(rt, nap);
+        Ok(false)
+    }
+
+    /// Sleeps until the next scan is due, and gives its moment in milliseconds. By then the one behind it is due.
+    pub(crate) fn await_scan<R: Clock>(&mut self, rt: &R) -> Result<u64, Failed>
+        ensures awaited { IfOk result
+            (IsAwaited (as_nanos self.old.period) (as_nanos self.old.due) (as_nanos self.new.due)) }
+        ensures period { self.new.period ≡ self.old.period }
+    {
+        thread::sleep(rt, self.due.saturating_sub(self.elapsed(rt)?));
+        let now = self.elapsed(rt)?;
+        self.due = next_due(self.due, now, self.period);
+        Ok(milliseconds(now))
+    }
+
+    /// Whether a period went by since then.
+    pub(crate) fn is_over<R: Clock>(&self, rt: &R, since: Duration) -> Result<bool, Failed> {
+        Ok(self.elapsed(rt)?.saturating_sub(since) >= self.period)
+    }
+}
+
+/// When the scan behind one is due that was due then and came now: a period after that was due, or, where it came a
+/// period late or more, a period from now.
+fn next_due(due: Duration, now: Duration, period: Duration) -> Duration
+    ensures { as_nanos result ≡ next_due (as_nanos due) (as_nanos now) (as_nanos period) }
+{
+    let next = due.saturating_add(period);
+    if now.as_nanos() < next.as_nanos() {
+        next
+    } else {
+        now.saturating_add(period)
+    }
+}
+
+/// A time in whole milliseconds.
+fn milliseconds(time: Duration) -> u64
+    ensures { result ≡ min (as_nanos time / 1_000_000) (2 ^ 64 - 1) }
+{
+    u64::try_from(time.as_millis()).unwrap_or(u64::MAX)
+}
+
+/// What the definition gives for worked scans.
+pub fn worked_dues()
+    ensures { WorkedDues }
+{}

@@ -1,0 +1,206 @@
+//! What an operator is told of the replicas: a notice of each change.
+
+ghost use Rattle.std.specs.Prelude.{◌≡◌, option_map};
+ghost use Rattle.std.specs.Duration.{as_nanos};
+ghost use Rattle.plc_status.specs.Journal.{AreNoted};
+ghost use Rattle.plc_driver.specs.Watching.{IsTurnNoted, change, is_lost, lapsed_since, turned};
+
+use crate::reviving::Revival;
+use plc_status::{Journal, Notice};
+use std::alloc::{AllocError, Global};
+use std::time::Duration;
+use vr_model::Config;
+use vr_threads::Shown;
+
+/// So many nanoseconds a replica may not be normal before that is told.
+const PATIENCE: u128 = 1_000_000_000;
+
+/// What is known and told of one replica.
+#[derive(Clone, Copy)]
+struct Seen {
+    /// Since when it hasn't been normal.
+    since: Option<Duration>,
+    /// It was told that it's down, and not since that it's normal.
+    is_told_down: bool,
+}
+
+/// Since when something hasn't been well, by whether it's well now.
+fn lapsed_since(since: Option<Duration>, is_well: bool, now: Duration) -> Option<Duration>
+    ensures { option_map as_nanos result ≡ lapsed_since (option_map as_nanos since) is_well (as_nanos now) }
+{
+    if is_well {
+        None
+    } else {
+        Some(since.unwrap_or(now))
+    }
+}
+
+impl Seen {
+    /// What is to be told of it now: true that it's normal again, false that it's down.
+    fn change(self, now: Duration) -> Option<bool>
+        ensures { result ≡ change self.is_told_down (option_map as_nanos self.since) (as_nanos now) }
+    {
+        match self.since {
+            None if self.is_told_down => Some(true),
+            Some(since) if !self.is_told_down && now.saturating_sub(since).as_nanos() >= PATIENCE =>
+                Some(false),
+            _ => None,
+        }
+    }
+
+    /// Shows whether it's normal now.
+    fn see(&mut self, is_normal: bool, now: Duration)
+        ensures since { option_map as_nanos self.new.since ≡ lapsed_since (option_map as_nanos self.old.since) is_normal
+            (as_nanos now) }
+        ensures same { self.new.is_told_down ≡ self.old.is_told_down }
+    {
+        self.since = lapsed_since(self.since, is_normal, now);
+    }
+}
+
+/// A replica that is watched.
+#[derive(Clone, Copy)]
+struct Watched {
+    seen: Seen,
+    is_told_failed: bool,
+    /// Where its store failed, and it hasn't been normal since.
+    revival: Option<Revival>,
+}
+
+impl Watched {
+    /// Notes what changed of it since the last look, as it shows now.
+    #[tactic(auto, using(crate::proofs::Noted::both, crate::proofs::Noted::none, crate::proofs::Noted::one))]
+    fn look(&mut self, number: u8, shown: Shown, now: Duration, journal: &mut Journal)
+        ensures { AreNoted journal.old journal.new }
+    {
+        self.note_failure(number, shown.has_failed, journal);
+        self.note_turn(number, shown.is_normal(), now, journal);
+    }
+
+    /// Notes that its store failed, once.
+    #[tactic(auto, using(crate::proofs::Noted::both, crate::proofs::Noted::none, crate::proofs::Noted::one))]
+    fn note_failure(&mut self, number: u8, has_failed: bool, journal: &mut Journal)
+        ensures { AreNoted journal.old journal.new }
+    {
+        if self.is_told_failed || !has_failed {
+            return;
+        }
+        journal.put(Notice::Store(number));
+        self.is_told_failed = true;
+    }
+
+    /// Notes that it's down, or normal again, where that is due.
+    #[tactic(auto, using(crate::proofs::Noted::both, crate::proofs::Noted::none, crate::proofs::Noted::one))]
+    fn note_turn(&mut self, number: u8, is_normal: bool, now: Duration, journal: &mut Journal)
+        ensures told { IsTurnNoted number
+            (change self.old.seen.is_told_down (option_map as_nanos self.new.seen.since) (as_nanos now))
+            journal.old journal.new }
+        ensures since { option_map as_nanos self.new.seen.since ≡ lapsed_since
+            (option_map as_nanos self.old.seen.since) is_normal (as_nanos now) }
+        ensures notices { AreNoted journal.old journal.new }
+    {
+        self.seen.see(is_normal, now);
+        let Some(is_normal) = self.seen.change(now) else {
+            return;
+        };
+        journal.put(turned(number, is_normal));
+        self.seen.is_told_down = !is_normal;
+    }
+
+    /// Whether it's to be started anew now: its store failed some time ago, and it hasn't been normal since.
+    fn is_due(&mut self, shown: Shown, now: Duration) -> bool {
+        if shown.is_normal() {
+            self.revival = None;
+            self.is_told_failed = false;
+            return false;
+        }
+        match &mut self.revival {
+            Some(revival) => revival.is_due(now),
+            None => {
+                if shown.has_failed {
+                    self.revival = Some(Revival::new(now));
+                }
+                false
+            }
+        }
+    }
+}
+
+/// What is noted of a replica that is normal again, or down.
+fn turned(number: u8, is_normal: bool) -> Notice
+    ensures { result ≡ turned number is_normal }
+{
+    if is_normal {
+        Notice::Normal(number)
+    } else {
+        Notice::Down(number)
+    }
+}
+
+/// The replicas of a group, watched by the driver's thread.
+#[derive(Drop)]
+pub(crate) struct Watch {
+    replicas: Vec<Watched>,
+    /// After so long with fewer than f+1 replicas that are normal the group is lost.
+    patience: Duration,
+    /// Since when that is so.
+    without_majority: Option<Duration>,
+}
+
+impl Watch {
+    /// Of a group that was not looked at yet, and is lost after so long without a majority.
+    pub(crate) fn new(
+        alloc: Global,
+        config: Config,
+        patience: Duration,
+    ) -> Result<Watch, AllocError> {
+        let mut replicas = Vec::new(alloc);
+        for _ in 0..config.group_size() {
+            replicas.push(Watched {
+                seen: Seen {
+                    since: None,
+                    is_told_down: false,
+                },
+                is_told_failed: false,
+                revival: None,
+            })?;
+        }
+        Ok(Watch {
+            replicas,
+            patience,
+            without_majority: None,
+        })
+    }
+
+    /// Notes what changed of a replica since the last look, as it shows now.
+    #[tactic(auto, using(crate::proofs::Noted::both, crate::proofs::Noted::none, crate::proofs::Noted::one))]
+    pub(crate) fn look_at(&mut self, number: u8, shown: Shown, now: Duration, journal: &mut Journal)
+        ensures { AreNoted journal.old journal.new }
+    {
+        if let Some(watched) = self.replicas.get_mut(usize::from(number)) {
+            watched.look(number, shown, now, journal);
+        }
+    }
+
+    /// Whether the group is lost, by whether a majority is normal now.
+    pub(crate) fn is_lost(&mut self, is_majority: bool, now: Duration) -> bool
+        ensures since { option_map as_nanos self.new.without_majority ≡ lapsed_since
+            (option_map as_nanos self.old.without_majority) is_majority (as_nanos now) }
+        ensures lost { result ≡ is_lost (as_nanos self.old.patience) (option_map as_nanos self.new.without_majority)
+            (as_nanos now) }
+    {
+        self.without_majority = lapsed_since(self.without_majority, is_majority, now);
+        match self.without_majority {
+            Some(since) => now.saturating_sub(since).as_nanos() >= self.patience.as_nanos(),
+            None => false,
+        }
+    }
+
+    /// Whether this replica is to be started anew now, as it shows.
+    pub(crate) fn is_due(&mut self, number: u8, shown: Shown, now: Duration) -> bool {
+        match self.replicas.get_mut(usize::from(number)) {
+            Some(watched) => watched.is_due(shown, now),
+            None => false,
+        }
+    }
+}

@@ -1,0 +1,22 @@
+//! What a service of the controller is opened with (`Host`), the bound on the runtime of its threads (`ServiceRuntime`),
+//! why it isn't to be had or can't go on (`Failed`), and what its clients did, counted and read by any thread
+//! (`Traffic`).
+//!
+//! ```rust
+//! let host = Host { rt, alloc: rt.alloc() };
+//! let traffic = Arc::new(host.alloc, Traffic::new())?; // Failed::Memory, where memory is wanting
+//! let socket = TcpListener::bind(&host.rt, ("127.0.0.1", 502))?; // Failed::Device, where the port is taken
+//! ```
+//!
+//! Proved: an error of std, as a service meets it, becomes the one of `Failed` that `specs/Failing` says.
+//!
+//! By its code alone: that `Traffic` counts what it is told.
+#![tactic(auto)]
+
+mod failed;
+mod host;
+mod traffic;
+
+pub use failed::Failed;
+pub use host::{Host, ServiceRuntime};
+pub use traffic::Traffic;

@@ -1,0 +1,26 @@
+//! A port of this machine, and sessions with those that connect to it, so many at once as there is something to serve
+//! them with: a `Door` takes connections, each place has a `Session`, and a `Listener` brings them together in threads
+//! of its own. It knows no protocol.
+//!
+//! ```rust
+//! let door = Door::open(&rt, 0)?; // any port that is free
+//! let listener = Listener::new(host, door, sessions, Duration::from_secs(60))?; // `sessions`: one for each place
+//! let open = listener.open()?; // connections are served from now on, at `open.port()`
+//! open.close(); // none is served any more
+//! ```
+//!
+//! Proved: each call is safe, and returns but for the waits that its bound allows; what fails is a device or memory.
+//!
+//! By its code alone, and tested through what is served (`serve_rows`, `failing_rows` and `console_rows` of
+//! `tests_threads`): that a connection gets a place that is free or is closed unanswered, that a session ends whose
+//! client is idle, and that `close` ends each session and each thread.
+#![tactic(auto)]
+
+mod door;
+mod listener;
+mod places;
+mod session;
+
+pub use door::Door;
+pub use listener::{Listener, OpenListener};
+pub use session::Session;

@@ -1,0 +1,84 @@
+//! The places for connections that are served.
+
+use std::alloc::{AllocError, Global};
+use std::net::{Shutdown, TcpStream};
+use std::sync::atomic::{AtomicBool, Ordering};
+use std::sync::{Mutex, Wait};
+
+/// A place for one session: free where it has no connection.
+#[derive(Drop)]
+struct Place<S: Drop> {
+    /// What connections are served with here: taken along while one is.
+    session: Option<S>,
+    stream: Option<TcpStream>,
+}
+
+/// The places, each with what serves its connections.
+#[derive(Drop)]
+pub(crate) struct Places<S: Drop> {
+    places: Vec<Mutex<Place<S>>>,
+    are_closed: AtomicBool,
+}
+
+impl<S: Drop> Places<S> {
+    /// A place for each of these.
+    pub(crate) fn new(alloc: Global, sessions: Vec<S>) -> Result<Places<S>, AllocError> {
+        let mut places = Vec::new(alloc);
+        for session in sessions {
+            places.push(Mutex::new(Place {
+                session: Some(session),
+                stream: None,
+            }))?;
+        }
+        Ok(Places {
+            places,
+            are_closed: AtomicBool::new(false),
+        })
+    }
+
+    /// Takes a free place for a connection, of which it keeps this handle: the number of the place. None where each is
+    /// taken, or they are closed.
+    pub(crate) fn take<R: Wait>(&self, rt: &R, stream: TcpStream) -> Option<usize> {
+        for (number, place) in self.places.iter().enumerate() {
+            let mut place = place.lock(rt);
+            if self.are_closed.load(Ordering::SeqCst) {
+                return None;
+            }
+            if place.stream.is_none() {
+                place.stream = Some(stream);
+                return Some(number);
+            }
+        }
+        None
+    }
+
+    /// What serves the connection of a place that was taken.
+    pub(crate) fn lend<R: Wait>(&self, rt: &R, number: usize) -> Option<S> {
+        let place = self.places.get(number)?;
+        place.lock(rt).session.take()
+    }
+
+    /// Gives it back.
+    pub(crate) fn give_back<R: Wait>(&self, rt: &R, number: usize, session: S) {
+        if let Some(place) = self.places.get(number) {
+            place.lock(rt).session = Some(session);
+        }
+    }
+
+    /// The place is free again.
+    pub(crate) fn leave<R: Wait>(&self, rt: &R, number: usize) {
+        if let Some(place) = self.places.get(number) {
+            place.lock(rt).stream = None;
+        }
+    }
+
+    /// Ends the reads and writes of each session, and lets no other begin.
+    pub(crate) fn close<R: Wait>(&self, rt: &R) {
+        self.are_closed.store(true, Ordering::SeqCst);
+        for place in &self.places {
+            if let Some(stream) = &place.lock(rt).stream {
+                let _ = stream.shutdown(Shutdown::Both);
+            }
+        }
+    }
+}

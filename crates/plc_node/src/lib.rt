@@ -1,0 +1,21 @@
+//! A served controller, put together: the replicas of a group and the driver that has them scan (`plc_driver`),
+//! sessions at a port of this machine (`modbus_server`), an operator's console at another (`plc_console`), and the
+//! journal that tells what changes (`plc_status`). It opens them in order and closes them in reverse; it has no loop,
+//! no protocol and no text.
+//!
+//! ```rust
+//! let node = Node { image, directory, stores, settings, status }; // a store for each replica
+//! let counts = node.run::<Brand, _, _>(host, NewList::new(), &mut err)?; // after as many scans as are asked for
+//! ```
+//!
+//! Proved: it ends well only after as many scans as are asked for, and with the line of a port on `err`, those of what
+//! changed, and nothing else; where it fails, with at most those.
+//!
+//! Tested: how threads, channels, sockets and locks are joined (`serve_rows`, `failing_rows` and `console_rows` of
+//! `tests_threads`).
+#![tactic(auto)]
+
+mod node;
+mod opening;
+
+pub use node::Node;

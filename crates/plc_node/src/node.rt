@@ -1,0 +1,122 @@
+//! A controller from the start of its replicas to their end.
+
+ghost use Rattle.std.specs.Prelude.{◌≡◌, IfOk, OnOk, Some, vec_len};
+ghost use Rattle.vr_model.specs.Groups.{group_size};
+ghost use Rattle.plc_status.specs.Notices.{IsAtMostServingTold, IsServingTold};
+
+use crate::opening::Ready;
+use il_loader::Image;
+use io_image::{Naming, NewList};
+use io_model::CountedWrite;
+use plc_driver::{Directory, Drive, Parts, links_over_channels, links_over_tcp};
+use plc_host::{Failed, Host, ServiceRuntime};
+use plc_settings::{Links, Settings};
+use plc_status::{Counts, Journal, StatusWriter};
+use std::net::{Net, TcpListener, TcpStream};
+use std::rt::Files;
+use vr_ports::Relink;
+use vr_threads::Starts;
+
+/// What a controller is made of that is to be served: its program's image, and a store of the directory for each
+/// replica, none of which is opened yet.
+#[derive(Drop)]
+pub struct Node<'a, S: Drop> {
+    pub image: Image,
+    pub directory: Directory<'a>,
+    pub stores: Vec<S>,
+    pub settings: Settings,
+    /// What is shown of it meanwhile.
+    pub status: StatusWriter,
+    ghost one_each: { vec_len stores ≡ group_size settings.config.f },
+}
+
+impl<S: Starts + Send + Drop + 'static> Node<'_, S> {
+    /// Serves the controller until it has released as many scans as are asked for, and ends each thread that it began.
+    /// Once it takes connections, `err` has the line that tells where, and then a line for each change. Where no client
+    /// was served, no file of a replica is left.
+    pub fn run<J, R, E: CountedWrite>(
+        self,
+        host: Host<R>,
+        list: NewList,
+        err: &mut E,
+    ) -> Result<Counts, Failed>
+    where
+        J: Naming + Send + Sync + 'static,
+        R: ServiceRuntime + Net<Listener = TcpListener, Stream = TcpStream> + Files,
+        requires list { list ≡ J.book }
+        ensures scans { IfOk result (λ counts. self.entry.settings.scans ≡ Some counts.scans) }
+        ensures told { OnOk result (IsServingTold E.CountedWrite err.old err.new) }
+        ensures at_most { IsAtMostServingTold E.CountedWrite err.old err.new }
+    {
+        match self.settings.links {
+            Links::Tcp => {
+                let links = links_over_tcp(host, &self.settings)?;
+                self.run_over::<J, R, _, E>(host, list, links, err)
+            }
+            Links::Channels => {
+                let links = links_over_channels(host, &self.settings)?;
+                self.run_over::<J, R, _, E>(host, list, links, err)
+            }
+        }
+    }
+
+    /// Serves the controller over these links, those of the replicas, then that of the driver, and last that of the
+    /// console if there is one.
+    fn run_over<J, R, L, E: CountedWrite>(
+        self,
+        host: Host<R>,
+        list: NewList,
+        mut links: Vec<L>,
+        err: &mut E,
+    ) -> Result<Counts, Failed>
+    where
+        J: Naming + Send + Sync + 'static,
+        R: ServiceRuntime + Net<Listener = TcpListener, Stream = TcpStream> + Files,
+        L: Relink + Send + Drop + 'static,
+        requires list { list ≡ J.book }
+        ensures scans { IfOk result (λ counts. self.entry.settings.scans ≡ Some counts.scans) }
+        ensures told { OnOk result (IsServingTold E.CountedWrite err.old err.new) }
+        ensures at_most { IsAtMostServingTold E.CountedWrite err.old err.new }
+    {
+        let Node {
+            image,
+            directory,
+            stores,
+            settings,
+            status,
+        } = self;
+        let Host { rt, alloc } = host;
+        let traffic = status.traffic()?;
+        let (ready, writer) = Ready::<R, L, J>::new(
+            host, list, &settings, &image, &mut links, traffic,
+        )?;
+        let (journal, printer) = Journal::new(alloc)?;
+        let parts = Parts {
+            links,
+            stores,
+            writer,
+            journal,
+            printer,
+            status,
+        };
+        let mut drive = match Drive::start(host, &settings, &image, parts) {
+            Ok(drive) => drive,
+            Err(failed) => {
+                directory.clear(rt, alloc);
+                return Err(failed);
+            }
+        };
+        match ready.open(host, directory) {
+            Ok(open) => {
+                let done = open.attend(&rt, &mut drive, err);
+                drive.end();
+                done
+            }
+            Err(failed) => {
+                drive.end();
+                directory.clear(rt, alloc);
+                Err(failed)
+            }
+        }
+    }
+}

@@ -1,7 +1,0 @@
-use Rattle.plc_serve.proofs.Endings.{reported}
-use Rattle.plc_serve.proofs.serving.served.Goals as goal
-
-pub returns-clause-reported : goal.returns-clause-reported
-returns-clause-reported g c =
-    let counts = c.in_ok-counts.counts in
-    reported g.F.CountedWrite c.args.settings.scans counts.crashes counts.scans counts.sessions counts.writes c.args.report.now c.control-done.new.report c.put_report.new.report c.in_ok-counts.ensures.scans c.in_ok-counts.ensures.opened c.in_ok-put_report.ensures.put

@@ -1,0 +1,13 @@
+use Rattle.std.proofs.Common.{List, ◌++◌, sym, ap, ◌∙◌}
+use Rattle.rtrb.specs.Ring.{known_items}
+use Rattle.plc_status.specs.declared.notice.Notice.{Notice}
+use Rattle.plc_status.proofs.Printing.{joined}
+use Rattle.plc_status.proofs.printer.Printer.finish.Goals as goal
+
+pub returns : goal.returns
+returns g c =
+    let there = known_items c.slots_beside.new.self in record {
+      notices = there;
+      left = sym c.slots_beside.ensures.producer.1 ∙ sym c.slots_beside.ensures.fifo ∙ ap (λ (xs : List Notice). xs ++ there) c.slots_beside.ensures.looked.1;
+      lines = joined g.E.CountedWrite there _ c.args.err.now c.print_known.new.err c.print_loss.new.err c.print_known.ensures.lines c.print_loss.ensures;
+    }

@@ -1,0 +1,3 @@
+pub mod Journal
+pub mod Notices
+pub mod Reports

@@ -1,0 +1,43 @@
+//! What is told where words ask for no work.
+
+ghost use Rattle.std.specs.Prelude.{OnOk};
+ghost use Rattle.std.specs.Io.KnownBytes.{Appends};
+ghost use Rattle.plc_words.specs.Telling.{IsToldOfWords};
+
+use crate::error::WordsError;
+use il_text::{Fault, put, tell};
+use io_model::CountedWrite;
+use std::io;
+use std::io::Write;
+
+/// The status of words that are no call of the program.
+const BAD_WORDS: u8 = 3;
+
+/// Tells why words ask for no work, and answers the status: 0 where help or the version was shown, 3 where the words
+/// are bad, and that of the fault where the stream failed or memory ran out.
+pub fn tell_words<W: Write, E: CountedWrite>(error: &WordsError, out: &mut W, err: &mut E) -> u8
+    ensures { IsToldOfWords E.CountedWrite error.now result (W.contents out.old) (W.contents out.new) err.old err.new }
+{
+    match error {
+        WordsError::Shown(text) => match shown(text.as_str(), out) {
+            Ok(()) => 0,
+            Err(error) => tell(Fault::from(error), err),
+        },
+        WordsError::Bad(text) => {
+            let _ = put(err, text.as_str().as_bytes());
+            BAD_WORDS
+        }
+        WordsError::NotText => {
+            let _ = put(err, b"error: a word is no text in UTF-8\n");
+            BAD_WORDS
+        }
+        WordsError::Memory => tell(Fault::Memory, err),
+    }
+}
+
+fn shown<W: Write>(text: &str, out: &mut W) -> io::Result<()>
+    ensures { OnOk result (Appends (W.contents out.old) (W.contents out.new) text.now) }
+{
+    out.write_all(text.as_bytes())?;
+    out.flush()
+}
