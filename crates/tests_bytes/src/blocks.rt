@@ -110,7 +110,7 @@ pub fn run(alloc: Global, kind: &str, body: &str) -> io::Result<String> {
     Ok(came)
 }
 
-fn four_words(text: &str) -> Option<[u64; 4]> {
+pub fn four_words(text: &str) -> Option<[u64; 4]> {
     let mut words = text.split_whitespace().map(hexadecimal);
     let (first, second) = (words.next()??, words.next()??);
     let (third, fourth) = (words.next()??, words.next()??);

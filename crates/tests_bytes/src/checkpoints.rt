@@ -1,6 +1,7 @@
 //! The checkpoint in front of a message's log as a row writes it: a line for each of its parts, in any order, before
 //! the lines of the log.
 
+use crate::blocks::four_words;
 use crate::messages::{answer, client, slot, value};
 use crate::notation::{behind, bytes_of, cells_of, number_of, unreadable};
 use il_model::{
@@ -34,7 +35,7 @@ fn phase(text: &str) -> Option<SavedPhase> {
 }
 
 /// What a controller is before its first scan that has nothing.
-fn cold(alloc: Global) -> Snapshot {
+pub fn cold(alloc: Global) -> Snapshot {
     Snapshot {
         image: Vec::new(alloc),
         variables: Vec::new(alloc),
@@ -84,7 +85,15 @@ fn deferred(rest: &str) -> Option<Deferred> {
     })
 }
 
-/// `instance kind=9 second=5 inputs TRUE T#5ms`: its words are 1, `second`, 0 and 0.
+/// The words of an instance: 1, `second=`, 0 and 0, or those behind `words`, in hexadecimal.
+fn words(front: &str) -> Option<[u64; 4]> {
+    match front.split_once(" words ") {
+        Some((_, words)) => four_words(words),
+        None => Some([1, number_of(front, "second=").unwrap_or(0), 0, 0]),
+    }
+}
+
+/// `instance kind=9 second=5 inputs TRUE T#5ms`.
 fn instance(alloc: Global, rest: &str) -> io::Result<SavedInstance> {
     let mut inputs: Vec<Value> = Vec::new(alloc);
     let (front, texts) = rest.split_once(" inputs").ok_or(unreadable())?;
@@ -92,11 +101,10 @@ fn instance(alloc: Global, rest: &str) -> io::Result<SavedInstance> {
         inputs.push(value(text).ok_or(unreadable())?)?;
     }
     let kind = code(front, "kind=").and_then(BlockKind::of_code);
-    let second = number_of(front, "second=").unwrap_or(0);
     Ok(SavedInstance {
         kind: kind.ok_or(unreadable())?,
         inputs,
-        words: [1, second, 0, 0],
+        words: words(front).ok_or(unreadable())?,
     })
 }
 
@@ -125,13 +133,24 @@ fn put_executed(checkpoint: &mut Checkpoint, rest: &str) -> Option<()> {
     Some(())
 }
 
-/// Puts what a line says; whether it speaks of a checkpoint.
-pub fn put(alloc: Global, checkpoint: &mut Checkpoint, line: &str) -> io::Result<bool> {
+/// Empties one of a snapshot's tables.
+fn empty(alloc: Global, snapshot: &mut Snapshot, table: &str) -> Option<()> {
+    match table {
+        "variables" => snapshot.variables = Vec::new(alloc),
+        "instances" => snapshot.instances = Vec::new(alloc),
+        "deferred" => snapshot.deferred = Vec::new(alloc),
+        "breaks" => snapshot.breaks = Vec::new(alloc),
+        "forces" => snapshot.forces = Vec::new(alloc),
+        _ => return None,
+    }
+    Some(())
+}
+
+/// Puts what a line says; whether it speaks of a snapshot.
+pub fn put_part(alloc: Global, snapshot: &mut Snapshot, line: &str) -> io::Result<bool> {
     let (name, rest) = line.split_once(' ').unwrap_or((line, ""));
-    let snapshot = &mut checkpoint.snapshot;
     match name {
-        "checkpoint" => checkpoint.base = number_of(rest, "base=").ok_or(unreadable())?,
-        "client" => put_executed(checkpoint, rest).ok_or(unreadable())?,
+        "no" => empty(alloc, snapshot, rest).ok_or(unreadable())?,
         "image" => snapshot.image = bytes_of(alloc, rest)?,
         "scan" => put_scan(snapshot, rest).ok_or(unreadable())?,
         "deferred" => snapshot.deferred.push(deferred(rest).ok_or(unreadable())?)?,
@@ -145,6 +164,17 @@ pub fn put(alloc: Global, checkpoint: &mut Checkpoint, line: &str) -> io::Result
             .push(rest.parse::<u16>().map_err(|_| unreadable())?)?,
         "force" => snapshot.forces.push(forced(rest).ok_or(unreadable())?)?,
         _ => return Ok(false),
+    }
+    Ok(true)
+}
+
+/// Puts what a line says; whether it speaks of a checkpoint.
+pub fn put(alloc: Global, checkpoint: &mut Checkpoint, line: &str) -> io::Result<bool> {
+    let (name, rest) = line.split_once(' ').unwrap_or((line, ""));
+    match name {
+        "checkpoint" => checkpoint.base = number_of(rest, "base=").ok_or(unreadable())?,
+        "client" => put_executed(checkpoint, rest).ok_or(unreadable())?,
+        _ => return put_part(alloc, &mut checkpoint.snapshot, line),
     }
     Ok(true)
 }

@@ -6,11 +6,16 @@
 mod blocks;
 mod checkpoints;
 mod clients;
+mod controllers;
 mod frames;
+mod groups;
 mod messages;
 mod notation;
+mod replicas;
 mod rows;
 mod sessions;
+mod stores;
+mod values;
 
 use std::process::ExitCode;
 use std::{env, fs, io};

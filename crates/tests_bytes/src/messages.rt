@@ -4,12 +4,13 @@
 use crate::checkpoints;
 use crate::notation::{behind, bytes_of, cells_of, hexadecimal, number_of, unreadable};
 use il_model::{
-    Answer, Command, ImageBytes, InImage, Literal, OutImage, Refusal, Slot, Stop, Value,
+    Answer, Command, ImageBytes, InImage, Literal, OutImage, Refusal, Slot, Snapshot, Stop, Value,
     literal_from,
 };
 use std::alloc::Global;
 use std::io;
 use vr_model::{Body, ClientNumber, Log, Message, Party, PrimaryState, Request};
+use vr_wire::write;
 
 pub fn client(text: &str) -> Option<ClientNumber> {
     ClientNumber::new(text.strip_prefix('C')?.parse::<u8>().ok()?)
@@ -36,7 +37,7 @@ pub fn slot(text: &str) -> Option<Slot> {
 
 /// A command: its name, and behind it a position in decimals, a slot in hexadecimal, or the cells and the moment of a
 /// scan.
-fn command(alloc: Global, text: &str) -> Option<Command> {
+pub fn command(alloc: Global, text: &str) -> Option<Command> {
     let (name, rest) = text.split_once(' ').unwrap_or((text, ""));
     Some(match name {
         "scan" => Command::Scan {
@@ -63,7 +64,7 @@ fn command(alloc: Global, text: &str) -> Option<Command> {
 }
 
 /// A request, as `C3 1 step`.
-fn request(alloc: Global, text: &str) -> Option<Request> {
+pub fn request(alloc: Global, text: &str) -> Option<Request> {
     let (who, rest) = text.split_once(' ')?;
     let (number, asked) = rest.split_once(' ')?;
     Some(Request {
@@ -221,4 +222,26 @@ pub fn message(alloc: Global, lines: &[&str]) -> io::Result<Message> {
         None => body_with_log(head, log(alloc, others)?).ok_or(unreadable())?,
     };
     Ok(Message { from, to, body })
+}
+
+pub fn frame_of(alloc: Global, message: &Message) -> io::Result<Vec<u8>> {
+    match write(alloc, message) {
+        Ok(frame) => Ok(frame),
+        Err(_) => Err(unreadable()),
+    }
+}
+
+/// The frame of a message whose log is a checkpoint with this snapshot.
+pub fn snapshot_frame(alloc: Global, snapshot: &Snapshot) -> io::Result<Vec<u8>> {
+    let mut checkpoint = checkpoints::nothing(alloc)?;
+    checkpoint.base = 1;
+    checkpoint.snapshot = snapshot.copy(alloc)?;
+    let log = Log::past(Box::new(alloc, checkpoint)?, Vec::new(alloc)).ok_or(unreadable())?;
+    let (from, to) = (Party::Replica(1), Party::Replica(0));
+    let body = Body::StartView {
+        view: 1,
+        commit_number: 1,
+        log,
+    };
+    frame_of(alloc, &Message { from, to, body })
 }

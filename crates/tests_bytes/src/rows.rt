@@ -2,7 +2,7 @@
 
 use crate::notation::{bytes_of, lines_of, plain, spread, unreadable};
 use crate::sessions::Exchange;
-use crate::{blocks, frames, sessions};
+use crate::{blocks, controllers, frames, groups, replicas, sessions, values};
 use std::alloc::{AllocError, Global};
 use std::io;
 use std::sync::Wait;
@@ -90,6 +90,13 @@ fn check_table<R: Wait>(
             let came = given.exchange.request(rt, alloc, cell, said);
             let reply = hexadecimals(alloc, said)?;
             found.count(alloc, line, reply.as_str(), came)?;
+        } else if title == "written request" {
+            let pdu = if said == "none" {
+                String::from_str(alloc, said)?
+            } else {
+                hexadecimals(alloc, said)?
+            };
+            found.count(alloc, line, pdu.as_str(), values::written(alloc, cell))?;
         } else if title == "byte replaced" {
             let letters = spread(alloc, said)?;
             found.count(alloc, line, letters.as_str(), frames::replaced(alloc, cell))?;
@@ -108,10 +115,17 @@ fn comes_out<R: Wait>(
     title: &str,
     cell: &str,
 ) -> io::Result<String> {
+    if let Some(image) = title.strip_prefix("slot in ") {
+        return controllers::slot(alloc, image, cell);
+    }
     let end = match title {
         "state" => return blocks::judged(alloc, cell),
         "kind" => return blocks::kind(alloc, cell),
         "field" => return blocks::field(alloc, cell),
+        "read reply" => return values::answered(alloc, cell),
+        "refusal of a snapshot" => return controllers::refusal(alloc, cell),
+        "group" => return groups::group(alloc, cell),
+        "choice of a log" => return groups::choice(alloc, cell),
         "count of releases" => return sessions::numbers_shown(rt, alloc, cell),
         "stream of frames" => return frames::stream(alloc, cell),
         "client" => given.exchange.with_client(rt, alloc, cell)?,
@@ -131,9 +145,11 @@ fn check_section(
     body: &str,
     found: &mut Found,
 ) -> io::Result<()> {
-    let (said, came) = match title.strip_prefix("calls ") {
-        Some(kind) => (plain(alloc, body)?, blocks::run(alloc, kind, body)),
-        None => match title {
+    let (said, came) = match title.split_once(' ') {
+        Some(("calls", kind)) => (plain(alloc, body)?, blocks::run(alloc, kind, body)),
+        Some(("controller", of)) => (plain(alloc, body)?, controllers::run(alloc, of, body)),
+        Some(("replicas", of)) => (plain(alloc, body)?, replicas::run(alloc, of, body)),
+        _ => match title {
             "frame" => (
                 hexadecimals(alloc, body)?,
                 frames::frame(alloc, given.message),

@@ -8,7 +8,9 @@ use io_image::{
     Naming, NewList, Release, ReleasedReader, Sample, Stage, StageBook, Staging, released,
 };
 use io_model::Counted;
-use modbus_server::{HeaderFault, Session, SessionEnd, SessionFault, serve_session};
+use modbus_server::{SessionEnd, serve_session};
+use modbus_wire::{HeaderFault, Session, SessionFault};
+use plc_host::{Host, Traffic};
 use std::alloc::{AllocError, Global};
 use std::io;
 use std::marker::Brand;
@@ -41,15 +43,22 @@ fn end_name(end: SessionEnd) -> &'static str {
     match end {
         SessionEnd::Closed => "closed",
         SessionEnd::Device => "device",
-        SessionEnd::Fault(fault) => fault_name(fault),
+        SessionEnd::Header(fault) => header_name(fault),
+        SessionEnd::Memory => "memory",
+    }
+}
+
+fn header_name(fault: HeaderFault) -> &'static str {
+    match fault {
+        HeaderFault::BadProtocol => "bad protocol",
+        HeaderFault::BadLength => "bad length",
     }
 }
 
 fn fault_name(fault: SessionFault) -> &'static str {
     match fault {
+        SessionFault::Header(fault) => header_name(fault),
         SessionFault::Memory => "memory",
-        SessionFault::Header(HeaderFault::BadProtocol) => "bad protocol",
-        SessionFault::Header(HeaderFault::BadLength) => "bad length",
     }
 }
 
@@ -70,7 +79,14 @@ fn talk<R: Wait, S: Staging, J: Naming>(
     let end = {
         let mut reads = Counted::new(&mut pieces);
         let mut counted = Counted::new(&mut writes);
-        serve_session(rt, alloc, &mut reads, &mut counted, staging, reader)
+        serve_session(
+            &Host { rt, alloc },
+            &Traffic::new(),
+            &mut reads,
+            &mut counted,
+            staging,
+            reader,
+        )
     };
     Talked {
         written: writes.taken,
@@ -332,8 +348,8 @@ fn publishing<R: Wait, J: Naming>(
     let mut book = StageBook::new(alloc);
     let mut taken = Vec::new(alloc);
     let end = serve_session(
-        rt,
-        alloc,
+        &Host { rt, alloc },
+        &Traffic::new(),
         &mut Counted::new(Publishing {
             writer: &mut writer,
             last: 0,

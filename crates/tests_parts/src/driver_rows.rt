@@ -1,7 +1,8 @@
 //! The scan driver, step by step, over a book and over a lock.
 
 use il_model::{Answer, Command, InImage, OutImage, Stop};
-use io_image::{Release, ScanDriver, Stage, StageBook, Staging};
+use io_driver::ScanDriver;
+use io_image::{Release, Stage, StageBook, Staging};
 use std::alloc::{AllocError, Global};
 use std::process::Abort;
 use std::test::Fail;

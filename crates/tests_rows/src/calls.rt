@@ -2,6 +2,7 @@
 
 use crate::given::Given;
 use io_model::Counted;
+use plc_tool::Group;
 use std::alloc::Global;
 use vr_model::Config;
 
@@ -35,6 +36,7 @@ impl Written {
     }
 }
 
+/// What a run over the commands ends with.
 pub fn ran(alloc: Global, given: &Given) -> Written {
     let mut written = Written::nothing(alloc);
     let mut out = Counted::new(&mut written.out);
@@ -52,21 +54,24 @@ pub fn ran(alloc: Global, given: &Given) -> Written {
 /// What a run of the schedule ends with, each replica with a checkpoint after every so many commands; none where there
 /// is no group of that size.
 pub fn simulated(alloc: Global, given: &Given, every: u16) -> Option<Written> {
-    let config = Config::new(given.failures, every)?;
+    let group = Group {
+        config: Config::new(given.failures, every)?,
+        budget: given.budget,
+    };
     let mut written = Written::nothing(alloc);
     let mut out = Counted::new(&mut written.out);
     written.status = plc_tool::sim(
         alloc,
         given.text.as_slice(),
         given.schedule.as_slice(),
-        &config,
-        given.budget,
+        &group,
         &mut out,
         &mut Counted::new(&mut written.err),
     );
     Some(written)
 }
 
+/// What the assembling of a text ends with.
 pub fn assembled(alloc: Global, text: &[u8]) -> Written {
     let mut written = Written::nothing(alloc);
     written.status = plc_tool::asm(
@@ -79,6 +84,7 @@ pub fn assembled(alloc: Global, text: &[u8]) -> Written {
     written
 }
 
+/// What the listing of an image ends with.
 pub fn listed(alloc: Global, image: &[u8]) -> Written {
     let mut written = Written::nothing(alloc);
     let mut out = Counted::new(&mut written.out);

@@ -174,7 +174,7 @@ fn made_visit<R: Net<Listener = TcpListener, Stream = TcpStream> + Clock>(
 }
 
 /// The port once it's told, and none where the controller ended first.
-fn told_port<R: Clock>(rt: &R, port: &AtomicU64) -> Option<u16> {
+pub fn told_port<R: Clock>(rt: &R, port: &AtomicU64) -> Option<u16> {
     for _ in 0..30_000u32 {
         let told = port.load(Ordering::SeqCst);
         if told != 0 {

@@ -13,10 +13,9 @@ use std::test::Fail;
 use std::thread::Threads;
 use std::time::Duration;
 use std::{thread, time};
-use vr_model::{Body, ClientNumber, Message, Party, Request};
-use vr_threads::{
-    ChannelLink, Clock, Cluster, Gate, Input, Link, MachineClock, Relink, Seat, Switchboard, Tick,
-};
+use vr_model::{Body, ClientNumber, Message, Party, Request, Standing, Status};
+use vr_ports::{Gate, Input, Link, Relink, Tick, Timer};
+use vr_threads::{ChannelLink, Cluster, ClusterConfig, MachineTimer, Seat, Shown, Switchboard};
 
 fn wire(alloc: Global) -> Result<Image, Fail> {
     match load(alloc, WIRE) {
@@ -25,13 +24,13 @@ fn wire(alloc: Global) -> Result<Image, Fail> {
     }
 }
 
-/// A clock that says Resend once.
+/// A timer that says Resend once.
 #[derive(Drop)]
-struct OnceClock {
+struct OnceTimer {
     said: bool,
 }
 
-impl Clock for OnceClock {
+impl Timer for OnceTimer {
     ghost ticks = { λ _. None };
 
     fn poll(&mut self) -> Tick {
@@ -69,10 +68,10 @@ impl<R: time::Clock + Drop> Gate for MeetingGate<R> {
         }
     }
 
-    fn after(&mut self, _call: u64, _normal: bool) {}
+    fn after(&mut self, _call: u64, _standing: Standing) {}
 }
 
-type MeetingSeat<R, L> = Seat<L, Shelf, OnceClock, MeetingGate<R>>;
+type MeetingSeat<R, L> = Seat<L, Shelf, OnceTimer, MeetingGate<R>>;
 
 /// The seat of a replica whose gate raises one flag and waits for the other.
 fn meeting_seat<R: time::Clock + Drop, L: Drop>(
@@ -85,7 +84,7 @@ fn meeting_seat<R: time::Clock + Drop, L: Drop>(
     Ok(Seat {
         link,
         store: Shelf::new(0),
-        clock: OnceClock { said: false },
+        timer: OnceTimer { said: false },
         gate: MeetingGate {
             rt,
             mine: Arc::try_clone(mine)?,
@@ -145,7 +144,12 @@ where
     if seats.len() != usize::from(config.group_size()) {
         return Err("another number of seats")?;
     }
-    match Cluster::start(&rt, alloc, config, &wire(alloc)?, budget, 3, seats) {
+    let common = ClusterConfig {
+        group: config,
+        budget,
+        turns: 3,
+    };
+    match Cluster::start(&rt, alloc, common, &wire(alloc)?, seats) {
         Ok(cluster) => cluster.join(&rt),
         Err(_) => return Err("no cluster")?,
     }
@@ -196,10 +200,10 @@ impl<R: time::Clock + Drop> Gate for HoldingGate<R> {
         }
     }
 
-    fn after(&mut self, _call: u64, _normal: bool) {}
+    fn after(&mut self, _call: u64, _standing: Standing) {}
 }
 
-type HoldingSeat<R, L> = Seat<L, Shelf, MachineClock<R>, HoldingGate<R>>;
+type HoldingSeat<R, L> = Seat<L, Shelf, MachineTimer<R>, HoldingGate<R>>;
 
 /// Three replicas on the machine's time, of which the last was started before. The first waits until it's let go.
 fn holding<R: time::Clock + Copy + Drop, L: Drop>(
@@ -215,7 +219,7 @@ fn holding<R: time::Clock + Copy + Drop, L: Drop>(
         seats.push(Seat {
             link,
             store: Shelf::new(if number == 2 { 4 } else { 0 }),
-            clock: MachineClock::new(rt, Duration::from_millis(500), Duration::from_millis(20)),
+            timer: MachineTimer::new(rt, Duration::from_millis(500), Duration::from_millis(20)),
             gate: HoldingGate {
                 rt,
                 goes: Arc::try_clone(flag)?,
@@ -266,16 +270,16 @@ fn is_answered<L: Link>(link: &mut L, client: ClientNumber, number: u64) -> bool
     false
 }
 
-type HoldingCluster<R, L> = Cluster<L, Shelf, MachineClock<R>, HoldingGate<R>>;
+type HoldingCluster<R, L> = Cluster<L, Shelf, MachineTimer<R>, HoldingGate<R>>;
 
 /// Whether a replica is normal, in time.
-fn gets_normal<R, L>(rt: &R, cluster: &HoldingCluster<R, L>, number: u8) -> bool
+fn gets_normal<R, L>(rt: &R, cluster: &mut HoldingCluster<R, L>, number: u8) -> bool
 where
     R: time::Clock + Send + Drop + 'static,
     L: Relink + Send + Drop + 'static,
 {
     for _ in 0..10_000u32 {
-        if cluster.is_normal(number) {
+        if cluster.shown(number).is_normal() {
             return true;
         }
         thread::sleep(rt, Duration::from_millis(1));
@@ -283,49 +287,80 @@ where
     false
 }
 
-/// What is seen of a group whose primary crashes and comes back: a step that has not been taken yet makes no replica
-/// normal, and a request is answered before the crash, after it, and once the replica is back.
+/// What is seen of a group: what shows of its first replica, and which of the things asked of it went well.
+type Seen = ([Shown; 4], [bool; 6]);
+
+/// What is seen of a group whose primary crashes and comes back. It shows before the first step of each of its starts,
+/// while it is down, and at the end. A request is answered before the crash, after it, and once the replica is back.
 fn seen_of_a_crash<R, L>(
     rt: &R,
     cluster: &mut HoldingCluster<R, L>,
     link: &mut L,
     client: ClientNumber,
     goes: &AtomicBool,
-) -> [bool; 9]
+) -> Seen
 where
     R: Threads + Wait + time::Clock + Copy + Send + Drop + 'static,
     L: Relink + Send + Drop + 'static,
 {
-    let early = cluster.is_normal(0);
+    let early = cluster.shown(0);
     goes.store(true, Ordering::SeqCst);
     let answered = is_answered(link, client, 1);
     let recovered = gets_normal(rt, cluster, 2);
     cluster.crash(rt, 0);
-    let down = cluster.is_normal(0);
+    let down = cluster.shown(0);
     let answered_without = is_answered(link, client, 2);
     goes.store(false, Ordering::SeqCst);
     let restarted = cluster.restart(rt, 0).is_ok();
-    let held = cluster.is_normal(0);
+    let held = cluster.shown(0);
     goes.store(true, Ordering::SeqCst);
     let back = gets_normal(rt, cluster, 0);
     let answered_again = is_answered(link, client, 3);
-    [
-        early,
-        answered,
-        recovered,
-        down,
-        answered_without,
-        restarted,
-        held,
-        back,
-        answered_again,
-    ]
+    let unknown = cluster.shown(3);
+    (
+        [early, down, held, unknown],
+        [
+            answered,
+            recovered,
+            answered_without,
+            restarted,
+            back,
+            answered_again,
+        ],
+    )
 }
 
-const WANTED: [bool; 9] = [false, true, true, false, true, true, false, true, true];
+/// A replica that is down and was started so often.
+fn down(starts: u64) -> Shown {
+    Shown {
+        standing: Standing {
+            status: Status::Down,
+            view: 0,
+            is_primary: false,
+        },
+        starts,
+        has_failed: false,
+    }
+}
+
+/// The primary of view 0, at its first start.
+const FIRST: Shown = Shown {
+    standing: Standing {
+        status: Status::Normal,
+        view: 0,
+        is_primary: true,
+    },
+    starts: 1,
+    has_failed: false,
+};
+
+/// What is to be seen.
+fn wanted() -> Seen {
+    ([FIRST, down(1), down(2), down(0)], [true; 6])
+}
 
 /// What is seen of a crash over these links, those of three replicas and that of a client.
-fn crashed<R, L>(rt: R, alloc: Global, mut links: Vec<L>) -> Result<[bool; 9], Fail>
+fn crashed<R, L>(rt: R, alloc: Global, mut links: Vec<L>) -> Result<Seen, Fail>
 where
     R: Threads + Wait + time::Clock + Copy + Send + Drop + 'static,
     L: Relink + Send + Drop + 'static,
@@ -338,8 +373,12 @@ where
     if seats.len() != usize::from(config.group_size()) {
         return Err("another number of seats")?;
     }
-    let Ok(mut cluster) = Cluster::start(&rt, alloc, config, &wire(alloc)?, budget, u64::MAX, seats)
-    else {
+    let common = ClusterConfig {
+        group: config,
+        budget,
+        turns: u64::MAX,
+    };
+    let Ok(mut cluster) = Cluster::start(&rt, alloc, common, &wire(alloc)?, seats) else {
         return Err("no cluster")?;
     };
     let seen = seen_of_a_crash(&rt, &mut cluster, &mut link, client, &goes);
@@ -358,9 +397,9 @@ fn a_group_goes_on_while_its_primary_crashes(rt: HostRuntime) -> Result<(), Fail
         over_channels.push(link_of(rt, alloc, &board, Party::Replica(replica))?)?;
     }
     over_channels.push(link_of(rt, alloc, &board, Party::Client(client))?)?;
-    assert_eq!(rt; crashed(rt, alloc, over_channels)?, WANTED);
+    assert_eq!(rt; crashed(rt, alloc, over_channels)?, wanted());
     let over_tcp = links(rt, alloc, 3, 1, Duration::from_millis(5))?;
-    assert_eq!(rt; crashed(rt, alloc, over_tcp)?, WANTED);
+    assert_eq!(rt; crashed(rt, alloc, over_tcp)?, wanted());
     Ok(())
 }
 
@@ -375,36 +414,36 @@ const fn said(body: Body) -> Message {
 
 /// A primary that comes up again has lost its view; another replica that does has not.
 #[test]
-fn a_clock_times_out_once_its_primary_comes_up_again(rt: HostRuntime) -> Result<(), Fail> {
-    let mut clock = MachineClock::new(rt, Duration::from_secs(600), Duration::from_secs(600));
+fn a_timer_times_out_once_its_primary_comes_up_again(rt: HostRuntime) -> Result<(), Fail> {
+    let mut timer = MachineTimer::new(rt, Duration::from_secs(600), Duration::from_secs(600));
     let up = Body::Recovery {
         nonce: 2,
         stored_view: 0,
     };
-    clock.heard(&said(up));
-    assert_eq!(rt; clock.poll(), Tick::None);
-    clock.heard(&said(Body::Commit {
+    timer.heard(&said(up));
+    assert_eq!(rt; timer.poll(), Tick::None);
+    timer.heard(&said(Body::Commit {
         view: 0,
         commit_number: 0,
     }));
-    assert_eq!(rt; clock.poll(), Tick::None);
+    assert_eq!(rt; timer.poll(), Tick::None);
     let up = Body::Recovery {
         nonce: 3,
         stored_view: 0,
     };
-    clock.heard(&said(up));
-    assert_eq!(rt; clock.poll(), Tick::Timeout);
-    assert_eq!(rt; clock.poll(), Tick::None);
+    timer.heard(&said(up));
+    assert_eq!(rt; timer.poll(), Tick::Timeout);
+    assert_eq!(rt; timer.poll(), Tick::None);
     Ok(())
 }
 
 /// Both later polls come late; before the first of them, the primary is heard.
 #[test]
-fn a_clock_times_out_unless_it_hears(rt: HostRuntime) -> Result<(), Fail> {
-    let mut clock = MachineClock::new(rt, Duration::from_millis(30), Duration::from_secs(600));
-    assert_eq!(rt; clock.poll(), Tick::None);
+fn a_timer_times_out_unless_it_hears(rt: HostRuntime) -> Result<(), Fail> {
+    let mut timer = MachineTimer::new(rt, Duration::from_millis(30), Duration::from_secs(600));
+    assert_eq!(rt; timer.poll(), Tick::None);
     thread::sleep(&rt, Duration::from_millis(40));
-    clock.heard(&Message {
+    timer.heard(&Message {
         from: Party::Replica(0),
         to: Party::Replica(1),
         body: Body::Commit {
@@ -412,8 +451,8 @@ fn a_clock_times_out_unless_it_hears(rt: HostRuntime) -> Result<(), Fail> {
             commit_number: 0,
         },
     });
-    assert_eq!(rt; clock.poll(), Tick::None);
+    assert_eq!(rt; timer.poll(), Tick::None);
     thread::sleep(&rt, Duration::from_millis(40));
-    assert_eq!(rt; clock.poll(), Tick::Timeout);
+    assert_eq!(rt; timer.poll(), Tick::Timeout);
     Ok(())
 }

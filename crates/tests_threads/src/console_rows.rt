@@ -7,8 +7,11 @@ use il_model::Budget;
 use io_image::NewList;
 use io_model::Counted;
 use plc_console::send_commands;
+use plc_host::Host;
 use plc_json::command_texts;
-use plc_serve::{Settings, serve};
+use plc_serve::{Service, serve};
+use plc_settings::{Links, Settings};
+use plc_status::StatusWriter;
 use std::alloc::Global;
 use std::io::{Read, Write};
 use std::marker::Brand;
@@ -86,6 +89,8 @@ struct Operator<R: Drop> {
     stream: Option<TcpStream>,
     /// The rows that came to pass.
     done: usize,
+    /// What came of a line.
+    line: Vec<u8>,
 }
 
 /// Sends bytes to a console, and reads as many in answer as are wanted: whether they are those.
@@ -193,11 +198,16 @@ impl<R: Net<Listener = TcpListener, Stream = TcpStream> + Drop> Operator<R> {
 
 impl<R: Net<Listener = TcpListener, Stream = TcpStream> + Drop> Write for Operator<R> {
     fn write(&mut self, bytes: &[u8]) -> io::Result<usize> {
+        self.line.extend_from_slice(bytes)?;
+        if !bytes.ends_with(b"\n") {
+            return Ok(bytes.len());
+        }
         if let Some(row) = ROWS.get(self.done) {
-            if bytes.starts_with(row.0) {
+            if self.line.as_slice().starts_with(row.0) {
                 self.work(row)?;
             }
         }
+        self.line.clear();
         Ok(bytes.len())
     }
 
@@ -213,7 +223,7 @@ fn free_port<R: Net<Listener = TcpListener, Stream = TcpStream>>(rt: &R) -> io::
 }
 
 /// How it is served: four scans, at any port, with a console at this one. Others come where no replica crashes.
-fn settings(console: u16, over_tcp: bool, crash: Option<u32>) -> Option<Settings> {
+fn settings(console: u16, links: Links, crash: Option<u32>) -> Option<Settings> {
     let idle = match crash {
         Some(_) => 20 * IDLE,
         None => IDLE,
@@ -223,9 +233,9 @@ fn settings(console: u16, over_tcp: bool, crash: Option<u32>) -> Option<Settings
         budget: Budget::new(100)?,
         port: 0,
         period: 20,
-        scans: 4,
+        scans: Some(4),
         idle,
-        over_tcp,
+        links,
         crash,
         lost_after: 60,
         console: Some(console),
@@ -246,10 +256,10 @@ fn stores<R: Files + Alloc<A = Global> + Copy + Drop>(
     Ok(stores)
 }
 
-/// Where the stores are, whether the links are connections, and behind which release the primary crashes, if it does.
-const CASES: [(&str, bool, Option<u32>); 2] = [
-    ("console", false, None),
-    ("console_crash", true, Some(1)),
+/// Where the stores are, how messages go, and after which release the primary crashes, if it does.
+const CASES: [(&str, Links, Option<u32>); 2] = [
+    ("console", Links::Channels, None),
+    ("console_crash", Links::Tcp, Some(1)),
 ];
 
 /// The same answers with a crash and without, behind which the controller ends well.
@@ -257,9 +267,9 @@ const CASES: [(&str, bool, Option<u32>); 2] = [
 fn an_operator_is_answered_the_same_over_a_crash(rt: HostRuntime) -> Result<(), Fail> {
     let alloc = rt.alloc();
     for case in CASES.iter() {
-        let (directory, over_tcp, crash) = *case;
+        let (directory, links, crash) = *case;
         let port = free_port(&rt)?;
-        let settings = settings(port, over_tcp, crash).ok_or("no settings")?;
+        let settings = settings(port, links, crash).ok_or("no settings")?;
         let stores = stores(rt, alloc, directory)?;
         if stores.len() != usize::from(settings.config.group_size()) {
             return Err("another number of stores")?;
@@ -271,15 +281,18 @@ fn an_operator_is_answered_the_same_over_a_crash(rt: HostRuntime) -> Result<(), 
             has_others: crash.is_none(),
             stream: None,
             done: 0,
+            line: Vec::new(alloc),
         };
         let status = serve::<Brand, _, _, _, _, _>(
-            rt,
-            alloc,
+            Host { rt, alloc },
             NewList::new(),
-            SOURCE,
-            String::from_str(alloc, directory)?,
-            stores,
-            settings,
+            Service {
+                source: SOURCE.to_vec(alloc)?,
+                directory: String::from_str(alloc, directory)?,
+                stores,
+                settings,
+                status: StatusWriter::new(alloc)?,
+            },
             &mut Counted::new(Vec::new(alloc)),
             &mut Vec::new(alloc),
             &mut Counted::new(&mut operator),

@@ -1,18 +1,25 @@
 //! A served controller whose replicas crash in turn: what sixteen clients see of it, and its report.
 ghost use Rattle.std.specs.Prelude.{◌≡◌};
 
+use crate::clients::told_port;
 use il_model::Budget;
 use io_image::NewList;
 use io_model::Counted;
-use plc_serve::{Settings, serve};
+use plc_host::Host;
+use plc_serve::{Service, serve};
+use plc_settings::{Links, Settings};
+use plc_status::{StatusReader, StatusWriter};
 use std::alloc::Global;
 use std::io::{Read, Write};
 use std::marker::Brand;
 use std::net::{Net, TcpListener, TcpStream};
 use std::process::Abort;
 use std::rt::Files;
+use std::sync::Arc;
+use std::sync::atomic::{AtomicU64, Ordering};
 use std::test::Fail;
 use std::thread::{JoinHandle, Threads};
+use std::time::Clock;
 use std::{fs, io, str, thread};
 use vr_model::Config;
 use vr_threads::FileStore;
@@ -112,12 +119,24 @@ fn client(mut stream: TcpStream, number: u8) -> Seen {
     seen
 }
 
-/// What takes the lines on standard error of a controller: once it tells its port, clients come to it.
+/// What takes the lines on standard error of a controller, and passes on the port. With each line it reads what shows
+/// of the controller.
 #[derive(Drop)]
-struct Clients<R: Drop> {
-    rt: R,
+struct Operator<'a> {
     text: Vec<u8>,
-    threads: Vec<JoinHandle<Seen>>,
+    port: &'a AtomicU64,
+    status: StatusReader,
+    /// How many releases showed last.
+    releases: u64,
+    goes_back: bool,
+}
+
+impl Operator<'_> {
+    fn look(&mut self) {
+        let releases = self.status.read().scans().releases;
+        self.goes_back = self.goes_back || releases < self.releases;
+        self.releases = releases;
+    }
 }
 
 /// The port that a line tells.
@@ -129,16 +148,12 @@ fn port_of(line: &[u8]) -> Option<u16> {
         .ok()
 }
 
-impl<R: Threads + Net<Listener = TcpListener, Stream = TcpStream> + Drop> Write for Clients<R> {
+impl Write for Operator<'_> {
     fn write(&mut self, bytes: &[u8]) -> io::Result<usize> {
         self.text.extend_from_slice(bytes)?;
+        self.look();
         if let Some(port) = port_of(self.text.as_slice()) {
-            for number in 0..CLIENTS {
-                let stream = TcpStream::connect(&self.rt, ("127.0.0.1", port))?;
-                if let Ok(thread) = thread::spawn(&self.rt, move || client(stream, number)) {
-                    self.threads.push(thread)?;
-                }
-            }
+            self.port.store(u64::from(port), Ordering::SeqCst);
         }
         Ok(bytes.len())
     }
@@ -164,9 +179,9 @@ fn settings() -> Result<Settings, Fail> {
         budget: Budget::new(10_000).ok_or("no budget")?,
         port: 0,
         period: 20,
-        scans: 40,
+        scans: Some(40),
         idle: 60,
-        over_tcp: true,
+        links: Links::Tcp,
         crash: Some(5),
         lost_after: 60,
         console: None,
@@ -200,6 +215,40 @@ fn joined<R: Threads>(rt: &R, threads: Vec<JoinHandle<Seen>>) -> (u8, u64, bool)
     (count, rounds, is_well)
 }
 
+/// What the clients came to, who come once the port is told.
+fn come_once_told<R>(rt: &R, alloc: Global, port: &AtomicU64) -> io::Result<(u8, u64, bool)>
+where
+    R: Threads + Net<Listener = TcpListener, Stream = TcpStream> + Clock,
+{
+    let mut threads = Vec::new(alloc);
+    if let Some(port) = told_port(rt, port) {
+        for number in 0..CLIENTS {
+            let stream = TcpStream::connect(rt, ("127.0.0.1", port))?;
+            if let Ok(thread) = thread::spawn(rt, move || client(stream, number)) {
+                threads.push(thread)?;
+            }
+        }
+    }
+    Ok(joined(rt, threads))
+}
+
+/// The thread in which the clients come.
+fn coming<R>(
+    rt: &R,
+    alloc: Global,
+    told: &Arc<AtomicU64>,
+) -> Result<JoinHandle<io::Result<(u8, u64, bool)>>, Fail>
+where
+    R: Threads + Net<Listener = TcpListener, Stream = TcpStream> + Clock + Copy + Send + 'static,
+{
+    let theirs = *rt;
+    let port = Arc::try_clone(told)?;
+    match thread::spawn(rt, move || come_once_told(&theirs, alloc, &port)) {
+        Ok(clients) => Ok(clients),
+        Err(_) => Err("no thread")?,
+    }
+}
+
 /// The numbers of crashes and of writes in a report of forty scans and sixteen sessions.
 fn reported(report: &[u8]) -> Option<(u64, u64)> {
     let text = str::from_utf8(report).ok()?.strip_suffix("}\n")?;
@@ -221,25 +270,39 @@ fn sixteen_clients_see_one_history(rt: HostRuntime) -> Result<(), Fail> {
     }
     let mut out = Vec::new(alloc);
     let mut report = Vec::new(alloc);
-    let mut clients = Clients {
-        rt,
+    let status = StatusWriter::new(alloc)?;
+    let told = Arc::new(alloc, AtomicU64::new(0))?;
+    let clients = coming(&rt, alloc, &told)?;
+    let mut operator = Operator {
         text: Vec::new(alloc),
-        threads: Vec::new(alloc),
+        port: &told,
+        status: status.reader()?,
+        releases: 0,
+        goes_back: false,
     };
     let status = serve::<Brand, _, _, _, _, _>(
-        rt,
-        alloc,
+        Host { rt, alloc },
         NewList::new(),
-        text.as_str().as_bytes(),
-        String::from_str(alloc, "failing")?,
-        stores,
-        settings,
+        Service {
+            source: text.into_bytes(),
+            directory: String::from_str(alloc, "failing")?,
+            stores,
+            settings,
+            status,
+        },
         &mut Counted::new(&mut report),
         &mut out,
-        &mut Counted::new(&mut clients),
+        &mut Counted::new(&mut operator),
     );
-    let Clients { threads, .. } = clients;
-    let (count, rounds, is_well) = joined(&rt, threads);
+    operator.look();
+    let shown = operator.status.read();
+    assert_eq!(rt;
+        (operator.releases, operator.goes_back, shown.sessions),
+        (40, false, 16)
+    );
+    // Clients that still wait for the port find none.
+    let _ = told.compare_exchange(0, u64::MAX, Ordering::SeqCst, Ordering::SeqCst);
+    let (count, rounds, is_well) = clients.join(&rt)?;
     let (crashes, writes) = reported(report.as_slice()).ok_or("no report")?;
     println!(rt; "{crashes} crashes, {rounds} rounds, {writes} writes")?;
     assert_eq!(rt; (status, out.as_slice()), (0, b"scans 40\n".as_slice()));

@@ -1,8 +1,9 @@
 //! What `plc asm` does to real files: an image is made, or written anew, or left as it is.
 
 use crate::shelf::WIRE;
+use io_file::NewFile;
 use io_model::Counted;
-use plc_tool::{NewFile, asm};
+use plc_tool::asm;
 use std::alloc::Global;
 use std::fs;
 use std::process::Abort;

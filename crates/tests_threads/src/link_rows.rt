@@ -11,7 +11,7 @@ use std::test::Fail;
 use std::thread;
 use std::time::{Duration, Instant};
 use vr_model::{Body, Message, Party};
-use vr_threads::{Cutter, Input, Link, Relink};
+use vr_ports::{Cutter, Input, Link, Relink};
 
 /// The links of two replicas, whose receives wait for so many milliseconds.
 fn two<R: Wait + Net<Listener = TcpListener, Stream = TcpStream> + Copy + Drop>(

@@ -5,7 +5,10 @@ use crate::clients::{ALL, Step, Visit, visit_once_told};
 use crate::falling::with_falling;
 use io_image::NewList;
 use io_model::Counted;
-use plc_serve::{ReportFile, Service, Settings, serve};
+use plc_host::Host;
+use plc_serve::{Service, serve};
+use plc_settings::Settings;
+use plc_status::ReportFile;
 use plc_words::{Words, read_words};
 use std::alloc::Global;
 use std::io::Write;
@@ -19,6 +22,7 @@ use std::test::Fail;
 use std::thread::{JoinHandle, Threads};
 use std::time::{Clock, Duration, Instant};
 use std::{fs, io, str, thread};
+use vr_threads::FileStore;
 
 /// `%QX0.0` is `%IX0.0`, `%QW0` is `%IW0`. It performs 10 instructions, and 7 more for each unit of `%IW1`.
 const COUNTS_DOWN: &[u8] = b"VAR N : INT; END_VAR
@@ -316,7 +320,7 @@ fn prepared<R: Files + Alloc<A = Global> + Copy + Drop>(
     rt: R,
     row: &Row,
     in_use: u16,
-) -> Result<Service<R>, Fail> {
+) -> Result<Service<FileStore<R>>, Fail> {
     prepare(&rt, row.before)?;
     fs::write(&rt, "served.il", row.source)?;
     let port = match row.port {
@@ -371,39 +375,28 @@ fn asked<R: Files + Alloc<A = Global> + Copy + Drop>(
     rt: R,
     row: &Row,
     port: u16,
-) -> Result<Service<R>, Fail> {
+) -> Result<Service<FileStore<R>>, Fail> {
     let Ok(
         Words::Serve {
             source,
             store,
-            scans,
-            config,
-            port: 5020,
-            period,
-            budget,
-            idle,
-            over_tcp,
-            crash,
-            report,
-            console: None,
+            report: None,
+            settings,
         },
     ) = read_words(rt.alloc(), row.words)
     else {
         return Err("other words")?;
     };
     let settings = Settings {
-        config,
-        budget,
         port,
-        period,
-        scans,
-        idle,
-        over_tcp,
-        crash,
         lost_after: row.lost_after,
-        console: None,
+        ..settings
     };
-    match Service::new(rt, source, store, report, settings) {
+    let host = Host {
+        rt,
+        alloc: rt.alloc(),
+    };
+    match Service::new(host, source, store, settings) {
         Ok(service) => Ok(service),
         Err(_) => Err("no service")?,
     }
@@ -479,27 +472,28 @@ fn controllers_are_served(rt: HostRuntime) -> Result<(), Fail> {
         let Service {
             source,
             directory,
-            report,
             stores,
             settings,
+            status,
         } = prepared(rt, row, in_use)?;
-        let stores = with_falling(alloc, stores, row.falls)?;
         let file = format!(in alloc; "{directory}/replica-0")?;
+        let service = Service {
+            source,
+            directory,
+            stores: with_falling(alloc, stores, row.falls)?,
+            settings,
+            status,
+        };
         let told = Arc::new(alloc, AtomicU64::new(0))?;
         let begun = Instant::now(&rt)?;
         let clients = visiting(&rt, alloc, &told, row.visit)?;
         let mut out = Vec::new(alloc);
         let mut operator = Operator::new(alloc, &told);
-        let path = report.as_ref().map(|path| path.as_str());
         let status = serve::<Brand, _, _, _, _, _>(
-            rt,
-            alloc,
+            Host { rt, alloc },
             NewList::new(),
-            source.as_slice(),
-            directory,
-            stores,
-            settings,
-            &mut Counted::new(ReportFile::at(&rt, path)),
+            service,
+            &mut Counted::new(ReportFile::at(&rt, None)),
             &mut out,
             &mut Counted::new(&mut operator),
         );

@@ -1,13 +1,14 @@
-//! The loop of one replica over scripted ends: what it polls, receives, tells its clock and calls its gate with.
+//! The loop of one replica over scripted ends: what it polls, receives, tells its timer and calls its gate with.
 use crate::shelf::{Shelf, WIRE, group_of_three};
 use il_loader::load;
 use il_model::{Command, InImage};
 use std::alloc::Global;
 use std::process::Abort;
 use std::test::Fail;
-use vr_model::{Body, ClientNumber, Message, Party, Request};
+use vr_model::{Body, ClientNumber, Message, Party, Request, Standing, Status};
+use vr_ports::{Gate, Input, Link, Tick, Timer};
 use vr_replica::Replica;
-use vr_threads::{Clock, Gate, Input, Link, Tick, serve};
+use vr_threads::{Seat, Shown, ShownWriter, serve};
 
 /// What a receive gives: the request of this number, from client 0.
 #[derive(Clone, Copy)]
@@ -72,17 +73,17 @@ impl<R: Abort + Drop> Link for ScriptedLink<'_, R> {
 
 /// Says what is written, and then nothing. It keeps what it said, and counts what was heard.
 #[derive(Drop)]
-struct ScriptedClock<'a, R: Abort + Drop> {
+struct ScriptedTimer<'a, R: Abort + Drop> {
     rt: R,
     script: &'a [Tick],
     said: Vec<Tick>,
     heard: u64,
 }
 
-impl<R: Abort + Drop> Clock for ScriptedClock<'_, R> {
+impl<R: Abort + Drop> Timer for ScriptedTimer<'_, R> {
     ghost use Rattle.std.specs.Prelude.{Some};
 
-    ghost ticks = { λ c. Some c.said.items };
+    ghost ticks = { λ t. Some t.said.items };
 
     fn poll(&mut self) -> Tick {
         let tick = match self.script.get(self.said.len()) {
@@ -129,10 +130,10 @@ impl Gate for CountingGate {
         self.in_turn = self.in_turn && call == self.begun && call == self.ended.saturating_add(1);
     }
 
-    fn after(&mut self, call: u64, normal: bool) {
+    fn after(&mut self, call: u64, standing: Standing) {
         self.ended = self.ended.saturating_add(1);
         self.in_turn = self.in_turn && call == self.ended && call == self.begun;
-        if normal {
+        if standing.status == Status::Normal {
             self.normal = self.normal.saturating_add(1);
         }
     }
@@ -142,53 +143,49 @@ impl Gate for CountingGate {
 /// replica was normal.
 type Counts = (usize, usize, u64, usize, u64, u64);
 
-/// Replica 0 is served for so many turns.
+/// Replica 0 is served for so many turns. The counts, and what shows of it at the end.
 fn served<R: Abort + Copy + Drop>(
     rt: R,
     alloc: Global,
     turns: u64,
     ticks: &[Tick],
     inputs: &[Given],
-) -> Result<Counts, Fail> {
+) -> Result<(Counts, Shown), Fail> {
     let (config, budget) = group_of_three()?;
     let client = ClientNumber::new(0).ok_or("no client")?;
     let Ok(image) = load(alloc, WIRE) else {
         return Err("no image")?;
     };
     let mut replica = Replica::new(alloc, config, 0, image, budget)?;
-    let mut link = ScriptedLink {
-        rt,
-        alloc,
-        script: inputs,
-        client,
-        given: Vec::new(alloc),
-        sent: Vec::new(alloc),
+    let mut shown = ShownWriter::new(alloc)?;
+    let mut seat = Seat {
+        link: ScriptedLink {
+            rt,
+            alloc,
+            script: inputs,
+            client,
+            given: Vec::new(alloc),
+            sent: Vec::new(alloc),
+        },
+        store: Shelf::new(0),
+        timer: ScriptedTimer {
+            rt,
+            script: ticks,
+            said: Vec::new(alloc),
+            heard: 0,
+        },
+        gate: CountingGate::new(),
     };
-    let mut clock = ScriptedClock {
-        rt,
-        script: ticks,
-        said: Vec::new(alloc),
-        heard: 0,
-    };
-    let mut gate = CountingGate::new();
-    let mut store = Shelf::new(0);
-    serve(
-        alloc,
-        &mut replica,
-        &mut link,
-        &mut store,
-        &mut clock,
-        &mut gate,
-        turns,
+    serve(alloc, &mut replica, &mut seat, &mut shown, turns);
+    let counts = (
+        seat.timer.said.len(),
+        seat.link.given.len(),
+        seat.timer.heard,
+        seat.link.sent.len(),
+        seat.gate.steps(),
+        seat.gate.normal,
     );
-    Ok((
-        clock.said.len(),
-        link.given.len(),
-        clock.heard,
-        link.sent.len(),
-        gate.steps(),
-        gate.normal,
-    ))
+    Ok((counts, shown.reader()?.read()))
 }
 
 /// A request, PREPARE to two; resend, the same; nothing; the request again, which is dropped; a timeout, which begins a
@@ -212,15 +209,59 @@ const INPUTS: [Given; 4] = [
 #[test]
 fn each_turn_takes_one_event(rt: HostRuntime) -> Result<(), Fail> {
     let alloc = rt.alloc();
-    assert_eq!(rt; served(rt, alloc, 0, &TICKS, &INPUTS)?, (0, 0, 0, 0, 0, 0));
-    assert_eq!(rt; served(rt, alloc, 1, &TICKS, &INPUTS)?, (1, 1, 1, 2, 1, 1));
-    assert_eq!(rt; served(rt, alloc, 2, &TICKS, &INPUTS)?, (2, 1, 1, 4, 2, 2));
-    assert_eq!(rt; served(rt, alloc, 4, &TICKS, &INPUTS)?, (4, 3, 2, 4, 3, 3));
-    assert_eq!(rt; served(rt, alloc, 5, &TICKS, &INPUTS)?, (5, 3, 2, 6, 4, 3));
     assert_eq!(rt;
-        served(rt, alloc, 100, &TICKS, &INPUTS)?,
+        served(rt, alloc, 0, &TICKS, &INPUTS)?.0,
+        (0, 0, 0, 0, 0, 0)
+    );
+    assert_eq!(rt;
+        served(rt, alloc, 1, &TICKS, &INPUTS)?.0,
+        (1, 1, 1, 2, 1, 1)
+    );
+    assert_eq!(rt;
+        served(rt, alloc, 2, &TICKS, &INPUTS)?.0,
+        (2, 1, 1, 4, 2, 2)
+    );
+    assert_eq!(rt;
+        served(rt, alloc, 4, &TICKS, &INPUTS)?.0,
+        (4, 3, 2, 4, 3, 3)
+    );
+    assert_eq!(rt;
+        served(rt, alloc, 5, &TICKS, &INPUTS)?.0,
+        (5, 3, 2, 6, 4, 3)
+    );
+    assert_eq!(rt;
+        served(rt, alloc, 100, &TICKS, &INPUTS)?.0,
         (6, 4, 2, 6, 4, 3)
     );
-    assert_eq!(rt; served(rt, alloc, 9, &[], &[])?, (9, 9, 0, 0, 0, 0));
+    assert_eq!(rt; served(rt, alloc, 9, &[], &[])?.0, (9, 9, 0, 0, 0, 0));
+    Ok(())
+}
+
+/// What shows of a replica in this status and view; it was never started.
+const fn showing(status: Status, view: u64, is_primary: bool) -> Shown {
+    Shown {
+        standing: Standing {
+            status,
+            view,
+            is_primary,
+        },
+        starts: 0,
+        has_failed: false,
+    }
+}
+
+/// Before its first step a replica shows what it showed before it was served.
+#[test]
+fn each_step_shows(rt: HostRuntime) -> Result<(), Fail> {
+    let alloc = rt.alloc();
+    let normal = showing(Status::Normal, 0, true);
+    let changing = showing(Status::ViewChange, 1, false);
+    assert_eq!(rt;
+        served(rt, alloc, 0, &TICKS, &INPUTS)?.1,
+        showing(Status::Down, 0, false)
+    );
+    assert_eq!(rt; served(rt, alloc, 1, &TICKS, &INPUTS)?.1, normal);
+    assert_eq!(rt; served(rt, alloc, 4, &TICKS, &INPUTS)?.1, normal);
+    assert_eq!(rt; served(rt, alloc, 100, &TICKS, &INPUTS)?.1, changing);
     Ok(())
 }

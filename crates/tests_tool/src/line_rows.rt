@@ -1,9 +1,10 @@
 //! The lines of answers and of faults.
 
 use il_model::{Answer, Cells, OutImage, Refusal, Stop, Value};
+use il_text::{AnswerLine, Fault};
 use io_model::Counted;
 use plc_json::JsonFault;
-use plc_tool::{AnswerLine, Fault};
+use plc_tool::fault_of;
 use std::alloc::{AllocError, Global};
 use std::io;
 use std::process::Abort;
@@ -75,10 +76,7 @@ fn answers_print_their_lines(rt: HostRuntime) -> Result<(), Fail> {
 fn tell(rt: &impl Abort, alloc: Global, rows: &[(Fault, u8, &[u8])]) {
     for (fault, status, line) in rows.iter() {
         let mut err = Vec::new(alloc);
-        assert_eq!(rt;
-            plc_tool::tell(*fault, &mut Counted::new(&mut err)),
-            *status
-        );
+        assert_eq!(rt; il_text::tell(*fault, &mut Counted::new(&mut err)), *status);
         assert_eq!(rt; err.as_slice(), *line);
     }
 }
@@ -124,14 +122,14 @@ fn other_faults_print_their_lines(rt: HostRuntime) {
     };
     let rows: [(Fault, u8, &[u8]); 9] = [
         (Fault::Commands, 1, b"plc: commands\n"),
-        (Fault::from(JsonFault::Shape), 1, b"plc: commands\n"),
+        (fault_of(JsonFault::Shape), 1, b"plc: commands\n"),
         (Fault::Schedule, 1, b"plc: schedule\n"),
         (refused_event, 1, b"plc: schedule 3 2\n"),
         (Fault::Device, 2, b"plc: device\n"),
         (Fault::from(no_file), 2, b"plc: device\n"),
         (Fault::Memory, 2, b"plc: memory\n"),
         (Fault::from(no_memory), 2, b"plc: memory\n"),
-        (Fault::from(JsonFault::Memory), 2, b"plc: memory\n"),
+        (fault_of(JsonFault::Memory), 2, b"plc: memory\n"),
     ];
     tell(&rt, rt.alloc(), &rows);
 }

@@ -1,8 +1,8 @@
 //! Streams that fail, and commands that couldn't be read.
 
 use il_model::Budget;
+use il_text::Fault;
 use io_model::Counted;
-use plc_tool::Fault;
 use std::alloc::Global;
 use std::io;
 use std::io::Write;
@@ -137,7 +137,12 @@ fn an_image_that_cannot_be_written_is_a_device_fault(rt: HostRuntime) {
 /// What a run with this source answers whose commands couldn't be read: its status, and the line of its fault.
 fn unread(alloc: Global, source: &[u8]) -> (u8, Vec<u8>) {
     let mut err = Vec::new(alloc);
-    let status = plc_tool::run_unread(alloc, source, Fault::Device, &mut Counted::new(&mut err));
+    let status = plc_tool::run_without_commands(
+        alloc,
+        source,
+        Fault::Device,
+        &mut Counted::new(&mut err),
+    );
     (status, err)
 }
 

@@ -2,7 +2,8 @@
 
 use il_model::Budget;
 use io_model::Counted;
-use plc_words::{Words, WordsError, read_words};
+use plc_settings::{Links, Settings};
+use plc_words::{Words, WordsError, read_words, tell_words};
 use std::alloc::{AllocError, Global};
 use std::io;
 use std::process::Abort;
@@ -35,42 +36,64 @@ fn sim(failures: u8, every: u16) -> Result<Words<'static>, Fail> {
     })
 }
 
-/// So many scans of `a.il`, with stores in `d`; with crashes, a report in `r` and a console at that port.
-fn serve(
-    scans: u32,
-    failures: u8,
-    every: u16,
-    port: u16,
-    period: u32,
-    idle: u32,
-    crash: Option<u32>,
-) -> Result<Words<'static>, Fail> {
-    Ok(Words::Serve {
+/// How it is served where no option says otherwise: without an end.
+fn settings() -> Result<Settings, Fail> {
+    Ok(Settings {
+        config: Config::new(1, 64).ok_or("no config")?,
+        budget: Budget::new(10_000).ok_or("no budget")?,
+        port: 5020,
+        period: 100,
+        scans: None,
+        idle: 300,
+        links: Links::Tcp,
+        crash: None,
+        lost_after: 60,
+        console: None,
+    })
+}
+
+/// `a.il` is served with stores in `d`.
+fn serve(report: Option<&'static str>, settings: Settings) -> Words<'static> {
+    Words::Serve {
         source: "a.il",
         store: "d",
-        scans,
-        config: Config::new(failures, every).ok_or("no config")?,
-        port,
-        period,
-        budget: Budget::new(10_000).ok_or("no budget")?,
-        idle,
-        over_tcp: true,
-        crash,
-        report: match crash {
-            Some(_) => Some("r"),
-            None => None,
-        },
-        console: match crash {
-            Some(_) => Some(port),
-            None => None,
-        },
+        report,
+        settings,
+    }
+}
+
+/// Each number is the greatest that is taken.
+fn greatest() -> Result<Settings, Fail> {
+    Ok(Settings {
+        config: Config::new(3, 65_535).ok_or("no config")?,
+        port: 65_535,
+        period: 4_294_967_295,
+        scans: Some(4_294_967_295),
+        idle: 4_294_967_295,
+        crash: Some(4_294_967_295),
+        console: Some(65_535),
+        ..settings()?
+    })
+}
+
+/// Each number is the least that is taken.
+fn least() -> Result<Settings, Fail> {
+    Ok(Settings {
+        port: 1,
+        period: 1,
+        scans: Some(1),
+        idle: 1,
+        links: Links::Channels,
+        crash: Some(1),
+        console: Some(1),
+        ..settings()?
     })
 }
 
 #[test]
 fn words_ask_to_serve(rt: HostRuntime) -> Result<(), Fail> {
-    let first: &[&str] = &["plc", "serve", "a.il", "--store", "d", "--scans", "1"];
-    let greatest: &[&str] = &[
+    let first: &[&str] = &["plc", "serve", "a.il", "--store", "d"];
+    let last: &[&str] = &[
         "plc",
         "serve",
         "--scans=4294967295",
@@ -85,14 +108,16 @@ fn words_ask_to_serve(rt: HostRuntime) -> Result<(), Fail> {
         "--console=65535",
         "a.il",
     ];
-    let least: &[&str] = &[
+    let middle: &[&str] = &[
         "plc",
         "serve",
         "a.il",
         "--store",
         "d",
+        "--links",
+        "channel",
         "--scans",
-        "9",
+        "1",
         "--port",
         "1",
         "--period",
@@ -107,20 +132,9 @@ fn words_ask_to_serve(rt: HostRuntime) -> Result<(), Fail> {
         "1",
     ];
     let rows: [(&[&str], Words); 3] = [
-        (first, serve(1, 1, 64, 5020, 100, 300, None)?),
-        (
-            greatest,
-            serve(
-                4_294_967_295,
-                3,
-                65_535,
-                65_535,
-                4_294_967_295,
-                4_294_967_295,
-                Some(4_294_967_295),
-            )?,
-        ),
-        (least, serve(9, 1, 64, 1, 1, 1, Some(1))?),
+        (first, serve(None, settings()?)),
+        (middle, serve(Some("r"), least()?)),
+        (last, serve(Some("r"), greatest()?)),
     ];
     ask_for(&rt, rt.alloc(), &rows);
     Ok(())
@@ -176,7 +190,7 @@ fn told(alloc: Global, given: &[&str]) -> Result<(u8, String, String), Fail> {
     let mut err = Vec::new(alloc);
     let status = match read_words(alloc, given) {
         Ok(_) => return Err(Fail::from("they ask for work")),
-        Err(error) => plc_tool::tell_words(&error, &mut out, &mut Counted::new(&mut err)),
+        Err(error) => tell_words(&error, &mut out, &mut Counted::new(&mut err)),
     };
     Ok((status, String::from_utf8(out)?, String::from_utf8(err)?))
 }
@@ -322,14 +336,10 @@ fn words_of_sim_out_of_range_are_bad(rt: HostRuntime) -> Result<(), Fail> {
 
 #[test]
 fn words_of_serve_out_of_range_are_bad(rt: HostRuntime) -> Result<(), Fail> {
-    let rows: [Row; 12] = [
+    let rows: [Row; 11] = [
         (
             &["--scans", "1"],
             "error: the following required arguments were not provided:\n  --store <DIR>\n",
-        ),
-        (
-            &["--store", "d"],
-            "error: the following required arguments were not provided:\n  --scans <N>\n",
         ),
         (
             &["--store", "", "--scans", "1"],
@@ -381,14 +391,14 @@ fn words_without_text_are_bad(rt: HostRuntime) {
     let mut err = Vec::new(rt.alloc());
     let unread = WordsError::from(io::Error::from(io::ErrorKind::InvalidData));
     assert_eq!(rt;
-        plc_tool::tell_words(&unread, &mut out, &mut Counted::new(&mut err)),
+        tell_words(&unread, &mut out, &mut Counted::new(&mut err)),
         3
     );
     let line = b"error: a word is no text in UTF-8\n".as_slice();
     assert_eq!(rt; err.as_slice(), line);
     let memory = WordsError::from(AllocError);
     assert_eq!(rt;
-        plc_tool::tell_words(&memory, &mut out, &mut Counted::new(&mut err)),
+        tell_words(&memory, &mut out, &mut Counted::new(&mut err)),
         2
     );
 }

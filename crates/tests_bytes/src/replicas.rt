@@ -1,0 +1,271 @@
+//! Replicas of a group of three: events, what they make a replica send, and what it is then.
+
+use crate::controllers::image;
+use crate::messages::{frame_of, message, request};
+use crate::notation::{behind, lines_of, number_of, unreadable};
+use crate::stores::Store;
+use il_model::Budget;
+use std::alloc::Global;
+use std::io;
+use vr_model::{Config, Event, Message, Party};
+use vr_replica::{Replica, StepFault};
+
+/// A replica with its store.
+#[derive(Drop)]
+struct Node {
+    number: u8,
+    replica: Replica,
+    store: Store,
+}
+
+/// Replicas, and all messages that they sent.
+#[derive(Drop)]
+struct Group {
+    nodes: Vec<Node>,
+    sent: Vec<Message>,
+}
+
+/// What happens to a replica.
+#[derive(Drop)]
+enum Happens {
+    Event(Event),
+    Crash,
+}
+
+/// The number of a replica, as `R1`.
+fn number(text: &str) -> Option<u8> {
+    text.strip_prefix('R')?.parse::<u8>().ok()
+}
+
+fn code(text: &str, name: &str, otherwise: u64) -> Option<u16> {
+    u16::try_from(number_of(text, name).unwrap_or(otherwise)).ok()
+}
+
+/// The replica of this number, as `every=1 image=494c..` and maybe `is=down` say.
+fn replica(alloc: Global, number: u8, text: &str) -> io::Result<Replica> {
+    let every = code(text, "every=", 0).ok_or(unreadable())?;
+    let config = Config::new(1, every).ok_or(unreadable())?;
+    let budget = Budget::new(10_000).ok_or(unreadable())?;
+    let image = image(alloc, behind(text, "image=").ok_or(unreadable())?)?;
+    Ok(match behind(text, "is=") {
+        None => Replica::new(alloc, config, number, image, budget)?,
+        Some(_) => Replica::down(alloc, config, number, image, budget)?,
+    })
+}
+
+fn new_node(alloc: Global, number: u8, text: &str) -> io::Result<Node> {
+    Ok(Node {
+        number,
+        replica: replica(alloc, number, text)?,
+        store: Store::of(text),
+    })
+}
+
+/// The replicas of these numbers.
+fn nodes(alloc: Global, text: &str) -> io::Result<Vec<Node>> {
+    let mut nodes = Vec::new(alloc);
+    for word in text.split_whitespace() {
+        if let Some(number) = number(word) {
+            nodes.push(new_node(alloc, number, text)?)?;
+        }
+    }
+    Ok(nodes)
+}
+
+/// A message, its lines with `, ` between them.
+fn written(alloc: Global, text: &str) -> io::Result<Message> {
+    let mut lines = Vec::new(alloc);
+    for line in text.split(", ") {
+        lines.push(line)?;
+    }
+    message(alloc, lines.as_slice())
+}
+
+/// Whether a message is as it's written.
+fn is_written(alloc: Global, sent: &Message, text: &str) -> io::Result<bool> {
+    let written = written(alloc, text)?;
+    Ok(frame_of(alloc, sent)?.as_slice() == frame_of(alloc, &written)?.as_slice())
+}
+
+/// Whether messages are as they're written, with `; ` between them.
+fn are_written(alloc: Global, sent: &[Message], text: &str) -> io::Result<bool> {
+    let mut rest = sent;
+    for text in text.split("; ") {
+        let [first, others @ ..] = rest else {
+            return Ok(false);
+        };
+        if !is_written(alloc, first, text)? {
+            return Ok(false);
+        }
+        rest = others;
+    }
+    Ok(rest.is_empty())
+}
+
+impl Node {
+    /// What an event makes it send, or its fault.
+    fn step(&mut self, alloc: Global, happens: Happens) -> Result<Vec<Message>, StepFault> {
+        match happens {
+            Happens::Event(event) => self.replica.step(alloc, event, &mut self.store),
+            Happens::Crash => {
+                self.replica.crash(alloc);
+                Ok(Vec::new(alloc))
+            }
+        }
+    }
+
+    /// What it is, and its commit number.
+    fn standing(&self, alloc: Global) -> io::Result<String> {
+        let commit = self.replica.commit();
+        let standing = if self.replica.is_down() {
+            "down"
+        } else if self.replica.is_normal() {
+            "normal"
+        } else {
+            "not normal"
+        };
+        Ok(format!(in alloc; "{standing} commit={commit}")?)
+    }
+
+    /// Whether its log has this entry, as `op=1 C0 1 step`.
+    fn has(&self, alloc: Global, text: &str) -> Option<bool> {
+        let (place, asked) = text.split_once(' ')?;
+        let place = number_of(place, "op=")?.checked_sub(1)?;
+        Some(self.replica.entry(place) == Some(&request(alloc, asked)?))
+    }
+
+    /// How many of the first entries its log has.
+    fn entries(&self) -> usize {
+        (0u64..8)
+            .filter(|place| self.replica.entry(*place).is_some())
+            .count()
+    }
+
+    /// Whether its log has just these entries, or how many it has.
+    fn log(&self, alloc: Global, said: &str) -> io::Result<String> {
+        let mut count = 0usize;
+        for text in said.split(", ") {
+            if text != "none" {
+                if !self.has(alloc, text).ok_or(unreadable())? {
+                    return Ok(format!(in alloc; "not {text}")?);
+                }
+                count = count.saturating_add(1);
+            }
+        }
+        let entries = self.entries();
+        if entries == count {
+            Ok(String::from_str(alloc, said)?)
+        } else {
+            Ok(format!(in alloc; "{entries} entries")?)
+        }
+    }
+}
+
+impl Group {
+    fn place(&self, number: u8) -> io::Result<usize> {
+        let place = self.nodes.iter().position(|node| node.number == number);
+        place.ok_or(unreadable())
+    }
+
+    fn node(&self, name: &str) -> io::Result<&Node> {
+        let place = self.place(number(name).ok_or(unreadable())?)?;
+        self.nodes.get(place).ok_or(unreadable())
+    }
+
+    /// What an event makes a replica of this number send, or its fault.
+    fn step(
+        &mut self,
+        alloc: Global,
+        number: u8,
+        happens: Happens,
+    ) -> io::Result<Result<Vec<Message>, StepFault>> {
+        let place = self.place(number)?;
+        let node = self.nodes.get_mut(place).ok_or(unreadable())?;
+        Ok(node.step(alloc, happens))
+    }
+
+    /// A message comes; to a client nothing happens.
+    fn deliver(
+        &mut self,
+        alloc: Global,
+        message: Message,
+    ) -> io::Result<Result<Vec<Message>, StepFault>> {
+        match message.to {
+            Party::Client(_) => Ok(Ok(Vec::new(alloc))),
+            Party::Replica(number) => {
+                self.step(alloc, number, Happens::Event(Event::Message(message)))
+            }
+        }
+    }
+
+    /// A copy of the message at this place among all that were sent.
+    fn message(&self, alloc: Global, place: &str) -> io::Result<Message> {
+        let place = place.parse::<usize>().ok().ok_or(unreadable())?;
+        Ok(self.sent.get(place).ok_or(unreadable())?.copy(alloc)?)
+    }
+
+    /// What happens: `timeout R1`, `resend R1`, `restart R1 7` with a nonce, `crash R1`, `deliver 2`, or a message.
+    fn happen(&mut self, alloc: Global, text: &str) -> io::Result<Result<Vec<Message>, StepFault>> {
+        let (verb, rest) = text.split_once(' ').ok_or(unreadable())?;
+        let (name, nonce) = rest.split_once(' ').unwrap_or((rest, "0"));
+        let happens = match verb {
+            "timeout" => Happens::Event(Event::Timeout),
+            "resend" => Happens::Event(Event::Resend),
+            "restart" => Happens::Event(Event::Restart(nonce.parse().ok().ok_or(unreadable())?)),
+            "crash" => Happens::Crash,
+            "deliver" => {
+                let message = self.message(alloc, rest)?;
+                return self.deliver(alloc, message);
+            }
+            _ => return self.deliver(alloc, written(alloc, text)?),
+        };
+        self.step(alloc, number(name).ok_or(unreadable())?, happens)
+    }
+
+    /// What an event comes to: the messages as they're said, or how many there are, or a fault.
+    fn tell_event(&mut self, alloc: Global, text: &str, said: &str) -> io::Result<String> {
+        let mut sent = match self.happen(alloc, text)? {
+            Ok(sent) => sent,
+            Err(fault) => return Ok(format!(in alloc; "{fault}")?),
+        };
+        let count = sent.len();
+        let is_said = count > 0 && said.contains('=') && are_written(alloc, sent.as_slice(), said)?;
+        self.sent.append(&mut sent)?;
+        Ok(if is_said {
+            String::from_str(alloc, said)?
+        } else {
+            format!(in alloc; "{count} messages")?
+        })
+    }
+
+    /// What there is: `is R1`, `log R1`, `store R1`, or the message `sent 6`.
+    fn tell(&mut self, alloc: Global, text: &str, said: &str) -> io::Result<String> {
+        match text.split_once(' ').ok_or(unreadable())? {
+            ("is", name) => self.node(name)?.standing(alloc),
+            ("log", name) => self.node(name)?.log(alloc, said),
+            ("store", name) => Ok(self.node(name)?.store.told(alloc)?),
+            ("sent", place) => {
+                let is_said = is_written(alloc, &self.message(alloc, place)?, said)?;
+                Ok(String::from_str(alloc, if is_said { said } else { "another" })?)
+            }
+            _ => self.tell_event(alloc, text, said),
+        }
+    }
+
+    fn tell_all(&mut self, alloc: Global, body: &str) -> io::Result<String> {
+        let mut came = String::new(alloc);
+        for line in lines_of(alloc, body)? {
+            let (text, said) = line.split_once(": ").ok_or(unreadable())?;
+            let told = self.tell(alloc, text, said)?;
+            came.push_str(format!(in alloc; "{text}: {told}\n")?.as_str())?;
+        }
+        Ok(came)
+    }
+}
+
+/// The lines of a run of these replicas, each with what comes of it.
+pub fn run(alloc: Global, text: &str, body: &str) -> io::Result<String> {
+    let nodes = nodes(alloc, text)?;
+    let sent = Vec::new(alloc);
+    Group { nodes, sent }.tell_all(alloc, body)
+}
