@@ -50,10 +50,10 @@ serve:
 	@echo "   mbpoll -m tcp -p $(PORT) -0 -t 1 -r 0 -c 3 127.0.0.1     shows %QX0.0 to %QX0.2 each second, in this order"
 	@echo "   python3 examples/client.py $(PORT)                         starts and stops the motor"
 	@if [ -x build/plc ] && [ -z "$$(find crates -name out -prune -o -name '*.rt' -newer build/plc -print)" ]; then \
-		build/plc serve $(IL) --store "$$(mktemp -d)" --scans 4294967295 --port $(PORT); \
+		build/plc serve $(IL) --store "$$(mktemp -d)" --port $(PORT); \
 	else \
 		echo "-- a run of ten minutes that proves nothing: it builds the sources first, one to four minutes, each time anew; after make plc it starts at once"; \
-		cd crates/plc && ../../tools/while-silent --port $(PORT) rt try --seconds 600 --data program.il=$(abspath $(IL)) -- serve program.il --store "$$(mktemp -d)" --scans 4294967295 --port $(PORT); \
+		cd crates/plc && ../../tools/while-silent --port $(PORT) rt try --seconds 600 --data program.il=$(abspath $(IL)) -- serve program.il --store "$$(mktemp -d)" --port $(PORT); \
 	fi
 
 # Of an example or a schedule the stored lines are drawn, which the gate holds the program to; of any other run what build/plc prints.
@@ -82,6 +82,7 @@ failover:
 	@python3 examples/failover.py build/plc $(TO) && echo "-- the same as a picture: $(TO)"
 
 plc:
+	tools/make-libraries plc
 	cd crates/plc && rt run -- --version
 	mkdir -p build && cp crates/plc/out/plc build/plc
 
