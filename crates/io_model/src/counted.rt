@@ -4,7 +4,7 @@ ghost use Rattle.std.specs.Prelude.{◌≡◌, ◌≤◌, ℕ, OnErr, OnOk, take
 ghost use Rattle.std.specs.Io.KnownBytes.{Appends};
 ghost use Rattle.io_model.specs.Counted.{Failed};
 
-use std::io::{Read, Write};
+use std::io::{ErrorKind, Read, Write};
 use std::marker::Model;
 use thiserror::Error;
 
@@ -63,8 +63,12 @@ pub trait CountedWrite {
         ensures { result ≡ faults self.now };
 }
 
+// How often a call is made that a signal interrupts before any byte went: a process that is stopped and goes on, or a
+// debugger that attaches, interrupts it once.
+const INTERRUPTIONS: u32 = 1000;
+
 /// A reader or a writer of std with a count of its failures. A refusal is one, and so is a write that takes none of the
-/// bytes of a buffer that has some. What is known of the bytes is what is known of those of the reader or writer
+/// bytes of a buffer that has some; a call that a signal interrupted is made again. What is known of the bytes is what is known of those of the reader or writer
 /// inside.
 #[derive(Drop)]
 pub struct Counted<T> {
@@ -95,13 +99,15 @@ impl<T: Read> CountedRead for Counted<T> {
     ghost faults = { λ c. c.failures };
 
     fn read(&mut self, buf: &mut [u8]) -> Result<usize, DeviceFault> {
-        match self.inner.read(buf) {
-            Ok(n) => Ok(n),
-            Err(_) => {
-                self.failures = self.failures.saturating_add(1);
-                Err(DeviceFault)
+        for _ in 0..INTERRUPTIONS {
+            match self.inner.read(buf) {
+                Ok(n) => return Ok(n),
+                Err(error) if error.kind() == ErrorKind::Interrupted => {}
+                Err(_) => break,
             }
         }
+        self.failures = self.failures.saturating_add(1);
+        Err(DeviceFault)
     }
 
     fn faults(&self) -> u64 {
@@ -115,13 +121,15 @@ impl<T: Write> CountedWrite for Counted<T> {
     ghost faults = { λ c. c.failures };
 
     fn write(&mut self, buf: &[u8]) -> Result<usize, DeviceFault> {
-        match self.inner.write(buf) {
-            Ok(n) if n > 0 || buf.is_empty() => Ok(n),
-            _ => {
-                self.failures = self.failures.saturating_add(1);
-                Err(DeviceFault)
+        for _ in 0..INTERRUPTIONS {
+            match self.inner.write(buf) {
+                Ok(n) if n > 0 || buf.is_empty() => return Ok(n),
+                Err(error) if error.kind() == ErrorKind::Interrupted => {}
+                _ => break,
             }
         }
+        self.failures = self.failures.saturating_add(1);
+        Err(DeviceFault)
     }
 
     fn faults(&self) -> u64 {
