@@ -1,12 +1,13 @@
 //! A client of a replicated controller: it submits one command at a time, and takes the first REPLY to it.
 ghost use Rattle.std.specs.Prelude.{◌≡◌, ◌+◌, ◌^◌, ◌<◌, ◌↔◌, false, true, not, List, [], IfSome, IfNone, IfOk, IsNone};
-ghost use Rattle.std.specs.Prelude.{None, is_some};
+ghost use Rattle.std.specs.Prelude.{None, IsTrue, is_some};
 ghost use Rattle.il_model.specs.declared.command.Command.{Command as Asked};
+ghost use Rattle.il_model.specs.declared.command.Answer.{Answer as Given};
 ghost use Rattle.vr_model.specs.Logs.{Request as Entry};
 ghost use Rattle.vr_model.specs.Messages.{Replica, Client, RequestMessage};
 ghost use Rattle.vr_model.specs.StandsFor.{request_of, body_with, message_with};
 ghost use Rattle.vr_model.specs.World.{is_waiting};
-ghost use Rattle.vr_model.specs.Steps.{Retries, Hears};
+ghost use Rattle.vr_model.specs.Steps.{Retries, StartsAgain, Hears, MayClient};
 ghost use Rattle.vr_client.specs.Client.{SendsAt, BecomesAt, SubmitsCommand, answer_by, cannot_submit, new_client};
 
 use il_model::{Answer, Command};
@@ -148,6 +149,24 @@ impl GroupClient {
             sends.push(request_to(self.client, replica, request.copy(alloc)?))?;
         }
         Ok(sends)
+    }
+
+    /// Starts again as a client: it waits for nothing, and its numbers are above all that it gave; it knows the view
+    /// still. So a request that nobody wants any more is let go. `false` where its starts are used up, and then nothing
+    /// changed.
+    pub fn start_again(&mut self) -> bool
+        ensures may { (answer : List Asked → Given) → IsTrue result
+            ↔ MayClient self.old.f self.old.number answer self.old.state StartsAgain }
+        ensures again { result ≡ true → BecomesAt self.old StartsAgain self.new }
+        ensures same { result ≡ false → self.new ≡ self.old }
+    {
+        let Some(starts) = self.starts.checked_add(1) else {
+            return false;
+        };
+        self.starts = starts;
+        self.sequence = 0;
+        self.waiting = None;
+        true
     }
 
     fn is_waiting_for(&self, number: u64) -> bool

@@ -11,11 +11,12 @@
 //! let is_due = timer.is_due(later); // whether a period went by since: then send it again
 //! let again = client.retry(alloc)?; // the same request, for every replica
 //! let answered = client.on_reply(&message); // Some where the message is the first REPLY to it
+//! let can_go_on = client.start_again(); // what waits is let go, and later numbers are above all that it gave
 //! ```
 //!
-//! Proved: `submit` does what the rules let a client do, and gives its message; `retry` and `on_reply` likewise. The
-//! answer is that of the first REPLY with the number that waits, whatever else comes, and nothing waits after it. A
-//! `RetryTimer` is due exactly where a period went by since the request was sent last.
+//! Proved: `submit` does what the rules let a client do, and gives its message; `retry`, `on_reply` and `start_again`
+//! likewise. The answer is that of the first REPLY with the number that waits, whatever else comes, and nothing waits
+//! after it. A `RetryTimer` is due exactly where a period went by since the request was sent last.
 //!
 //! Tests: `driver_rows` of `tests_parts` goes through the steps of the client that submits scans. Nothing rests on them
 //! alone.
