@@ -1,0 +1,4 @@
+pub mod Hellos
+pub mod Identity
+pub mod Judging
+pub mod Reading
