@@ -7,7 +7,7 @@ use std::io;
 use std::io::{Read, Write};
 
 /// A client's stream. It comes in pieces, the first of its own size; behind so many reads one fails, and behind so
-/// many writes one.
+/// many writes one; behind so many of each one is interrupted by a signal.
 #[derive(Clone, Copy)]
 pub struct Client<'a> {
     pub requests: &'a [u8],
@@ -15,9 +15,10 @@ pub struct Client<'a> {
     pub others: usize,
     pub reads: usize,
     pub writes: usize,
+    pub interrupted: usize,
 }
 
-/// A stream in two pieces, whose reader and writer don't fail.
+/// A stream in two pieces, whose reader and writer don't fail, nor are they interrupted.
 pub fn cut_at<'a>(requests: &'a [u8], place: usize) -> Client<'a> {
     Client {
         requests,
@@ -25,6 +26,7 @@ pub fn cut_at<'a>(requests: &'a [u8], place: usize) -> Client<'a> {
         others: usize::MAX,
         reads: usize::MAX,
         writes: usize::MAX,
+        interrupted: usize::MAX,
     }
 }
 
@@ -36,6 +38,7 @@ pub struct Pieces<'a> {
     next: usize,
     others: usize,
     good: usize,
+    interrupted: usize,
 }
 
 impl<'a> Pieces<'a> {
@@ -46,6 +49,7 @@ impl<'a> Pieces<'a> {
             next: client.first,
             others: client.others,
             good: client.reads,
+            interrupted: client.interrupted,
         }
     }
 }
@@ -56,6 +60,9 @@ impl<'a> Read for Pieces<'a> {
         self.calls = call.saturating_add(1);
         if call == self.good {
             return Err(io::Error::from(io::ErrorKind::BrokenPipe));
+        }
+        if call == self.interrupted {
+            return Err(io::Error::from(io::ErrorKind::Interrupted));
         }
         let count = self.next.min(self.bytes.len()).min(buf.len());
         let (piece, rest) = self.bytes.split_at(count);
@@ -70,6 +77,7 @@ impl<'a> Read for Pieces<'a> {
 #[derive(Drop)]
 pub struct Writes {
     pub good: usize,
+    pub interrupted: usize,
     pub calls: usize,
     pub taken: Vec<u8>,
 }
@@ -80,6 +88,9 @@ impl Write for Writes {
         self.calls = call.saturating_add(1);
         if call == self.good {
             return Err(io::Error::from(io::ErrorKind::BrokenPipe));
+        }
+        if call == self.interrupted {
+            return Err(io::Error::from(io::ErrorKind::Interrupted));
         }
         self.taken.write(bytes)
     }

@@ -73,6 +73,7 @@ fn talk<R: Wait, S: Staging, J: Naming>(
     let mut pieces = Pieces::new(client);
     let mut writes = Writes {
         good: client.writes,
+        interrupted: client.interrupted,
         calls: 0,
         taken: Vec::new(alloc),
     };
@@ -280,7 +281,7 @@ impl Exchange {
     }
 
     /// How the session ends with a client: `cut at each place`, or the sizes of its pieces, behind how many reads or
-    /// writes one fails or that each of them fails in turn, and `over a lock`.
+    /// writes one fails or is interrupted, or that each of them fails in turn, and `over a lock`.
     pub fn with_client<R: Wait>(
         &self,
         rt: &R,
@@ -296,6 +297,7 @@ impl Exchange {
             others: size_of(text, "others="),
             reads: size_of(text, "reads="),
             writes: size_of(text, "writes="),
+            interrupted: size_of(text, "interrupted="),
         };
         let is_locked = text.ends_with("over a lock");
         if text.contains("each read and write fails") {
