@@ -7,7 +7,8 @@
 # make picture SCHEDULE=crash                 the messages of that schedule as a chart: build/motor_crash.svg; also SCHEDULE=own EVENTS=FILE.json [IL=..]
 # make failover [TO=build/failover.svg]        a tank and its pump on three replicas that crash in turn, played by examples/failover.py: half a minute, and its picture (with build/plc)
 # make plc                                    proves the program and builds it: build/plc
-# make install [PREFIX=/usr/local] [DESTDIR=]  puts the proved program, its man page, README, FAULTS and the examples there
+# make install [PREFIX=/usr/local] [DESTDIR=]  puts the proved program, its man page, the documents, number-lines, the examples and a systemd unit there
+# make uninstall [PREFIX=..] [DESTDIR=..]       takes away what install puts there
 # make test                                   the whole gate: that the rows of the examples are those of examples/, the table of crates is that of crates.txt, AUDIT names what is there and the pictures are those of examples/, and then rt ci
 
 EXAMPLE ?= crossing
@@ -21,12 +22,16 @@ PICTURE := $(if $(SCHEDULE),schedule,run)
 SCHEDULE ?= crash
 EVENTS = examples/motor_$(SCHEDULE).json
 
-.PHONY: demo standby serve picture picture-run picture-schedule failover plc install test
+.PHONY: demo standby serve picture picture-run picture-schedule failover plc install uninstall test
 
-# Where build/plc is older than a source, or was never built, the same sources are built and run, unproved.
+# make plc leaves the sum of the sources that it proved, and that of the program: so it's known whether build/plc is these
+# sources' proved program. Where it isn't, the same sources are built and run, unproved.
+STAMP = { find crates -name out -prune -o -type f \( -name '*.rt' -o -name '*.antt' \) -print | LC_ALL=C sort | tr '\n' '\0' | xargs -0 sha256sum crates.txt build/plc; } | sha256sum
+IS_PROVED = [ -x build/plc ] && [ -f build/plc.stamp ] && [ "$$($(STAMP))" = "$$(cat build/plc.stamp)" ]
+
 demo:
 	@cat $(IL)
-	@if [ -x build/plc ] && [ -z "$$(find crates -name out -prune -o -name '*.rt' -newer build/plc -print)" ]; then \
+	@if $(IS_PROVED); then \
 		echo; echo "-- plc run $(IL) $(COMMANDS), the proved program (build/plc):"; \
 		build/plc run $(IL) $(COMMANDS); \
 	else \
@@ -35,7 +40,7 @@ demo:
 	fi
 
 standby:
-	@if [ -x build/plc ] && [ -z "$$(find crates -name out -prune -o -name '*.rt' -newer build/plc -print)" ]; then \
+	@if $(IS_PROVED); then \
 		echo "-- plc sim examples/motor.il $(EVENTS), the proved program (build/plc):"; \
 		build/plc sim examples/motor.il $(EVENTS); \
 	else \
@@ -49,7 +54,7 @@ serve:
 	@echo "   mbpoll -m tcp -p $(PORT) -0 -t 0 -r 0 127.0.0.1 1 1 1     sets %IX0.0 to %IX0.2"
 	@echo "   mbpoll -m tcp -p $(PORT) -0 -t 1 -r 0 -c 3 127.0.0.1     shows %QX0.0 to %QX0.2 each second, in this order"
 	@echo "   python3 examples/client.py $(PORT)                         starts and stops the motor"
-	@if [ -x build/plc ] && [ -z "$$(find crates -name out -prune -o -name '*.rt' -newer build/plc -print)" ]; then \
+	@if $(IS_PROVED); then \
 		build/plc serve $(IL) --store "$$(mktemp -d)" --port $(PORT); \
 	else \
 		echo "-- a run of ten minutes that proves nothing: it builds the sources first, one to four minutes, each time anew; after make plc it starts at once"; \
@@ -57,27 +62,28 @@ serve:
 	fi
 
 # Of an example or a schedule the stored lines are drawn, which the gate holds the program to; of any other run what build/plc prints.
-PROVED = { [ -x build/plc ] || { echo "build/plc is not there: make plc"; false; }; }
+BUILT = { [ -x build/plc ] || { echo "build/plc is not there: make plc"; false; }; }
+PROVED = { $(IS_PROVED) || { echo "build/plc is not there, or not the proved program of these sources: make plc"; false; }; }
 
 picture: picture-$(PICTURE)
 
 picture-run:
 	@mkdir -p build
-	@lines=$(if $(filter command,$(origin IL) $(origin COMMANDS)),,$(COMMANDS:.json=.txt)); if [ ! -e "$$lines" ]; then lines=build/lines.txt; $(PROVED) && build/plc run $(IL) $(COMMANDS) > $$lines || exit 1; fi; \
+	@lines=$(if $(filter command,$(origin IL) $(origin COMMANDS)),,$(COMMANDS:.json=.txt)); if [ ! -e "$$lines" ]; then lines=build/lines.txt; $(BUILT) && build/plc run $(IL) $(COMMANDS) > $$lines || exit 1; fi; \
 	picture=build/$(basename $(notdir $(COMMANDS))).svg; \
 	tools/timeline --svg --il $(IL) $(COMMANDS) $$lines > $$picture && tools/timeline $(COMMANDS) $$lines && echo "-- the same as a picture: $$picture"
 
 picture-schedule: EXAMPLE = motor
 picture-schedule:
 	@mkdir -p build
-	@report=$(if $(filter command,$(origin IL) $(origin EVENTS)),,$(EVENTS:.json=.txt)); if [ ! -e "$$report" ]; then report=build/report.txt; $(PROVED) && build/plc sim $(IL) $(EVENTS) > $$report || exit 1; fi; \
+	@report=$(if $(filter command,$(origin IL) $(origin EVENTS)),,$(EVENTS:.json=.txt)); if [ ! -e "$$report" ]; then report=build/report.txt; $(BUILT) && build/plc sim $(IL) $(EVENTS) > $$report || exit 1; fi; \
 	picture=build/$(basename $(notdir $(EVENTS))).svg; \
 	tools/sequence $(EVENTS) $$report > $$picture && tools/sequence --text $(EVENTS) && echo "-- the messages of $(EVENTS), as a chart: $$picture"
 
 TO ?= build/failover.svg
 
 failover:
-	@$(PROVED)
+	@$(BUILT)
 	@mkdir -p build
 	@python3 examples/failover.py build/plc $(TO) && echo "-- the same as a picture: $(TO)"
 
@@ -85,21 +91,30 @@ plc:
 	tools/make-libraries plc
 	cd crates/plc && rt run -- --version
 	mkdir -p build && cp crates/plc/out/plc build/plc
+	@$(STAMP) > build/plc.stamp
 
 PREFIX ?= /usr/local
 BIN = $(DESTDIR)$(PREFIX)/bin
 SHARE = $(DESTDIR)$(PREFIX)/share
+UNITS = $(DESTDIR)$(PREFIX)/lib/systemd/system
 
 install:
 	@$(PROVED)
-	mkdir -p $(BIN) $(SHARE)/man/man1 $(SHARE)/plc/examples/console $(SHARE)/plc/docs/pictures
+	mkdir -p $(BIN) $(SHARE)/man/man1 $(SHARE)/plc/examples/console $(SHARE)/plc/docs/pictures $(SHARE)/plc/tools $(UNITS)
 	install -m 755 build/plc $(BIN)/plc
 	tools/man-page build/plc > $(SHARE)/man/man1/plc.1
 	install -m 644 README.md $(SHARE)/plc
-	install -m 644 docs/FAULTS.md $(SHARE)/plc/docs
+	install -m 644 docs/*.md $(SHARE)/plc/docs
 	install -m 644 docs/pictures/*.svg $(SHARE)/plc/docs/pictures
+	install -m 755 tools/number-lines $(SHARE)/plc/tools
 	install -m 644 examples/*.* $(SHARE)/plc/examples
 	install -m 644 examples/console/*.* $(SHARE)/plc/examples/console
+	sed 's#/usr/local#$(PREFIX)#g' examples/plc.service > $(UNITS)/plc.service
+	chmod 644 $(UNITS)/plc.service
+
+uninstall:
+	rm -f $(BIN)/plc $(SHARE)/man/man1/plc.1 $(UNITS)/plc.service
+	rm -rf $(SHARE)/plc
 
 test:
 	tools/example-rows --check
