@@ -1,0 +1,57 @@
+-- What a change from one program to another does to the names of both.
+use Rattle.std.specs.Prelude.{ℕ, Bool, List, [], ◌++◌, Option, None, Some, codes, if◌then◌else◌}
+use Rattle.std.specs.List.{flat_map, list_any}
+use Rattle.il_model.specs.declared.program.Loc.{Loc}
+use Rattle.il_model.specs.declared.program.Variable.{Variable}
+use Rattle.il_model.specs.declared.program.Instance.{Instance}
+use Rattle.il_model.specs.Kinds.{kind_name}
+use Rattle.il_model.specs.Program.{Program}
+use Rattle.il_lister.specs.Listing.{type_name}
+use Rattle.ctl_model.specs.State.{has_own}
+use Rattle.ctl_model.specs.Changes.{goes_on, goes_on_as}
+use Rattle.plc_symbols.specs.Symbols.{place_text}
+
+-- what is written behind a name that lies at a place
+abbrev pub at_place : Option Loc → List ℕ
+at_place None = []
+at_place (Some loc) = codes " AT " ++ place_text loc
+
+-- LAST : INT, PUMP AT %QX0.0 : BOOL, REST : TON
+abbrev pub variable_text : Variable → List ℕ
+variable_text v = v.name ++ at_place v.location ++ codes " : " ++ type_name v.ty ++ codes "\n"
+
+abbrev pub instance_text : Instance → List ℕ
+instance_text x = x.name ++ codes " : " ++ kind_name x.kind ++ codes "\n"
+
+-- where a variable of the new program has its value from: the cell at its place; a variable of the old one; its first
+-- value
+abbrev pub source_of : List Variable → Variable → List ℕ
+source_of old v = if has_own v
+    then (if list_any (λ u. goes_on u v) old then codes "goes on  " else codes "begins   ")
+    else codes "at place "
+
+abbrev pub source_of_instance : List Instance → Instance → List ℕ
+source_of_instance old y = if list_any (λ x. goes_on_as x y) old then codes "goes on  " else codes "begins   "
+
+abbrev pub variable_line : List Variable → Variable → List ℕ
+variable_line old v = source_of old v ++ variable_text v
+
+abbrev pub instance_line : List Instance → Instance → List ℕ
+instance_line old y = source_of_instance old y ++ instance_text y
+
+-- a variable of the old program that goes on as none of the new one; what lies at a place stays there
+abbrev pub ended_line : List Variable → Variable → List ℕ
+ended_line new u = if has_own u
+    then (if list_any (λ v. goes_on u v) new then [] else codes "ends     " ++ variable_text u)
+    else []
+
+abbrev pub ended_instance_line : List Instance → Instance → List ℕ
+ended_instance_line new x =
+    if list_any (λ y. goes_on_as x y) new then [] else codes "ends     " ++ instance_text x
+
+-- all names of the new program, and then those of the old one that go on as none of it
+abbrev pub compared_text : Program → Program → List ℕ
+compared_text Q R = flat_map (variable_line Q.variables) R.variables
+    ++ flat_map (instance_line Q.instances) R.instances
+    ++ flat_map (ended_line R.variables) Q.variables
+    ++ flat_map (ended_instance_line R.instances) Q.instances
