@@ -1,7 +1,7 @@
 //! How a recovery ends.
 
 ghost use Rattle.std.specs.Prelude.{◌≡◌, ◌==◌, ◌≤◌, ◌<◌, [], ◌&&◌, true, false, nat_le, ◌+◌, is_some, Some, IfOk, OnOk};
-ghost use Rattle.std.specs.Prelude.{OnErr, MatchResult};
+ghost use Rattle.std.specs.Prelude.{OnErr, MatchOption};
 ghost use Rattle.vr_model.specs.Groups.{group_size, how_many};
 ghost use Rattle.vr_model.specs.Choices as choices;
 ghost use Rattle.vr_model.specs.Rules as rules;
@@ -11,17 +11,16 @@ ghost use Rattle.vr_core.specs.declared.state.Response.{Response};
 ghost use Rattle.il_model.specs.declared.command.Command.{Command};
 ghost use Rattle.vr_model.specs.Messages.{RecoveryResponse, RecoveryResponseMessage};
 ghost use Rattle.vr_core.specs.StandsFor.{ResponseStands, own_member};
-ghost use Rattle.vr_core.specs.Begun.{IsBegun, IsNotBegun};
+ghost use Rattle.vr_core.specs.Begun.{IsOfNone};
+ghost use Rattle.vr_core.specs.Readied.{IsReadied};
 ghost use Rattle.vr_core.specs.Follows.{Tells, FollowsIfKept, DoesIfKept, receives_from};
 ghost use Rattle.vr_core.specs.Dropped.{Drops};
-ghost use Rattle.vr_core.specs.Changes.{IsReadyFor};
 ghost use Rattle.vr_recovery.specs.Responses.{HasState, IsUnfitResponse, kept_of, stays};
 ghost use Rattle.vr_recovery.specs.Recovering.{Recovers};
 
 use crate::responses::{count, is_told, keep, kept, latest, put, put_back, stays_kept};
-use ctl_debugger::{Controller, SnapError};
 use std::alloc::{AllocError, Global};
-use vr_core::{Core, ReadyChanges, Response};
+use vr_core::{Core, Readied, Response};
 use vr_model::{PrimaryState, Sends, Status};
 
 /// RECOVERYRESPONSE with a nonce. It recovers when those of more than half of the group are kept, the latest view among
@@ -118,20 +117,18 @@ fn recover_if_told(core: &mut Core, alloc: Global) -> Result<(), AllocError>
     if !is_enough(core, view) || !is_told(core, view) {
         return Ok(());
     }
-    let begun = match begun(core, alloc, view) {
-        Ok(begun) => begun,
-        Err(SnapError::Memory) => return Err(AllocError),
-        Err(_) => return Ok(()),
+    let Some(ready) = ready_for_told(core, alloc, view)? else {
+        return Ok(());
     };
-    let changes = prepared(core, alloc, view)?;
-    recover(core, alloc, view, begun, changes);
+    recover(core, alloc, view, ready);
     Ok(())
 }
 
-/// What the core begins with, by the state that the primary of this view told.
-fn begun(core: &Core, alloc: Global, view: u64) -> Result<Option<Controller>, SnapError>
-    ensures { (h : HasState core.now view)
-        → MatchResult result (IsBegun core.now h.state.log) (IsNotBegun core.now h.state.log) }
+/// What the log needs that the primary of this view told, before it takes the place of the core's; `None` where it
+/// stands for none. It fails only where memory runs out.
+fn ready_for_told(core: &Core, alloc: Global, view: u64) -> Result<Option<Readied>, AllocError>
+    ensures { (h : HasState core.now view) → IfOk result (λ o. MatchOption o (IsOfNone core.now h.state.log)
+        (IsReadied core.now h.state.log h.state.commit_number)) }
 {
     match kept(core, core.config.primary(view)) {
         Some(
@@ -139,23 +136,8 @@ fn begun(core: &Core, alloc: Global, view: u64) -> Result<Option<Controller>, Sn
                 state: Some(state),
                 ..
             },
-        ) => core.begun(alloc, &state.log),
+        ) => core.ready_for(alloc, &state.log, state.commit_number),
         _ => Ok(None),
-    }
-}
-
-/// The changes among the entries that it executes then, ready.
-fn prepared(core: &Core, alloc: Global, view: u64) -> Result<ReadyChanges, AllocError>
-    ensures { (h : HasState core.now view) → IfOk result (IsReadyFor core.now h.state.log h.state.commit_number) }
-{
-    match kept(core, core.config.primary(view)) {
-        Some(
-            Response {
-                state: Some(state),
-                ..
-            },
-        ) => core.prepare_handed(alloc, &state.log, state.commit_number),
-        _ => Ok(ReadyChanges::none(alloc)),
     }
 }
 
@@ -170,24 +152,18 @@ fn is_enough(core: &Core, view: u64) -> bool
     core.config.f < count(core) && core.stored_view <= view
 }
 
-/// The replica adopts this view, with the log that its primary told, from what it begins with.
-fn recover(
-    core: &mut Core,
-    alloc: Global,
-    view: u64,
-    begun: Option<Controller>,
-    changes: ReadyChanges,
-)
+/// The replica adopts this view, with the log that its primary told.
+fn recover(core: &mut Core, alloc: Global, view: u64, ready: Readied)
     requires stored { core.old.stored_view ≤ view }
     requires told { HasState core.old view }
-    requires begun { (h : HasState core.old view) → IsBegun core.old h.state.log begun }
-    requires ready { (h : HasState core.old view) → IsReadyFor core.old h.state.log h.state.commit_number changes }
+    requires ready { (h : HasState core.old view)
+        → IsReadied core.old h.state.log h.state.commit_number ready }
     ensures { (h : HasState core.old view) → Recovers core.old view h.state core.new }
 {
     core.adopt(view);
     if let Some(state) = take_state(core, view) {
-        core.replace_log(state.log, begun);
-        core.execute_to(alloc, state.commit_number, changes);
+        core.replace_log(state.log, ready.begun);
+        core.execute_to(alloc, state.commit_number, ready.changes);
     }
 }
 

@@ -12,7 +12,6 @@ ghost use Rattle.vr_model.specs.Checkpoints.{base_of};
 ghost use Rattle.vr_recovery.specs.CatchingUp.{catches_up};
 
 use crate::holding::{hold, hold_as_primary};
-use ctl_debugger::SnapError;
 use std::alloc::{AllocError, Global};
 use vr_core::Core;
 use vr_model::{Log, Sends};
@@ -33,15 +32,12 @@ pub(crate) fn take_up(
     ensures err { OnErr result (core.new ≡ core.old) }
     ensures dropped { IsUnfit core.old commit_number log → Drops core.old core.new result }
 {
-    let begun = match core.begun(alloc, &log) {
-        Ok(begun) => begun,
-        Err(SnapError::Memory) => return Err(AllocError),
-        Err(_) => return Ok(Vec::new(alloc)),
+    let Some(ready) = core.ready_for(alloc, &log, commit_number)? else {
+        return Ok(Vec::new(alloc));
     };
-    let changes = core.prepare_handed(alloc, &log, commit_number)?;
     let sends = Vec::with_capacity(alloc, 1)?;
-    core.replace_log(log, begun);
-    Ok(hold(core, alloc, sends, commit_number, changes))
+    core.replace_log(log, ready.begun);
+    Ok(hold(core, alloc, sends, commit_number, ready.changes))
 }
 
 /// A replica that is behind adopts a view that another one is the primary of, holds this log in place of its own, tells
@@ -63,16 +59,13 @@ pub(crate) fn adopt_and_take_up(
     ensures err { OnErr result (core.new ≡ core.old) }
     ensures dropped { IsUnfit core.old commit_number log → Drops core.old core.new result }
 {
-    let begun = match core.begun(alloc, &log) {
-        Ok(begun) => begun,
-        Err(SnapError::Memory) => return Err(AllocError),
-        Err(_) => return Ok(Vec::new(alloc)),
+    let Some(ready) = core.ready_for(alloc, &log, commit_number)? else {
+        return Ok(Vec::new(alloc));
     };
-    let changes = core.prepare_handed(alloc, &log, commit_number)?;
     let sends = Vec::with_capacity(alloc, 1)?;
-    core.replace_log(log, begun);
+    core.replace_log(log, ready.begun);
     core.adopt(view);
-    Ok(hold(core, alloc, sends, commit_number, changes))
+    Ok(hold(core, alloc, sends, commit_number, ready.changes))
 }
 
 /// A replica that is behind adopts a view of its own, holds this log in place of its own, and replies to what it
@@ -94,18 +87,15 @@ pub(crate) fn take_up_as_primary(
     ensures err { OnErr result (core.new ≡ core.old) }
     ensures dropped { IsUnfit core.old commit_number log → Drops core.old core.new result }
 {
-    let begun = match core.begun(alloc, &log) {
-        Ok(begun) => begun,
-        Err(SnapError::Memory) => return Err(AllocError),
-        Err(_) => return Ok(Vec::new(alloc)),
+    let executed = commit_number.min(log.op_number());
+    let Some(ready) = core.ready_for(alloc, &log, executed)? else {
+        return Ok(Vec::new(alloc));
     };
     if core.commit_number < log.base() {
         return Err(AllocError);
     }
-    let executed = commit_number.min(log.op_number());
-    let changes = core.prepare_handed(alloc, &log, executed)?;
     let room = Vec::with_capacity(alloc, log.entries().len() + 1)?;
-    core.replace_log(log, begun);
+    core.replace_log(log, ready.begun);
     core.adopt(view);
-    Ok(hold_as_primary(core, alloc, room, executed, changes))
+    Ok(hold_as_primary(core, alloc, room, executed, ready.changes))
 }
