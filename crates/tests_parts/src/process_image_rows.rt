@@ -290,6 +290,44 @@ fn each_sample_replays_the_writes_below_its_number(rt: HostRuntime) -> Result<()
     Ok(())
 }
 
+// So often each thread lays masks on one word.
+const MASKS: u16 = 2000;
+
+// Masks one word, once more where memory refused it.
+fn mask_word<S: Staging>(staging: &mut S, and: u16, or: u16) -> Result<Ticket, StageError> {
+    match staging.mask_word(63, and, or) {
+        Err(StageError::Memory) => staging.mask_word(63, and, or),
+        answer => answer,
+    }
+}
+
+// Turns one bit of a word on and off by masks, and counts how often it isn't so behind one: another mask that was laid
+// on an older word would turn it back.
+fn mask_all<S: Staging>(staging: &mut S, bit: u16) -> u16 {
+    let mut wrong = 0u16;
+    for turn in 0..MASKS {
+        let wanted = if turn % 2 == 0 { bit } else { 0 };
+        let is_laid = mask_word(staging, !bit, wanted).is_ok();
+        let word = staging.sample().inputs.cells.words[63].cast_unsigned();
+        if !is_laid || word & bit != wanted {
+            wrong = wrong.wrapping_add(1);
+        }
+    }
+    wrong
+}
+
+#[test]
+fn a_mask_is_laid_in_one_hold_of_the_lock(rt: HostRuntime) {
+    let stage = &Stage::new(StageBook::new(rt.alloc()));
+    let rt = &rt;
+    let (first, second) = join(
+        rt,
+        || mask_all(&mut stage.handle(rt), 1),
+        || mask_all(&mut stage.handle(rt), 0x8000),
+    );
+    assert_eq!(rt; (first, second), (0, 0));
+}
+
 // An image of its own for each number.
 fn release(number: u64) -> Release {
     let mut image = OutImage::safe();
