@@ -5,11 +5,15 @@ ghost use Rattle.vr_model.specs.Groups.{group_size};
 
 use plc_host::Failed;
 use std::alloc::{AllocError, Global};
-use std::fs;
 use std::io::ErrorKind;
+use std::os::unix::fs::MetadataExt;
 use std::rt::Files;
+use std::{fs, io};
 use vr_model::Config;
 use vr_threads::FileStore;
+
+/// The bit of a mode by which all may write.
+const OTHERS_WRITE: u32 = 0o002;
 
 /// Where a group of replicas has its stores.
 #[derive(Clone, Copy)]
@@ -25,7 +29,8 @@ pub struct Taken {
 
 impl Directory<'_> {
     /// Makes the directory, where it isn't there, and takes it in one step: of two starts at once one has it. None, and
-    /// nothing was changed, where another start has it or the file of a replica is there.
+    /// nothing was changed, where another start has it, the file of a replica is there, it's somebody else's, or all may
+    /// write to it.
     pub fn take<R: Files + Copy + Drop>(
         self,
         rt: R,
@@ -34,14 +39,32 @@ impl Directory<'_> {
         let Some(taken) = self.lock(rt, alloc)? else {
             return Ok(None);
         };
-        match self.file_count(rt, alloc) {
-            Ok(0) => Ok(Some(taken)),
-            used => {
+        match self.is_fit(rt, alloc, &taken) {
+            Ok(true) => Ok(Some(taken)),
+            unfit => {
                 taken.leave(&rt);
-                used?;
+                unfit?;
                 Ok(None)
             }
         }
+    }
+
+    /// Whether the directory that was taken is one's own, and without the file of a replica.
+    fn is_fit<R: Files + Copy + Drop>(
+        self,
+        rt: R,
+        alloc: Global,
+        taken: &Taken,
+    ) -> Result<bool, Failed> {
+        Ok(self.is_own(&rt, taken)? && self.file_count(rt, alloc)? == 0)
+    }
+
+    /// Whether the directory is of the user who made the file in it, and not open to all: others could put a link in the
+    /// place of a file there, and have another file written.
+    fn is_own<R: Files>(self, rt: &R, taken: &Taken) -> io::Result<bool> {
+        let directory = fs::metadata(rt, self.path)?;
+        let lock = fs::metadata(rt, taken.lock.as_str())?;
+        Ok(directory.uid() == lock.uid() && directory.mode() & OTHERS_WRITE == 0)
     }
 
     /// Makes the file by which one start has the directory.
