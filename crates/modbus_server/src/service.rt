@@ -4,11 +4,10 @@ use crate::serve::serve_session;
 use io_image::{Naming, ReleasedReader, Stage, StageBook, Staging};
 use io_model::Counted;
 use plc_host::{Failed, Host, ServiceRuntime, Traffic};
-use plc_listener::{Door, Listener, OpenListener, Session};
+use plc_listener::{Connection, Door, Listener, OpenListener, Session, WhenFull};
 use std::alloc::{AllocError, Global};
-use std::net::TcpStream;
 use std::sync::{Arc, Wait};
-use std::time::Duration;
+use std::time::{Clock, Duration};
 
 /// What one client at a time is served with: where its writes go, and what it reads.
 #[derive(Drop)]
@@ -18,14 +17,14 @@ struct Seat<J: Naming> {
     traffic: Arc<Traffic>,
 }
 
-impl<R: Wait + Copy, J: Naming> Session<R> for Seat<J> {
-    fn serve(&mut self, host: &Host<R>, stream: &TcpStream) {
+impl<R: Wait + Clock + Copy + Drop, J: Naming> Session<R> for Seat<J> {
+    fn serve(&mut self, host: &Host<R>, connection: &Connection<'_, R>) {
         self.traffic.add_session();
         let _ = serve_session(
             host,
             &self.traffic,
-            &mut Counted::new(stream),
-            &mut Counted::new(stream),
+            &mut Counted::new(connection),
+            &mut Counted::new(connection),
             &mut self.stage.handle(&host.rt),
             &mut self.released,
         );
@@ -61,8 +60,8 @@ fn seats<J: Naming>(
 
 impl<R: ServiceRuntime, J: Naming + Send + Sync + 'static> Server<R, J> {
     /// So many clients at this door are served at once as there are readers of the released outputs. No input is staged
-    /// yet. A session ends whose client sends nothing, or takes nothing, for as long as `idle`. `traffic` counts the
-    /// sessions, and the requests that were answered.
+    /// yet. A session ends whose client has no whole request, or doesn't take its replies, for as long as `idle`.
+    /// `traffic` counts the sessions, and the requests that were answered.
     pub fn new(
         host: Host<R>,
         door: Door,
@@ -74,7 +73,7 @@ impl<R: ServiceRuntime, J: Naming + Send + Sync + 'static> Server<R, J> {
         let seats = seats(host.alloc, &stage, &traffic, readers)?;
         Ok(Server {
             host,
-            listener: Listener::new(host, door, seats, idle)?,
+            listener: Listener::new(host, door, seats, idle, WhenFull::Closes)?,
             stage,
             traffic,
         })
@@ -114,6 +113,11 @@ impl<R: ServiceRuntime, J: Naming> OpenServer<R, J> {
     /// The inputs that the sessions stage.
     pub fn stage(&self) -> &Stage {
         &self.stage
+    }
+
+    /// The same, for a thread of its own.
+    pub fn shared_stage(&self) -> Result<Arc<Stage>, AllocError> {
+        Arc::try_clone(&self.stage)
     }
 
     /// Lets no client in any more, and ends each session and the threads. How many connections were given a session,

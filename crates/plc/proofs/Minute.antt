@@ -10,10 +10,11 @@ use Rattle.plc.specs.Asked.{ServesAsAsked, IsLostAfterAMinute}
 
 pub as_asked : (asked : Words) (outcome : Outcome) → AsksForAMinute asked → ServesAsAsked asked outcome → IsLostAfterAMinute outcome
 as_asked asked (outcomes.Done status) minute serves = tt
+as_asked asked (outcomes.Ask console commands) minute serves = tt
 as_asked (words.Serve source store report settings) (outcomes.Serve service path) minute serves = ap (λ (s : Settings). s.lost_after) serves ∙ minute
 as_asked (words.Asm source image) (outcomes.Serve service path) minute serves = absurd serves
 as_asked (words.List image) (outcomes.Serve service path) minute serves = absurd serves
 as_asked (words.Run source commands budget) (outcomes.Serve service path) minute serves = absurd serves
 as_asked (words.Sim source schedule config budget) (outcomes.Serve service path) minute serves = absurd serves
-as_asked (words.Ask port commands) (outcomes.Serve service path) minute serves = absurd serves
-as_asked (words.Change port source) (outcomes.Serve service path) minute serves = absurd serves
+as_asked (words.Ask port commands timeout) (outcomes.Serve service path) minute serves = absurd serves
+as_asked (words.Change port source timeout) (outcomes.Serve service path) minute serves = absurd serves

@@ -1,5 +1,7 @@
 -- What a call has the program serve.
-use Rattle.std.specs.Prelude.{◌≡◌}
+use Rattle.std.specs.Prelude.{◌≡◌, ℕ}
+use Rattle.plc_console.specs.declared.sending.Reply.{Reply}
+use Rattle.plc_console.specs.declared.sending.Reply.TheVariants as replies
 use Rattle.plc_words.specs.declared.forms.Words.{Words}
 use Rattle.plc_words.specs.declared.forms.Words.TheVariants as words
 use Rattle.plc.specs.declared.Outcome.{Outcome}
@@ -8,10 +10,18 @@ use Rattle.plc.specs.declared.Outcome.TheVariants as outcomes
 -- a controller is to be served only where the words ask for one, and with just the settings that they name
 abbrev pub ServesAsAsked : Words → Outcome → Type 0
 ServesAsAsked asked (outcomes.Done status) = Unit {0}
+ServesAsAsked asked (outcomes.Ask console commands) = Unit {0}
 ServesAsAsked (words.Serve source store report settings) (outcomes.Serve service path) = service.settings ≡ settings
 ServesAsAsked _ (outcomes.Serve service report) = ⊥
 
 -- a controller that is to be served ends after a minute without a majority of its replicas
 abbrev pub IsLostAfterAMinute : Outcome → Type 0
 IsLostAfterAMinute (outcomes.Done status) = Unit {0}
+IsLostAfterAMinute (outcomes.Ask console commands) = Unit {0}
 IsLostAfterAMinute (outcomes.Serve service report) = service.settings.lost_after ≡ 60
+
+-- the status of a reply
+abbrev pub status_of_reply : Reply → ℕ
+status_of_reply replies.Done = 0
+status_of_reply replies.Refused = 4
+status_of_reply replies.NoCommand = 5

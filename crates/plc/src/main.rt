@@ -2,14 +2,14 @@
 #![tactic(auto)]
 
 ghost use Rattle.std.specs.Prelude.{◌≡◌, IfOk};
-ghost use Rattle.plc.specs.Asked.{ServesAsAsked, IsLostAfterAMinute};
+ghost use Rattle.plc.specs.Asked.{ServesAsAsked, IsLostAfterAMinute, status_of_reply};
 
 use il_model::Budget;
-use il_text::{Fault, tell};
+use il_text::{Fault, image_bytes, put, put_numbered, tell};
 use io_file::NewFile;
 use io_image::NewList;
 use io_model::{Counted, CountedWrite};
-use plc_console::send_commands;
+use plc_console::{Reply, send_commands, worst};
 use plc_host::{Failed, Host};
 use plc_json::command_texts;
 use plc_serve::{Service, fault_of as fault_of_failed, serve};
@@ -17,11 +17,14 @@ use plc_settings::Settings;
 use plc_status::ReportFile;
 use plc_tool::{Group, change_to, fault_of};
 use plc_words::{Words, WordsError, read_words, tell_words};
-use std::io::{BufWriter, Write};
+use std::io::{BufWriter, Read, Write};
 use std::marker::Brand;
-use std::net::TcpStream;
+use std::net::{Net, TcpListener, TcpStream};
 use std::os::fd::{AsRawFd, IntoRawFd};
+use std::os::unix::fs::MetadataExt;
 use std::process::ExitCode;
+use std::sync::Wait;
+use std::time::Duration;
 use std::{env, fs, io};
 use vr_threads::FileStore;
 
@@ -33,12 +36,25 @@ const STREAMS: i32 = 3;
 enum Outcome {
     /// It's done, with this status.
     Done(u8),
+    /// A console is to be asked these commands.
+    Ask {
+        console: Console,
+        commands: Vec<Vec<u8>>,
+    },
     /// A controller is to be served.
     Serve {
         service: Service<FileStore<HostRuntime>>,
-        /// The path of the report's file, if one is wanted.
-        report: Option<String>,
+        /// The report's file, if one is wanted.
+        report: Option<Report>,
     },
+}
+
+/// The file of a report.
+#[derive(Drop)]
+struct Report {
+    path: String,
+    /// Where it's written before it's put in its place.
+    beside: String,
 }
 
 /// Threads and sockets are used here alone.
@@ -50,24 +66,55 @@ fn main(rt: HostRuntime) -> ExitCode {
     let status = match BufWriter::new(rt.alloc(), rt.stdout()) {
         Ok(mut out) => match called(&rt, &mut out, &mut err) {
             Outcome::Done(status) => status,
-            Outcome::Serve { service, report } => serve::<Brand, _, _, _, _, _>(
-                host_of(&rt),
-                NewList::new(),
-                service,
-                &mut Counted::new(ReportFile::at(&rt, text_of(&report))),
-                &mut out,
+            Outcome::Ask { console, commands } => ask(
+                &host_of(&rt),
+                console,
+                commands.as_slice(),
+                &mut Counted::new(rt.stdout()),
                 &mut err,
             ),
+            Outcome::Serve { service, report } => {
+                let status = serve::<Brand, _, _, _, _, _>(
+                    host_of(&rt),
+                    NewList::new(),
+                    service,
+                    &mut Counted::new(ReportFile::at(&rt, beside_of(&report))),
+                    &mut out,
+                    &mut err,
+                );
+                settled(&rt, status, &report, &mut err)
+            }
         },
         Err(error) => tell(Fault::from(error), &mut err),
     };
     ExitCode::from(status)
 }
 
-fn text_of(path: &Option<String>) -> Option<&str> {
-    match path {
-        Some(path) => Some(path.as_str()),
+/// The path at which a report is written.
+fn beside_of(report: &Option<Report>) -> Option<&str> {
+    match report {
+        Some(report) => Some(report.beside.as_str()),
         None => None,
+    }
+}
+
+/// Puts a report that was written in its place, or takes away what there is of it: the status.
+fn settled<E: CountedWrite>(
+    rt: &HostRuntime,
+    status: u8,
+    report: &Option<Report>,
+    err: &mut E,
+) -> u8 {
+    let Some(Report { path, beside }) = report else {
+        return status;
+    };
+    if status != 0 {
+        let _ = fs::remove_file(rt, beside.as_str());
+        return status;
+    }
+    match fs::rename(rt, beside.as_str(), path.as_str()) {
+        Ok(()) => status,
+        Err(error) => tell(Fault::from(error), err),
     }
 }
 
@@ -109,6 +156,9 @@ fn perform<W: Write, E: CountedWrite>(
     ensures { ServesAsAsked words.entry result }
 {
     Outcome::Done(match words {
+        Words::Asm { source, image } if are_same(rt, source, image) => {
+            refuse(err, b"plc: the image is the source\n")
+        }
         Words::Asm { source, image } => asm(rt, source, image, out, err),
         Words::List { image } => list(rt, image, out, err),
         Words::Run {
@@ -122,18 +172,98 @@ fn perform<W: Write, E: CountedWrite>(
             config,
             budget,
         } => sim(rt, source, schedule, &Group { config, budget }, out, err),
-        Words::Ask { port, commands } => ask(rt, port, commands, out, err),
-        Words::Change { port, source } => change(rt, port, source, out, err),
+        Words::Ask {
+            port,
+            commands,
+            timeout,
+        } => match asked(rt, commands) {
+            Ok(commands) => {
+                let console = Console { port, timeout };
+                return Outcome::Ask { console, commands };
+            }
+            Err(fault) => tell_of(commands, fault, err),
+        },
+        Words::Change {
+            port,
+            source,
+            timeout,
+        } => match changed(rt, source, err) {
+            Ok(Some(commands)) => {
+                let console = Console { port, timeout };
+                return Outcome::Ask { console, commands };
+            }
+            Ok(None) => Fault::Commands.status(),
+            Err(fault) => tell_of(source, fault, err),
+        },
         Words::Serve {
             source,
             store,
             report,
             settings,
-        } => match to_serve(rt, source, store, report, settings) {
-            Ok((service, report)) => return Outcome::Serve { service, report },
-            Err(failed) => tell(fault_of_failed(failed), err),
-        },
+        } => {
+            if is_misplaced(rt, source, store, report) {
+                return Outcome::Done(refuse(
+                    err,
+                    b"plc: the report lies over the source or a store\n",
+                ));
+            }
+            match to_serve(rt, source, store, report, settings) {
+                Ok((service, report)) => return Outcome::Serve { service, report },
+                Err(Failed::Device) => tell_unread(source, err),
+                Err(failed) => tell(fault_of_failed(failed), err),
+            }
+        }
     })
+}
+
+/// Tells why files are refused before anything is read, and answers the status.
+fn refuse<E: CountedWrite>(err: &mut E, line: &[u8]) -> u8 {
+    let _ = put(err, line);
+    Fault::Commands.status()
+}
+
+/// Tells that a file can't be read, and answers the status.
+fn tell_unread<E: CountedWrite>(path: &str, err: &mut E) -> u8 {
+    if put(err, b"plc: device read ").is_ok() && put(err, path.as_bytes()).is_ok() {
+        let _ = put(err, b"\n");
+    }
+    Fault::Device.status()
+}
+
+/// Tells a fault that came where a file was read, and answers the status.
+fn tell_of<E: CountedWrite>(path: &str, fault: Fault, err: &mut E) -> u8 {
+    match fault {
+        Fault::Device => tell_unread(path, err),
+        fault => tell(fault, err),
+    }
+}
+
+/// Whether two paths lead to one file that is there.
+fn are_same(rt: &HostRuntime, one: &str, other: &str) -> bool {
+    match (fs::metadata(rt, one), fs::metadata(rt, other)) {
+        (Ok(one), Ok(other)) => one.dev() == other.dev() && one.ino() == other.ino(),
+        _ => false,
+    }
+}
+
+/// The directory in which a path lies.
+fn directory_of(path: &str) -> &str {
+    match path.rsplit_once('/') {
+        Some(("", _)) => "/",
+        Some((directory, _)) => directory,
+        None => ".",
+    }
+}
+
+/// Whether a report would be written over the source, or among the stores.
+fn is_misplaced(rt: &HostRuntime, source: &str, store: &str, report: Option<&str>) -> bool {
+    match report {
+        Some(path) => {
+            let directory = directory_of(path);
+            are_same(rt, source, path) || directory == store || are_same(rt, directory, store)
+        }
+        None => false,
+    }
 }
 
 fn host_of(rt: &HostRuntime) -> Host<HostRuntime> {
@@ -143,18 +273,22 @@ fn host_of(rt: &HostRuntime) -> Host<HostRuntime> {
     }
 }
 
-/// A controller that is to be served from this file and this directory, and the path of its report.
+/// A controller that is to be served from this file and this directory, and the file of its report. Only reading the
+/// source is a device's failure.
 fn to_serve(
     rt: &HostRuntime,
     source: &str,
     store: &str,
     report: Option<&str>,
     settings: Settings,
-) -> Result<(Service<FileStore<HostRuntime>>, Option<String>), Failed>
+) -> Result<(Service<FileStore<HostRuntime>>, Option<Report>), Failed>
     ensures { IfOk result (λ r. r.0.settings ≡ settings) }
 {
     let report = match report {
-        Some(path) => Some(String::from_str(rt.alloc(), path)?),
+        Some(path) => Some(Report {
+            path: String::from_str(rt.alloc(), path)?,
+            beside: format!(in rt.alloc(); "{path}.new")?,
+        }),
         None => None,
     };
     Ok((Service::new(host_of(rt), source, store, settings)?, report))
@@ -188,14 +322,14 @@ fn asm<W: Write, E: CountedWrite>(
             );
             flushed(status, out, err)
         }
-        Err(fault) => tell(fault, err),
+        Err(fault) => tell_of(source, fault, err),
     }
 }
 
-fn list<W: Write, E: CountedWrite>(rt: &HostRuntime, image: &str, out: &mut W, err: &mut E) -> u8 {
-    let image = match file(rt, image) {
+fn list<W: Write, E: CountedWrite>(rt: &HostRuntime, path: &str, out: &mut W, err: &mut E) -> u8 {
+    let image = match file(rt, path) {
         Ok(image) => image,
-        Err(fault) => return tell(fault, err),
+        Err(fault) => return tell_of(path, fault, err),
     };
     let mut counted = Counted::new(&mut *out);
     let status = plc_tool::list(rt.alloc(), image.as_slice(), &mut counted, err);
@@ -210,9 +344,10 @@ fn run<W: Write, E: CountedWrite>(
     out: &mut W,
     err: &mut E,
 ) -> u8 {
-    let source = match file(rt, source) {
+    let path = source;
+    let source = match file(rt, path) {
         Ok(source) => source,
-        Err(fault) => return tell(fault, err),
+        Err(fault) => return tell_of(path, fault, err),
     };
     let commands = match file(rt, commands) {
         Ok(commands) => commands,
@@ -240,9 +375,10 @@ fn sim<W: Write, E: CountedWrite>(
     out: &mut W,
     err: &mut E,
 ) -> u8 {
-    let source = match file(rt, source) {
+    let path = source;
+    let source = match file(rt, path) {
         Ok(source) => source,
-        Err(fault) => return tell(fault, err),
+        Err(fault) => return tell_of(path, fault, err),
     };
     let schedule = match file(rt, schedule) {
         Ok(schedule) => schedule,
@@ -262,63 +398,125 @@ fn sim<W: Write, E: CountedWrite>(
     flushed(status, out, err)
 }
 
-fn ask<W: Write, E: CountedWrite>(
-    rt: &HostRuntime,
+/// A console that is asked, at a port of 127.0.0.1.
+#[derive(Clone, Copy)]
+struct Console {
     port: u16,
-    commands: &str,
-    out: &mut W,
-    err: &mut E,
-) -> u8 {
-    let status = match asked(rt, port, commands, out) {
-        Ok(()) => 0,
-        Err(fault) => tell(fault, err),
-    };
-    flushed(status, out, err)
+    /// In seconds: so long an answer is waited for.
+    timeout: u32,
 }
 
-/// Sends each command of a file to the console at a port, and prints its answer.
-fn asked<W: Write>(rt: &HostRuntime, port: u16, commands: &str, out: &mut W) -> Result<(), Fault> {
-    match command_texts(rt.alloc(), file(rt, commands)?.as_slice()) {
-        Ok(commands) => send(rt, port, commands.as_slice(), out),
+/// The status of commands of which one was refused.
+const REFUSED: u8 = 4;
+
+/// The status of lines of which one is no command of a console.
+const NO_COMMAND: u8 = 5;
+
+/// The word for standard input, where a file's path may stand.
+const STANDARD_INPUT: &str = "-";
+
+/// What a file holds, or standard input.
+fn text_at(rt: &HostRuntime, path: &str) -> Result<Vec<u8>, Fault> {
+    if path != STANDARD_INPUT {
+        return file(rt, path);
+    }
+    let mut text = Vec::new(rt.alloc());
+    rt.stdin().read_to_end(&mut text)?;
+    Ok(text)
+}
+
+/// The commands of a file, each as a line.
+fn asked(rt: &HostRuntime, commands: &str) -> Result<Vec<Vec<u8>>, Fault> {
+    match command_texts(rt.alloc(), text_at(rt, commands)?.as_slice()) {
+        Ok(commands) => Ok(commands),
         Err(fault) => Err(fault_of(fault)),
     }
 }
 
-fn change<W: Write, E: CountedWrite>(
+/// The change to the program of a file, as a line. None where the program's image is too large for a change, which is
+/// told.
+fn changed<E: CountedWrite>(
     rt: &HostRuntime,
-    port: u16,
     source: &str,
-    out: &mut W,
     err: &mut E,
-) -> u8 {
-    let status = match changed(rt, port, source, out) {
-        Ok(()) => 0,
-        Err(fault) => tell(fault, err),
-    };
-    flushed(status, out, err)
+) -> Result<Option<Vec<Vec<u8>>>, Fault> {
+    let text = text_at(rt, source)?;
+    let mut commands = Vec::new(rt.alloc());
+    match change_to(rt.alloc(), text.as_slice()) {
+        Ok(command) => commands.push(command)?,
+        Err(Fault::Commands) => {
+            tell_too_large(image_bytes(rt.alloc(), text.as_slice())?.len(), err);
+            return Ok(None);
+        }
+        Err(fault) => return Err(fault),
+    }
+    Ok(Some(commands))
 }
 
-/// Sends the change to the program of a file to the console at a port, and prints its answer.
-fn changed<W: Write>(rt: &HostRuntime, port: u16, source: &str, out: &mut W) -> Result<(), Fault> {
-    let command = change_to(rt.alloc(), file(rt, source)?.as_slice())?;
-    send(rt, port, &[command], out)
+/// Tells that a program's image is too large for a change.
+fn tell_too_large<E: CountedWrite>(size: usize, err: &mut E) {
+    if put_numbered(err, b"plc: change of ", size).is_ok() {
+        let _ = put(err, b" bytes\n");
+    }
 }
 
-/// Sends each of these as a line to the console at a port, and prints its answer.
-fn send<W: Write>(
-    rt: &HostRuntime,
-    port: u16,
+/// Has a console answer these commands: the status.
+fn ask<R, O: CountedWrite, E: CountedWrite>(
+    host: &Host<R>,
+    console: Console,
     commands: &[Vec<u8>],
-    out: &mut W,
-) -> Result<(), Fault> {
-    let stream = TcpStream::connect(rt, ("127.0.0.1", port))?;
+    out: &mut O,
+    err: &mut E,
+) -> u8
+where
+    R: Wait + Net<Listener = TcpListener, Stream = TcpStream> + Copy,
+{
+    match TcpStream::connect(&host.rt, ("127.0.0.1", console.port)) {
+        Ok(stream) => match send(host, &stream, console.timeout, commands, out) {
+            Ok(status) => status,
+            Err(failed) => tell(fault_of_failed(failed), err),
+        },
+        Err(_) => tell_no_console(console.port, err),
+    }
+}
+
+/// Tells that nobody serves at a port, and answers the status.
+fn tell_no_console<E: CountedWrite>(port: u16, err: &mut E) -> u8 {
+    if put_numbered(err, b"plc: device port ", usize::from(port)).is_ok() {
+        let _ = put(err, b"\n");
+    }
+    Fault::Device.status()
+}
+
+/// Sends each of these as a line to a console, and prints its answer as soon as it's there: the status.
+fn send<R: Wait + Copy, O: CountedWrite>(
+    host: &Host<R>,
+    stream: &TcpStream,
+    timeout: u32,
+    commands: &[Vec<u8>],
+    out: &mut O,
+) -> Result<u8, Failed> {
     stream.set_nodelay(true)?;
-    Ok(send_commands(
+    stream.set_read_timeout(Some(Duration::from_secs(u64::from(timeout))))?;
+    let replies = send_commands(
+        host,
         commands,
-        &mut Counted::new(&stream),
-        &mut Counted::new(&stream),
-        &mut Counted::new(&mut *out),
-    )?)
+        &mut Counted::new(stream),
+        &mut Counted::new(stream),
+        out,
+    )?;
+    Ok(status_of(worst(replies.as_slice())))
+}
+
+/// The status of a reply.
+fn status_of(reply: Reply) -> u8
+    ensures { result ≡ status_of_reply reply }
+{
+    match reply {
+        Reply::Done => 0,
+        Reply::Refused => REFUSED,
+        Reply::NoCommand => NO_COMMAND,
+    }
 }
 
 /// The status of what was written, once it is flushed.

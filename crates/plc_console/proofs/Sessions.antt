@@ -149,7 +149,7 @@ le_cases : (w v : ℕ) → w ≤ v → (w ≡ v) ⊎ (w < v)
 le_cases w v h = grind arith
 
 -- a failure in a later call
-failed_later : (w v w' : ℕ) → w ≤ v → v ≤ w' → Failed v w' → Failed w w'
+pub failed_later : (w v w' : ℕ) → w ≤ v → v ≤ w' → Failed v w' → Failed w w'
 failed_later w v w' low high (inl h) = inl (omega arith)
 failed_later w v w' low high (inr h) = elim (le_cases w v low) [ inl e ↦ inr (e ∙ h) | inr l ↦ inl (omega arith) ]
 

@@ -30,6 +30,6 @@ mod session;
 
 pub use asking::ask;
 pub use desk::Desk;
-pub use sending::send_commands;
+pub use sending::{Reply, send_commands, worst};
 pub use service::{Console, OpenConsole};
 pub use session::{SessionEnd, Submits, Unanswered, serve_console};

@@ -1,15 +1,17 @@
-//! The service: a port for an operator's console, one connection at a time.
+//! The service: a port for an operator's console, one connection at a time, of which a later one takes over.
 
 use crate::desk::Desk;
 use crate::session::serve_console;
 use il_loader::Image;
-use io_model::Counted;
+use io_model::{Counted, write_all};
 use plc_host::{Failed, Host, ServiceRuntime};
-use plc_listener::{Door, Listener, OpenListener, Session};
-use std::net::TcpStream;
+use plc_listener::{Connection, Door, Listener, OpenListener, Session, WhenFull};
 use std::sync::Wait;
 use std::time::{Clock, Duration};
 use vr_ports::{Cutter, Link, Relink};
+
+/// What an operator is told whose place another one has taken.
+const TAKEN_OVER: &[u8] = b"plc: taken over\n";
 
 /// What a session works with: the desk, and the image of the program in force, in which names are looked up. A change
 /// of the program lasts beyond the session.
@@ -20,16 +22,19 @@ struct Workplace<R: Copy + Drop, L: Drop> {
 }
 
 impl<R: Wait + Clock + Copy + Drop, L: Link + Drop> Session<R> for Workplace<R, L> {
-    fn serve(&mut self, host: &Host<R>, stream: &TcpStream) {
+    fn serve(&mut self, host: &Host<R>, connection: &Connection<'_, R>) {
         let Workplace { desk, image } = self;
         let _ = serve_console(
             &host.rt,
             host.alloc,
             image,
-            &mut Counted::new(stream),
-            &mut Counted::new(stream),
+            &mut Counted::new(connection),
+            &mut Counted::new(connection),
             desk,
         );
+        if connection.has_given_way() {
+            let _ = write_all(&mut Counted::new(connection), TAKEN_OVER);
+        }
     }
 }
 
@@ -42,7 +47,7 @@ pub struct Console<R: ServiceRuntime, L: Relink + Drop> {
 
 impl<R: ServiceRuntime, L: Relink + Send + Drop + 'static> Console<R, L> {
     /// For the commands of a program, which this desk submits; a change of it goes on with another one. A session ends
-    /// whose client sends nothing, or takes nothing, for as long as `idle`.
+    /// whose client ends no line, or doesn't take its answers, for as long as `idle`, and where another client comes.
     pub fn new(
         host: Host<R>,
         door: Door,
@@ -55,7 +60,7 @@ impl<R: ServiceRuntime, L: Relink + Send + Drop + 'static> Console<R, L> {
         let mut workplaces = Vec::with_capacity(host.alloc, 1)?;
         workplaces.push(Workplace { desk, image })?;
         Ok(Console {
-            listener: Listener::new(host, door, workplaces, idle)?,
+            listener: Listener::new(host, door, workplaces, idle, WhenFull::TakesOver)?,
             cutter,
         })
     }

@@ -4,7 +4,8 @@
 //!
 //! ```rust
 //! let door = Door::open(&rt, 0)?; // any port that is free
-//! let listener = Listener::new(host, door, sessions, Duration::from_secs(60))?; // `sessions`: one for each place
+//! let idle = Duration::from_secs(60);
+//! let listener = Listener::new(host, door, sessions, idle, WhenFull::Closes)?; // `sessions`: one for each place
 //! let open = listener.open()?; // connections are served from now on, at `open.port()`
 //! open.close(); // none is served any more
 //! ```
@@ -12,15 +13,18 @@
 //! Proved: each call is safe, and returns but for the waits that its bound allows; what fails is a device or memory.
 //!
 //! By its code alone, and tested through what is served (`serve_rows`, `failing_rows` and `console_rows` of
-//! `tests_threads`): that a connection gets a place that is free or is closed unanswered, that a session ends whose
-//! client is idle, and that `close` ends each session and each thread.
+//! `tests_threads`): that a connection gets a place that is free, or is closed unanswered or takes over the first one,
+//! that a session ends whose client is idle, sends a request too slowly or doesn't take its replies, and that `close`
+//! ends each session and each thread.
 #![tactic(auto)]
 
+mod connection;
 mod door;
 mod listener;
 mod places;
 mod session;
 
+pub use connection::Connection;
 pub use door::Door;
-pub use listener::{Listener, OpenListener};
+pub use listener::{Listener, OpenListener, WhenFull};
 pub use session::Session;

@@ -1,5 +1,6 @@
 //! The loop that gives connections their sessions.
 
+use crate::connection::Connection;
 use crate::door::Door;
 use crate::places::Places;
 use crate::session::Session;
@@ -7,15 +8,27 @@ use plc_host::{Failed, Host, ServiceRuntime};
 use std::alloc::AllocError;
 use std::net::TcpStream;
 use std::sync::Arc;
+use std::thread;
 use std::thread::JoinHandle;
 use std::time::Duration;
-use std::{io, thread};
 
 /// For so many pauses a connection waits for a place: one whose client has just gone is free in a moment.
 const PATIENCE: u32 = 10;
 
+/// For so many pauses a connection waits for the place of one that gives way: its session may still wait for an answer.
+const PATIENCE_WITH_ONE: u32 = 10_000;
+
 /// In milliseconds.
 const PAUSE: u64 = 1;
+
+/// What a connection finds that comes while each place is taken.
+#[derive(Clone, Copy, PartialEq, Eq)]
+pub enum WhenFull {
+    /// It's closed unanswered.
+    Closes,
+    /// It takes over the first place, once the session there has ended: that one reads nothing more.
+    TakesOver,
+}
 
 /// A port whose connections wait: none is served before it's opened.
 #[derive(Drop)]
@@ -23,50 +36,59 @@ pub struct Listener<R: ServiceRuntime, S: Drop> {
     host: Host<R>,
     door: Door,
     places: Places<S>,
-    /// A session ends whose client sends nothing, or takes nothing, for so long.
+    /// A session ends whose client has no whole request for so long, or doesn't take its reply.
     idle: Duration,
-}
-
-/// Ends each read and each write of a connection that waits for so long. Each reply is sent at once.
-fn prepare(stream: &TcpStream, idle: Duration) -> io::Result<()> {
-    stream.set_read_timeout(Some(idle))?;
-    stream.set_write_timeout(Some(idle))?;
-    stream.set_nodelay(true)
+    when_full: WhenFull,
 }
 
 impl<R: ServiceRuntime, S: Session<R> + Send + Drop + 'static> Listener<R, S> {
-    /// So many connections at this door are served at once as there are sessions. A session ends whose client sends
-    /// nothing, or takes nothing, for as long as `idle`.
+    /// So many connections at this door are served at once as there are sessions. A session ends whose client has no
+    /// whole request, or doesn't take its reply, for as long as `idle`.
     pub fn new(
         host: Host<R>,
         door: Door,
         sessions: Vec<S>,
         idle: Duration,
+        when_full: WhenFull,
     ) -> Result<Listener<R, S>, AllocError> {
         Ok(Listener {
             host,
             door,
             places: Places::new(host.alloc, sessions)?,
             idle,
+            when_full,
         })
     }
 
-    /// A place for this connection, if one is free or soon will be.
-    fn place_for(&self, stream: &TcpStream) -> Option<usize> {
+    /// A place for this connection, if one is free within so many pauses.
+    fn place_within(&self, stream: &TcpStream, pauses: u32) -> Option<usize> {
         let rt = &self.host.rt;
-        for _ in 0..PATIENCE {
-            let place = self.places.take(rt, stream.try_clone().ok()?);
+        for _ in 0..pauses {
+            let place = self.places.take(rt, stream);
             if place.is_some() {
                 return place;
+            }
+            if self.places.are_closed() {
+                return None;
             }
             thread::sleep(rt, Duration::from_millis(PAUSE));
         }
         None
     }
 
-    /// A place for this connection, which has the time limits of a session then.
+    /// A place for this connection, if one is free or soon will be, or another connection gives way.
+    fn place_for(&self, stream: &TcpStream) -> Option<usize> {
+        let place = self.place_within(stream, PATIENCE);
+        if place.is_some() || self.when_full == WhenFull::Closes {
+            return place;
+        }
+        self.places.dismiss(&self.host.rt);
+        self.place_within(stream, PATIENCE_WITH_ONE)
+    }
+
+    /// A place for this connection, whose replies are sent at once.
     fn admit(&self, stream: &TcpStream) -> Option<usize> {
-        prepare(stream, self.idle).ok()?;
+        stream.set_nodelay(true).ok()?;
         self.place_for(stream)
     }
 
@@ -74,7 +96,10 @@ impl<R: ServiceRuntime, S: Session<R> + Send + Drop + 'static> Listener<R, S> {
     fn attend(&self, place: usize, stream: &TcpStream) {
         let rt = &self.host.rt;
         if let Some(mut session) = self.places.lend(rt, place) {
-            session.serve(&self.host, stream);
+            let gives_way = self.places.gives_way(place);
+            if let Ok(connection) = Connection::new(*rt, stream, self.idle, gives_way) {
+                session.serve(&self.host, &connection);
+            }
             self.places.give_back(rt, place, session);
         }
         self.places.leave(rt, place);

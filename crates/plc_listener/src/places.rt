@@ -18,6 +18,10 @@ struct Place<S: Drop> {
 pub(crate) struct Places<S: Drop> {
     places: Vec<Mutex<Place<S>>>,
     are_closed: AtomicBool,
+    /// The connection of the first place gives way to another one.
+    gives_way: AtomicBool,
+    /// That of no other place ever does.
+    stays: AtomicBool,
 }
 
 impl<S: Drop> Places<S> {
@@ -33,19 +37,21 @@ impl<S: Drop> Places<S> {
         Ok(Places {
             places,
             are_closed: AtomicBool::new(false),
+            gives_way: AtomicBool::new(false),
+            stays: AtomicBool::new(false),
         })
     }
 
-    /// Takes a free place for a connection, of which it keeps this handle: the number of the place. None where each is
-    /// taken, or they are closed.
-    pub(crate) fn take<R: Wait>(&self, rt: &R, stream: TcpStream) -> Option<usize> {
+    /// Takes a free place for a connection, of which it keeps a handle: the number of the place. None where each is
+    /// taken, they are closed, or no handle is to be had.
+    pub(crate) fn take<R: Wait>(&self, rt: &R, stream: &TcpStream) -> Option<usize> {
         for (number, place) in self.places.iter().enumerate() {
             let mut place = place.lock(rt);
             if self.are_closed.load(Ordering::SeqCst) {
                 return None;
             }
             if place.stream.is_none() {
-                place.stream = Some(stream);
+                place.stream = Some(stream.try_clone().ok()?);
                 return Some(number);
             }
         }
@@ -68,7 +74,35 @@ impl<S: Drop> Places<S> {
     /// The place is free again.
     pub(crate) fn leave<R: Wait>(&self, rt: &R, number: usize) {
         if let Some(place) = self.places.get(number) {
-            place.lock(rt).stream = None;
+            let mut place = place.lock(rt);
+            if number == 0 {
+                self.gives_way.store(false, Ordering::SeqCst);
+            }
+            place.stream = None;
+        }
+    }
+
+    /// Whether they are closed.
+    pub(crate) fn are_closed(&self) -> bool {
+        self.are_closed.load(Ordering::SeqCst)
+    }
+
+    /// What tells whether the connection of a place gives way.
+    pub(crate) fn gives_way(&self, number: usize) -> &AtomicBool {
+        if number == 0 {
+            &self.gives_way
+        } else {
+            &self.stays
+        }
+    }
+
+    /// Has the connection of the first place give way: its session reads what came by now, and then the end.
+    pub(crate) fn dismiss<R: Wait>(&self, rt: &R) {
+        if let Some(place) = self.places.first() {
+            if let Some(stream) = &place.lock(rt).stream {
+                self.gives_way.store(true, Ordering::SeqCst);
+                let _ = stream.shutdown(Shutdown::Read);
+            }
         }
     }
 

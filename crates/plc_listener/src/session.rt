@@ -1,11 +1,12 @@
 //! What connections are served with.
 
+use crate::connection::Connection;
 use plc_host::Host;
-use std::net::TcpStream;
 use std::sync::Wait;
+use std::time::Clock;
 
 /// What one place serves its connections with, one after another.
-pub trait Session<R: Wait + Copy> {
+pub trait Session<R: Wait + Clock + Copy + Drop> {
     /// Serves a connection to its end, whichever that is.
-    fn serve(&mut self, host: &Host<R>, stream: &TcpStream);
+    fn serve(&mut self, host: &Host<R>, connection: &Connection<'_, R>);
 }

@@ -57,6 +57,12 @@ const CONSOLE: &str = "console";
 /// The word of the option `--change`.
 const CHANGE: &str = "change";
 
+/// The word of the option `--timeout`.
+const TIMEOUT: &str = "timeout";
+
+/// The word of the option `--status`.
+const STATUS: &str = "status";
+
 /// In seconds: a served controller ends after so long without a majority of its replicas.
 const LOST_AFTER: u32 = 60;
 
@@ -66,7 +72,9 @@ const STATUSES: &str = "Exit status:
   0  good
   1  the source, the image, the commands, the schedule or the store were refused
   2  a device failed, or memory ran out
-  3  these words are no call of the program";
+  3  these words are no call of the program
+  4  of plc ask: a command was refused by the controller
+  5  of plc ask: a line was no command of a console";
 
 /// A text of help, and then the faults that the text of a program may have.
 macro_rules! with_source_faults {
@@ -183,8 +191,8 @@ const SERVING: &str = with_source_faults!(
     "Takes connections of Modbus TCP on 127.0.0.1, and says so by the line 'serving on 127.0.0.1:P' on
 standard error. Each period the 2F+1 replicas scan the inputs that clients wrote, until it's
 interrupted; with --scans N it ends after N scans, and prints 'scans N'. Up to 16 clients are served
-at once; a connection beyond is closed. So is one whose client sent nothing for S seconds, or takes
-no reply for so long.
+at once; a connection beyond is closed. So is one whose client has no whole request for S seconds, or
+doesn't take its replies within that time.
 Bits are numbered 0 to 511 (%IXb.n is 8b+n), registers 0 to 63:
   functions 1, 5, 15         read and write the bits of %I
   functions 3, 6, 16         read and write its words
@@ -209,7 +217,9 @@ Where fewer than F+1 replicas have been normal for a minute it ends with 'plc: d
 
 With --console P an operator's console is served at port P of 127.0.0.1, to one client at a time. Each
 line is one of the commands of 'plc run' in JSON, but no scan, and is answered by its line; any other
-line by 'plc: commands'. At a breakpoint all outputs stay as they are until the scan goes on.
+line by 'plc: commands'. Where another client comes, it takes the console over once a command that
+waits is answered, and the first is told 'plc: taken over'. At a breakpoint all outputs stay as they
+are until the scan goes on.
 
 The report is one line of JSON, written before 'scans N':
   crashes                    how often a replica was crashed by --crash
@@ -220,18 +230,20 @@ The report is one line of JSON, written before 'scans N':
 );
 
 const ASKING: &str = with_source_faults!(
-    "COMMANDS is a JSON array of the commands of 'plc run', without scans, which are the driver's. Each is
-submitted to the group of 'plc serve --console PORT' once the one before it is answered, and its
-answer is a line, as 'plc run' prints it. A scan is answered 'plc: commands'.
+    "COMMANDS is a JSON array of the commands of 'plc run', without scans, which are the driver's; - is
+standard input. Each is submitted to the group of 'plc serve --console PORT' once the one before it is
+answered, and its answer is a line, as 'plc run' prints it, which is printed when it comes. A scan is
+answered 'plc: commands'. Another client of the console gives way to this one.
 
 With --change SOURCE one command is sent: the change to the program of a text. Where the answer is
 'done', the console looks names up in that program from then on.
 
-The status is 0 where each command was answered. Where the console can't be asked:
-  plc: commands              COMMANDS is no list of commands, or the image of SOURCE has more than
-                             32768 bytes; nothing was sent
-  plc: device                nobody serves a console at the port, or another client has it, or it
-                             ended before each command was answered
+The status is 0 where each command was done or told what it asked for, 4 where one was answered
+'refused N', and 5 where one was answered 'plc: commands'. Where the console can't be asked:
+  plc: commands              COMMANDS is no list of commands; nothing was sent
+  plc: change of N bytes     the image of SOURCE has more than 32768 bytes; nothing was sent
+  plc: device                nobody serves a console at the port, or another client took it over, or
+                             it ended, or gave no answer for S seconds, before each was answered
 "
 );
 
@@ -272,11 +284,15 @@ pub enum Words<'a> {
     Ask {
         port: u16,
         commands: &'a str,
+        /// In seconds, from 1: so long an answer is waited for.
+        timeout: u32,
     },
     /// Sends the change to the program of a file to the console at a port, and prints what it answers.
     Change {
         port: u16,
         source: &'a str,
+        /// In seconds, from 1: so long an answer is waited for.
+        timeout: u32,
     },
 }
 
@@ -342,7 +358,9 @@ fn sim_command<'a>(alloc: Global) -> Result<Command<'a>, AllocError> {
         .arg(file(alloc, "SOURCE").help("The program's text, in Instruction List"))?
         .arg(file(alloc, "SCHEDULE").help("The schedule, in JSON"))?
         .arg(failures(alloc))?
-        .arg(every(alloc))?
+        .arg(every(alloc, 0).help(
+            "After how many commands a replica makes a checkpoint, 0 to 65535; 0 is never",
+        ))?
         .arg(budget(alloc))
 }
 
@@ -356,7 +374,9 @@ fn serve_command<'a>(alloc: Global) -> Result<Command<'a>, AllocError> {
             "After how many scans it ends; without it, it goes on until it's interrupted",
         ))?
         .arg(failures(alloc))?
-        .arg(every(alloc))?
+        .arg(every(alloc, 1).help(
+            "After how many commands a replica makes a checkpoint, 1 to 65535",
+        ))?
         .arg(port(alloc))?
         .arg(
             count(alloc, PERIOD, "MS")
@@ -366,7 +386,7 @@ fn serve_command<'a>(alloc: Global) -> Result<Command<'a>, AllocError> {
         .arg(
             count(alloc, IDLE, "S")
                 .default_value("300")
-                .help("Seconds until a silent client is let go"),
+                .help("Seconds until a client without a whole request is let go"),
         )?
         .arg(budget(alloc))?
         .arg(links(alloc))?
@@ -387,8 +407,13 @@ fn ask_command<'a>(alloc: Global) -> Result<Command<'a>, AllocError> {
                 .value_parser(value_parser!(u16).range(1..=65_535))
                 .help("The port of 127.0.0.1, as --console has it"),
         )?
-        .arg(asked_commands(alloc)?.help("The commands, in JSON"))?
-        .arg(change(alloc))
+        .arg(asked_commands(alloc)?.help("The commands, in JSON; - is standard input"))?
+        .arg(change(alloc))?
+        .arg(
+            count(alloc, TIMEOUT, "S")
+                .default_value("60")
+                .help("Seconds until an answer is given up"),
+        )
 }
 
 /// The file of commands is left out where the program is to be changed.
@@ -432,14 +457,14 @@ fn failures<'a>(alloc: Global) -> Arg<'a> {
         .help("How many of the 2F+1 replicas may fail, 1 to 3")
 }
 
-/// The option is refused where it is given twice, or no number of 16 bits.
-fn every<'a>(alloc: Global) -> Arg<'a> {
+/// The option is refused where it is given twice, or no number of 16 bits from `least` on. A controller that is served
+/// has to make checkpoints: without them its log, and so each message of a view change, would grow without an end.
+fn every<'a>(alloc: Global, least: u16) -> Arg<'a> {
     Arg::new(alloc, EVERY)
         .long(EVERY)
         .value_name("E")
-        .value_parser(value_parser!(u16).range(0..=65_535))
+        .value_parser(value_parser!(u16).range(i64::from(least)..=65_535))
         .default_value("64")
-        .help("After how many commands a replica makes a checkpoint, 0 to 65535; 0 is never")
 }
 
 /// The option is wanted, and refused where it is given twice or empty.
@@ -564,11 +589,17 @@ fn asked<'a>(inner: &ArgMatches<'a>) -> Option<Words<'a>>
     ensures { IfSome result IsLostAfterAMinute }
 {
     let port = inner.get_one::<u16>("PORT")?;
+    let timeout = inner.get_one::<u32>(TIMEOUT)?;
     match inner.get_str(CHANGE) {
-        Some(source) => Some(Words::Change { port, source }),
+        Some(source) => Some(Words::Change {
+            port,
+            source,
+            timeout,
+        }),
         None => Some(Words::Ask {
             port,
             commands: inner.get_str("COMMANDS")?,
+            timeout,
         }),
     }
 }

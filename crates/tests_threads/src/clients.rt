@@ -11,13 +11,15 @@ use std::{io, thread};
 #[derive(Clone, Copy)]
 pub enum Visit {
     Nothing,
-    /// A crowd, then those who come one behind another, then one that is silent, and then these steps.
+    /// A crowd, then those who come one behind another, then those who are let go, and then these steps.
     All(&'static [Step]),
     Steps(&'static [Step]),
+    /// An operator at this port whose command is never answered.
+    Operator(u16),
 }
 
 /// An input is written, and the outputs become these: by function 05 a bit or by 06 a word, its address, its value;
-/// `%QX0.0` and `%QW0`.
+/// the byte of `%QX0.0` and `%QX0.1`, and `%QW0`.
 pub type Step = (u8, u8, u16, (u8, u16));
 
 /// So many of a crowd are answered.
@@ -26,8 +28,11 @@ const CROWD: u8 = 15;
 /// So many come one behind another.
 const QUEUE: u8 = 20;
 
+/// So many are let go.
+const GUESTS: u8 = 3;
+
 /// What a visit gives that went well, beside its steps.
-pub const ALL: u8 = CROWD + QUEUE + 2;
+pub const ALL: u8 = CROWD + QUEUE + GUESTS + 1;
 
 /// Reads the first two bits of `%I`, and what a new controller answers.
 const REQUEST: [u8; 12] = [0, 7, 0, 0, 0, 6, 1, 1, 0, 0, 0, 2];
@@ -59,9 +64,9 @@ fn is_written(stream: &mut TcpStream, function: u8, address: u8, value: u16) -> 
     Ok(reply_to::<12>(stream, asked)? == asked)
 }
 
-/// `%QX0.0` by function 02, and `%QW0` by 04.
+/// `%QX0.0` and `%QX0.1` by function 02, and `%QW0` by 04.
 fn outputs(stream: &mut TcpStream) -> io::Result<(u8, u16)> {
-    let bits = reply_to::<10>(stream, request(2, 0, 1))?;
+    let bits = reply_to::<10>(stream, request(2, 0, 2))?;
     let words = reply_to::<11>(stream, request(4, 0, 1))?;
     Ok((bits[9], u16::from_be_bytes([words[9], words[10]])))
 }
@@ -143,17 +148,139 @@ fn queue<R: Net<Listener = TcpListener, Stream = TcpStream> + Clock>(
     Ok(count)
 }
 
-/// Whether a client that says nothing is let go after two seconds, and not before.
-fn silent<R: Net<Listener = TcpListener, Stream = TcpStream> + Clock>(
+/// How a client goes on that is let go.
+#[derive(Clone, Copy)]
+enum Manner {
+    /// It says nothing.
+    Silent,
+    /// It sends a byte of one request now and then.
+    Slow,
+    /// It sends requests, and takes no reply.
+    Deaf,
+}
+
+/// The header and the function of a request with 253 bytes to come.
+const SLOW_REQUEST: [u8; 8] = [0, 7, 0, 0, 0, 254, 1, 16];
+
+/// So many requests a deaf client sends at once.
+const MANY: usize = 20_000;
+
+/// In milliseconds: so often these clients go on.
+const MOMENT: u64 = 100;
+
+/// A client that is let go, and how long it stayed.
+#[derive(Drop)]
+struct Guest {
+    stream: TcpStream,
+    manner: Manner,
+    /// How many bytes of its requests it sent.
+    sent: usize,
+    stayed: Option<Duration>,
+}
+
+/// Whether the connection is closed, by what a call gave that waits for a moment.
+fn is_over(came: io::Result<usize>) -> bool {
+    match came {
+        Ok(count) => count == 0,
+        Err(error) => !matches!(
+            error.kind(),
+            io::ErrorKind::WouldBlock | io::ErrorKind::TimedOut
+        ),
+    }
+}
+
+impl Guest {
+    /// One that has come now.
+    fn new<R: Net<Listener = TcpListener, Stream = TcpStream>>(
+        rt: &R,
+        port: u16,
+        manner: Manner,
+    ) -> io::Result<Guest> {
+        let mut stream = connect(rt, port)?;
+        stream.set_read_timeout(Some(Duration::from_millis(1)))?;
+        stream.set_write_timeout(Some(Duration::from_millis(1)))?;
+        if let Manner::Slow = manner {
+            stream.write_all(&SLOW_REQUEST)?;
+        }
+        Ok(Guest {
+            stream,
+            manner,
+            sent: 0,
+            stayed: None,
+        })
+    }
+
+    /// What it does in a moment.
+    fn act(&mut self, requests: &[u8]) -> io::Result<usize> {
+        match self.manner {
+            Manner::Silent => self.stream.read(&mut [0; 1]),
+            Manner::Slow => self.stream.write(&[0; 1]),
+            Manner::Deaf => {
+                let at = self.sent % REQUEST.len();
+                let count = self.stream.write(requests.get(at..).unwrap_or(&[]))?;
+                self.sent = self.sent.wrapping_add(count);
+                Ok(count)
+            }
+        }
+    }
+
+    /// Goes on, if it wasn't let go yet: it's so late now.
+    fn go_on(&mut self, requests: &[u8], now: Duration) {
+        if self.stayed.is_none() && is_over(self.act(requests)) {
+            self.stayed = Some(now);
+        }
+    }
+
+    /// Whether it was let go after two seconds, and not before.
+    fn was_let_go(&self) -> bool {
+        let in_time = Duration::from_millis(1900)..Duration::from_secs(6);
+        self.stayed.is_some_and(|stayed| in_time.contains(&stayed))
+    }
+}
+
+/// Goes on with each of these: whether each was let go.
+fn go_on(guests: &mut [Guest], requests: &[u8], now: Duration) -> bool {
+    let mut are_gone = true;
+    for guest in guests.iter_mut() {
+        guest.go_on(requests, now);
+        are_gone = are_gone && guest.stayed.is_some();
+    }
+    are_gone
+}
+
+/// How many are let go after two seconds, and not before, of three that come at once.
+fn let_go<R: Net<Listener = TcpListener, Stream = TcpStream> + Clock>(
     rt: &R,
+    alloc: Global,
     port: u16,
 ) -> io::Result<u8> {
+    let mut requests = Vec::new(alloc);
+    for _ in 0..MANY {
+        requests.extend_from_slice(&request(3, 0, 64))?;
+    }
     let begun = Instant::now(rt)?;
-    let mut client = connect(rt, port)?;
-    let is_closed = !matches!(client.read(&mut [0; 1]), Ok(1));
-    let took = Instant::now(rt)?.saturating_duration_since(begun);
-    let is_in_time = took >= Duration::from_millis(1900) && took < Duration::from_secs(6);
-    Ok(u8::from(is_closed && is_in_time))
+    let mut guests = [
+        Guest::new(rt, port, Manner::Silent)?,
+        Guest::new(rt, port, Manner::Slow)?,
+        Guest::new(rt, port, Manner::Deaf)?,
+    ];
+    for _ in 0..80u8 {
+        thread::sleep(rt, Duration::from_millis(MOMENT));
+        let now = Instant::now(rt)?.saturating_duration_since(begun);
+        if go_on(&mut guests, requests.as_slice(), now) {
+            break;
+        }
+    }
+    let count = guests.iter().filter(|guest| guest.was_let_go()).count();
+    Ok(u8::try_from(count).unwrap_or(0))
+}
+
+/// Whether an operator whose command is never answered is let go at the end.
+fn is_cut<R: Net<Listener = TcpListener, Stream = TcpStream>>(rt: &R, port: u16) -> io::Result<u8> {
+    let mut console = connect(rt, port)?;
+    console.write_all(b"\"cr\"\n")?;
+    let came = console.read(&mut [0; 1]);
+    Ok(u8::from(!matches!(came, Ok(1))))
 }
 
 fn made_visit<R: Net<Listener = TcpListener, Stream = TcpStream> + Clock>(
@@ -165,12 +292,19 @@ fn made_visit<R: Net<Listener = TcpListener, Stream = TcpStream> + Clock>(
     match visit {
         Visit::Nothing => Ok(0),
         Visit::Steps(steps) => stepped(rt, &mut connect(rt, port)?, steps),
+        Visit::Operator(console) => is_cut(rt, console),
         Visit::All(steps) => {
             let count = crowd(rt, alloc, port)?.saturating_add(queue(rt, port)?);
-            let count = count.saturating_add(silent(rt, port)?);
+            let count = count.saturating_add(let_go(rt, alloc, port)?);
             Ok(count.saturating_add(stepped(rt, &mut connect(rt, port)?, steps)?))
         }
     }
+}
+
+/// A port that was free a moment ago.
+pub fn free_port<R: Net<Listener = TcpListener, Stream = TcpStream>>(rt: &R) -> io::Result<u16> {
+    let listener = TcpListener::bind(rt, ("127.0.0.1", 0))?;
+    Ok(listener.local_addr()?.port())
 }
 
 /// The port once it's told, and none where the controller ended first.

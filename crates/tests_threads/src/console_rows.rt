@@ -3,6 +3,7 @@
 
 ghost use Rattle.std.specs.Prelude.{◌≡◌};
 
+use crate::clients::free_port;
 use il_model::Budget;
 use io_image::NewList;
 use io_model::Counted;
@@ -12,51 +13,98 @@ use plc_json::command_texts;
 use plc_serve::{Service, serve};
 use plc_settings::{Links, Settings};
 use plc_status::StatusWriter;
+use plc_tool::change_to;
 use std::alloc::Global;
 use std::io::{Read, Write};
 use std::marker::Brand;
 use std::net::{Net, TcpListener, TcpStream};
 use std::process::Abort;
 use std::rt::Files;
+use std::sync::Wait;
 use std::test::Fail;
 use std::time::Duration;
 use std::{fs, io};
 use vr_model::Config;
 use vr_threads::FileStore;
 
-/// A line is told, and then the operator asks these commands, as `plc ask` does, which prints this.
-type Row = (&'static [u8], &'static [u8], &'static [u8]);
+/// What an operator asks of the console.
+#[derive(Clone, Copy)]
+enum Asked {
+    /// These commands.
+    Commands(&'static [u8]),
+    /// The change to the second program.
+    Change,
+}
+
+/// Once a line is told, or at once behind the row before, the operator asks, as `plc ask` does, which prints this; `?`
+/// stands for any number.
+#[derive(Clone, Copy)]
+struct Row {
+    line: &'static [u8],
+    /// Whether the operator goes before, and comes again.
+    comes_again: bool,
+    asked: Asked,
+    printed: &'static [u8],
+}
 
 /// Counts up %IW0: 32767 stops it at instruction 1, and 2 is behind the sum.
 const SOURCE: &[u8] = b"LD %IW0\nADD 1\nST %QW0\n";
 
-/// The plant stops, is reset, and runs on; a scan is held, and goes on. Then the program is changed to `VAR N : INT :=
-/// 10; END_VAR`, `LD %QW0`, `ADD N`, `ST %QW0`, which goes on from what the first one left in %QW0.
-const ROWS: [Row; 4] = [
-    (
-        b"serving on",
-        b"[\"cr\", {\"force\": [\"%IW0\", 32767]}, {\"read\": \"N\"}, {\"change\": \"00\"}]",
-        b"refused 1\ndone\nrefused 3\nrefused 6\n",
-    ),
-    (
-        b"stopped overflow 1",
-        b"[\"cr\", {\"unforce\": \"%IW0\"}, {\"break\": 2}, \"reset\", \"cr\"]",
-        b"value INT#32767\ndone\ndone\ndone\nrefused 1\n",
-    ),
-    (
-        b"held 2",
-        b"[\"cr\", {\"clear\": 2},
-          {\"change\": \"494C5043000100010000000000000003014E01FFFF0000000A010014000900400002001400\"},
-          {\"read\": \"N\"}, \"step\", \"continue\", {\"read\": \"%QW0\"},
-          {\"change\": \"494C5043000100010000000000000003014E01FFFF0000000A010014000900400002001400\"},
-          {\"read\": \"N\"}, {\"break\": 1}]",
-        b"value INT#1\ndone\nrefused 7\nrefused 3\noutputs 2 QW0=1\nrefused 1\nvalue INT#1\ndone\nvalue INT#10\ndone\n",
-    ),
-    (
-        b"held 1",
-        b"[\"cr\", {\"clear\": 1}, \"continue\", {\"read\": \"%QW0\"}]",
-        b"value INT#1\ndone\noutputs 3 QW0=11\nvalue INT#11\n",
-    ),
+/// What the program is changed to. Of its instructions four are performed; behind them come so many more that its image
+/// has 4 kB.
+const SECOND: &[u8] = b"VAR N : INT := 10; END_VAR\nLD N\nADD 1\nST %QW0\nRET\n";
+
+const MORE: usize = 1000;
+
+/// The plant stops, and is reset; a scan is held, goes one instruction on, and then to its end. The program is changed,
+/// and its names are looked up, also by an operator who comes later.
+const ROWS: [Row; 6] = [
+    Row {
+        line: b"serving on",
+        comes_again: false,
+        asked: Asked::Commands(
+            b"[\"cr\", {\"read\": \"N\"}, {\"change\": \"00\"}, {\"force\": [\"%IW0\", 32767]}]",
+        ),
+        printed: b"refused 1\nrefused 3\nrefused 6\ndone\n",
+    },
+    Row {
+        line: b"stopped overflow 1",
+        comes_again: false,
+        asked: Asked::Commands(
+            b"[\"cr\", {\"unforce\": \"%IW0\"}, {\"break\": 1}, {\"break\": 2}, \"reset\"]",
+        ),
+        printed: b"value INT#32767\ndone\ndone\ndone\ndone\n",
+    },
+    Row {
+        line: b"held 1",
+        comes_again: false,
+        asked: Asked::Commands(
+            b"[\"cr\", \"step\", \"cr\", {\"clear\": 1}, {\"clear\": 2}, {\"read\": \"N\"}, {\"change\":
+              \"494C5043000100010000000000000003014E01FFFF0000000A010014000900400002001400\"},
+              \"continue\", \"continue\"]",
+        ),
+        printed: b"value INT#0\nheld 2\nvalue INT#1\ndone\ndone\nrefused 3\nrefused 7\noutputs ? QW0=1\nrefused 1\n",
+    },
+    Row {
+        line: b"",
+        comes_again: false,
+        asked: Asked::Change,
+        printed: b"done\n",
+    },
+    Row {
+        line: b"",
+        comes_again: false,
+        asked: Asked::Commands(b"[{\"read\": \"N\"}, {\"break\": 1}]"),
+        printed: b"value INT#10\ndone\n",
+    },
+    Row {
+        line: b"held 1",
+        comes_again: true,
+        asked: Asked::Commands(
+            b"[{\"read\": \"N\"}, \"cr\", {\"clear\": 1}, \"continue\", {\"read\": \"%QW0\"}]",
+        ),
+        printed: b"value INT#10\nvalue INT#10\ndone\noutputs ? QW0=11\nvalue INT#11\n",
+    },
 ];
 
 /// Lines that are no command of a console: no JSON, no command, a scan, bytes that aren't UTF-8, an empty line.
@@ -69,22 +117,30 @@ const BAD_ANSWERS: &[u8] =
 /// A line may have so many bytes, and this has one more; a command behind spaces is the longest that is taken.
 const LONGEST: usize = 131_072;
 
+/// The longest image that a change may have, and one that is longer by a byte, which is no command.
+const IMAGE_BYTES: usize = 32_768;
+
+/// In milliseconds: so the operator has the time to ask before the next scan.
+const PERIOD: u32 = 300;
+
 /// In seconds: so long a console waits for a client of these tests, and a client for the console.
 const IDLE: u32 = 3;
 
 const PATIENCE: u64 = 20;
 
+/// What an operator is told whose place another one takes.
+const TAKEN_OVER: &[u8] = b"plc: taken over\n";
+
 /// A client that never reads sends so many empty lines, of which each is refused: more than all buffers hold.
 const FLOOD: usize = 1 << 22;
 
-/// What takes the lines on standard error of a controller, and has an operator at its console. It works in the driver's
-/// own thread.
+/// What takes the lines on standard error of a controller, and has an operator at its console.
 #[derive(Drop)]
 struct Operator<R: Drop> {
     rt: R,
     alloc: Global,
     port: u16,
-    /// Whether another one comes first that is silent, and this one reads nothing in the end.
+    /// Whether others come before, of whom this one takes the console over, and this one reads nothing in the end.
     has_others: bool,
     stream: Option<TcpStream>,
     /// The rows that came to pass.
@@ -105,19 +161,70 @@ fn is_answered(stream: &mut TcpStream, sent: &[u8], wanted: &[u8]) -> io::Result
     Ok(are_same)
 }
 
+/// How many digits these bytes begin with.
+fn digits(bytes: &[u8]) -> usize {
+    bytes
+        .iter()
+        .take_while(|byte| byte.is_ascii_digit())
+        .count()
+}
+
+/// Whether these bytes are the wanted ones, in which `?` stands for any number.
+fn is_like(came: &[u8], wanted: &[u8]) -> bool {
+    let mut rest = came;
+    for byte in wanted {
+        let count = match byte {
+            b'?' => digits(rest),
+            _ => usize::from(rest.first() == Some(byte)),
+        };
+        if count == 0 {
+            return false;
+        }
+        rest = rest.get(count..).unwrap_or(&[]);
+    }
+    rest.is_empty()
+}
+
+/// The command that goes on with the second program.
+fn change(alloc: Global) -> Option<Vec<u8>> {
+    let mut text = SECOND.to_vec(alloc).ok()?;
+    for _ in 0..MORE {
+        text.extend_from_slice(b"LD N\n").ok()?;
+    }
+    change_to(alloc, text.as_slice()).ok()
+}
+
+/// The texts of what is asked.
+fn texts(alloc: Global, asked: Asked) -> Option<Vec<Vec<u8>>> {
+    match asked {
+        Asked::Commands(commands) => command_texts(alloc, commands).ok(),
+        Asked::Change => {
+            let mut texts = Vec::new(alloc);
+            texts.push(change(alloc)?).ok()?;
+            Some(texts)
+        }
+    }
+}
+
 /// Whether commands that are asked as `plc ask` does are answered so.
-fn is_asked(alloc: Global, stream: &TcpStream, commands: &[u8], wanted: &[u8]) -> bool {
-    let Ok(texts) = command_texts(alloc, commands) else {
+fn is_asked<R: Wait + Copy>(
+    host: &Host<R>,
+    stream: &TcpStream,
+    asked: Asked,
+    wanted: &[u8],
+) -> bool {
+    let Some(texts) = texts(host.alloc, asked) else {
         return false;
     };
-    let mut printed = Vec::new(alloc);
+    let mut printed = Vec::new(host.alloc);
     let sent = send_commands(
+        host,
         texts.as_slice(),
         &mut Counted::new(stream),
         &mut Counted::new(stream),
         &mut Counted::new(&mut printed),
     );
-    sent.is_ok() && printed.as_slice() == wanted
+    sent.is_ok() && is_like(printed.as_slice(), wanted)
 }
 
 /// Whether a line of so many bytes, a command behind spaces, is answered so.
@@ -132,12 +239,27 @@ fn is_long_answered(
     is_answered(stream, line.as_slice(), wanted)
 }
 
-/// Whether lines that are no command are answered as such, and one behind them as ever.
+/// Whether a change to so many bytes that are no image is answered so.
+fn is_change_answered(
+    alloc: Global,
+    stream: &mut TcpStream,
+    length: usize,
+    wanted: &[u8],
+) -> io::Result<bool> {
+    let mut line = b"{\"change\":\"".to_vec(alloc)?;
+    line.extend_from_slice(Vec::from_elem(alloc, b'0', 2 * length)?.as_slice())?;
+    line.extend_from_slice(b"\"}\n")?;
+    is_answered(stream, line.as_slice(), wanted)
+}
+
+/// Whether lines that are no command are answered as such, and others behind them as ever.
 fn refuses(alloc: Global, stream: &mut TcpStream) -> io::Result<bool> {
     Ok(
         is_answered(stream, BAD_LINES, BAD_ANSWERS)?
             && is_long_answered(alloc, stream, LONGEST, b"refused 1\n")?
-            && is_long_answered(alloc, stream, LONGEST + 1, b"plc: commands\n")?,
+            && is_long_answered(alloc, stream, LONGEST + 1, b"plc: commands\n")?
+            && is_change_answered(alloc, stream, IMAGE_BYTES, b"refused 6\n")?
+            && is_change_answered(alloc, stream, IMAGE_BYTES + 1, b"plc: commands\n")?,
     )
 }
 
@@ -149,7 +271,7 @@ fn flood(alloc: Global, stream: &mut TcpStream) -> io::Result<()> {
     Ok(())
 }
 
-impl<R: Net<Listener = TcpListener, Stream = TcpStream> + Drop> Operator<R> {
+impl<R: Net<Listener = TcpListener, Stream = TcpStream> + Wait + Copy + Drop> Operator<R> {
     /// A connection to the console.
     fn connection(&self) -> io::Result<TcpStream> {
         let stream = TcpStream::connect(&self.rt, ("127.0.0.1", self.port))?;
@@ -157,35 +279,59 @@ impl<R: Net<Listener = TcpListener, Stream = TcpStream> + Drop> Operator<R> {
         Ok(stream)
     }
 
-    /// Whether a client that says nothing is closed: one that is silent, or one that comes while another is served.
+    /// Whether a client that says nothing is closed.
     fn is_closed(&self) -> io::Result<bool> {
         Ok(matches!(self.connection()?.read(&mut [0; 1]), Ok(0)))
     }
 
-    /// Comes to the console, and sees that bad lines are refused, and another operator is closed unanswered.
-    fn connect(&self) -> io::Result<Option<TcpStream>> {
-        if self.has_others && !self.is_closed()? {
-            return Ok(None);
-        }
-        let mut stream = self.connection()?;
-        let are_refused = refuses(self.alloc, &mut stream)?;
-        if are_refused && self.is_closed()? {
+    /// Takes the console over from another operator, who is told: none where that one isn't told.
+    fn take_over(&self, mut other: TcpStream) -> io::Result<Option<TcpStream>> {
+        let stream = self.connection()?;
+        let is_told = is_answered(&mut other, b"", TAKEN_OVER)?;
+        if is_told && matches!(other.read(&mut [0; 1]), Ok(0)) {
             Ok(Some(stream))
         } else {
             Ok(None)
         }
     }
 
+    /// Comes to the console, and sees that bad lines are refused. Where others come, the first is silent until it's
+    /// closed, and another one takes the console over.
+    fn connect(&self) -> io::Result<Option<TcpStream>> {
+        if self.has_others && !self.is_closed()? {
+            return Ok(None);
+        }
+        let mut stream = self.connection()?;
+        if !refuses(self.alloc, &mut stream)? {
+            return Ok(None);
+        }
+        if self.has_others {
+            self.take_over(stream)
+        } else {
+            Ok(Some(stream))
+        }
+    }
+
     /// Does what one row says. Behind the last one, if others come, this client sends on and never reads: the controller
     /// goes on, and ends.
     fn work(&mut self, row: &Row) -> io::Result<()> {
-        if self.done == 0 {
-            self.stream = self.connect()?;
+        if row.comes_again {
+            self.stream = None;
         }
+        if self.stream.is_none() {
+            self.stream = match self.done {
+                0 => self.connect()?,
+                _ => Some(self.connection()?),
+            };
+        }
+        let host = Host {
+            rt: self.rt,
+            alloc: self.alloc,
+        };
         let Some(stream) = &mut self.stream else {
             return Ok(());
         };
-        if !is_asked(self.alloc, stream, row.1, row.2) {
+        if !is_asked(&host, stream, row.asked, row.printed) {
             return Ok(());
         }
         self.done = self.done.saturating_add(1);
@@ -194,20 +340,35 @@ impl<R: Net<Listener = TcpListener, Stream = TcpStream> + Drop> Operator<R> {
         }
         Ok(())
     }
-}
 
-impl<R: Net<Listener = TcpListener, Stream = TcpStream> + Drop> Write for Operator<R> {
-    fn write(&mut self, bytes: &[u8]) -> io::Result<usize> {
-        self.line.extend_from_slice(bytes)?;
-        if !bytes.ends_with(b"\n") {
-            return Ok(bytes.len());
-        }
-        if let Some(row) = ROWS.get(self.done) {
-            if self.line.as_slice().starts_with(row.0) {
-                self.work(row)?;
+    /// Does what the rows say whose line this is, and those that follow at once.
+    fn hear(&mut self) -> io::Result<()> {
+        for _ in 0..ROWS.len() {
+            let Some(row) = ROWS.get(self.done) else {
+                break;
+            };
+            if !self.line.as_slice().starts_with(row.line) {
+                break;
+            }
+            let before = self.done;
+            self.work(row)?;
+            self.line.clear();
+            if self.done == before {
+                break;
             }
         }
-        self.line.clear();
+        Ok(())
+    }
+}
+
+impl<R: Net<Listener = TcpListener, Stream = TcpStream> + Wait + Copy + Drop> Write
+    for Operator<R> {
+    fn write(&mut self, bytes: &[u8]) -> io::Result<usize> {
+        self.line.extend_from_slice(bytes)?;
+        if bytes.ends_with(b"\n") {
+            self.hear()?;
+            self.line.clear();
+        }
         Ok(bytes.len())
     }
 
@@ -216,24 +377,19 @@ impl<R: Net<Listener = TcpListener, Stream = TcpStream> + Drop> Write for Operat
     }
 }
 
-/// A port that was free a moment ago.
-fn free_port<R: Net<Listener = TcpListener, Stream = TcpStream>>(rt: &R) -> io::Result<u16> {
-    let listener = TcpListener::bind(rt, ("127.0.0.1", 0))?;
-    Ok(listener.local_addr()?.port())
-}
-
-/// How it is served: four scans, at any port, with a console at this one. Others come where no replica crashes.
+/// How it is served: so many scans that the operator has the time for each row, at any port, with a console at this one.
+/// Others come where no replica crashes.
 fn settings(console: u16, links: Links, crash: Option<u32>) -> Option<Settings> {
-    let idle = match crash {
-        Some(_) => 20 * IDLE,
-        None => IDLE,
+    let (idle, scans) = match crash {
+        Some(_) => (20 * IDLE, 14),
+        None => (IDLE, 20),
     };
     Some(Settings {
         config: Config::new(1, 64)?,
         budget: Budget::new(100)?,
         port: 0,
-        period: 20,
-        scans: Some(4),
+        period: PERIOD,
+        scans: Some(scans),
         idle,
         links,
         crash,
@@ -256,10 +412,10 @@ fn stores<R: Files + Alloc<A = Global> + Copy + Drop>(
     Ok(stores)
 }
 
-/// Where the stores are, how messages go, and after which release the primary crashes, if it does.
+/// Where the stores are, how messages go, and after how many releases a replica crashes each time, if one does.
 const CASES: [(&str, Links, Option<u32>); 2] = [
     ("console", Links::Channels, None),
-    ("console_crash", Links::Tcp, Some(1)),
+    ("console_crash", Links::Tcp, Some(2)),
 ];
 
 /// The same answers with a crash and without, behind which the controller ends well.

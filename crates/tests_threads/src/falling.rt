@@ -6,11 +6,12 @@ use vr_model::Stored;
 use vr_replica::{StoreFault, ViewStore};
 use vr_threads::Starts;
 
-/// A store that fails once it has counted the start of its replica, if it falls: so the replica is never up.
+/// A store that fails once it has counted the start of its replica, at its first starts: so the replica isn't up then.
 #[derive(Drop)]
 pub struct Falling<S> {
     store: S,
-    falls: bool,
+    /// At so many starts, from now on.
+    falls: u32,
     failures: u64,
 }
 
@@ -55,8 +56,9 @@ impl<S: Starts> Starts for Falling<S> {
 
     fn begin(&mut self) -> Result<Stored, StoreFault> {
         match self.store.begin() {
-            Ok(stored) if !self.falls => Ok(stored),
+            Ok(stored) if self.falls == 0 => Ok(stored),
             _ => {
+                self.falls = self.falls.saturating_sub(1);
                 self.failures = self.failures.saturating_add(1);
                 Err(StoreFault)
             }
@@ -64,17 +66,18 @@ impl<S: Starts> Starts for Falling<S> {
     }
 }
 
-/// These stores, of which so many of the first fall.
+/// These stores, of which so many of the first fall, at so many starts.
 pub fn with_falling<S: Drop>(
     alloc: Global,
     stores: Vec<S>,
-    falls: usize,
+    count: usize,
+    starts: u32,
 ) -> Result<Vec<Falling<S>>, AllocError>
     ensures { IfOk result (λ v. vec_len v ≡ vec_len stores) }
 {
     let mut all = Vec::new(alloc);
     for store in stores {
-        let falls = all.len() < falls;
+        let falls = if all.len() < count { starts } else { 0 };
         all.push(Falling {
             store,
             falls,

@@ -1,7 +1,7 @@
 //! A served controller, from the words of its call: what its clients see, what its operator is told, and how it ends.
 ghost use Rattle.std.specs.Prelude.{◌≡◌};
 
-use crate::clients::{ALL, Step, Visit, visit_once_told};
+use crate::clients::{ALL, Step, Visit, free_port, visit_once_told};
 use crate::falling::with_falling;
 use io_image::NewList;
 use io_model::Counted;
@@ -14,6 +14,7 @@ use std::alloc::Global;
 use std::io::Write;
 use std::marker::Brand;
 use std::net::{Net, TcpListener, TcpStream};
+use std::os::unix::fs::PermissionsExt;
 use std::process::Abort;
 use std::rt::Files;
 use std::sync::Arc;
@@ -42,8 +43,16 @@ AGAIN: LD N
 DONE:
 ";
 
-/// `%QX0.0` is not `%IX0.0`, `%QW0` is 7.
-const OTHER: &[u8] = b"LDN %IX0.0\nST %QX0.0\nLD 7\nST %QW0\n";
+/// `%QX0.0` is not `%IX0.0`, `%QX0.1` is `%IX0.1` after 300 ms, `%QW0` is 7.
+const OTHER: &[u8] = b"VAR LATE : TON; END_VAR
+    LDN %IX0.0
+    ST %QX0.0
+    CAL LATE(IN := %IX0.1, PT := T#300ms)
+    LD LATE.Q
+    ST %QX0.1
+    LD 7
+    ST %QW0
+";
 
 /// A name with two underscores side by side.
 const BAD: &[u8] = b"LD A__B\n";
@@ -57,7 +66,11 @@ const STORY: &[Step] = &[
     (6, 1, 5, (0, 0)),
 ];
 
-const OTHER_STORY: &[Step] = &[(6, 0, 300, (1, 7)), (5, 0, 0xFF00, (0, 7))];
+const OTHER_STORY: &[Step] = &[
+    (6, 0, 300, (1, 7)),
+    (5, 0, 0xFF00, (0, 7)),
+    (5, 1, 0xFF00, (2, 7)),
+];
 
 /// What is done before a call.
 #[derive(Clone, Copy)]
@@ -66,7 +79,9 @@ enum Before {
     /// A folder stands where the first file of replica 1 is made.
     Hinder,
     LetGo,
-    /// Another start has the directory.
+    /// All may write to the directory.
+    Share,
+    /// Another start has the directory, which is one's own again.
     Lock,
     Unlock,
 }
@@ -85,8 +100,9 @@ struct Row {
     source: &'static [u8],
     words: &'static [&'static str],
     port: Port,
-    /// So many of the first replicas fall silent once their files are made.
+    /// So many of the first replicas fall silent once their files are made, at so many starts.
     falls: usize,
+    starts: u32,
     /// In seconds: it ends after so long without a majority.
     lost_after: u32,
     visit: Visit,
@@ -96,7 +112,8 @@ struct Row {
     least: u64,
     status: u8,
     out: &'static [u8],
-    /// What standard error tells, in order, beside the port and what else a slow machine makes of its replicas.
+    /// What standard error tells, in order, beside the port, and beside replicas of a slow machine that are down for a
+    /// while, and normal again.
     err: &'static [&'static str],
     /// Whether replica 0 has a file then.
     has_file: bool,
@@ -109,7 +126,7 @@ const LONG: &[&str] = &[
     "--store",
     "served/long",
     "--scans",
-    "400",
+    "600",
     "--period",
     "20",
     "--f",
@@ -144,6 +161,18 @@ const SILENT: &[&str] = &[
     "served/silent",
     "--scans",
     "120",
+    "--period",
+    "20",
+];
+
+const REVIVED: &[&str] = &[
+    "plc",
+    "serve",
+    "served.il",
+    "--store",
+    "served/revived",
+    "--scans",
+    "400",
     "--period",
     "20",
 ];
@@ -192,6 +221,7 @@ const REFUSED: Row = Row {
     words: FIRST,
     port: Port::Free,
     falls: 0,
+    starts: u32::MAX,
     lost_after: 60,
     visit: Visit::Nothing,
     seen: None,
@@ -208,9 +238,9 @@ const ROWS: &[Row] = &[
         words: LONG,
         visit: Visit::All(STORY),
         seen: Some(ALL + 5),
-        least: 7980,
+        least: 11980,
         status: 0,
-        out: b"scans 400\n",
+        out: b"scans 600\n",
         err: &["stopped budget 10"],
         has_file: true,
         ..REFUSED
@@ -227,7 +257,7 @@ const ROWS: &[Row] = &[
     Row {
         words: CHANNELS,
         visit: Visit::Steps(OTHER_STORY),
-        seen: Some(2),
+        seen: Some(3),
         least: 1980,
         status: 0,
         out: b"scans 100\n",
@@ -240,7 +270,7 @@ const ROWS: &[Row] = &[
         words: SILENT,
         falls: 1,
         visit: Visit::Steps(OTHER_STORY),
-        seen: Some(2),
+        seen: Some(3),
         least: 2380,
         status: 0,
         out: b"scans 120\n",
@@ -248,12 +278,27 @@ const ROWS: &[Row] = &[
         has_file: true,
         ..REFUSED
     },
-    // fewer than a majority are left
+    // a store fails at the first start alone: its replica is started anew, and catches up
+    Row {
+        words: REVIVED,
+        falls: 1,
+        starts: 1,
+        seen: Some(0),
+        least: 7980,
+        status: 0,
+        out: b"scans 400\n",
+        err: &["replica 0 store", "replica 0 down", "replica 0 normal"],
+        has_file: true,
+        ..REFUSED
+    },
+    // fewer than a majority are left, for a second, while an operator waits
     Row {
         words: ALONE,
         falls: 2,
-        lost_after: 0,
-        seen: Some(0),
+        lost_after: 1,
+        visit: Visit::Operator(0),
+        seen: Some(1),
+        least: 1000,
         err: &["replica 0 store", "replica 1 store", "plc: device"],
         has_file: true,
         ..REFUSED
@@ -289,6 +334,12 @@ const ROWS: &[Row] = &[
         ..REFUSED
     },
     Row {
+        before: Before::Share,
+        status: 1,
+        err: &["plc: store"],
+        ..REFUSED
+    },
+    Row {
         before: Before::Lock,
         status: 1,
         err: &["plc: store"],
@@ -305,12 +356,21 @@ const ROWS: &[Row] = &[
     },
 ];
 
+/// Gives the directory this mode.
+fn allow<R: Files>(rt: &R, mode: u32) -> io::Result<()> {
+    fs::set_permissions(rt, "served/first", fs::Permissions::from_mode(mode))
+}
+
 fn prepare<R: Files + Alloc<A = Global>>(rt: &R, before: Before) -> io::Result<()> {
     match before {
         Before::Nothing => Ok(()),
         Before::Hinder => fs::create_dir_all(rt, "served/first/replica-1.new"),
         Before::LetGo => fs::remove_dir_all(rt, "served/first/replica-1.new"),
-        Before::Lock => fs::write(rt, "served/first/lock", b"".as_slice()),
+        Before::Share => allow(rt, 0o777),
+        Before::Lock => {
+            allow(rt, 0o755)?;
+            fs::write(rt, "served/first/lock", b"".as_slice())
+        }
         Before::Unlock => fs::remove_file(rt, "served/first/lock"),
     }
 }
@@ -320,6 +380,7 @@ fn prepared<R: Files + Alloc<A = Global> + Copy + Drop>(
     rt: R,
     row: &Row,
     in_use: u16,
+    console: u16,
 ) -> Result<Service<FileStore<R>>, Fail> {
     prepare(&rt, row.before)?;
     fs::write(&rt, "served.il", row.source)?;
@@ -327,7 +388,11 @@ fn prepared<R: Files + Alloc<A = Global> + Copy + Drop>(
         Port::InUse => in_use,
         Port::Free => 0,
     };
-    asked(rt, row, port)
+    let console = match row.visit {
+        Visit::Operator(_) => Some(console),
+        _ => None,
+    };
+    asked(rt, row, port, console)
 }
 
 /// What takes the lines on standard error of a controller, and passes on the port.
@@ -369,12 +434,13 @@ impl Write for Operator<'_> {
     }
 }
 
-/// What the words of a row ask to serve, but at another port, since the words can't name any that is free, and with
-/// the row's patience.
+/// What the words of a row ask to serve, but at other ports, since the words can't name any that is free, and with the
+/// row's patience.
 fn asked<R: Files + Alloc<A = Global> + Copy + Drop>(
     rt: R,
     row: &Row,
     port: u16,
+    console: Option<u16>,
 ) -> Result<Service<FileStore<R>>, Fail> {
     let Ok(
         Words::Serve {
@@ -390,6 +456,7 @@ fn asked<R: Files + Alloc<A = Global> + Copy + Drop>(
     let settings = Settings {
         port,
         lost_after: row.lost_after,
+        console,
         ..settings
     };
     let host = Host {
@@ -413,13 +480,47 @@ struct Ended {
     has_file: bool,
 }
 
-/// Whether a text has these lines, in order, and no other but those of a port and of replicas.
+/// Which replicas were told to be down, and not since to be normal.
+#[derive(Clone, Copy)]
+struct Turns {
+    are_down: [bool; 7],
+}
+
+impl Turns {
+    /// Whether a line tells that a replica is down, which wasn't told since it was normal, or that one is normal again.
+    fn take(&mut self, line: &str) -> bool {
+        let Some((number, what)) = line
+            .strip_prefix("replica ")
+            .and_then(|it| it.split_once(' '))
+        else {
+            return false;
+        };
+        let number = number.parse::<usize>().unwrap_or(usize::MAX);
+        let Some(is_down) = self.are_down.get_mut(number) else {
+            return false;
+        };
+        let was_down = *is_down;
+        *is_down = what == "down";
+        match what {
+            "down" => !was_down,
+            "normal" => was_down,
+            _ => false,
+        }
+    }
+}
+
+/// Whether a text has these lines, in order, and no other but that of a port and those of replicas that are down for a
+/// while: a store that fails and a crash are told only where they are wanted.
 fn tells(text: &str, lines: &[&str]) -> bool {
     let mut count = 0usize;
+    let mut turns = Turns {
+        are_down: [false; 7],
+    };
     for line in text.split_terminator('\n') {
+        let is_turn = turns.take(line);
         if lines.get(count) == Some(&line) {
             count = count.saturating_add(1);
-        } else if !line.starts_with("replica ") && !line.starts_with("serving on ") {
+        } else if !is_turn && !line.starts_with("serving on ") {
             return false;
         }
     }
@@ -469,24 +570,29 @@ fn controllers_are_served(rt: HostRuntime) -> Result<(), Fail> {
     let taken = TcpListener::bind(&rt, ("127.0.0.1", 0))?;
     let in_use = taken.local_addr()?.port();
     for (n, row) in ROWS.iter().enumerate() {
+        let console = free_port(&rt)?;
         let Service {
             source,
             directory,
             stores,
             settings,
             status,
-        } = prepared(rt, row, in_use)?;
+        } = prepared(rt, row, in_use, console)?;
         let file = format!(in alloc; "{directory}/replica-0")?;
         let service = Service {
             source,
             directory,
-            stores: with_falling(alloc, stores, row.falls)?,
+            stores: with_falling(alloc, stores, row.falls, row.starts)?,
             settings,
             status,
         };
         let told = Arc::new(alloc, AtomicU64::new(0))?;
         let begun = Instant::now(&rt)?;
-        let clients = visiting(&rt, alloc, &told, row.visit)?;
+        let visit = match row.visit {
+            Visit::Operator(_) => Visit::Operator(console),
+            other => other,
+        };
+        let clients = visiting(&rt, alloc, &told, visit)?;
         let mut out = Vec::new(alloc);
         let mut operator = Operator::new(alloc, &told);
         let status = serve::<Brand, _, _, _, _, _>(

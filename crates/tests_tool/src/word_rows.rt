@@ -27,12 +27,12 @@ fn run(instructions: u32) -> Result<Words<'static>, Fail> {
 }
 
 /// A run of `b.json` over replicas of `a.il`.
-fn sim(failures: u8, every: u16) -> Result<Words<'static>, Fail> {
+fn sim(failures: u8, every: u16, instructions: u32) -> Result<Words<'static>, Fail> {
     Ok(Words::Sim {
         source: "a.il",
         schedule: "b.json",
         config: Config::new(failures, every).ok_or("no config")?,
-        budget: Budget::new(10_000).ok_or("no budget")?,
+        budget: Budget::new(instructions).ok_or("no budget")?,
     })
 }
 
@@ -147,23 +147,29 @@ fn words_ask_for_a_form(rt: HostRuntime) -> Result<(), Fail> {
         image: "a.image",
     };
     let list = Words::List { image: "a.image" };
-    let ask = Words::Ask {
+    let ask = |commands, timeout| Words::Ask {
         port: 5021,
-        commands: "b.json",
+        commands,
+        timeout,
     };
-    let change = Words::Change {
+    let change = |timeout| Words::Change {
         port: 5021,
         source: "a.il",
+        timeout,
     };
-    let rows: [(&[&str], Words); 11] = [
-        (&["plc", "sim", "a.il", "b.json"], sim(1, 64)?),
+    let rows: [(&[&str], Words); 14] = [
+        (&["plc", "sim", "a.il", "b.json"], sim(1, 64, 10_000)?),
         (
             &["plc", "sim", "a.il", "b.json", "--every", "0"],
-            sim(1, 0)?,
+            sim(1, 0, 10_000)?,
         ),
         (
             &["plc", "sim", "--every=65535", "--f", "2", "a.il", "b.json"],
-            sim(2, 65_535)?,
+            sim(2, 65_535, 10_000)?,
+        ),
+        (
+            &["plc", "sim", "a.il", "--budget", "7", "b.json"],
+            sim(1, 64, 7)?,
         ),
         (&["plc", "run", "a.il", "b.json"], run(10_000)?),
         (&["plc", "run", "a.il", "b.json", "--budget", "5"], run(5)?),
@@ -174,8 +180,19 @@ fn words_ask_for_a_form(rt: HostRuntime) -> Result<(), Fail> {
         ),
         (&["plc", "asm", "a.il", "a.image"], asm),
         (&["plc", "list", "a.image"], list),
-        (&["plc", "ask", "5021", "b.json"], ask),
-        (&["plc", "ask", "5021", "--change", "a.il"], change),
+        (&["plc", "ask", "5021", "b.json"], ask("b.json", 60)),
+        (&["plc", "ask", "--timeout", "1", "5021", "-"], ask("-", 1)),
+        (&["plc", "ask", "5021", "--change", "a.il"], change(60)),
+        (
+            &[
+                "plc",
+                "ask",
+                "5021",
+                "--change=a.il",
+                "--timeout=4294967295",
+            ],
+            change(4_294_967_295),
+        ),
     ];
     ask_for(&rt, rt.alloc(), &rows);
     Ok(())
@@ -224,7 +241,19 @@ fn are_bad<'a>(
 
 #[test]
 fn help_and_version_are_shown(rt: HostRuntime) -> Result<(), Fail> {
-    let rows: [Row; 7] = [
+    let rows: [Row; 10] = [
+        (
+            &["plc", "run", "-h"],
+            "\n  refused N                  1 no scan is held, 2 no such instruction, 3 no such name or it can't be\n",
+        ),
+        (
+            &["plc", "run", "-h"],
+            "                             6 no image, 7 a scan is held or stopped: no change\n",
+        ),
+        (
+            &["plc", "ask", "-h"],
+            "'refused N', and 5 where one was answered 'plc: commands'.",
+        ),
         (&["./plc.bin", "--help"], "Usage: plc <COMMAND>\n"),
         (&["plc", "help"], "Usage: plc <COMMAND>\n"),
         (
@@ -244,7 +273,16 @@ fn help_and_version_are_shown(rt: HostRuntime) -> Result<(), Fail> {
 
 #[test]
 fn other_words_are_bad(rt: HostRuntime) -> Result<(), Fail> {
-    let rows: [Row; 9] = [
+    let rows: [Row; 12] = [
+        (&["ask", "0", "b"], "error: invalid value '0' for '<PORT>'"),
+        (
+            &["ask", "65536", "b"],
+            "error: invalid value '65536' for '<PORT>'",
+        ),
+        (
+            &["ask", "5021", "b", "--timeout", "0"],
+            "error: invalid value '0' for '--timeout <S>'",
+        ),
         (&[], "Usage: plc <COMMAND>\n"),
         (&["walk"], "error: unrecognized subcommand 'walk'\n"),
         (
@@ -336,7 +374,19 @@ fn words_of_sim_out_of_range_are_bad(rt: HostRuntime) -> Result<(), Fail> {
 
 #[test]
 fn words_of_serve_out_of_range_are_bad(rt: HostRuntime) -> Result<(), Fail> {
-    let rows: [Row; 11] = [
+    let rows: [Row; 14] = [
+        (
+            &["--store", "d", "--every", "0"],
+            "error: invalid value '0' for '--every <E>'",
+        ),
+        (
+            &["--store", "d", "--links", "wire"],
+            "error: invalid value 'wire' for '--links <KIND>'",
+        ),
+        (
+            &["--store", "d", "--console", "0"],
+            "error: invalid value '0' for '--console <P>'",
+        ),
         (
             &["--scans", "1"],
             "error: the following required arguments were not provided:\n  --store <DIR>\n",
