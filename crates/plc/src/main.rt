@@ -161,6 +161,8 @@ fn perform<W: Write, E: CountedWrite>(
         }
         Words::Asm { source, image } => asm(rt, source, image, out, err),
         Words::List { image } => list(rt, image, out, err),
+        Words::Names { source } => names(rt, source, out, err),
+        Words::Diff { old, new } => diff(rt, old, new, out, err),
         Words::Run {
             source,
             commands,
@@ -333,6 +335,36 @@ fn list<W: Write, E: CountedWrite>(rt: &HostRuntime, path: &str, out: &mut W, er
     };
     let mut counted = Counted::new(&mut *out);
     let status = plc_tool::list(rt.alloc(), image.as_slice(), &mut counted, err);
+    flushed(status, out, err)
+}
+
+fn names<W: Write, E: CountedWrite>(rt: &HostRuntime, path: &str, out: &mut W, err: &mut E) -> u8 {
+    let source = match file(rt, path) {
+        Ok(source) => source,
+        Err(fault) => return tell_of(path, fault, err),
+    };
+    let mut counted = Counted::new(&mut *out);
+    let status = plc_symbols::names(rt.alloc(), source.as_slice(), &mut counted, err);
+    flushed(status, out, err)
+}
+
+fn diff<W: Write, E: CountedWrite>(
+    rt: &HostRuntime,
+    old: &str,
+    new: &str,
+    out: &mut W,
+    err: &mut E,
+) -> u8 {
+    let before = match file(rt, old) {
+        Ok(source) => source,
+        Err(fault) => return tell_of(old, fault, err),
+    };
+    let after = match file(rt, new) {
+        Ok(source) => source,
+        Err(fault) => return tell_of(new, fault, err),
+    };
+    let (before, after) = (before.as_slice(), after.as_slice());
+    let status = plc_symbols::compare(rt.alloc(), before, after, &mut Counted::new(&mut *out), err);
     flushed(status, out, err)
 }
 

@@ -157,6 +157,22 @@ A fault is one line on standard error; POS is a byte of the image, counted from 
   plc: device                a file or a stream failed
   plc: memory                memory ran out";
 
+const NAMES: &str = with_source_faults!(
+    "Prints a table of comma-separated values: a line of heads, and a line for each variable with its name, its type, its
+place, and the table of Modbus (coil, discrete input, holding register, input register) with the address there.
+"
+);
+
+const DIFFERENCE: &str = with_source_faults!(
+    "Prints a line for each variable and instance of NEW, and for each of OLD that ends:
+  goes on   it keeps its value: OLD has one of that name and type (an instance: of that kind)
+  begins    it starts at its first value
+  at place  it lies at a place, which keeps its value
+  ends      OLD's alone: its value is lost
+So a plant that runs OLD goes on with NEW after 'plc ask --change'. OLD is judged first.
+"
+);
+
 const SCHEDULE: &str = with_source_faults!(
     "SCHEDULE is a JSON array of events. Replicas are numbered 0 to 2f, replica 0 is the first primary; clients are
 0 to 15; messages are numbered from 0 as they are sent:
@@ -259,6 +275,15 @@ pub enum Words<'a> {
     List {
         image: &'a str,
     },
+    /// Prints the names of a program with their places.
+    Names {
+        source: &'a str,
+    },
+    /// Prints what a change from one program to another does to their names.
+    Diff {
+        old: &'a str,
+        new: &'a str,
+    },
     /// Runs the program of a file over the commands of another, each scan within the budget.
     Run {
         source: &'a str,
@@ -321,6 +346,8 @@ fn program<'a>(alloc: Global) -> Result<Command<'a>, AllocError> {
         .subcommand_required(true)
         .subcommand(asm_command(alloc)?)?
         .subcommand(list_command(alloc)?)?
+        .subcommand(names_command(alloc)?)?
+        .subcommand(diff_command(alloc)?)?
         .subcommand(run_command(alloc)?)?
         .subcommand(sim_command(alloc)?)?
         .subcommand(serve_command(alloc)?)?
@@ -340,6 +367,21 @@ fn list_command<'a>(alloc: Global) -> Result<Command<'a>, AllocError> {
         .about("Prints the listing of an image")
         .after_help(LISTING)
         .arg(file(alloc, "IMAGE").help("The image, as asm writes it"))
+}
+
+fn names_command<'a>(alloc: Global) -> Result<Command<'a>, AllocError> {
+    Command::new(alloc, "names")
+        .about("Prints a program's names with their places and Modbus addresses, as CSV")
+        .after_help(NAMES)
+        .arg(file(alloc, "SOURCE").help("The program's text, in Instruction List"))
+}
+
+fn diff_command<'a>(alloc: Global) -> Result<Command<'a>, AllocError> {
+    Command::new(alloc, "diff")
+        .about("Prints what goes on by its name where a plant changes from one program to another")
+        .after_help(DIFFERENCE)
+        .arg(file(alloc, "OLD").help("The text of the program that runs"))?
+        .arg(file(alloc, "NEW").help("The text of the program to go on with"))
 }
 
 fn run_command<'a>(alloc: Global) -> Result<Command<'a>, AllocError> {
@@ -561,6 +603,13 @@ fn form_of<'a>(matches: &ArgMatches<'a>) -> Option<Words<'a>>
         }),
         "list" => Some(Words::List {
             image: inner.get_str("IMAGE")?,
+        }),
+        "names" => Some(Words::Names {
+            source: inner.get_str("SOURCE")?,
+        }),
+        "diff" => Some(Words::Diff {
+            old: inner.get_str("OLD")?,
+            new: inner.get_str("NEW")?,
         }),
         "run" => Some(Words::Run {
             source: inner.get_str("SOURCE")?,

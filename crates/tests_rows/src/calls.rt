@@ -93,6 +93,24 @@ pub fn listed(alloc: Global, image: &[u8]) -> Written {
     written
 }
 
+/// What the table of a text's names ends with.
+pub fn named(alloc: Global, text: &[u8]) -> Written {
+    let mut written = Written::nothing(alloc);
+    let mut out = Counted::new(&mut written.out);
+    let mut err = Counted::new(&mut written.err);
+    written.status = plc_symbols::names(alloc, text, &mut out, &mut err);
+    written
+}
+
+/// What the comparing of two texts ends with.
+pub fn compared(alloc: Global, old: &[u8], new: &[u8]) -> Written {
+    let mut written = Written::nothing(alloc);
+    let mut out = Counted::new(&mut written.out);
+    let mut err = Counted::new(&mut written.err);
+    written.status = plc_symbols::compare(alloc, old, new, &mut out, &mut err);
+    written
+}
+
 /// Whether the listing of an image is assembled to the same image; so too where there is none.
 pub fn reads_back(alloc: Global, image: &[u8]) -> bool {
     let listing = listed(alloc, image).out;

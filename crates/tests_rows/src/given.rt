@@ -8,11 +8,12 @@ use std::io;
 /// One scan on inputs that are all FALSE and 0.
 const ONE_SCAN: &[u8] = br#"[{"scan": {"ix": [], "iw": [], "moment": 0}}]"#;
 
-/// A text, the bytes of an image, files of commands and of a schedule, how many replicas may fail, and how many
+/// A text, that of a program before it, the bytes of an image, files of commands and of a schedule, how many replicas may fail, and how many
 /// instructions a scan may perform.
 #[derive(Drop)]
 pub struct Given {
     pub text: Vec<u8>,
+    pub old_text: Vec<u8>,
     pub image: Vec<u8>,
     pub commands: Vec<u8>,
     pub schedule: Vec<u8>,
@@ -37,6 +38,7 @@ impl Given {
     pub fn new(alloc: Global, text: &str) -> io::Result<Given> {
         Ok(Given {
             text: Vec::from_slice(alloc, text.as_bytes())?,
+            old_text: Vec::new(alloc),
             image: Vec::new(alloc),
             commands: Vec::from_slice(alloc, ONE_SCAN)?,
             schedule: Vec::new(alloc),
@@ -64,6 +66,7 @@ impl Given {
             "schedule" => self.schedule = Vec::from_slice(alloc, body.as_bytes())?,
             "f" => self.failures = failures(body)?,
             "budget" => self.budget = budget(body)?,
+            "old text" => self.old_text = Vec::from_slice(alloc, body.as_bytes())?,
             "text in bytes" => self.text = bytes_of(alloc, body)?,
             "image in bytes" => self.image = bytes_of(alloc, body)?,
             _ => return Ok(false),

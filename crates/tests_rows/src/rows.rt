@@ -1,6 +1,6 @@
 //! The rows of a file. A section of a row hands something in, or says what comes out; a table is a row a line.
 
-use crate::calls::{assembled, listed, ran, reads_back, simulated};
+use crate::calls::{assembled, compared, listed, named, ran, reads_back, simulated};
 use crate::changes;
 use crate::given::Given;
 use crate::notation::{bytes_of, lines_of};
@@ -88,6 +88,8 @@ fn comes_out(alloc: Global, given: &Given, title: &str, said: &str) -> io::Resul
             lists(alloc, assembled(alloc, text).image.as_slice(), lines)
         }
         "listing" | "image in bytes" => lists(alloc, given.image.as_slice(), lines),
+        "names" => named(alloc, text).is(lines),
+        "difference" => compared(alloc, given.old_text.as_slice(), text).is(lines),
         "every beginning" => all_list(alloc, given.image.as_slice(), lines),
         "every other byte" => {
             changes::what_comes(alloc, given.image.as_slice())?.as_str() == said.trim_end()
