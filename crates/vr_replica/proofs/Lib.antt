@@ -1,6 +1,7 @@
 pub mod Acting
 pub mod Dispatched
 pub mod KeepsLog
+pub mod LastScan
 pub mod NoState
 pub mod Recovering
 pub mod Sending

@@ -3,3 +3,4 @@ pub mod Ruled
 pub mod Standing
 pub mod Stepped
 pub mod Dropped
+pub mod Scans

@@ -13,7 +13,8 @@
 //! Proved of `step`, for every record that the replica stands for: it is the rule of its event, what the rule saves was
 //! saved in the store and nothing else, and what is sent are the rule's messages; or it is lost for want of memory and
 //! nothing changed; or its store failed, and it's down and sends nothing. `Down` is answered exactly where it's down
-//! and the event is no restart, `Store` only where the store failed in this call.
+//! and the event is no restart, `Store` only where the store failed in this call. `standing`, `commit`, `op_number`,
+//! `entry` and `last_scan` tell what is so of each such record.
 //!
 //! Tests (nothing rests on them alone): `replicas.rows` of `tests_bytes` has runs of events with the exact messages or
 //! the fault. Which of two effects within one call comes first no clause can say: that the save does is that `step`
@@ -22,10 +23,12 @@
 
 mod fault;
 mod rules;
+mod scans;
 mod state;
 mod stepping;
 mod view_store;
 
 pub use fault::{StepFault, StoreFault};
+pub use scans::ScanInputs;
 pub use state::Replica;
 pub use view_store::ViewStore;

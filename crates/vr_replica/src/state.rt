@@ -1,6 +1,7 @@
 //! A replica, and what it shows.
 
-ghost use Rattle.std.specs.Prelude.{◌≡◌, ◌↔◌, ◌⊎◌, ◌<◌, ◌&&◌, IfOk, IsTrue, None, Some, MatchOption, if◌then◌else◌};
+ghost use Rattle.std.specs.Prelude.{◌≡◌, ◌↔◌, ◌⊎◌, ◌<◌, ◌&&◌, length, IfOk, IfSome, IsTrue, None, Some, MatchOption};
+ghost use Rattle.std.specs.Prelude.{if◌then◌else◌};
 ghost use Rattle.std.specs.List.{slice_get};
 ghost use Rattle.il_model.specs.declared.command.Command.{Command};
 ghost use Rattle.vr_model.specs.Membership.{Membership};
@@ -9,8 +10,11 @@ ghost use Rattle.vr_model.specs.Rules as rules;
 ghost use Rattle.vr_model.specs.StandsFor.{request_of, status_of};
 ghost use Rattle.vr_model.specs.World as world;
 ghost use Rattle.vr_core.specs.StandsFor.{member};
+ghost use Rattle.vr_model.specs.Checkpoints.{requests_of};
 ghost use Rattle.vr_replica.specs.Standing.{StandsFor, IsDown};
+ghost use Rattle.vr_replica.specs.Scans.{last_scan_of};
 
+use crate::scans::{ScanInputs, last_scan};
 use il_loader::Image;
 use il_model::Budget;
 use std::alloc::{AllocError, Global};
@@ -113,6 +117,25 @@ impl Replica {
             → result ≡ r.commit_number }
     {
         self.core.commit_number
+    }
+
+    /// How many entries its log has, 0 while it is down.
+    pub fn op_number(&self) -> u64
+        ensures { (m : Membership) (r : model.ReplicaState Command) → StandsFor self.now m r
+            → result ≡ length r.log }
+    {
+        self.core.op_number()
+    }
+
+    /// What the last Scan of its log was submitted with, if that is among the entries that it keeps: all that it has
+    /// not executed, and of the others those past its checkpoint. `None` says nothing of the entries that the
+    /// checkpoint stands in place of.
+    pub fn last_scan(&self) -> Option<ScanInputs>
+        ensures kept { result ≡ last_scan_of (requests_of self.now.core.log.entries) }
+        ensures last { (m : Membership) (r : model.ReplicaState Command) → StandsFor self.now m r
+            → IfSome result (λ scan. last_scan_of r.log ≡ Some scan) }
+    {
+        last_scan(self.core.log.entries())
     }
 
     /// The entry of its log at this place, from 0. Of those that it has executed it may keep only the last ones.
