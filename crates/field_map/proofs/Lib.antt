@@ -1,0 +1,3 @@
+pub mod ApartLaws
+pub mod PlaceLaws
+pub mod GivenLaws

@@ -1,0 +1,64 @@
+-- What a device is asked, and what its replies show.
+use Rattle.std.specs.Prelude.{ℕ, ◌+◌, ◌==◌, nat_le, if◌then◌else◌, length, slice_range, Option, Some, None}
+use Rattle.il_model.specs.declared.cells.Cells.{Cells}
+use Rattle.il_model.specs.Cells.{clear_cells}
+use Rattle.io_image.specs.Book.{Change, bits_at, words_at}
+use Rattle.modbus_wire.specs.declared.function.Table.{Table}
+use Rattle.modbus_wire.specs.declared.request.Request.{Request}
+use Rattle.modbus_wire.specs.declared.request.Request.TheVariants.{ReadBits, ReadWords, WriteBits, WriteWords}
+use Rattle.modbus_wire.specs.declared.request.Request.TheVariants.{WriteReadWords}
+use Rattle.modbus_wire.specs.declared.function.Table.TheVariants.{ReadWrite}
+use Rattle.modbus_wire.specs.declared.reply.Reply.{Reply}
+use Rattle.modbus_wire.specs.declared.reply.Reply.TheVariants.{Bits, Words}
+use Rattle.field_map.specs.declared.places.Kind.{Kind}
+use Rattle.field_map.specs.declared.places.Kind.TheVariants as kinds
+use Rattle.field_map.specs.declared.places.Places.{Places}
+use Rattle.field_map.specs.declared.reading.Reading.{Reading}
+use Rattle.field_map.specs.declared.reading.Writing.{Writing}
+use Rattle.field_map.specs.declared.reading.Fallback.{Fallback}
+use Rattle.field_map.specs.declared.reading.Fallback.TheVariants.{Hold, Zero}
+
+abbrev pub read_by : Kind → Table → ℕ → ℕ → Request
+read_by kinds.Bits table address count = ReadBits table address count
+read_by kinds.Words table address count = ReadWords table address count
+
+-- the request that reads the cells of a reading
+abbrev pub read_request : Reading → Request
+read_request r = read_by r.places.kind r.table r.address r.places.count
+
+abbrev pub write_by : Kind → ℕ → ℕ → ℕ → Cells → Request
+write_by kinds.Bits address from count cells =
+    WriteBits address (record { items = slice_range cells.bits from (from + count) })
+write_by kinds.Words address from count cells =
+    WriteWords address (record { items = slice_range cells.words from (from + count) })
+
+-- the request that writes places, as the cells have them, from an address on
+abbrev pub write_request : ℕ → Places → Cells → Request
+write_request address p cells = write_by p.kind address p.from p.count cells
+
+abbrev pub stop_request : Fallback → ℕ → Places → Option Request
+stop_request Zero address p = Some (write_request address p clear_cells)
+stop_request Hold address p = None
+
+-- the request that writes the cells of a writing, where the outputs are known and where they aren't
+abbrev pub output_request : Writing → Option Cells → Option Request
+output_request w (Some outputs) = Some (write_request w.address w.places outputs)
+output_request w None = stop_request w.on_stop w.address w.places
+
+-- what a reply shows of so many cells of a kind, as a write of these places
+abbrev pub shown_at : Kind → ℕ → ℕ → Reply → Option Change
+shown_at kinds.Bits from count (Bits bits) = if length bits.items == count then Some (bits_at from bits.items) else None
+shown_at kinds.Words from count (Words words) =
+    if length words.items == count then Some (words_at from words.items) else None
+shown_at _ from count _ = None
+
+-- what a reply shows of a reading's cells
+abbrev pub shown_by : Reading → Reply → Option Change
+shown_by r reply = shown_at r.places.kind r.places.from r.places.count reply
+
+-- one request that writes words and then reads some, in place of two: of registers that a client may write, where it can
+-- carry them
+abbrev pub joined : Request → Request → Option Request
+joined (WriteWords into values) (ReadWords ReadWrite address count) =
+    if nat_le (length values.items) 121 then Some (WriteReadWords address count into values) else None
+joined _ _ = None
