@@ -1,10 +1,13 @@
 -- The two ends of a connection that carries frames of messages.
-use Rattle.std.specs.Prelude.{◌≡◌, ℕ, ◌+◌, ◌<◌, ◌⊎◌, List, [], ◌++◌, length, Option}
+use Rattle.std.specs.Prelude.{◌≡◌, ℕ, ◌+◌, ◌<◌, ◌≤◌, ◌⊎◌, List, [], ◌++◌, length, Option}
 use Rattle.std.specs.Io.KnownBytes.{Appends, Consumes}
-use Rattle.io_model.specs.Stream.{Ending, Took}
+use Rattle.io_model.specs.Stream.{Ending, Took, IsRest}
 use Rattle.vr_model.specs.declared.message.Message.{Message}
 use Rattle.vr_wire.specs.declared.fault.WireFault.{WireFault}
 use Rattle.vr_wire.specs.Feeding.{frames}
+use Rattle.net_ends.specs.Stops.{Stops, HasEnded}
+use Rattle.net_ends.specs.declared.inbox.Flow.{Flow}
+use Rattle.net_ends.specs.declared.inbox.Flow.TheVariants.{More}
 
 -- so many bytes may wait
 abbrev pub most_waiting : ℕ
@@ -20,10 +23,27 @@ pub record Flushes (held held' : Option (List ℕ)) (waits waits' : List ℕ) : 
   pub rest : waits ≡ written ++ waits'
   pub went : Appends held held' written
 
--- what a stream has come to, and the bytes after it that were read and not fed yet
+-- what a stream has come to, the bytes after it that were read and not fed yet, and how often in a row memory ran out
+-- when they were fed
 pub record Reading : Type 0 where
   pub stream : Ending WireFault
   pub kept : List ℕ
+  pub tries : ℕ
+
+-- so often bytes are fed for which memory runs out
+abbrev pub most_tries : ℕ
+most_tries = 100
+
+-- memory ran out once more, and the bytes are kept
+pub record KeepsPiece (before after : Reading) : Type 0 where
+  pub stream : after.stream ≡ before.stream
+  pub kept : after.kept ≡ before.kept
+  pub tries : after.tries ≡ before.tries + 1
+  pub few : after.tries ≤ most_tries
+
+-- The reader came to its end, the stream goes on with no frame, or memory ran out too often.
+abbrev pub IsOver : Stops → Stops → Reading → Reading → Type 0
+IsOver stops stops' before after = HasEnded stops stops' ⊎ ((IsRest after.stream → ⊥) ⊎ (most_tries ≤ before.tries))
 
 -- nothing was fed, or a piece was
 abbrev pub Goes : Ending WireFault → List ℕ → Ending WireFault → List Message → List Message → Type 0
@@ -36,6 +56,7 @@ pub record Filled (before after : Reading) (left left' : Option (List ℕ)) : Ty
   pub read : Consumes left left' came
   pub kept : after.kept ≡ before.kept ++ came
   pub same : after.stream ≡ before.stream
+  pub tries : after.tries ≡ before.tries
 
 -- The front of what was kept was fed, and the messages that were whole then were added.
 pub record Given (before after : Reading) (out out' : List Message) : Type 0 where
@@ -44,10 +65,12 @@ pub record Given (before after : Reading) (out out' : List Message) : Type 0 whe
   pub goes : Goes before.stream piece after.stream out out'
 
 -- These bytes were read; of all that was not fed yet the front was fed, and the messages that were whole then were
--- added.
-pub record Reads (before after : Reading) (left left' : Option (List ℕ)) (out out' : List Message) : Type 0 where
+-- added. Where there may be more at once, something was fed.
+pub record Reads (flow : Flow) (before after : Reading) (left left' : Option (List ℕ)) (out out' : List Message)
+    : Type 0 where
   pub came : List ℕ
   pub piece : List ℕ
   pub read : Consumes left left' came
   pub fed : before.kept ++ came ≡ piece ++ after.kept
   pub goes : Goes before.stream piece after.stream out out'
+  pub some : flow ≡ More → 0 < length piece

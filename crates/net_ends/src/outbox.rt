@@ -1,12 +1,13 @@
 //! What goes out over a connection.
 
-ghost use Rattle.std.specs.Prelude.{◌≡◌, [], ◌++◌, Err, OnErr, OnOk};
+ghost use Rattle.std.specs.Prelude.{◌≡◌, [], ◌++◌, ◌⊎◌, Err, OnErr, OnOk, true, false};
 ghost use Rattle.vr_wire.specs.Frames.{frame_of, IsFramed};
 ghost use Rattle.net_ends.specs.Ends.{Flushes, IsTooMuch};
+ghost use Rattle.net_ends.specs.Stops.{HasPaused, HasEnded};
 ghost use Rattle.net_ends.specs.declared.outbox.Loss.TheVariants as loss;
 
+use crate::non_blocking::{NonBlockingWrite, Stop};
 use std::alloc::Global;
-use std::io::{ErrorKind, Write};
 use std::marker::Model;
 use thiserror::Error;
 use vr_model::Message;
@@ -91,17 +92,20 @@ impl Outbox {
         }
     }
 
-    /// Writes what the writer takes. False where the writer failed: it takes no more.
-    pub fn flush<W: Write>(&mut self, writer: &mut W) -> bool
-        ensures { Flushes (W.contents writer.old) (W.contents writer.new) self.old self.new }
+    /// Writes what the writer takes: until nothing waits any more, or the writer pauses. False where the writer came to
+    /// its end.
+    pub fn flush<W: NonBlockingWrite>(&mut self, writer: &mut W) -> bool
+        ensures bytes { Flushes (W.held writer.old) (W.held writer.new) self.old self.new }
+        ensures all { result ≡ true → (self.new ≡ []) ⊎ HasPaused (W.stops writer.old) (W.stops writer.new) }
+        ensures going { result ≡ true → (W.stops writer.new).ends ≡ (W.stops writer.old).ends }
+        ensures over { result ≡ false → HasEnded (W.stops writer.old) (W.stops writer.new) }
     {
         while self.done < self.bytes.len() {
             match writer.write(&self.bytes[self.done..]) {
-                Ok(0) => return false,
                 Ok(count) => self.done += count,
-                Err(error) => {
+                Err(stop) => {
                     self.shrink();
-                    return matches!(error.kind(), ErrorKind::WouldBlock | ErrorKind::Interrupted);
+                    return stop == Stop::ForNow;
                 }
             }
         }

@@ -17,12 +17,12 @@ is_same (parties.Client c) (parties.Replica j) = false
 abbrev pub is_between : Party → Party → Message → Bool
 is_between from to message = is_same message.from from && is_same message.to to
 
--- each of these is to this party
-abbrev pub AreTo : Party → List Message → Type 0
-AreTo party messages = All (λ message. is_same message.to party ≡ true) messages
+-- each of these is from one of these parties to the other
+abbrev pub AreBetween : Party → Party → List Message → Type 0
+AreBetween from to messages = All (λ message. is_between from to message ≡ true) messages
 
--- what is given is a message to this party, or none
-abbrev pub IsTo : Party → Input → Type 0
-IsTo party (inputs.Message message) = is_same message.to party ≡ true
-IsTo party inputs.Nothing = Unit {0}
-IsTo party inputs.Closed = Unit {0}
+-- what is given is a message from one of these parties to the other, or none
+abbrev pub IsBetween : Party → Party → Input → Type 0
+IsBetween from to (inputs.Message message) = is_between from to message ≡ true
+IsBetween from to inputs.Nothing = Unit {0}
+IsBetween from to inputs.Closed = Unit {0}

@@ -24,7 +24,8 @@ pub fn links<R>(
 where
     R: Wait + Net<Listener = TcpListener, Stream = TcpStream> + Copy + Drop,
 {
-    let mut hub = Hub::new(alloc);
+    let parties = usize::from(replicas) + usize::from(clients);
+    let mut hub = Hub::new(alloc, parties);
     let mut polls = Vec::new(alloc);
     for place in 0..u16::from(replicas) + u16::from(clients) {
         let Some(party) = party_at(replicas, place) else {
@@ -51,7 +52,7 @@ where
         link.connect_below(place)?;
     }
     for link in links.iter_mut() {
-        link.obey();
+        let _ = link.obey();
     }
     Ok(links)
 }

@@ -2,27 +2,79 @@
 //! one and posts the far one to the mailbox of its peer, which takes it at its next receive. A mailbox also says that
 //! its link was cut.
 
+ghost use Rattle.std.specs.Prelude.{◌≡◌, ◌≤◌, length, slice_set, true, false};
+
 use mio::Waker;
-use std::alloc::Global;
+use std::alloc::{AllocError, Global};
+use std::io;
 use std::net::TcpStream;
 use std::sync::{Arc, Mutex, Wait};
-use std::{io, mem};
 use vr_model::Party;
 use vr_ports::Cutter;
 
-/// The far end of a connection, for the peer of the party at the place that made it.
+/// What a link finds in its mailbox.
 #[derive(Drop)]
-pub(crate) struct Arrival {
-    pub(crate) from: usize,
-    pub(crate) stream: TcpStream,
+pub(crate) enum Post {
+    Nothing,
+    /// The far end of a connection that the party at this place made.
+    Arrival(usize, TcpStream),
+    /// It's cut.
+    Cut,
 }
 
 /// The mailbox of a link.
 #[derive(Drop)]
-struct Post {
-    /// The earliest first.
-    arrivals: Vec<Arrival>,
+struct Mailbox {
+    /// By the places of the parties: the far end of the last connection that each made, unless it was taken.
+    arrivals: Vec<Option<TcpStream>>,
     is_cut: bool,
+}
+
+impl Mailbox {
+    /// With room for an arrival of each of so many parties. It fails only where memory runs out.
+    fn new(alloc: Global, parties: usize) -> Result<Mailbox, AllocError> {
+        let mut arrivals = Vec::new(alloc);
+        for _ in 0..parties {
+            arrivals.push(None)?;
+        }
+        Ok(Mailbox {
+            arrivals,
+            is_cut: false,
+        })
+    }
+
+    /// Closes what waits.
+    fn clear(&mut self) {
+        for arrival in self.arrivals.iter_mut() {
+            *arrival = None;
+        }
+    }
+
+    /// The first that waits, which waits no more, and the place of its party.
+    fn take(&mut self) -> Post {
+        if self.is_cut {
+            return Post::Cut;
+        }
+        for (from, arrival) in self.arrivals.iter_mut().enumerate() {
+            if let Some(stream) = arrival.take() {
+                return Post::Arrival(from, stream);
+            }
+        }
+        Post::Nothing
+    }
+}
+
+/// Puts the end of a connection that the party at this place made, in the place of the earlier one, which is closed.
+/// False where there is no such place.
+fn put(arrivals: &mut [Option<TcpStream>], from: usize, stream: TcpStream) -> bool
+    ensures newest { result ≡ true → arrivals.new ≡ slice_set arrivals.old from (Some stream) }
+    ensures nobody { result ≡ false → length arrivals.old ≤ from }
+{
+    if from >= arrivals.len() {
+        return false;
+    }
+    arrivals[from] = Some(stream);
+    true
 }
 
 /// A party, and the way to its link.
@@ -31,7 +83,7 @@ struct Slot {
     party: Party,
     /// Ends its wait.
     waker: Waker,
-    post: Mutex<Post>,
+    mailbox: Mutex<Mailbox>,
 }
 
 impl Slot {
@@ -44,24 +96,30 @@ impl Slot {
 /// The parties of a group, each with a place.
 #[derive(Drop)]
 pub(crate) struct Hub {
+    /// So many there will be.
+    parties: usize,
     slots: Vec<Slot>,
 }
 
 impl Hub {
-    /// No party has a place yet.
-    pub(crate) fn new(alloc: Global) -> Hub {
+    /// Of so many parties, none of which has a place yet.
+    pub(crate) fn new(alloc: Global, parties: usize) -> Hub {
         Hub {
+            parties,
             slots: Vec::new(alloc),
         }
     }
 
     /// One party more, at the next place, with what wakes its link, which is not cut.
     pub(crate) fn add(&mut self, alloc: Global, party: Party, waker: Waker) -> io::Result<()> {
-        let post = Mutex::new(Post {
-            arrivals: Vec::new(alloc),
-            is_cut: false,
-        });
-        Ok(self.slots.push(Slot { party, waker, post })?)
+        let mailbox = Mutex::new(Mailbox::new(alloc, self.parties)?);
+        Ok(
+            self.slots.push(Slot {
+                party,
+                waker,
+                mailbox,
+            })?,
+        )
     }
 
     /// How many places there are.
@@ -77,18 +135,18 @@ impl Hub {
     /// Opens the mailbox of the link at this place, which is cut no more. What was in it is closed.
     pub(crate) fn open<R: Wait>(&self, rt: &R, place: usize) {
         if let Some(slot) = self.slots.get(place) {
-            let mut post = slot.post.lock(rt);
-            post.is_cut = false;
-            post.arrivals.clear();
+            let mut mailbox = slot.mailbox.lock(rt);
+            mailbox.is_cut = false;
+            mailbox.clear();
         }
     }
 
     /// Cuts the link at this place: nothing is handed to it any more.
     pub(crate) fn cut<R: Wait>(&self, rt: &R, place: usize) {
         if let Some(slot) = self.slots.get(place) {
-            let mut post = slot.post.lock(rt);
-            post.is_cut = true;
-            post.arrivals.clear();
+            let mut mailbox = slot.mailbox.lock(rt);
+            mailbox.is_cut = true;
+            mailbox.clear();
             slot.wake();
         }
     }
@@ -96,37 +154,32 @@ impl Hub {
     /// Whether the link at this place is cut; so is one of no place.
     pub(crate) fn is_cut<R: Wait>(&self, rt: &R, place: usize) -> bool {
         match self.slots.get(place) {
-            Some(slot) => slot.post.lock(rt).is_cut,
+            Some(slot) => slot.mailbox.lock(rt).is_cut,
             None => true,
         }
     }
 
-    /// Hands the link at this place its end of a connection. False where it's cut, or memory runs out: then the end is
-    /// closed.
-    pub(crate) fn hand<R: Wait>(&self, rt: &R, place: usize, arrival: Arrival) -> bool {
-        let Some(slot) = self.slots.get(place) else {
+    /// Hands the link at place `to` its end of a connection that the party at place `from` made. Where an earlier one
+    /// of that party still waits, it's closed: of each party one waits at most. False where the link is cut: then the
+    /// end is closed.
+    pub(crate) fn hand<R: Wait>(&self, rt: &R, to: usize, from: usize, stream: TcpStream) -> bool {
+        let Some(slot) = self.slots.get(to) else {
             return false;
         };
-        let mut post = slot.post.lock(rt);
-        if post.is_cut || post.arrivals.push(arrival).is_err() {
+        let mut mailbox = slot.mailbox.lock(rt);
+        if mailbox.is_cut || !put(&mut mailbox.arrivals, from, stream) {
             return false;
         }
         slot.wake();
         true
     }
 
-    /// What was handed to the link at this place and not taken yet, the earliest first; none where it's cut.
-    pub(crate) fn take<R: Wait>(
-        &self,
-        rt: &R,
-        alloc: Global,
-        place: usize,
-    ) -> Option<Vec<Arrival>> {
-        let mut post = self.slots.get(place)?.post.lock(rt);
-        if post.is_cut {
-            return None;
+    /// What is in the mailbox of the link at this place; a link of no place is cut.
+    pub(crate) fn take<R: Wait>(&self, rt: &R, place: usize) -> Post {
+        match self.slots.get(place) {
+            Some(slot) => slot.mailbox.lock(rt).take(),
+            None => Post::Cut,
         }
-        Some(mem::replace(&mut post.arrivals, Vec::new(alloc)))
     }
 }
 

@@ -1,14 +1,15 @@
 //! A link over a connection to each other party.
 
-ghost use Rattle.std.specs.Prelude.{◌≡◌, None, IfSome, true};
+ghost use Rattle.std.specs.Prelude.{◌≡◌, [], None, IfSome, true};
 ghost use Rattle.vr_model.specs.declared.message.Party.{Party as Whose};
-ghost use Rattle.net_links.specs.Own.{is_same, AreTo, IsTo};
+ghost use Rattle.net_links.specs.Own.{is_between, AreBetween, IsBetween};
 
 use crate::connecting::pair;
-use crate::hub::{Arrival, Hub, TcpCutter};
-use crate::peer::Peer;
+use crate::hub::{Hub, Post, TcpCutter};
+use crate::peer::{Peer, is_same};
 use mio::net::TcpStream as Wire;
 use mio::{Events, Interest, Poll, Token};
+use net_ends::Loss;
 use std::alloc::{AllocError, Global};
 use std::io;
 use std::io::ErrorKind;
@@ -28,7 +29,8 @@ const EVENTS: usize = 32;
 pub(crate) const WAKER: usize = usize::MAX;
 
 /// The link of one party. It tells nothing: no socket says what it delivers. A receive sleeps until a connection has
-/// something, or the wait is over; a send never waits. It's closed once all of its connections are over.
+/// something, or the wait is over; a send never waits. A connection that is over is made anew by the party at the
+/// higher place, while the link at neither end is cut. It's closed where it's cut, or all others are.
 #[derive(Drop)]
 pub struct TcpLink<R: Wait + Drop> {
     rt: R,
@@ -38,16 +40,20 @@ pub struct TcpLink<R: Wait + Drop> {
     party: Party,
     poll: Poll,
     events: Events<Global>,
-    /// By the places of the parties, which are the tokens of the connections; none where there is none.
-    peers: Vec<Option<Peer>>,
+    /// By the places of the parties, which are the tokens of the connections; there is none to its own.
+    peers: Vec<Peer>,
     /// The place of the connection that is read first.
     next: usize,
-    /// What came and was not given yet, the last first.
+    /// The party whose connection was read last.
+    source: Party,
+    /// What came over it and was not given yet, the last first.
     arrived: Vec<Message>,
     /// So often in a row something arrived with no look at what else happened.
     unseen: u32,
     wait: Duration,
-    ghost own: { AreTo party arrived.items },
+    /// So many messages had no frame.
+    frameless: u64,
+    ghost own: { AreBetween source party arrived.items },
 }
 
 impl<R: Wait + Net<Listener = TcpListener, Stream = TcpStream> + Copy + Drop> TcpLink<R> {
@@ -63,10 +69,7 @@ impl<R: Wait + Net<Listener = TcpListener, Stream = TcpStream> + Copy + Drop> Tc
         let Some(party) = hub.party(place) else {
             return Err(io::Error::from(ErrorKind::InvalidInput));
         };
-        let mut peers = Vec::new(alloc);
-        for _ in 0..hub.count() {
-            peers.push(None)?;
-        }
+        let peers = peers_of(alloc, &hub)?;
         Ok(TcpLink {
             rt,
             alloc,
@@ -77,15 +80,24 @@ impl<R: Wait + Net<Listener = TcpListener, Stream = TcpStream> + Copy + Drop> Tc
             events: Events::with_capacity(alloc, EVENTS)?,
             peers,
             next: 0,
+            source: party,
             arrived: Vec::new(alloc),
             unseen: 0,
             wait,
+            frameless: 0,
         })
     }
 
     /// Sets how long a receive waits from now on.
     pub fn wait_for(&mut self, wait: Duration) {
         self.wait = wait;
+    }
+
+    /// How many messages it lost so far that have no frame, since they are too long.
+    pub fn frameless(&self) -> u64
+        ensures { result ≡ self.now.frameless }
+    {
+        self.frameless
     }
 
     /// Makes a connection to each other party below this place whose link isn't cut.
@@ -106,23 +118,36 @@ impl<R: Wait + Net<Listener = TcpListener, Stream = TcpStream> + Copy + Drop> Tc
     {
         let listener = TcpListener::bind(&self.rt, ("127.0.0.1", 0))?;
         let (near, far) = pair(&self.rt, &listener)?;
-        let arrival = Arrival {
-            from: self.place,
-            stream: far,
-        };
-        if self.hub.hand(&self.rt, other, arrival) {
+        if self.hub.hand(&self.rt, other, self.place, far) {
             self.keep(other, near)?;
         }
         Ok(())
+    }
+
+    /// Makes a connection anew to each party below this place that has none and isn't cut. Where one can't be made
+    /// it's tried again at the next look. The parties above make theirs.
+    fn reconnect(&mut self)
+        ensures { self.new.party ≡ self.old.party }
+    {
+        for other in 0..self.place {
+            if self.is_apart(other) && !self.hub.is_cut(&self.rt, other) {
+                let _ = self.connect(other);
+            }
+        }
+    }
+
+    /// Whether there is no connection to the party with this place.
+    fn is_apart(&self, other: usize) -> bool {
+        match self.peers.get(other) {
+            Some(peer) => !peer.is_connected(),
+            None => true,
+        }
     }
 
     /// From now on this is the connection to the party with this place; what was there before is closed.
     fn keep(&mut self, other: usize, stream: TcpStream) -> io::Result<()>
         ensures { self.new.party ≡ self.old.party }
     {
-        let Some(party) = self.hub.party(other) else {
-            return Ok(());
-        };
         stream.set_nodelay(true)?;
         stream.set_nonblocking(true)?;
         let mut wire = Wire::from_std(stream);
@@ -130,50 +155,56 @@ impl<R: Wait + Net<Listener = TcpListener, Stream = TcpStream> + Copy + Drop> Tc
         self.poll
             .registry()
             .register(&mut wire, Token(other), both)?;
-        let peer = Peer::new(self.alloc, party, wire)?;
-        if let Some(slot) = self.peers.get_mut(other) {
-            *slot = Some(peer);
+        if let Some(peer) = self.peers.get_mut(other) {
+            peer.connect(self.alloc, wire)?;
         }
         Ok(())
     }
 
-    /// Takes the ends of connections that were handed to it; ends all of its connections where it was cut.
-    pub(crate) fn obey(&mut self)
+    /// Takes the ends of connections that were handed to it; one that can't be kept is closed. False where it was cut:
+    /// then all of its connections are ended.
+    pub(crate) fn obey(&mut self) -> bool
         ensures { self.new.party ≡ self.old.party }
     {
-        match self.hub.take(&self.rt, self.alloc, self.place) {
-            Some(arrivals) => self.keep_all(arrivals),
-            None => self.close(),
+        for _ in 0..=self.peers.len() {
+            match self.hub.take(&self.rt, self.place) {
+                Post::Nothing => return true,
+                Post::Arrival(from, stream) => {
+                    let _ = self.keep(from, stream);
+                }
+                Post::Cut => {
+                    self.close();
+                    return false;
+                }
+            }
         }
-    }
-
-    /// Keeps each of these ends; one that can't be kept is closed.
-    fn keep_all(&mut self, arrivals: Vec<Arrival>)
-        ensures { self.new.party ≡ self.old.party }
-    {
-        for Arrival { from, stream } in arrivals {
-            let _ = self.keep(from, stream);
-        }
+        true
     }
 
     /// Ends all of its connections.
     fn close(&mut self)
         ensures { self.new.party ≡ self.old.party }
     {
-        for slot in self.peers.iter_mut() {
-            *slot = None;
+        for peer in self.peers.iter_mut() {
+            peer.close();
         }
         self.arrived.clear();
     }
 
-    /// Whether it has a connection to any other party.
-    fn is_connected(&self) -> bool {
-        for slot in &self.peers {
-            if slot.is_some() {
-                return true;
+    /// Whether there is no connection to any other party, and all others are cut.
+    fn is_alone(&self) -> bool {
+        for other in 0..self.peers.len() {
+            let is_up = !self.is_apart(other) || !self.hub.is_cut(&self.rt, other);
+            if other != self.place && is_up {
+                return false;
             }
         }
-        false
+        true
+    }
+
+    /// Whether a connection may have something to read.
+    fn is_ready(&self) -> bool {
+        self.peers.iter().any(|peer: &Peer| peer.is_ready())
     }
 
     /// Waits for so long that something happens. Then connections that are ready are known, and what waited was
@@ -182,18 +213,20 @@ impl<R: Wait + Net<Listener = TcpListener, Stream = TcpStream> + Copy + Drop> Tc
         ensures { self.new.party ≡ self.old.party }
     {
         self.unseen = 0;
+        self.reconnect();
         // Where it fails it gives no event.
         let _ = self.poll.poll(&mut self.events, Some(wait));
         for event in self.events.iter() {
             let Token(place) = event.token();
-            if let Some(slot) = self.peers.get_mut(place) {
-                wake(slot);
+            if let Some(peer) = self.peers.get_mut(place) {
+                peer.wake();
             }
         }
     }
 
-    /// Reads the next connection, if it's ready: what came stands the last first. Nothing had arrived before.
+    /// Reads the next connection, if it's ready: what came stands the last first.
     fn read_next(&mut self)
+        requires { self.old.arrived.items ≡ [] }
         ensures { self.new.party ≡ self.old.party }
     {
         let place = self.next;
@@ -201,8 +234,9 @@ impl<R: Wait + Net<Listener = TcpListener, Stream = TcpStream> + Copy + Drop> Tc
         if self.next >= self.peers.len() {
             self.next = 0;
         }
-        if let Some(slot) = self.peers.get_mut(place) {
-            read(slot, self.alloc, self.party, &mut self.arrived);
+        if let Some(peer) = self.peers.get_mut(place) {
+            self.source = peer.party();
+            peer.read(self.alloc, self.party, &mut self.arrived);
         }
         turn_round(&mut self.arrived);
     }
@@ -224,7 +258,12 @@ impl<R: Wait + Net<Listener = TcpListener, Stream = TcpStream> + Copy + Drop> Tc
     {
         self.read_ready();
         if self.arrived.is_empty() {
-            self.look(self.wait);
+            let wait = if self.is_ready() {
+                Duration::from_millis(0)
+            } else {
+                self.wait
+            };
+            self.look(wait);
             self.read_ready();
         } else {
             self.unseen = self.unseen.saturating_add(1);
@@ -236,21 +275,24 @@ impl<R: Wait + Net<Listener = TcpListener, Stream = TcpStream> + Copy + Drop> Tc
 
     /// Gives what arrived first, if anything did.
     fn take(&mut self) -> Option<Message>
-        ensures last { IfSome result (λ m. is_same m.to self.old.party ≡ true) }
+        ensures own { IfSome result (λ m. is_between self.old.source self.old.party m ≡ true) }
+        ensures source { self.new.source ≡ self.old.source }
         ensures party { self.new.party ≡ self.old.party }
     {
         take_last(&mut self.arrived)
     }
 
-    /// What a receive gives: a message that came from the other end of its connection to this party, and no other.
+    /// What a receive gives: a message from the party whose connection was read last to this party, and no other.
     fn receive(&mut self) -> Input
-        ensures { IsTo self.old.party result }
+        ensures { IsBetween self.new.source self.old.party result }
     {
-        self.obey();
+        if !self.obey() {
+            return Input::Closed;
+        }
         if let Some(message) = self.take() {
             return Input::Message(message);
         }
-        if !self.is_connected() {
+        if self.is_alone() {
             return Input::Closed;
         }
         self.gather();
@@ -259,57 +301,45 @@ impl<R: Wait + Net<Listener = TcpListener, Stream = TcpStream> + Copy + Drop> Tc
             None => Input::Nothing,
         }
     }
+
+    /// Hands a message to the connection to its party; counts it where it has no frame.
+    fn hand_over(&mut self, message: &Message) {
+        for peer in self.peers.iter_mut() {
+            if is_same(peer.party(), message.to) {
+                if let Err(Loss::NoFrame) = peer.send(self.alloc, message) {
+                    self.frameless = self.frameless.saturating_add(1);
+                }
+                return;
+            }
+        }
+    }
+}
+
+/// The parties of a group, to none of which there is a connection yet.
+fn peers_of(alloc: Global, hub: &Hub) -> Result<Vec<Peer>, AllocError> {
+    let mut peers = Vec::new(alloc);
+    for place in 0..hub.count() {
+        if let Some(party) = hub.party(place) {
+            peers.push(Peer::new(party))?;
+        }
+    }
+    Ok(peers)
 }
 
 /// The last of them, which they have no more.
 fn take_last(messages: &mut Vec<Message>) -> Option<Message>
-    ensures others { (own : Whose) → AreTo own messages.old.items → AreTo own messages.new.items }
-    ensures last { (own : Whose) → AreTo own messages.old.items → IfSome result (λ m. is_same m.to own ≡ true) }
+    ensures others { (from to : Whose) → AreBetween from to messages.old.items → AreBetween from to messages.new.items }
+    ensures last { (from to : Whose) → AreBetween from to messages.old.items
+        → IfSome result (λ m. is_between from to m ≡ true) }
 {
     messages.pop()
 }
 
 /// Puts the last of them first.
 fn turn_round(messages: &mut Vec<Message>)
-    ensures { (own : Whose) → AreTo own messages.old.items → AreTo own messages.new.items }
+    ensures { (from to : Whose) → AreBetween from to messages.old.items → AreBetween from to messages.new.items }
 {
     messages.reverse();
-}
-
-/// A connection may have something to read, or take more.
-fn wake(slot: &mut Option<Peer>) {
-    let goes_on = match slot {
-        Some(peer) => peer.wake(),
-        None => true,
-    };
-    if !goes_on {
-        *slot = None;
-    }
-}
-
-/// Reads a connection, if there is one, until something came.
-fn read(slot: &mut Option<Peer>, alloc: Global, own: Party, came: &mut Vec<Message>)
-    ensures { AreTo own came.old.items → AreTo own came.new.items }
-{
-    let goes_on = match slot {
-        Some(peer) => peer.read(alloc, own, came),
-        None => true,
-    };
-    if !goes_on {
-        *slot = None;
-    }
-}
-
-/// Sends a message over a connection, if it's to the party there. False where it isn't.
-fn send_over(slot: &mut Option<Peer>, alloc: Global, message: &Message) -> bool {
-    let goes_on = match slot {
-        Some(peer) if peer.party == message.to => peer.send(alloc, message),
-        _ => return false,
-    };
-    if !goes_on {
-        *slot = None;
-    }
-    true
 }
 
 impl<R: Wait + Net<Listener = TcpListener, Stream = TcpStream> + Copy + Drop> Link for TcpLink<R> {
@@ -322,11 +352,7 @@ impl<R: Wait + Net<Listener = TcpListener, Stream = TcpStream> + Copy + Drop> Li
     }
 
     fn send(&mut self, message: Message) {
-        for slot in self.peers.iter_mut() {
-            if send_over(slot, self.alloc, &message) {
-                return;
-            }
-        }
+        self.hand_over(&message);
     }
 }
 
@@ -346,9 +372,9 @@ where
 
     fn renew(&mut self) -> Result<(), Unlinked> {
         self.close();
-        self.hub.open(&self.rt, self.place);
         let places = self.peers.len();
         if self.connect_below(places).is_ok() {
+            self.hub.open(&self.rt, self.place);
             return Ok(());
         }
         self.hub.cut(&self.rt, self.place);

@@ -1,6 +1,6 @@
 //! Links over TCP: what comes, in which order, and how they end.
 
-use net_ends::{Flow, Inbox};
+use net_ends::{Flow, Inbox, NonBlocking};
 use net_links::{TcpLink, links, pair};
 use std::alloc::Global;
 use std::io::{Read, Write};
@@ -8,8 +8,8 @@ use std::net::{Net, TcpListener, TcpStream};
 use std::process::Abort;
 use std::sync::Wait;
 use std::test::Fail;
-use std::thread;
 use std::time::{Duration, Instant};
+use std::{fs, thread};
 use vr_model::{Body, Message, Party};
 use vr_ports::{Cutter, Input, Link, Relink};
 
@@ -80,6 +80,7 @@ fn messages_come_in_order_until_the_others_are_gone(rt: HostRuntime) -> Result<(
     }
     assert_eq!(rt; sum_of(&mut first, 101), 5050);
     second.send(commit(1, 7));
+    second.cutter()?.cut();
     drop(second);
     assert_eq!(rt; (sum_of(&mut first, 1), is_closed(&mut first)), (7, true));
     Ok(())
@@ -114,6 +115,38 @@ fn a_link_is_cut_and_made_anew(rt: HostRuntime) -> Result<(), Fail> {
     Ok(())
 }
 
+/// How many descriptors are open.
+fn descriptors(rt: HostRuntime) -> Result<usize, Fail> {
+    Ok(fs::read_dir(&rt, "/proc/self/fd")?.count())
+}
+
+/// One link is made anew ten thousand times while nobody receives at the other: of its ends one waits there, the last.
+#[test]
+fn restarts_with_nobody_receiving_leak_no_descriptor(rt: HostRuntime) -> Result<(), Fail> {
+    let (mut first, mut second) = two(rt, rt.alloc(), 50)?;
+    assert!(rt; second.renew().is_ok());
+    let before = descriptors(rt)?;
+    for _ in 0..10_000u32 {
+        assert!(rt; second.renew().is_ok());
+    }
+    let after = descriptors(rt)?;
+    assert!(rt; after <= before.saturating_add(16), "{before} {after}");
+    second.send(commit(1, 7));
+    assert_eq!(rt; sum_of(&mut first, 2), 7);
+    Ok(())
+}
+
+/// No frame names replica 200.
+#[test]
+fn a_message_without_a_frame_is_counted(rt: HostRuntime) -> Result<(), Fail> {
+    let (mut first, mut second) = two(rt, rt.alloc(), 50)?;
+    second.send(commit(1, 1));
+    second.send(commit(200, 2));
+    second.send(commit(1, 3));
+    assert_eq!(rt; (sum_of(&mut first, 3), second.frameless()), (4, 1));
+    Ok(())
+}
+
 #[test]
 fn a_message_of_another_sender_is_dropped(rt: HostRuntime) -> Result<(), Fail> {
     let (mut first, mut second) = two(rt, rt.alloc(), 50)?;
@@ -144,8 +177,8 @@ const BYTES: &[u8] = b"\0\0\0\x13\x04\x01\x02\0\0\0\0\0\0\0\x01\0\0\0\0\0\0\0\x0
 fn seen(alloc: Global, cut: usize) -> Result<(usize, bool), Fail> {
     let mut inbox = Inbox::new(alloc)?;
     let mut out = Vec::new(alloc);
-    let mut front = BYTES.get(..cut).ok_or("no front")?;
-    let mut behind = BYTES.get(cut..).ok_or("nothing behind")?;
+    let mut front = NonBlocking::new(BYTES.get(..cut).ok_or("no front")?);
+    let mut behind = NonBlocking::new(BYTES.get(cut..).ok_or("nothing behind")?);
     let _first = inbox.read(alloc, &mut front, &mut out);
     let flow = inbox.read(alloc, &mut behind, &mut out);
     Ok((out.len(), flow == Flow::Over))

@@ -9,4 +9,7 @@ loop-self-preserved g c =
     let done : ℕ = c.self.inside.done in
     let rest : take (length bytes - done) (drop done bytes) ≡ drop done bytes = between_to_end bytes done (length bytes) (le_refl (length bytes)) in
     let took = rw c.deref.ensures.value at c.in-Ok.ensures.bytes in
-    more_written _ _ _ _ bytes done c.in-Ok.count (rw (sym c.self.view_is) at c.loop-self.invariant) (rw rest at took)
+    record {
+      bytes = more_written _ _ _ _ bytes done c.in-Ok.count (rw (sym c.self.view_is) at c.loop-self.invariant.bytes) (rw rest at took);
+      going = cc (c.in-Ok.ensures.stops, c.loop-self.invariant.going);
+    }
