@@ -1,0 +1,4 @@
+pub mod Bodies
+pub mod Formats
+pub mod Going
+pub mod Turns
