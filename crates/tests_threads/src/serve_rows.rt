@@ -126,7 +126,7 @@ const LONG: &[&str] = &[
     "--store",
     "served/long",
     "--scans",
-    "600",
+    "500",
     "--period",
     "20",
     "--f",
@@ -172,7 +172,7 @@ const REVIVED: &[&str] = &[
     "--store",
     "served/revived",
     "--scans",
-    "400",
+    "250",
     "--period",
     "20",
 ];
@@ -238,9 +238,9 @@ const ROWS: &[Row] = &[
         words: LONG,
         visit: Visit::All(STORY),
         seen: Some(ALL + 5),
-        least: 11980,
+        least: 9980,
         status: 0,
-        out: b"scans 600\n",
+        out: b"scans 500\n",
         err: &["stopped budget 10"],
         has_file: true,
         ..REFUSED
@@ -284,9 +284,9 @@ const ROWS: &[Row] = &[
         falls: 1,
         starts: 1,
         seen: Some(0),
-        least: 7980,
+        least: 4980,
         status: 0,
-        out: b"scans 400\n",
+        out: b"scans 250\n",
         err: &["replica 0 store", "replica 0 down", "replica 0 normal"],
         has_file: true,
         ..REFUSED
@@ -563,6 +563,14 @@ where
     }
 }
 
+/// The visit of a row, with the port of its console.
+fn visit_of(row: &Row, console: u16) -> Visit {
+    match row.visit {
+        Visit::Operator(_) => Visit::Operator(console),
+        other => other,
+    }
+}
+
 #[test]
 fn controllers_are_served(rt: HostRuntime) -> Result<(), Fail> {
     let alloc = rt.alloc();
@@ -588,11 +596,7 @@ fn controllers_are_served(rt: HostRuntime) -> Result<(), Fail> {
         };
         let told = Arc::new(alloc, AtomicU64::new(0))?;
         let begun = Instant::now(&rt)?;
-        let visit = match row.visit {
-            Visit::Operator(_) => Visit::Operator(console),
-            other => other,
-        };
-        let clients = visiting(&rt, alloc, &told, visit)?;
+        let clients = visiting(&rt, alloc, &told, visit_of(row, console))?;
         let mut out = Vec::new(alloc);
         let mut operator = Operator::new(alloc, &told);
         let status = serve::<Brand, _, _, _, _, _>(
