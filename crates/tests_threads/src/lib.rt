@@ -3,6 +3,8 @@
 #![tactic(auto)]
 
 #[cfg(test)]
+mod asking_rows;
+#[cfg(test)]
 mod board_rows;
 #[cfg(test)]
 mod clients;
