@@ -1,6 +1,6 @@
 -- The two ends of a connection that carries records.
 use Rattle.std.specs.Prelude.{◌≡◌, ℕ, Bool, List, [], ◌∷◌, ◌++◌, Option, Some, None}
-use Rattle.core.specs.Option.{option_map}
+use Rattle.std.specs.Option.{option_map}
 use Rattle.std.specs.Io.KnownBytes.{Appends}
 use Rattle.net_ends.specs.Stops.{Stops}
 use Rattle.net_records.specs.declared.place.Place.{Place}
