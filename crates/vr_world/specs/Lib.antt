@@ -1,2 +1,2 @@
 pub mod Shelves
-pub mod Released
+pub mod History

@@ -11,10 +11,12 @@
 //! ```
 //!
 //! Proved: the promise of one history, down to the answers of the table of commands, at each command's place for the
-//! program in force there: the image's, and from a change that is `Done` on the one that it brought. Whatever list of
-//! events is handed in, the trace is the report of a run of it by new replicas, with no premise on members left
-//! (`IsTraced`), and the report explains the run. Each answer that was released stands at its request's place among the
-//! answers of one controller to all commands of the trace's list (`AllStandAtTheirPlaces`).
+//! program in force there: the image's, and from a change that is `Done` on the one that it brought. It is said twice.
+//! Of the trace and the events alone, whatever list of events is handed in (`IsOneHistory`): one list of requests, each
+//! submitted, none before that, each once, a client's in rising order, lengths that never fall, and each released
+//! answer at its request's place among the answers of one controller. And as what the protocol gives (`IsTraced`): the
+//! trace is the report of a run of the events by new replicas, with no premise on members left, and the report explains
+//! the run. `proofs/WorkedHistory` computes the first definition, and shows a trace that is none.
 //!
 //! Tests (nothing rests on them alone): a run of 200 scans with two view changes, a crash and a recovery stands in
 //! `tests_tool` (`world_rows`), for checkpoints never, after every command and after every 64.

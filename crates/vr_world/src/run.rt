@@ -4,7 +4,8 @@ ghost use Rattle.std.specs.Prelude.{IfOk, MatchResult};
 ghost use Rattle.vr_core.specs.StandsFor.{member, IsSavedAs};
 ghost use Rattle.vr_replica.specs.Standing.{StandsFor};
 ghost use Rattle.vr_schedules.specs.Traces.{AreNew, IsTraced, Fails};
-ghost use Rattle.vr_world.specs.Released.{AllStandAtTheirPlaces};
+ghost use Rattle.ctl_debugger.specs.Outcome.{answers_of};
+ghost use Rattle.vr_world.specs.History.{IsOneHistory};
 
 use crate::seat::Seat;
 use il_loader::Image;
@@ -49,10 +50,10 @@ pub fn run_world(
     budget: Budget,
     events: &[WorldEvent],
 ) -> Result<Trace, WorldError>
+    ensures history { IfOk result (IsOneHistory (answers_of image.now budget.instructions) events.now) }
     ensures traced { MatchResult result
         (IsTraced IsSavedAs (member config.now.f 0 image.now budget.instructions) events.now)
         (Fails (member config.now.f 0 image.now budget.instructions) events.now) }
-    ensures answers { IfOk result (AllStandAtTheirPlaces image.now budget.instructions) }
 {
     let seats = group(alloc, *config, image, budget)?;
     run_schedule(alloc, *config, seats, events)
