@@ -9,12 +9,14 @@ use Rattle.il_model.specs.declared.command.Command.TheVariants.{Force, Unforce, 
 use Rattle.ctl_model.specs.Slots.{slot_of}
 use Rattle.il_model.specs.declared.command.Answer.{Answer}
 use Rattle.vr_model.specs.Membership.{Membership}
+use Rattle.ctl_debugger.specs.Outcome.{answers_of}
 use Rattle.vr_core.specs.StandsFor.{member, IsSavedAs}
 use Rattle.vr_schedules.specs.declared.event.WorldEvent.{WorldEvent}
 use Rattle.vr_schedules.specs.declared.event.WorldEvent.TheVariants as events
 use Rattle.vr_schedules.specs.declared.store.Kept.TheVariants.{Old, New}
 use Rattle.vr_schedules.specs.declared.trace.Trace.{Trace}
 use Rattle.vr_schedules.specs.Traces.{IsTraced, IsRefused}
+use Rattle.vr_world.specs.History.{IsOneHistory}
 use Rattle.plc_json.specs.declared.command.NamedCommand.{NamedCommand}
 use Rattle.plc_json.specs.declared.command.NamedCommand.TheVariants as named
 use Rattle.plc_json.specs.declared.event.NamedEvent.{NamedEvent}
@@ -73,18 +75,24 @@ IsWhyNoReport g events told = (told ≡ faults.Memory) ⊎ IsRefusedAs g events 
 abbrev pub report_line : Trace → List ℕ
 report_line trace = report_text trace ++ codes "\n"
 
--- The report of these events was written: that of a run of them by the text's typed program, each scan within the
--- budget, in which nothing was lost.
-pub record IsSimulated (text : List ℕ) (f budget : ℕ) (named : List NamedEvent)
+-- The report of these events was written: one history of them, answered as one controller of the text's typed program
+-- answers, each scan within the budget.
+pub record IsSimulated (text : List ℕ) (budget : ℕ) (named : List NamedEvent)
     (old new : Option (List ℕ)) : Type 0 where
   pub program : Program
   pub is : IsTypedProgramOfText text program
   pub events : List WorldEvent
   pub known : AreKnown program named events
   pub trace : Trace
-  pub traced : IsTraced IsSavedAs (member f 0 program budget) events trace
-  pub none_lost : trace.lost.items ≡ []
+  pub history : IsOneHistory (answers_of program budget) events trace
   pub written : Appends old new (report_line trace)
+
+-- And it's the report of a run of them by the rules of replication, with 2f+1 replicas, in which nothing was lost.
+pub record IsReplicated (text : List ℕ) (f budget : ℕ) (named : List NamedEvent)
+    (old new : Option (List ℕ)) : Type 0 where
+  pub simulated : IsSimulated text budget named old new
+  pub traced : IsTraced IsSavedAs (member f 0 simulated.program budget) simulated.events simulated.trace
+  pub none_lost : simulated.trace.lost.items ≡ []
 
 -- a prefix of that report was written, before the writer failed in the call or memory ran out
 pub record IsReportCutShort (text : List ℕ) (f budget : ℕ) (named : List NamedEvent)

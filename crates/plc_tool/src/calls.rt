@@ -9,7 +9,8 @@ ghost use Rattle.plc_json.specs.declared.event.NamedEvent.{NamedEvent};
 ghost use Rattle.plc_json.specs.Commands.{HasCommands};
 ghost use Rattle.plc_json.specs.Events.{HasSchedule};
 ghost use Rattle.plc_tool.specs.Calls.{IsRun, IsRunCutShort, IsFaultOfRun};
-ghost use Rattle.plc_tool.specs.Simulated.{IsSimulated, IsReportCutShort, IsToldOf, IsFaultOfSchedule};
+ghost use Rattle.plc_tool.specs.Simulated.{IsSimulated, IsReplicated, IsReportCutShort, IsToldOf};
+ghost use Rattle.plc_tool.specs.Simulated.{IsFaultOfSchedule};
 ghost use Rattle.il_text.specs.Status.{status_of as status_told};
 ghost use Rattle.il_text.specs.Telling.{EndsTold, StopsShort, WentOut, fault_line};
 ghost use Rattle.il_text.specs.declared.fault.Fault as told;
@@ -176,7 +177,9 @@ pub fn sim<W: CountedWrite, E: CountedWrite>(
 ) -> u8
     ensures status { result ≤ 2 }
     ensures simulated { result ≡ 0 → (named : List NamedEvent) × HasSchedule schedule.now named
-        × IsSimulated source.now group.now.config.f group.now.budget.instructions named
+        × IsSimulated source.now group.now.budget.instructions named (W.held out.old) (W.held out.new) }
+    ensures replicated { result ≡ 0 → (named : List NamedEvent) × HasSchedule schedule.now named
+        × IsReplicated source.now group.now.config.f group.now.budget.instructions named
         (W.held out.old) (W.held out.new) }
     ensures refused { result ≡ 1
         → IsRefused (IsFaultOfSchedule source.now group.now.config.f group.now.budget.instructions schedule.now) }
@@ -215,7 +218,9 @@ pub fn sim_events<W: CountedWrite, E: CountedWrite>(
 ) -> u8
     ensures status { result ≤ 2 }
     ensures simulated { result ≡ 0
-        → IsSimulated source.now group.now.config.f group.now.budget.instructions named.now
+        → IsSimulated source.now group.now.budget.instructions named.now (W.held out.old) (W.held out.new) }
+    ensures replicated { result ≡ 0
+        → IsReplicated source.now group.now.config.f group.now.budget.instructions named.now
         (W.held out.old) (W.held out.new) }
     ensures refused { result ≡ 1
         → IsRefused (IsToldOf source.now group.now.config.f group.now.budget.instructions named.now)

@@ -2,10 +2,13 @@
 
 ghost use Rattle.std.specs.Prelude.{◌≡◌, ◌⊎◌, [], IfOk, IfErr, OnOk, string_bytes};
 ghost use Rattle.vr_core.specs.StandsFor.{member, IsSavedAs};
+ghost use Rattle.ctl_debugger.specs.Outcome.{answers_of};
 ghost use Rattle.vr_schedules.specs.Traces.{IsTraced};
+ghost use Rattle.vr_world.specs.History.{IsOneHistory};
 ghost use Rattle.il_text.specs.Meaning.{OrMemory};
 ghost use Rattle.il_text.specs.Putting.{Puts, IsWhyStopped};
-ghost use Rattle.plc_tool.specs.Simulated.{IsSimulated, IsReportCutShort, IsWhyNoReport, IsToldOf, report_line};
+ghost use Rattle.plc_tool.specs.Simulated.{IsSimulated, IsReplicated, IsReportCutShort, IsWhyNoReport};
+ghost use Rattle.plc_tool.specs.Simulated.{IsToldOf, report_line};
 
 use crate::events::all_known;
 use crate::report::ReportLine;
@@ -36,6 +39,7 @@ fn whole_trace(
     budget: Budget,
     events: &[WorldEvent],
 ) -> Result<Trace, Fault>
+    ensures history { IfOk result (IsOneHistory (answers_of image.now budget.instructions) events.now) }
     ensures traced { IfOk result (IsTraced IsSavedAs (member config.now.f 0 image.now budget.instructions) events.now) }
     ensures none_lost { IfOk result (λ trace. trace.lost.items ≡ []) }
     ensures refused { IfErr result (IsWhyNoReport (member config.now.f 0 image.now budget.instructions) events.now) }
@@ -91,7 +95,9 @@ pub fn put_report<W: CountedWrite>(
     out: &mut W,
 ) -> Result<(), Fault>
     ensures simulated { OnOk result (
-        IsSimulated text.now group.now.config.f group.now.budget.instructions named.now
+        IsSimulated text.now group.now.budget.instructions named.now (W.held out.old) (W.held out.new)) }
+    ensures replicated { OnOk result (
+        IsReplicated text.now group.now.config.f group.now.budget.instructions named.now
         (W.held out.old) (W.held out.new)) }
     ensures err { IfErr result (λ e. (IsWhyStopped e (W.faults out.old) (W.faults out.new)
         × IsReportCutShort text.now group.now.config.f group.now.budget.instructions named.now
