@@ -1,2 +1,3 @@
+mod Merging
 mod Printing
 mod Putting

@@ -1,8 +1,13 @@
 -- The lines that tell an operator what changed.
-use Rattle.std.specs.Prelude.{◌≡◌, ◌⊎◌, ℕ, List, [], ◌∷◌, ◌++◌, All, codes}
+use Rattle.std.specs.Prelude.{◌≡◌, ◌⊎◌, ℕ, List, [], ◌∷◌, ◌++◌, Option, Some, None, codes}
 use Rattle.io_model.specs.declared.counted.CountedWrite.{Ghosts as CountedWriter}
+use Rattle.il_model.specs.declared.command.Command.{Command}
+use Rattle.il_model.specs.declared.command.Command.TheVariants as commands
+use Rattle.il_model.specs.declared.value.Stop.{Stop}
 use Rattle.il_text.specs.Lines.{stop_name}
 use Rattle.il_text.specs.Telling.{WentOut, numbered}
+use Rattle.plc_status.specs.declared.deed.Deed.{Deed}
+use Rattle.plc_status.specs.declared.deed.Deed.TheVariants as deeds
 use Rattle.plc_status.specs.declared.notice.Notice.{Notice}
 use Rattle.plc_status.specs.declared.notice.Notice.TheVariants as notices
 
@@ -17,21 +22,51 @@ replica_line number what = numbered_line (codes "replica ") number what
 abbrev pub port_line : ℕ → List ℕ
 port_line port = numbered_line (codes "serving on 127.0.0.1:") port (codes "\n")
 
+abbrev pub stopped_line : Stop → ℕ → List ℕ
+stopped_line stop position =
+    codes "stopped " ++ (stop_name stop ++ numbered_line (codes " ") position (codes "\n"))
+
+-- what a command does, unless it's a scan or only reads
+abbrev pub deed_of : Command → Option Deed
+deed_of (commands.SetBreak position) = Some (deeds.Break position)
+deed_of (commands.ClearBreak position) = Some (deeds.Clear position)
+deed_of commands.Step = Some deeds.Step
+deed_of commands.Continue = Some deeds.Continue
+deed_of (commands.Force slot value) = Some (deeds.Force slot)
+deed_of (commands.Unforce slot) = Some (deeds.Unforce slot)
+deed_of commands.Reset = Some deeds.Reset
+deed_of (commands.Change image) = Some deeds.Change
+deed_of (commands.Scan inputs moment) = None
+deed_of (commands.ReadVar slot) = None
+deed_of commands.ReadCr = None
+
+-- the line of what was done at a console: the command's word, and its position or slot, if it has one
+abbrev pub deed_line : Deed → List ℕ
+deed_line (deeds.Break position) = numbered_line (codes "console break ") position (codes "\n")
+deed_line (deeds.Clear position) = numbered_line (codes "console clear ") position (codes "\n")
+deed_line deeds.Step = codes "console step\n"
+deed_line deeds.Continue = codes "console continue\n"
+deed_line (deeds.Force slot) = numbered_line (codes "console force ") slot.0 (codes "\n")
+deed_line (deeds.Unforce slot) = numbered_line (codes "console unforce ") slot.0 (codes "\n")
+deed_line deeds.Reset = codes "console reset\n"
+deed_line deeds.Change = codes "console change\n"
+
 abbrev pub notice_line : Notice → List ℕ
-notice_line (notices.Serving port) = port_line port
+notice_line (notices.Starts number) = replica_line number (codes " starts\n")
 notice_line (notices.Down number) = replica_line number (codes " down\n")
 notice_line (notices.Normal number) = replica_line number (codes " normal\n")
 notice_line (notices.Store number) = replica_line number (codes " store\n")
 notice_line (notices.Crashed number) = replica_line number (codes " crashed\n")
+notice_line (notices.NoFrame number) = replica_line number (codes " no frame\n")
+notice_line (notices.Hangs number) = replica_line number (codes " hangs\n")
 notice_line (notices.Held position) = numbered_line (codes "held ") position (codes "\n")
-notice_line (notices.Stopped stop position) =
-    codes "stopped " ++ (stop_name stop ++ numbered_line (codes " ") position (codes "\n"))
+notice_line (notices.Stopped stop position) = stopped_line stop position
+notice_line notices.GoesOn = codes "goes on\n"
+notice_line notices.ConsoleBegins = codes "console begins\n"
+notice_line notices.ConsoleEnds = codes "console ends\n"
+notice_line notices.ConsoleTaken = codes "console taken over\n"
+notice_line (notices.Done deed) = deed_line deed
 notice_line (notices.Lost count) = numbered_line [] count (codes " lines lost\n")
-
--- it tells of a change while clients are served, and not that they are
-abbrev pub IsChange : Notice → Type 0
-IsChange (notices.Serving port) = ⊥
-IsChange _ = Unit {0}
 
 -- the lines of these went out, one behind the other, and nothing else
 abbrev pub WentOutInOrder : {W : Type 0} → CountedWriter W → List Notice → W → W → Type 0
@@ -39,10 +74,9 @@ WentOutInOrder w [] old new = new ≡ old
 WentOutInOrder {W} w (notice ∷ notices) old new = (next : W) × WentOut w (notice_line notice) old next
     × WentOutInOrder w notices next new
 
--- there are notices of changes that were told, and nothing else was
+-- there are changes that were told, each by its line, and nothing else was
 pub record AreNoticesTold {W : Type 0} (w : CountedWriter W) (old new : W) : Type 0 where
   pub told : List Notice
-  pub changes : All IsChange told
   pub lines : WentOutInOrder w told old new
 
 -- the line of a port went out, and nothing else was told

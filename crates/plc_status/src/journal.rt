@@ -1,9 +1,10 @@
-//! The journal: what an operator is to be told, from when it's noticed until it's printed.
+//! The journals: what an operator is to be told, from when it's noticed until it's printed.
 
 ghost use Rattle.std.specs.Prelude.{◌≡◌, ◌<◌, ◌≤◌, ◌++◌, IfOk};
 ghost use Rattle.rtrb.specs.Ring.{known_free};
-ghost use Rattle.plc_status.specs.Journal.{IsNew, IsPut, IsSameJournal, loss, noted};
+ghost use Rattle.plc_status.specs.Journal.{IsEmpty, IsNew, IsPut, IsSameJournal, loss, noted};
 
+use crate::feed::Feed;
 use crate::notice::Notice;
 use crate::printer::Printer;
 use rtrb::{Producer, RingBuffer};
@@ -15,7 +16,7 @@ use std::thread::Parker;
 /// So many notices find room that aren't printed yet.
 const ROOM: usize = 256;
 
-/// How a journal wakes its printer.
+/// How journals wake their printer.
 #[derive(Drop)]
 pub(crate) struct Bell {
     parker: Parker,
@@ -23,7 +24,14 @@ pub(crate) struct Bell {
 }
 
 impl Bell {
-    /// Waits until something was put since it waited last, or the journal is over.
+    fn new() -> Bell {
+        Bell {
+            parker: Parker::new(),
+            is_over: AtomicBool::new(false),
+        }
+    }
+
+    /// Waits until something was put since it waited last, or the journals are over.
     pub(crate) fn wait<R: Wait>(&self, rt: &R) {
         self.parker.park(rt);
     }
@@ -34,8 +42,8 @@ impl Bell {
     }
 }
 
-/// What is noticed is put into it, in order. Where more is put than has room before it's printed, the notices that find
-/// none are counted, and the count is put once there is room again: so whoever notices never waits.
+/// What one thread notices is put into it, in order. Where more is put than has room before it's printed, the notices
+/// that find none are counted, and the count is put once there is room again: so whoever notices never waits.
 #[derive(Drop)]
 pub struct Journal {
     pub(crate) producer: Producer<Notice>,
@@ -44,31 +52,48 @@ pub struct Journal {
     pub(crate) lost: usize,
 }
 
+/// The journals of a served controller, and what prints them. Each may go to a thread of its own.
+#[derive(Drop)]
+pub struct Journals {
+    /// What the driver notices of its scans and of the replicas.
+    pub driver: Journal,
+    /// What an operator does at the console.
+    pub console: Journal,
+    pub printer: Printer,
+}
+
+impl Journals {
+    /// Nothing was put yet.
+    pub fn new(alloc: Global) -> Result<Journals, AllocError>
+        ensures { IfOk result IsNew }
+    {
+        let bell = Arc::new(alloc, Bell::new())?;
+        let (driver, from_driver) = Journal::new(alloc, &bell)?;
+        let (console, from_console) = Journal::new(alloc, &bell)?;
+        Ok(Journals {
+            driver,
+            console,
+            printer: Printer {
+                driver: from_driver,
+                console: from_console,
+                bell,
+            },
+        })
+    }
+}
+
 impl Journal {
-    /// A journal, and what prints it.
-    pub fn new(alloc: Global) -> Result<(Journal, Printer), AllocError>
-        ensures { IfOk result (λ r. IsNew r.0 r.1) }
+    /// A journal that rings this bell, and what is read of it.
+    fn new(alloc: Global, bell: &Arc<Bell>) -> Result<(Journal, Feed), AllocError>
+        ensures { IfOk result (λ r. IsEmpty r.0 r.1) }
     {
         let (producer, consumer) = RingBuffer::new(alloc, ROOM)?;
-        let bell = Arc::new(
-            alloc,
-            Bell {
-                parker: Parker::new(),
-                is_over: AtomicBool::new(false),
-            },
-        )?;
-        let printer = Printer {
-            consumer,
-            bell: Arc::try_clone(&bell)?,
+        let journal = Journal {
+            producer,
+            bell: Arc::try_clone(bell)?,
+            lost: 0,
         };
-        Ok((
-            Journal {
-                producer,
-                bell,
-                lost: 0,
-            },
-            printer,
-        ))
+        Ok((journal, Feed { consumer }))
     }
 
     /// Puts how many were lost behind all that were put, if any were.
@@ -86,7 +111,7 @@ impl Journal {
         }
     }
 
-    /// Puts a notice behind all that were put; where it finds no room it's counted as lost.
+    /// Puts a notice behind all that were put; where it finds no room it's counted as lost. It never waits.
     #[tactic(auto, using(crate::proofs::Putting::listed, crate::proofs::Putting::lost))]
     pub fn put(&mut self, notice: Notice)
         ensures { IsPut notice self.old self.new }
@@ -100,7 +125,7 @@ impl Journal {
         self.bell.parker.unpark();
     }
 
-    /// Nothing more is put: its printer ends once all is printed.
+    /// Nothing more is put into any journal: their printer ends once all is printed.
     pub fn end(&self) {
         self.bell.is_over.store(true, Ordering::SeqCst);
         self.bell.parker.unpark();

@@ -3,8 +3,9 @@
 ghost use Rattle.std.specs.Prelude.{◌≡◌};
 ghost use Rattle.il_text.specs.Telling.{Sends};
 ghost use Rattle.il_text.specs.Lines.{stop_name};
-ghost use Rattle.plc_status.specs.Notices.{numbered_line, notice_line, replica_line};
+ghost use Rattle.plc_status.specs.Notices.{notice_line, numbered_line, replica_line, stopped_line, IsPortTold};
 
+use crate::deed::{Deed, put_deed};
 use il_model::Stop;
 use il_text::{put, put_numbered};
 use io_model::{CountedWrite, DeviceFault};
@@ -12,8 +13,8 @@ use io_model::{CountedWrite, DeviceFault};
 /// A change, as it is told by a line of its own.
 #[derive(Clone, Copy, PartialEq, Eq)]
 pub enum Notice {
-    /// Clients are served at this port of 127.0.0.1.
-    Serving(u16),
+    /// The replica starts from its store.
+    Starts(u8),
     /// The replica hasn't been normal for a while.
     Down(u8),
     /// It's normal again.
@@ -22,10 +23,24 @@ pub enum Notice {
     Store(u8),
     /// It crashed because that was asked for, and was restarted.
     Crashed(u8),
+    /// A message of it had no frame, and wasn't sent.
+    NoFrame(u8),
+    /// Its thread isn't at its end, a while after the end of all.
+    Hangs(u8),
     /// A scan was held there, after one that wasn't.
     Held(u16),
     /// A scan stopped there, after one that didn't stop so.
     Stopped(Stop, u16),
+    /// A scan was neither held nor stopped, after one that was.
+    GoesOn,
+    /// An operator's console begins.
+    ConsoleBegins,
+    /// It ends.
+    ConsoleEnds,
+    /// It ends since another operator takes it over.
+    ConsoleTaken,
+    /// A command of it changed something.
+    Done(Deed),
     /// So many notices found no room in the journal, and are lost.
     Lost(usize),
 }
@@ -42,7 +57,7 @@ fn name_of(stop: Stop) -> &'static str
 }
 
 /// A line with a number between two texts.
-fn put_line_of<E: CountedWrite>(
+pub(crate) fn put_line_of<E: CountedWrite>(
     err: &mut E,
     before: &[u8],
     number: usize,
@@ -66,19 +81,37 @@ pub(crate) fn put_line<E: CountedWrite>(err: &mut E, notice: Notice) -> Result<(
     ensures { Sends E.CountedWrite (notice_line notice) err.old err.new result }
 {
     match notice {
-        Notice::Serving(port) => {
-            put_line_of(err, b"serving on 127.0.0.1:", usize::from(port), b"\n")
-        }
+        Notice::Starts(number) => put_replica(err, number, b" starts\n"),
         Notice::Down(number) => put_replica(err, number, b" down\n"),
         Notice::Normal(number) => put_replica(err, number, b" normal\n"),
         Notice::Store(number) => put_replica(err, number, b" store\n"),
         Notice::Crashed(number) => put_replica(err, number, b" crashed\n"),
+        Notice::NoFrame(number) => put_replica(err, number, b" no frame\n"),
+        Notice::Hangs(number) => put_replica(err, number, b" hangs\n"),
         Notice::Held(position) => put_line_of(err, b"held ", usize::from(position), b"\n"),
-        Notice::Stopped(stop, position) => {
-            put(err, b"stopped ")?;
-            put(err, name_of(stop).as_bytes())?;
-            put_line_of(err, b" ", usize::from(position), b"\n")
-        }
+        Notice::Stopped(stop, position) => put_stopped(err, stop, position),
+        Notice::GoesOn => put(err, b"goes on\n"),
+        Notice::ConsoleBegins => put(err, b"console begins\n"),
+        Notice::ConsoleEnds => put(err, b"console ends\n"),
+        Notice::ConsoleTaken => put(err, b"console taken over\n"),
+        Notice::Done(deed) => put_deed(err, deed),
         Notice::Lost(count) => put_line_of(err, b"", count, b" lines lost\n"),
     }
+}
+
+/// What is told of a scan that stopped there.
+fn put_stopped<E: CountedWrite>(err: &mut E, stop: Stop, position: u16) -> Result<(), DeviceFault>
+    ensures { Sends E.CountedWrite (stopped_line stop position) err.old err.new result }
+{
+    put(err, b"stopped ")?;
+    put(err, name_of(stop).as_bytes())?;
+    put_line_of(err, b" ", usize::from(position), b"\n")
+}
+
+/// Tells the port of 127.0.0.1 at which clients are served, before any change is told. Where the stream fails, what
+/// follows is told all the same.
+pub fn tell_port<E: CountedWrite>(err: &mut E, port: u16)
+    ensures { IsPortTold E.CountedWrite err.old err.new }
+{
+    let _ = put_line_of(err, b"serving on 127.0.0.1:", usize::from(port), b"\n");
 }

@@ -1,20 +1,19 @@
-//! What prints a journal.
+//! What prints the journals.
 
-ghost use Rattle.std.specs.Prelude.{◌≡◌, ◌++◌};
-ghost use Rattle.rtrb.specs.Ring.{known_items, SameConsumer};
-ghost use Rattle.plc_status.specs.Journal.{loss, printed, IsJournalOf, IsPrintedOut, Prints};
+ghost use Rattle.plc_status.specs.Journal.{loss, IsJournalOf, IsPrintedOut, Prints};
 ghost use Rattle.plc_status.specs.Notices.{WentOutInOrder};
 
+use crate::feed::Feed;
 use crate::journal::{Bell, Journal};
 use crate::notice::{Notice, put_line};
 use io_model::CountedWrite;
-use rtrb::Consumer;
 use std::sync::{Arc, Wait};
 
-/// Prints what is put into a journal, a line for each notice, in order and each once.
+/// Prints what is put into the journals, a line for each notice: those of one journal in order, and each once.
 #[derive(Drop)]
 pub struct Printer {
-    pub(crate) consumer: Consumer<Notice>,
+    pub(crate) driver: Feed,
+    pub(crate) console: Feed,
     pub(crate) bell: Arc<Bell>,
 }
 
@@ -23,24 +22,12 @@ impl Printer {
     pub fn print<E: CountedWrite>(&mut self, err: &mut E)
         ensures { Prints E.CountedWrite self.old self.new err.old err.new }
     {
-        self.consumer.slots();
-        self.print_known(err);
+        self.driver.print(err);
+        self.console.print(err);
     }
 
-    /// Prints what it knows to be there.
-    fn print_known<E: CountedWrite>(&mut self, err: &mut E)
-        ensures same { SameConsumer self.old.consumer self.new.consumer }
-        ensures taken { printed self.new ≡ printed self.old ++ known_items self.old.consumer }
-        ensures lines { WentOutInOrder E.CountedWrite (known_items self.old.consumer) err.old err.new }
-    {
-        for _ in 0..self.consumer.cached_slots() {
-            let notice = self.consumer.pop_known();
-            let _ = put_line(err, notice);
-        }
-    }
-
-    /// Prints what is put, as soon as it is, until the journal ends.
-    #[tactic(auto, using(crate::proofs::Printing::nothing))]
+    /// Prints what is put, as soon as it is, until the journals end.
+    #[tactic(auto, using(crate::proofs::Merging::nothing))]
     pub fn attend<R: Wait, E: CountedWrite>(&mut self, rt: &R, err: &mut E)
         ensures { Prints E.CountedWrite self.old self.new err.old err.new }
     {
@@ -55,13 +42,14 @@ impl Printer {
         unreachable!()
     }
 
-    /// Prints all that is left of the journal, whose thread has ended, and how many were lost at the end.
+    /// Prints all that is left of the driver's journal, whose thread has ended, and how many of its notices were lost
+    /// at the end; of the console's what was put by now.
     pub fn finish<E: CountedWrite>(&mut self, journal: &mut Journal, err: &mut E)
-        requires { IsJournalOf journal.old self.old }
-        ensures { IsPrintedOut E.CountedWrite journal.old self.old err.old err.new }
+        requires { IsJournalOf journal.old self.old.driver }
+        ensures { IsPrintedOut E.CountedWrite journal.old self.old self.new err.old err.new }
     {
-        self.consumer.slots_beside(&mut journal.producer);
-        self.print_known(err);
+        self.driver.finish(journal, err);
+        self.console.print(err);
         print_loss(journal.lost, err);
     }
 }

@@ -1,4 +1,4 @@
-use Rattle.plc_status.proofs.Printing.{both}
+use Rattle.plc_status.proofs.Merging.{both}
 use Rattle.plc_status.proofs.printer.Printer.attend.Goals as goal
 
 pub loop-preserved : goal.loop-preserved

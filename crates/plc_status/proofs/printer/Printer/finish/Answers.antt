@@ -1,13 +1,8 @@
-use Rattle.std.proofs.Common.{List, ◌++◌, sym, ap, ◌∙◌}
-use Rattle.rtrb.specs.Ring.{known_items}
-use Rattle.plc_status.specs.declared.notice.Notice.{Notice}
-use Rattle.plc_status.proofs.Printing.{joined}
+use Rattle.plc_status.specs.declared.printer.Printer.{Printer}
+use Rattle.plc_status.proofs.Merging.{all_out}
 use Rattle.plc_status.proofs.printer.Printer.finish.Goals as goal
 
 pub returns : goal.returns
 returns g c =
-    let there = known_items c.slots_beside.new.self in record {
-      notices = there;
-      left = sym c.slots_beside.ensures.producer.1 ∙ sym c.slots_beside.ensures.fifo ∙ ap (λ (xs : List Notice). xs ++ there) c.slots_beside.ensures.looked.1;
-      lines = joined g.E.CountedWrite there _ c.args.err.now c.print_known.new.err c.print_loss.new.err c.print_known.ensures.lines c.print_loss.ensures;
-    }
+    let after : Printer = record { driver = c.finish.new.self; console = c.print.new.self; bell = c.args.self.now.bell } in
+    all_out g.E.CountedWrite c.args.journal.now c.finish.new.journal c.args.self.now after c.args.err.now c.finish.new.err c.print.new.err c.print_loss.new.err c.finish.ensures.printed c.finish.ensures.lost c.print.ensures c.print_loss.ensures

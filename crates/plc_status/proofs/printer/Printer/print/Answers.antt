@@ -1,8 +1,8 @@
 use Rattle.plc_status.specs.declared.printer.Printer.{Printer}
-use Rattle.plc_status.proofs.Printing.{known}
+use Rattle.plc_status.proofs.Merging.{one_then_other}
 use Rattle.plc_status.proofs.printer.Printer.print.Goals as goal
 
 pub returns : goal.returns
 returns g c =
-    let looked : Printer = record { consumer = c.slots.new.self; bell = c.args.self.now.bell } in
-    known g.E.CountedWrite c.args.self.now looked c.print_known.new.self _ c.args.err.now c.print_known.new.err c.slots.ensures.looked.0 c.slots.ensures.looked.1 c.print_known.ensures.same c.print_known.ensures.taken c.print_known.ensures.lines
+    let after : Printer = record { driver = c.print.new.self; console = c.print-2.new.self; bell = c.args.self.now.bell } in
+    one_then_other g.E.CountedWrite c.args.self.now after c.args.err.now c.print.new.err c.print-2.new.err c.print.ensures c.print-2.ensures

@@ -1,7 +1,7 @@
 use Rattle.std.proofs.Common.{◌≡◌, ◌+◌, length}
 use Rattle.rtrb.specs.Ring.{known_items}
 use Rattle.plc_status.proofs.Printing.{Partly}
-use Rattle.plc_status.proofs.printer.Printer.print_known.Given as goal
+use Rattle.plc_status.proofs.feed.Feed.print_known.Given as goal
 
 -- some were printed, as many as there were rounds, and behind them are those that are left
 abbrev pub invariant-loop : goal.invariant-loop
