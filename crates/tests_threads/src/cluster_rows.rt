@@ -13,9 +13,12 @@ use std::test::Fail;
 use std::thread::Threads;
 use std::time::Duration;
 use std::{thread, time};
-use vr_model::{Body, ClientNumber, Message, Party, Request, Standing, Status};
-use vr_ports::{Gate, Input, Link, Relink, Tick, Timer};
-use vr_threads::{ChannelLink, Cluster, ClusterConfig, MachineTimer, Seat, Shown, Switchboard};
+use vr_model::{Body, ClientNumber, Config, Message, Party, Request, Standing, Status, Stored};
+use vr_ports::{Gate, Input, Link, OpenGate, Relink, Tick, Timer};
+use vr_replica::{StoreFault, ViewStore};
+use vr_threads::{
+    ChannelLink, Cluster, ClusterConfig, MachineTimer, Seat, Shown, Starts, Switchboard,
+};
 
 fn wire(alloc: Global) -> Result<Image, Fail> {
     match load(alloc, WIRE) {
@@ -42,6 +45,8 @@ impl Timer for OnceTimer {
     }
 
     fn heard(&mut self, _message: &Message) {}
+
+    fn stepped(&mut self, _standing: Standing) {}
 }
 
 /// A gate that in call 1 raises a flag and waits for another's. It counts those that met.
@@ -150,7 +155,10 @@ where
         turns: 3,
     };
     match Cluster::start(&rt, alloc, common, &wire(alloc)?, seats) {
-        Ok(cluster) => cluster.join(&rt),
+        Ok((cluster, threads)) => {
+            drop(cluster);
+            threads.join(&rt);
+        }
         Err(_) => return Err("no cluster")?,
     }
     Ok(met.load(Ordering::SeqCst))
@@ -212,6 +220,8 @@ fn holding<R: time::Clock + Copy + Drop, L: Drop>(
     links: Vec<L>,
     goes: &Arc<AtomicBool>,
 ) -> Result<Vec<HoldingSeat<R, L>>, Fail> {
+    let (config, _) = group_of_three()?;
+    let (patience, pause) = (Duration::from_millis(500), Duration::from_millis(20));
     let always = Arc::new(alloc, AtomicBool::new(true))?;
     let mut seats = Vec::new(alloc);
     for (number, link) in links.into_iter().enumerate() {
@@ -219,7 +229,7 @@ fn holding<R: time::Clock + Copy + Drop, L: Drop>(
         seats.push(Seat {
             link,
             store: Shelf::new(if number == 2 { 4 } else { 0 }),
-            timer: MachineTimer::new(rt, Duration::from_millis(500), Duration::from_millis(20)),
+            timer: MachineTimer::new(rt, config, patience, pause),
             gate: HoldingGate {
                 rt,
                 goes: Arc::try_clone(flag)?,
@@ -270,16 +280,14 @@ fn is_answered<L: Link>(link: &mut L, client: ClientNumber, number: u64) -> bool
     false
 }
 
-type HoldingCluster<R, L> = Cluster<L, Shelf, MachineTimer<R>, HoldingGate<R>>;
-
-/// Whether a replica is normal, in time.
-fn gets_normal<R, L>(rt: &R, cluster: &mut HoldingCluster<R, L>, number: u8) -> bool
+/// Whether this holds in time of what shows of a replica, once no start of it is under way.
+fn comes_to<R, L>(rt: &R, cluster: &mut Cluster<L>, number: u8, is: fn(Shown) -> bool) -> bool
 where
-    R: time::Clock + Send + Drop + 'static,
+    R: time::Clock,
     L: Relink + Send + Drop + 'static,
 {
     for _ in 0..10_000u32 {
-        if cluster.shown(number).is_normal() {
+        if !cluster.is_starting(number) && is(cluster.shown(number)) {
             return true;
         }
         thread::sleep(rt, Duration::from_millis(1));
@@ -288,13 +296,13 @@ where
 }
 
 /// What is seen of a group: what shows of its first replica, and which of the things asked of it went well.
-type Seen = ([Shown; 4], [bool; 6]);
+type Seen = ([Shown; 4], [bool; 9]);
 
 /// What is seen of a group whose primary crashes and comes back. It shows before the first step of each of its starts,
 /// while it is down, and at the end. A request is answered before the crash, after it, and once the replica is back.
 fn seen_of_a_crash<R, L>(
     rt: &R,
-    cluster: &mut HoldingCluster<R, L>,
+    cluster: &mut Cluster<L>,
     link: &mut L,
     client: ClientNumber,
     goes: &AtomicBool,
@@ -303,35 +311,49 @@ where
     R: Threads + Wait + time::Clock + Copy + Send + Drop + 'static,
     L: Relink + Send + Drop + 'static,
 {
+    let started = comes_to(rt, cluster, 0, is_served);
     let early = cluster.shown(0);
     goes.store(true, Ordering::SeqCst);
     let answered = is_answered(link, client, 1);
-    let recovered = gets_normal(rt, cluster, 2);
-    cluster.crash(rt, 0);
+    let recovered = comes_to(rt, cluster, 2, Shown::is_normal);
+    cluster.crash(0);
+    let ended = comes_to(rt, cluster, 0, is_not_served);
     let down = cluster.shown(0);
     let answered_without = is_answered(link, client, 2);
     goes.store(false, Ordering::SeqCst);
-    let restarted = cluster.restart(rt, 0).is_ok();
+    let restarted = cluster.restart(rt, 0);
+    let held_in_time = comes_to(rt, cluster, 0, is_served);
     let held = cluster.shown(0);
     goes.store(true, Ordering::SeqCst);
-    let back = gets_normal(rt, cluster, 0);
+    let back = comes_to(rt, cluster, 0, Shown::is_normal);
     let answered_again = is_answered(link, client, 3);
     let unknown = cluster.shown(3);
     (
         [early, down, held, unknown],
         [
+            started,
             answered,
             recovered,
+            ended,
             answered_without,
             restarted,
+            held_in_time,
             back,
             answered_again,
         ],
     )
 }
 
+fn is_served(shown: Shown) -> bool {
+    shown.is_served
+}
+
+fn is_not_served(shown: Shown) -> bool {
+    !shown.is_served
+}
+
 /// A replica that is down and was started so often.
-fn down(starts: u64) -> Shown {
+fn down(starts: u64, is_served: bool) -> Shown {
     Shown {
         standing: Standing {
             status: Status::Down,
@@ -340,6 +362,9 @@ fn down(starts: u64) -> Shown {
         },
         starts,
         has_failed: false,
+        tries: starts,
+        is_served,
+        frameless: 0,
     }
 }
 
@@ -352,11 +377,17 @@ const FIRST: Shown = Shown {
     },
     starts: 1,
     has_failed: false,
+    tries: 1,
+    is_served: true,
+    frameless: 0,
 };
 
 /// What is to be seen.
 fn wanted() -> Seen {
-    ([FIRST, down(1), down(2), down(0)], [true; 6])
+    (
+        [FIRST, down(1, false), down(2, true), down(0, false)],
+        [true; 9],
+    )
 }
 
 /// What is seen of a crash over these links, those of three replicas and that of a client.
@@ -378,12 +409,13 @@ where
         budget,
         turns: u64::MAX,
     };
-    let Ok(mut cluster) = Cluster::start(&rt, alloc, common, &wire(alloc)?, seats) else {
+    let Ok((mut cluster, threads)) = Cluster::start(&rt, alloc, common, &wire(alloc)?, seats) else {
         return Err("no cluster")?;
     };
     let seen = seen_of_a_crash(&rt, &mut cluster, &mut link, client, &goes);
     cluster.cut();
-    cluster.join(&rt);
+    drop(cluster);
+    threads.join(&rt);
     Ok(seen)
 }
 
@@ -403,56 +435,228 @@ fn a_group_goes_on_while_its_primary_crashes(rt: HostRuntime) -> Result<(), Fail
     Ok(())
 }
 
-/// A message of replica 0 to replica 1.
-const fn said(body: Body) -> Message {
+/// A store in memory whose starts wait until they are let go: as on a disk that hangs.
+#[derive(Drop)]
+struct HangingShelf<R: time::Clock + Drop> {
+    rt: R,
+    shelf: Shelf,
+    goes: Arc<AtomicBool>,
+}
+
+impl<R: time::Clock + Drop> ViewStore for HangingShelf<R> {
+    ghost use Rattle.std.specs.Prelude.{⊤};
+
+    ghost load_gives = { λ _ _ _. ⊤ };
+
+    ghost save_gives = { λ _ _ _ _. ⊤ };
+
+    ghost faults = { λ _. 0 };
+
+    fn load(&mut self) -> Result<Stored, StoreFault> {
+        match self.shelf.load() {
+            Ok(stored) => Ok(stored),
+            Err(_) => Ok(Stored { view: 0, starts: 0 }),
+        }
+    }
+
+    fn save(&mut self, view: u64) -> Result<(), StoreFault> {
+        let _ = self.shelf.save(view);
+        Ok(())
+    }
+
+    fn faults(&self) -> u64 {
+        0
+    }
+}
+
+impl<R: time::Clock + Drop> Starts for HangingShelf<R> {
+    ghost use Rattle.std.specs.Prelude.{⊤};
+
+    ghost begin_gives = { λ _ _ _. ⊤ };
+
+    fn begin(&mut self) -> Result<Stored, StoreFault> {
+        for _ in 0..20_000u32 {
+            if self.goes.load(Ordering::SeqCst) {
+                break;
+            }
+            thread::sleep(&self.rt, Duration::from_millis(1));
+        }
+        self.shelf.begin()
+    }
+}
+
+/// Three replicas on the machine's time. The last one's store hangs until it's let go.
+fn hanging<R: time::Clock + Copy + Drop>(
+    rt: R,
+    alloc: Global,
+    board: &Arc<Switchboard>,
+    goes: &Arc<AtomicBool>,
+) -> Result<Vec<Seat<ChannelLink<R>, HangingShelf<R>, MachineTimer<R>, OpenGate>>, Fail>
+where
+    R: Wait,
+{
+    let (config, _) = group_of_three()?;
+    let (patience, pause) = (Duration::from_millis(500), Duration::from_millis(20));
+    let always = Arc::new(alloc, AtomicBool::new(true))?;
+    let mut seats = Vec::new(alloc);
+    for number in 0..3u8 {
+        let flag = if number == 2 { goes } else { &always };
+        seats.push(Seat {
+            link: link_of(rt, alloc, board, Party::Replica(number))?,
+            store: HangingShelf {
+                rt,
+                shelf: Shelf::new(0),
+                goes: Arc::try_clone(flag)?,
+            },
+            timer: MachineTimer::new(rt, config, patience, pause),
+            gate: OpenGate,
+        })?;
+    }
+    Ok(seats)
+}
+
+/// A replica whose disk hangs holds up nobody: the others are served, an order to start it anew waits for nothing, and
+/// it comes up once the disk goes on.
+#[test]
+fn a_disk_that_hangs_holds_up_its_replica_alone(rt: HostRuntime) -> Result<(), Fail> {
+    let alloc = rt.alloc();
+    let (group, budget) = group_of_three()?;
+    let client = ClientNumber::new(0).ok_or("no client")?;
+    let goes = Arc::new(alloc, AtomicBool::new(false))?;
+    let board = Arc::new(alloc, Switchboard::new(alloc, 3, 1)?)?;
+    let seats = hanging(rt, alloc, &board, &goes)?;
+    let mut link = link_of(rt, alloc, &board, Party::Client(client))?;
+    if seats.len() != usize::from(group.group_size()) {
+        return Err("another number of seats")?;
+    }
+    let common = ClusterConfig {
+        group,
+        budget,
+        turns: u64::MAX,
+    };
+    let Ok((mut cluster, threads)) = Cluster::start(&rt, alloc, common, &wire(alloc)?, seats) else {
+        return Err("no cluster")?;
+    };
+    assert!(rt; is_answered(&mut link, client, 1));
+    assert!(rt; cluster.is_starting(2) && !cluster.restart(&rt, 2));
+    assert!(rt; !cluster.shown(2).is_normal() && !cluster.is_idle(2));
+    goes.store(true, Ordering::SeqCst);
+    assert!(rt; comes_to(&rt, &mut cluster, 2, Shown::is_normal));
+    cluster.cut();
+    assert!(rt; comes_to(&rt, &mut cluster, 2, is_not_served));
+    assert!(rt; cluster.is_idle(2));
+    drop(cluster);
+    threads.join(&rt);
+    Ok(())
+}
+
+/// Who takes nothing keeps no more than so many messages, and holds up nobody who sends them.
+#[test]
+fn what_waits_for_a_party_is_bounded(rt: HostRuntime) -> Result<(), Fail> {
+    let alloc = rt.alloc();
+    let client = ClientNumber::new(0).ok_or("no client")?;
+    let board = Arc::new(alloc, Switchboard::new(alloc, 3, 1)?)?;
+    let mut busy = link_of(rt, alloc, &board, Party::Client(client))?;
+    let mut stalled = link_of(rt, alloc, &board, Party::Replica(1))?;
+    for number in 0..5000u64 {
+        busy.send(request(client, number, 1));
+    }
+    let mut count = 0u32;
+    for _ in 0..5000u32 {
+        match stalled.recv() {
+            Input::Message(_) => count = count.saturating_add(1),
+            _ => break,
+        }
+    }
+    assert_eq!(rt; count, 1024);
+    Ok(())
+}
+
+/// A message of this replica to another.
+const fn said_by(number: u8, body: Body) -> Message {
     Message {
-        from: Party::Replica(0),
-        to: Party::Replica(1),
+        from: Party::Replica(number),
+        to: Party::Replica(3),
         body,
     }
 }
 
-/// A primary that comes up again has lost its view; another replica that does has not.
+/// What a replica is that takes part in a view normally.
+const fn normal(view: u64, is_primary: bool) -> Standing {
+    Standing {
+        status: Status::Normal,
+        view,
+        is_primary,
+    }
+}
+
+const COMMIT: Body = Body::Commit {
+    view: 1,
+    commit_number: 0,
+};
+
+/// A timer of a replica of five, with so many milliseconds of patience.
+fn timer_of_five<R: time::Clock + Drop>(rt: R, patience: u64) -> Result<MachineTimer<R>, Fail> {
+    let config = Config::new(2, 64).ok_or("no config")?;
+    let pause = Duration::from_secs(600);
+    Ok(MachineTimer::new(rt, config, Duration::from_millis(patience), pause))
+}
+
+/// The primary of its view that comes up again has lost the view. Another replica that does has not, nor has one that a
+/// late message of an earlier view would name.
 #[test]
 fn a_timer_times_out_once_its_primary_comes_up_again(rt: HostRuntime) -> Result<(), Fail> {
-    let mut timer = MachineTimer::new(rt, Duration::from_secs(600), Duration::from_secs(600));
+    let mut timer = timer_of_five(rt, 600_000)?;
     let up = Body::Recovery {
         nonce: 2,
         stored_view: 0,
     };
-    timer.heard(&said(up));
-    assert_eq!(rt; timer.poll(), Tick::None);
-    timer.heard(&said(Body::Commit {
-        view: 0,
-        commit_number: 0,
-    }));
+    timer.stepped(normal(2, false));
+    timer.heard(&said_by(1, COMMIT));
+    timer.heard(&said_by(1, up));
     assert_eq!(rt; timer.poll(), Tick::None);
     let up = Body::Recovery {
         nonce: 3,
         stored_view: 0,
     };
-    timer.heard(&said(up));
+    timer.heard(&said_by(2, up));
     assert_eq!(rt; timer.poll(), Tick::Timeout);
     assert_eq!(rt; timer.poll(), Tick::None);
     Ok(())
 }
 
-/// Both later polls come late; before the first of them, the primary is heard.
+/// How often a timer of 30 ms times out in 400 ms in which it hears these messages each 10 ms.
+fn timeouts_hearing<R: time::Clock + Copy + Drop>(
+    rt: R,
+    standing: Standing,
+    messages: &[Message],
+) -> Result<u32, Fail> {
+    let mut timer = timer_of_five(rt, 30)?;
+    timer.stepped(standing);
+    let mut count = 0u32;
+    for _ in 0..40u32 {
+        for message in messages {
+            timer.heard(message);
+        }
+        if timer.poll() == Tick::Timeout {
+            count = count.saturating_add(1);
+        }
+        thread::sleep(&rt, Duration::from_millis(10));
+    }
+    Ok(count)
+}
+
+/// A backup hears its primary; a late COMMIT of an earlier view shows nothing. A primary of five hears two follow it;
+/// one is too few, however often it's heard. Each time it waits twice as long: 30, 60, 120 and 240 ms.
 #[test]
-fn a_timer_times_out_unless_it_hears(rt: HostRuntime) -> Result<(), Fail> {
-    let mut timer = MachineTimer::new(rt, Duration::from_millis(30), Duration::from_secs(600));
-    assert_eq!(rt; timer.poll(), Tick::None);
-    thread::sleep(&rt, Duration::from_millis(40));
-    timer.heard(&Message {
-        from: Party::Replica(0),
-        to: Party::Replica(1),
-        body: Body::Commit {
-            view: 0,
-            commit_number: 0,
-        },
-    });
-    assert_eq!(rt; timer.poll(), Tick::None);
-    thread::sleep(&rt, Duration::from_millis(40));
-    assert_eq!(rt; timer.poll(), Tick::Timeout);
+fn a_timer_times_out_unless_its_view_goes_on(rt: HostRuntime) -> Result<(), Fail> {
+    let ok = |view: u64| Body::PrepareOk { view, op_number: 0 };
+    let commit = [said_by(1, COMMIT)];
+    let one = [said_by(1, ok(0))];
+    let two = [said_by(1, ok(0)), said_by(2, ok(0))];
+    assert_eq!(rt; timeouts_hearing(rt, normal(1, false), &commit)?, 0);
+    assert!(rt; (2..=4).contains(&timeouts_hearing(rt, normal(2, false), &commit)?));
+    assert_eq!(rt; timeouts_hearing(rt, normal(0, true), &two)?, 0);
+    assert!(rt; (2..=4).contains(&timeouts_hearing(rt, normal(0, true), &one)?));
     Ok(())
 }

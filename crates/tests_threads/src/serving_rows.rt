@@ -78,6 +78,8 @@ struct ScriptedTimer<'a, R: Abort + Drop> {
     script: &'a [Tick],
     said: Vec<Tick>,
     heard: u64,
+    /// What the replica was after its last step.
+    standing: Standing,
 }
 
 impl<R: Abort + Drop> Timer for ScriptedTimer<'_, R> {
@@ -96,6 +98,10 @@ impl<R: Abort + Drop> Timer for ScriptedTimer<'_, R> {
 
     fn heard(&mut self, _message: &Message) {
         self.heard = self.heard.saturating_add(1);
+    }
+
+    fn stepped(&mut self, standing: Standing) {
+        self.standing = standing;
     }
 }
 
@@ -139,6 +145,13 @@ impl Gate for CountingGate {
     }
 }
 
+/// What a replica shows that was never served.
+const DOWN: Standing = Standing {
+    status: Status::Down,
+    view: 0,
+    is_primary: false,
+};
+
 /// How often was polled, received, heard and sent, how many steps the gate saw in turn, and after how many of them the
 /// replica was normal.
 type Counts = (usize, usize, u64, usize, u64, u64);
@@ -173,6 +186,7 @@ fn served<R: Abort + Copy + Drop>(
             script: ticks,
             said: Vec::new(alloc),
             heard: 0,
+            standing: DOWN,
         },
         gate: CountingGate::new(),
     };
@@ -185,7 +199,11 @@ fn served<R: Abort + Copy + Drop>(
         seat.gate.steps(),
         seat.gate.normal,
     );
-    Ok((counts, shown.reader()?.read()))
+    let read = shown.reader()?.read();
+    if read.standing != seat.timer.standing {
+        return Err("the timer was told something else")?;
+    }
+    Ok((counts, read))
 }
 
 /// A request, PREPARE to two; resend, the same; nothing; the request again, which is dropped; a timeout, which begins a
@@ -247,6 +265,9 @@ const fn showing(status: Status, view: u64, is_primary: bool) -> Shown {
         },
         starts: 0,
         has_failed: false,
+        tries: 0,
+        is_served: false,
+        frameless: 0,
     }
 }
 

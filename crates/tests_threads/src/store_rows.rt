@@ -94,3 +94,21 @@ fn a_directory_that_is_not_there_is_a_fault_of_the_save(rt: HostRuntime) -> Resu
     assert_eq!(rt; store.load(), Ok(stored(0, 0)));
     Ok(())
 }
+
+/// What isn't there is no start; what can't be read is a fault, and never a first start: a directory in the file's
+/// place, and a file where its directory should be.
+#[test]
+fn what_cannot_be_read_is_no_first_start(rt: HostRuntime) -> Result<(), Fail> {
+    let _ = fs::remove_dir_all(&rt, "replica-203");
+    fs::create_dir_all(&rt, "replica-203")?;
+    put(&rt, "no-directory", &[0u8; 16])?;
+    for (directory, number) in [(".", 203u8), ("no-directory", 0)] {
+        let mut store = FileStore::new(rt, rt.alloc(), directory, number)?;
+        assert_eq!(rt; store.load(), Err(StoreFault));
+        assert_eq!(rt; store.begin(), Err(StoreFault));
+        assert_eq!(rt; store.faults(), 2);
+    }
+    fs::remove_dir_all(&rt, "replica-203")?;
+    fs::remove_file(&rt, "no-directory")?;
+    Ok(())
+}

@@ -39,6 +39,11 @@ pub trait Link {
     fn send(&mut self, message: Message)
         ensures took { Grows (sent self.old) (sent self.new) (message ∷ []) }
         ensures same { inputs self.new ≡ inputs self.old };
+
+    /// How many messages were lost so far because they are too long for a frame: none over a link without frames.
+    fn frameless(&self) -> u64 {
+        0
+    }
 }
 
 /// Cuts a link, from any thread: nothing more comes in, and it is closed, at once or when it gave what came before.

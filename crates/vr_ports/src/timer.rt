@@ -1,6 +1,6 @@
 //! When a replica is late.
 
-use vr_model::Message;
+use vr_model::{Message, Standing};
 
 /// What a timer says.
 #[derive(Clone, Copy, Debug, PartialEq, Eq)]
@@ -26,5 +26,9 @@ pub trait Timer {
 
     /// Is told of each message that was received.
     fn heard(&mut self, message: &Message)
+        ensures { ticks self.new ≡ ticks self.old };
+
+    /// Is told what the replica shows of itself after each step.
+    fn stepped(&mut self, standing: Standing)
         ensures { ticks self.new ≡ ticks self.old };
 }

@@ -1,3 +1,4 @@
+mod Files
 pub mod Observing
 pub mod Runs
 pub mod Showing

@@ -1,6 +1,6 @@
 -- What the file of a store may hold, and how a start, a load and a save leave it.
 use Rattle.std.specs.Prelude.{◌≡◌, ℕ, ◌+◌, ◌-◌, ◌^◌, ◌<◌, ◌⊎◌, Bool, true, false, List, ◌++◌, drop, Option, Some, None}
-use Rattle.std.specs.Prelude.{MatchBool, nat_lt}
+use Rattle.std.specs.Prelude.{MatchBool, length, nat_lt}
 use Rattle.byteorder.specs.Endian.{big_bytes, big_number}
 use Rattle.vr_model.specs.declared.event.Stored.{Stored}
 use Rattle.vr_threads.specs.declared.file_store.Held.{Held}
@@ -12,6 +12,10 @@ stored_bytes stored = big_bytes 8 stored.view ++ big_bytes 8 stored.starts
 
 abbrev pub stored_from : List ℕ → Stored
 stored_from bytes = record { view = big_number 8 bytes; starts = big_number 8 (drop 8 bytes) }
+
+-- these are all the bytes of a file that a start left, and this is what they say
+abbrev pub IsFileOf : Stored → List ℕ → Type 0
+IsFileOf stored bytes = (length bytes ≡ 16) × (stored ≡ stored_from bytes) × (0 < stored.starts)
 
 -- a view is kept only after a start
 abbrev pub IsLawful : Stored → Type 0

@@ -1,5 +1,7 @@
 pub mod Keeping
 pub mod Observed
+pub mod Patience
 pub mod Serving
 pub mod Showing
 pub mod Starting
+pub mod Working

@@ -1,6 +1,6 @@
 -- What shows of a replica to other threads.
-use Rattle.std.specs.Prelude.{◌≡◌, ℕ, ◌&&◌, ◌||◌, not, Bool, true, false, List, [], ◌∷◌, Option, Some, None, Ok, Err}
-use Rattle.std.specs.Prelude.{if◌then◌else◌}
+use Rattle.std.specs.Prelude.{◌≡◌, ℕ, ◌+◌, ◌-◌, ◌^◌, min, ◌&&◌, ◌||◌, not, Bool, true, false, List, [], ◌∷◌, Option, Some}
+use Rattle.std.specs.Prelude.{None, Ok, Err, if◌then◌else◌}
 use Rattle.il_model.specs.declared.command.Command.{Command}
 use Rattle.vr_model.specs.declared.standing.Standing.{Standing}
 use Rattle.vr_model.specs.declared.standing.Status.{Status}
@@ -20,7 +20,7 @@ down_standing = record { status = statuses.Down; view = 0; is_primary = false }
 
 -- no start was counted
 abbrev pub nothing_shown : Shown
-nothing_shown = record { standing = down_standing; starts = 0; has_failed = false }
+nothing_shown = record { standing = down_standing; starts = 0; has_failed = false; tries = 0; is_served = false; frameless = 0 }
 
 abbrev pub shows_normal : Shown → Bool
 shows_normal s = is_normal (status_of s.standing.status) && not s.has_failed
@@ -39,21 +39,41 @@ flag_word true = 1
 abbrev pub shown_words : Shown → List ℕ
 shown_words s =
     status_word s.standing.status ∷ s.standing.view ∷ flag_word s.standing.is_primary ∷ s.starts
-    ∷ flag_word s.has_failed ∷ []
+    ∷ flag_word s.has_failed ∷ s.tries ∷ flag_word s.is_served ∷ s.frameless ∷ []
+
+-- one order more that came to an end, as far as that is counted
+abbrev pub one_more : ℕ → ℕ
+one_more tries = min (tries + 1) (2 ^ 64 - 1)
+
+-- an order to start it was given that has not come to its end: it is down, whatever it was
+abbrev pub while_starting : Shown → Shown
+while_starting before = record before { standing = down_standing }
 
 -- the replica started, and its store counted this start; or its store failed
 abbrev pub at_start : Shown → Standing → Option ℕ → Shown
-at_start before standing (Some starts) = record { standing = standing; starts = starts; has_failed = false }
-at_start before standing None = record { standing = standing; starts = before.starts; has_failed = true }
+at_start before standing (Some count) = record before {
+  standing = standing;
+  starts = count;
+  has_failed = false;
+  tries = one_more before.tries;
+  is_served = true;
+}
+at_start before standing None =
+    record before { standing = standing; has_failed = true; tries = one_more before.tries; is_served = true }
 
--- after a step, in which the store failed or not
-abbrev pub after_step : Shown → Standing → Bool → Shown
-after_step before standing failed =
-    record { standing = standing; starts = before.starts; has_failed = before.has_failed || failed }
+-- it could not be started
+abbrev pub not_started : Shown → Shown
+not_started before =
+    record before { standing = down_standing; tries = one_more before.tries; is_served = false }
 
--- its thread has ended
+-- after a step, in which the store failed or not, with so many messages lost that have no frame
+abbrev pub after_step : Shown → Standing → Bool → ℕ → Shown
+after_step before standing failed lost =
+    record before { standing = standing; has_failed = before.has_failed || failed; frameless = lost }
+
+-- it is served no more
 abbrev pub at_end : Shown → Shown
-at_end before = record { standing = down_standing; starts = before.starts; has_failed = before.has_failed }
+at_end before = record before { standing = down_standing; is_served = false }
 
 abbrev pub is_store_fault : StepResult → Bool
 is_store_fault (Ok sends) = false

@@ -2,13 +2,16 @@
 
 ghost use Rattle.std.specs.Prelude.{None};
 
-use crossbeam_channel::{Receiver, RecvTimeoutError, Sender, unbounded};
+use crossbeam_channel::{Receiver, RecvTimeoutError, Sender, bounded};
 use std::alloc::{AllocError, Global};
 use std::sync::{Arc, Mutex, Wait};
 use std::time;
 use std::time::Duration;
 use vr_model::{Message, Party};
 use vr_ports::{Cutter, Input, Link, Relink, Unlinked};
+
+/// So many messages wait for a party at most.
+const WAITING: usize = 1024;
 
 /// An in-process network: the way in to each party, to the replicas by their numbers and then to the clients by theirs.
 #[derive(Drop)]
@@ -46,11 +49,12 @@ impl Switchboard {
         }
     }
 
-    /// A message to a party that is not connected is lost.
+    /// A message to a party that is not connected is lost, and so is one for which there is no room, since the party
+    /// stalls.
     fn send<R: Wait>(&self, rt: &R, message: Message) {
         if let Some(way) = self.way(message.to) {
             if let Some(sender) = &*way.lock(rt) {
-                let _ = sender.send(rt, message);
+                let _ = sender.try_send(rt, message);
             }
         }
     }
@@ -77,7 +81,7 @@ impl<R: Wait + time::Clock + Drop> ChannelLink<R> {
         party: Party,
         wait: Duration,
     ) -> Result<ChannelLink<R>, AllocError> {
-        let (sender, inbox) = unbounded(alloc)?;
+        let (sender, inbox) = bounded(alloc, WAITING)?;
         board.connect(&rt, party, Some(sender));
         Ok(ChannelLink {
             rt,
@@ -134,7 +138,7 @@ impl<R: Wait + time::Clock + Copy + Send + Drop + 'static> Relink for ChannelLin
     }
 
     fn renew(&mut self) -> Result<(), Unlinked> {
-        let Ok((sender, inbox)) = unbounded(self.alloc) else {
+        let Ok((sender, inbox)) = bounded(self.alloc, WAITING) else {
             self.board.connect(&self.rt, self.party, None);
             return Err(Unlinked);
         };

@@ -1,31 +1,30 @@
 //! Replicas with a thread each.
 
-ghost use Rattle.std.specs.Prelude.{◌≡◌, vec_len};
+ghost use Rattle.std.specs.Prelude.{◌≡◌, IfOk, vec_len};
 ghost use Rattle.vr_model.specs.Groups.{group_size};
+ghost use Rattle.vr_threads.specs.Working.{IsPlannedFor};
 
 use crate::seat::Seat;
 use crate::shown::{Shown, ShownReader, ShownWriter};
-use crate::starting::{Started, Starts, start_from};
-use crate::working::{ShownSeat, Work, WorkHandle, spawned};
-use crossbeam_channel::Sender;
+use crate::starting::Starts;
+use crate::working::{Plan, Work, spawned};
+use crossbeam_channel::{Sender, bounded};
 use il_loader::Image;
 use il_model::Budget;
 use std::alloc::{AllocError, AllocFailed, Global};
 use std::sync::Wait;
-use std::thread::Threads;
+use std::thread::{JoinHandle, Threads};
 use thiserror::Error;
 use vr_model::Config;
-use vr_ports::{Cutter, Gate, Relink, Timer, Unlinked};
+use vr_ports::{Cutter, Gate, Relink, Timer};
 
-/// Why no replica was served, or one not again.
+/// Why no replica is served.
 #[derive(Clone, Copy, Debug, PartialEq, Eq, Error)]
 pub enum ClusterError {
     #[error("out of memory")]
     Memory,
     #[error("no thread for a replica")]
     Thread,
-    #[error("no connections for a replica")]
-    Link,
 }
 
 impl From<AllocError> for ClusterError {
@@ -50,17 +49,6 @@ impl<T: Drop> From<AllocFailed<T>> for ClusterError {
     }
 }
 
-impl From<Unlinked> for ClusterError {
-    ghost use Rattle.std.specs.Prelude.{◌≡◌};
-    ghost use Rattle.vr_threads.specs.declared.cluster.ClusterError.TheVariants as error;
-
-    ghost from_gives = { λ _ e. e ≡ error.Link };
-
-    fn from(_error: Unlinked) -> ClusterError {
-        ClusterError::Link
-    }
-}
-
 /// What the replicas of a cluster have in common.
 #[derive(Clone, Copy)]
 pub struct ClusterConfig {
@@ -70,283 +58,255 @@ pub struct ClusterConfig {
     pub turns: u64,
 }
 
-/// A replica: its thread, or the parts that it gave back.
+/// A replica, as others see it: what cuts its link, the way to give its thread orders to start it, and what shows of it.
 #[derive(Drop)]
-struct Member<L: Relink + Drop, S: Drop, T: Drop, G: Drop> {
+struct Member<L: Relink + Drop> {
     cutter: L::Cutter,
     shown: ShownReader,
-    thread: Option<WorkHandle<L, S, T, G>>,
-    parts: Option<ShownSeat<L, S, T, G>>,
+    orders: Sender<()>,
+    /// So many orders it was given.
+    ordered: u64,
 }
 
-/// A group of replicas, each served by its thread.
-#[derive(Drop)]
-pub struct Cluster<L: Relink + Drop, S: Drop, T: Drop, G: Drop> {
-    alloc: Global,
-    config: ClusterConfig,
-    image: Image,
-    members: Vec<Member<L, S, T, G>>,
-}
-
-/// Seats whose replicas show what they are: none was started yet.
-fn shown_seats<L: Drop, S: Drop, T: Drop, G: Drop>(
-    alloc: Global,
-    seats: Vec<Seat<L, S, T, G>>,
-) -> Result<Vec<ShownSeat<L, S, T, G>>, ClusterError> {
-    let mut shown = Vec::new(alloc);
-    for seat in seats {
-        shown.push(ShownSeat {
-            seat,
-            shown: ShownWriter::new(alloc)?,
-        })?;
+impl<L: Relink + Drop> Member<L> {
+    /// What shows of it now: it is down from an order on until that came to its end.
+    fn look(&mut self) -> Shown {
+        let shown = self.shown.read();
+        if shown.tries == self.ordered {
+            shown
+        } else {
+            shown.starting()
+        }
     }
-    Ok(shown)
+
+    /// Whether an order has not come to its end.
+    fn is_starting(&mut self) -> bool {
+        self.shown.read().tries != self.ordered
+    }
+
+    /// Has its thread start it, unless an order has not come to its end: whether that is ordered.
+    fn order<R: Wait>(&mut self, rt: &R) -> bool {
+        if self.is_starting() || self.orders.try_send(rt, ()).is_err() {
+            return false;
+        }
+        self.ordered = self.ordered.saturating_add(1);
+        true
+    }
 }
 
-impl<L, S, T, G> Cluster<L, S, T, G>
-where
-    L: Relink + Send + Drop + 'static,
-    S: Starts + Send + Drop + 'static,
-    T: Timer + Send + Drop + 'static,
-    G: Gate + Send + Drop + 'static,
-{
-    /// Starts the replicas of a group, all or none: each counts a start more in its store, and is served for so many
-    /// turns, or until its link is closed. Where memory or a thread is refused, none was served, and no thread is left.
-    pub fn start<R: Threads + Wait + Copy + Send + 'static>(
+/// A group of replicas, each started and served by a thread of its own, which it keeps. Any thread may have it.
+#[derive(Drop)]
+pub struct Cluster<L: Relink + Drop> {
+    alloc: Global,
+    pub config: ClusterConfig,
+    members: Vec<Member<L>>,
+}
+
+/// The threads of a cluster's replicas. They end once the cluster is let go of and their links are closed.
+#[derive(Drop)]
+pub struct ClusterThreads {
+    threads: Vec<JoinHandle<()>>,
+}
+
+impl ClusterThreads {
+    /// Waits until each has ended.
+    pub fn join<R: Threads>(self, rt: &R) {
+        for thread in self.threads {
+            thread.join(rt);
+        }
+    }
+}
+
+impl<L: Relink + Send + Drop + 'static> Cluster<L> {
+    /// Has the replicas of a group started, all or none, each by a thread of its own: it counts a start more in its
+    /// store, and is served for so many turns, or until its link is closed. It waits for none of them. Where memory or
+    /// a thread is refused, none was started, and no thread is left. Beside the cluster the threads, to be joined.
+    pub fn start<R, S, T, G>(
         rt: &R,
         alloc: Global,
         config: ClusterConfig,
         image: &Image,
         seats: Vec<Seat<L, S, T, G>>,
-    ) -> Result<Cluster<L, S, T, G>, ClusterError>
+    ) -> Result<(Cluster<L>, ClusterThreads), ClusterError>
     where
+        R: Threads + Wait + Copy + Send + 'static,
+        S: Starts + Send + Drop + 'static,
+        T: Timer + Send + Drop + 'static,
+        G: Gate + Send + Drop + 'static,
         requires { vec_len seats ≡ group_size config.group.f }
+        ensures { IfOk result (λ r. r.0.config ≡ config) }
     {
-        // With room for each member, so that none is lost for want of memory.
+        let works = works(alloc, config, image, seats)?;
         let mut cluster = Cluster {
             alloc,
             config,
-            image: image.copy(alloc)?,
-            members: Vec::with_capacity(alloc, seats.len())?,
+            members: Vec::new(alloc),
         };
-        match cluster.launch(rt, seats) {
-            Ok(()) => Ok(cluster),
+        // With room for each, so that none is lost for want of memory.
+        let mut threads = Vec::with_capacity(alloc, works.len())?;
+        let enrolled = cluster.enrol_all(rt, works, &mut threads);
+        let threads = ClusterThreads { threads };
+        match enrolled {
+            Ok(()) => {
+                cluster.order_all(rt);
+                Ok((cluster, threads))
+            }
             Err(error) => {
-                cluster.join(rt);
+                drop(cluster);
+                threads.join(rt);
                 Err(error)
             }
         }
     }
 
-    /// Gives each replica its thread and starts it. Where it fails, the threads that there are end by themselves.
-    fn launch<R: Threads + Wait + Copy + Send + 'static>(
+    /// A member for each of these works, whose thread waits for an order.
+    fn enrol_all<R, S, T, G>(
         &mut self,
         rt: &R,
-        seats: Vec<Seat<L, S, T, G>>,
-    ) -> Result<(), ClusterError> {
-        let seats = shown_seats(self.alloc, seats)?;
-        let orders = self.enrol_all(rt, &seats)?;
-        let works = self.works(seats)?;
-        for (order, work) in orders.into_iter().zip(works) {
-            let _ = order.send(rt, work);
+        works: Vec<Work<L, S, T, G>>,
+        threads: &mut Vec<JoinHandle<()>>,
+    ) -> Result<(), ClusterError>
+    where
+        R: Threads + Wait + Copy + Send + 'static,
+        S: Starts + Send + Drop + 'static,
+        T: Timer + Send + Drop + 'static,
+        G: Gate + Send + Drop + 'static,
+        ensures { self.new.config ≡ self.old.config }
+    {
+        for work in works {
+            threads.push(self.enrol(rt, work)?)?;
         }
         Ok(())
     }
 
-    /// A member for each of these seats.
-    fn enrol_all<R: Threads + Wait + Copy + Send + 'static>(
+    /// A member more, whose thread has this work and waits for an order: the thread.
+    fn enrol<R, S, T, G>(
         &mut self,
         rt: &R,
-        seats: &Vec<ShownSeat<L, S, T, G>>,
-    ) -> Result<Vec<Sender<Work<L, S, T, G>>>, ClusterError> {
-        let mut orders = Vec::new(self.alloc);
-        for seat in seats {
-            orders.push(self.enrol(rt, seat)?)?;
-        }
-        Ok(orders)
-    }
-
-    /// A member more, with these parts and a thread that waits for its work.
-    fn enrol<R: Threads + Wait + Copy + Send + 'static>(
-        &mut self,
-        rt: &R,
-        parts: &ShownSeat<L, S, T, G>,
-    ) -> Result<Sender<Work<L, S, T, G>>, ClusterError> {
-        let cutter = parts.seat.link.cutter()?;
-        let shown = parts.shown.reader()?;
-        let Some((order, thread)) = spawned(rt, self.alloc)? else {
-            return Err(ClusterError::Thread);
-        };
+        work: Work<L, S, T, G>,
+    ) -> Result<JoinHandle<()>, ClusterError>
+    where
+        R: Threads + Wait + Copy + Send + 'static,
+        S: Starts + Send + Drop + 'static,
+        T: Timer + Send + Drop + 'static,
+        G: Gate + Send + Drop + 'static,
+        ensures { self.new.config ≡ self.old.config }
+    {
+        let cutter = work.seat.link.cutter()?;
+        let shown = work.shown.reader()?;
+        let (orders, inbox) = bounded(self.alloc, 1)?;
         self.members.push(Member {
             cutter,
             shown,
-            thread: Some(thread),
-            parts: None,
+            orders,
+            ordered: 0,
         })?;
-        Ok(order)
-    }
-
-    /// The work of each replica, by its number.
-    fn works(
-        &self,
-        seats: Vec<ShownSeat<L, S, T, G>>,
-    ) -> Result<Vec<Work<L, S, T, G>>, ClusterError> {
-        let mut works = Vec::new(self.alloc);
-        for (number, parts) in (0..self.config.group.group_size()).zip(seats) {
-            works.push(self.work(number, parts)?)?;
-        }
-        Ok(works)
-    }
-
-    /// The work of a replica that starts with these parts.
-    fn work(
-        &self,
-        number: u8,
-        mut parts: ShownSeat<L, S, T, G>,
-    ) -> Result<Work<L, S, T, G>, ClusterError> {
-        let started = self.started(number, &mut parts)?;
-        Ok(Work {
-            started,
-            parts,
-            turns: self.config.turns,
-        })
-    }
-
-    /// A replica from its store, which counts a start more: that shows from now on.
-    fn started(
-        &self,
-        number: u8,
-        parts: &mut ShownSeat<L, S, T, G>,
-    ) -> Result<Started, ClusterError> {
-        let ClusterConfig { group, budget, .. } = self.config;
-        let image = self.image.copy(self.alloc)?;
-        let store = &mut parts.seat.store;
-        let started = start_from(self.alloc, group, number, image, budget, store)?;
-        parts
-            .shown
-            .show_start(started.replica.standing(), started.starts);
-        Ok(started)
-    }
-
-    /// Ends the thread of a replica, and drops its state. Of a replica that is down it does nothing.
-    pub fn crash<R: Threads>(&mut self, rt: &R, number: u8) {
-        if let Some(member) = self.members.get_mut(usize::from(number)) {
-            if let Some(thread) = member.thread.take() {
-                member.cutter.cut();
-                member.parts = thread.join(rt);
-            }
+        match spawned(rt, self.alloc, inbox, work) {
+            Some(thread) => Ok(thread),
+            None => Err(ClusterError::Thread),
         }
     }
 
-    /// Starts a replica from its store, with a start more and its link made anew at both ends. One that is up crashes
-    /// first. Where it fails, the replica is down, and may be started again.
-    pub fn restart<R: Threads + Wait + Copy + Send + 'static>(
-        &mut self,
-        rt: &R,
-        number: u8,
-    ) -> Result<(), ClusterError> {
-        self.crash(rt, number);
-        let Some(mut parts) = self.take_parts(number) else {
-            return Err(ClusterError::Thread);
+    /// Has each replica started.
+    fn order_all<R: Wait>(&mut self, rt: &R)
+        ensures { self.new.config ≡ self.old.config }
+    {
+        for member in self.members.iter_mut() {
+            let _ = member.order(rt);
+        }
+    }
+
+    /// Closes the link of a replica: its thread drops its state, unless that hangs. Of a replica that is not served it
+    /// does nothing.
+    pub fn crash(&self, number: u8) {
+        if let Some(member) = self.members.get(usize::from(number)) {
+            member.cutter.cut();
+        }
+    }
+
+    /// Has a replica started anew from its store by its thread, with a start more and its link made anew at both ends.
+    /// One that is up crashes first. It waits for nothing; where the order before has not come to its end, it does
+    /// nothing. Whether it was ordered.
+    pub fn restart<R: Wait>(&mut self, rt: &R, number: u8) -> bool {
+        let Some(member) = self.members.get_mut(usize::from(number)) else {
+            return false;
         };
-        match self.ready(rt, number, &mut parts) {
-            Ok((order, started)) => {
-                let turns = self.config.turns;
-                let _ = order.send(
-                    rt,
-                    Work {
-                        started,
-                        parts,
-                        turns,
-                    },
-                );
-                Ok(())
-            }
-            Err(error) => {
-                self.give_back(number, parts);
-                Err(error)
-            }
+        if member.is_starting() {
+            return false;
+        }
+        member.cutter.cut();
+        member.order(rt)
+    }
+
+    /// Whether an order to start a replica has not come to its end.
+    pub fn is_starting(&mut self, number: u8) -> bool {
+        match self.members.get_mut(usize::from(number)) {
+            Some(member) => member.is_starting(),
+            None => false,
         }
     }
 
-    /// Makes the link of a replica anew, gives the replica a thread that waits for its work, and starts it from its
-    /// store.
-    fn ready<R: Threads + Wait + Copy + Send + 'static>(
-        &mut self,
-        rt: &R,
-        number: u8,
-        parts: &mut ShownSeat<L, S, T, G>,
-    ) -> Result<(Sender<Work<L, S, T, G>>, Started), ClusterError> {
-        parts.seat.link.renew()?;
-        let order = self.hire(rt, number)?;
-        Ok((order, self.started(number, parts)?))
-    }
-
-    /// Gives a replica a thread that waits for its work.
-    fn hire<R: Threads + Wait + Copy + Send + 'static>(
-        &mut self,
-        rt: &R,
-        number: u8,
-    ) -> Result<Sender<Work<L, S, T, G>>, ClusterError> {
-        let Some((order, thread)) = spawned(rt, self.alloc)? else {
-            return Err(ClusterError::Thread);
-        };
-        if let Some(member) = self.members.get_mut(usize::from(number)) {
-            member.thread = Some(thread);
-        }
-        Ok(order)
-    }
-
-    /// The parts of a replica that is down, which it has no more.
-    fn take_parts(&mut self, number: u8) -> Option<ShownSeat<L, S, T, G>> {
-        self.members.get_mut(usize::from(number))?.parts.take()
-    }
-
-    /// Leaves a replica down, with these parts: a thread that it was given ends without work.
-    fn give_back(&mut self, number: u8, parts: ShownSeat<L, S, T, G>) {
-        if let Some(member) = self.members.get_mut(usize::from(number)) {
-            member.thread = None;
-            member.parts = Some(parts);
-        }
-    }
-
-    /// What shows of a replica now. Of a number that no replica has it is what shows before any start.
+    /// What shows of a replica now; from an order to start it until that came to its end it is down. Of a number that no
+    /// replica has it is what shows before any start.
     pub fn shown(&mut self, number: u8) -> Shown {
         match self.members.get_mut(usize::from(number)) {
-            Some(member) => member.shown.read(),
+            Some(member) => member.look(),
             None => Shown::nothing(),
         }
     }
 
-    /// Readers of what shows of the replicas, by their numbers, which any thread may have. It fails only where memory
-    /// runs out.
-    pub fn readers(&self) -> Result<Vec<ShownReader>, AllocError> {
-        let mut readers = Vec::new(self.alloc);
-        for member in &self.members {
-            readers.push(member.shown.another()?)?;
-        }
-        Ok(readers)
+    /// Whether nothing is done for a replica: it is not served, and no order has yet to come to its end.
+    pub fn is_idle(&mut self, number: u8) -> bool {
+        !self.is_starting(number) && !self.shown(number).is_served
     }
 
-    /// Closes the link of each replica, which ends its thread.
+    /// Closes the link of each replica, which ends its serving.
     pub fn cut(&self) {
         for member in &self.members {
             member.cutter.cut();
         }
     }
+}
 
-    /// Waits until each replica has been served.
-    pub fn join<R: Threads>(self, rt: &R) {
-        for member in self.members {
-            let Member {
-                cutter: _,
-                shown: _,
-                thread,
-                parts: _,
-            } = member;
-            if let Some(thread) = thread {
-                let _ = thread.join(rt);
-            }
-        }
+/// The work of each replica of a group, by its number.
+fn works<L: Drop, S: Drop, T: Drop, G: Drop>(
+    alloc: Global,
+    config: ClusterConfig,
+    image: &Image,
+    seats: Vec<Seat<L, S, T, G>>,
+) -> Result<Vec<Work<L, S, T, G>>, ClusterError> {
+    let mut works = Vec::new(alloc);
+    for (number, seat) in (0..config.group.group_size()).zip(seats) {
+        works.push(work(alloc, config, number, image, seat)?)?;
     }
+    Ok(works)
+}
+
+/// The work of the replica of this number, with these parts.
+fn work<L: Drop, S: Drop, T: Drop, G: Drop>(
+    alloc: Global,
+    config: ClusterConfig,
+    number: u8,
+    image: &Image,
+    seat: Seat<L, S, T, G>,
+) -> Result<Work<L, S, T, G>, ClusterError>
+    ensures { IfOk result (λ work. IsPlannedFor config image.now number work.plan) }
+{
+    let ClusterConfig {
+        group,
+        budget,
+        turns,
+    } = config;
+    Ok(Work {
+        plan: Plan {
+            config: group,
+            number,
+            image: image.copy(alloc)?,
+            budget,
+            turns,
+        },
+        seat,
+        shown: ShownWriter::new(alloc)?,
+        is_used: false,
+    })
 }

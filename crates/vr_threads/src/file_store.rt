@@ -1,14 +1,17 @@
 //! A store in a file of 16 bytes.
 
-ghost use Rattle.std.specs.Prelude.{◌≡◌, ◌≤◌, ◌↔◌, IsTrue, MatchResult, true, false, OnOk, OnErr};
+ghost use Rattle.std.specs.Prelude.{◌≡◌, ◌≤◌, ◌<◌, ◌↔◌, [], ◌∷◌, IfOk, IfSome, IsTrue, MatchOption, MatchResult};
+ghost use Rattle.std.specs.Prelude.{true, false, length, OnOk, OnErr};
+ghost use Rattle.std.specs.Io.KnownBytes.{Consumes, IsAtEnd};
 ghost use Rattle.io_model.specs.Counted.{Failed};
-ghost use Rattle.vr_threads.specs.Keeping.{stored_bytes, stored_from, MayHold, Rose, Writes};
+ghost use Rattle.vr_threads.specs.Keeping.{stored_bytes, stored_from, IsFileOf, MayHold, Rose, Writes};
 
 use crate::starting::Starts;
 use byteorder::{BigEndian, ByteOrder};
+use io_model::{Counted, CountedRead, DeviceFault};
 use std::alloc::{AllocError, Global};
 use std::fs::OpenFile;
-use std::io::{ErrorKind, Read, Write};
+use std::io::{ErrorKind, Write};
 use std::rt::Files;
 use std::{fs, io};
 use vr_model::Stored;
@@ -77,6 +80,57 @@ fn read_back(bytes: &[u8; LENGTH]) -> Stored
     }
 }
 
+/// The next byte of a file; none at its end.
+fn next_byte<F: CountedRead>(file: &mut F) -> Result<Option<u8>, DeviceFault>
+    ensures byte { IfOk result (λ next. MatchOption next (IsAtEnd (F.left file.old))
+        (λ byte. Consumes (F.left file.old) (F.left file.new) (byte ∷ []))) }
+    ensures device { OnErr result (Failed (F.faults file.old) (F.faults file.new)) }
+    ensures counts { F.faults file.old ≤ F.faults file.new }
+{
+    let mut byte = [0u8; 1];
+    if file.read(&mut byte)? == 0 {
+        return Ok(None);
+    }
+    Ok(Some(byte[0]))
+}
+
+/// The next 16 bytes of a file; none where it has fewer.
+fn next_bytes<F: CountedRead>(file: &mut F) -> Result<Option<[u8; LENGTH]>, DeviceFault>
+    ensures bytes { IfOk result (λ next. MatchOption next (IfSome (F.left file.old) (λ all. length all < 16))
+        (λ bytes. Consumes (F.left file.old) (F.left file.new) bytes × (length bytes ≡ 16))) }
+    ensures device { OnErr result (Failed (F.faults file.old) (F.faults file.new)) }
+    ensures counts { F.faults file.old ≤ F.faults file.new }
+{
+    let mut bytes = [0u8; LENGTH];
+    for k in 0..LENGTH {
+        match next_byte(file)? {
+            Some(byte) => bytes[k] = byte,
+            None => return Ok(None),
+        }
+    }
+    Ok(Some(bytes))
+}
+
+/// What a file holds that a start left: so it has 16 bytes, which count a start at least. None where it has others.
+#[tactic(auto, using(crate::proofs::Files::unstarted, crate::proofs::Files::longer))]
+fn stored_in<F: CountedRead>(file: &mut F) -> Result<Option<Stored>, DeviceFault>
+    ensures stored { IfOk result (λ found. IfSome (F.left file.old)
+        (λ bytes. MatchOption found ((stored : _) → IsFileOf stored bytes → ⊥) (λ stored. IsFileOf stored bytes))) }
+    ensures device { OnErr result (Failed (F.faults file.old) (F.faults file.new)) }
+{
+    let Some(bytes) = next_bytes(file)? else {
+        return Ok(None);
+    };
+    let stored = read_back(&bytes);
+    if stored.starts == 0 {
+        return Ok(None);
+    }
+    match next_byte(file)? {
+        Some(_) => Ok(None),
+        None => Ok(Some(stored)),
+    }
+}
+
 impl<R: Files + Drop> FileStore<R> {
     /// The store of a replica, in a directory that is there.
     pub fn new(
@@ -107,23 +161,16 @@ impl<R: Files + Drop> FileStore<R> {
         let _ = fs::remove_file(&self.rt, self.path.as_str());
     }
 
-    /// What the file holds: zeros where there is none. No start leaves a file without a start.
-    fn read(&self) -> io::Result<Stored> {
-        let mut file = match fs::open(&self.rt, self.path.as_str()) {
-            Ok(file) => file,
-            Err(error) if error.kind() == ErrorKind::NotFound => return Ok(Stored {
-                view: 0,
-                starts: 0,
-            }),
-            Err(error) => return Err(error),
-        };
-        let mut bytes = [0u8; LENGTH];
-        file.read_exact(&mut bytes)?;
-        let stored = read_back(&bytes);
-        if stored.starts == 0 || file.read(&mut [0u8; 1])? != 0 {
-            return Err(io::Error::from(ErrorKind::InvalidData));
+    /// What the file holds: zeros where there is none.
+    fn read(&self) -> Result<Stored, StoreFault> {
+        match fs::open(&self.rt, self.path.as_str()) {
+            Ok(file) => match stored_in(&mut Counted::new(file)) {
+                Ok(Some(stored)) => Ok(stored),
+                _ => Err(StoreFault),
+            },
+            Err(error) if error.kind() == ErrorKind::NotFound => Ok(Stored { view: 0, starts: 0 }),
+            Err(_) => Err(StoreFault),
         }
-        Ok(stored)
     }
 
     /// Writes this beside the file, flushes it, and puts it in the file's place.

@@ -1,5 +1,6 @@
-//! Replicas, each served by a thread of its own: the loop of that thread over any link, timer, gate and store; links
-//! over channels; a store in a file; and what shows of each replica to other threads.
+//! Replicas, each started and served by a thread of its own: the loop of that thread over any link, timer, gate and
+//! store; links over channels; a store in a file; the machine's time as a timer; and what shows of each replica to other
+//! threads. A disk that hangs holds up its replica and nobody else: orders wait for nothing.
 //!
 //! ```rust
 //! use vr_threads::{FileStore, Starts};
@@ -12,12 +13,14 @@
 //! was handed to `send` is, in order, the sends of `Replica::step` on these events. From whatever is known of the
 //! replica a restart is an observation that is right by the rules (`restart_is_observed`); how the steps of a group
 //! come to one history is said in `laws_threads`. `FileStore`: what its file may hold after each load, save and start,
-//! by what the calls answered. The first start finds the replica normal in view 0, each later one finds it down, with
-//! the count as its nonce. What `serve` showed last is what the replica is after its last step (`Shown`).
+//! by what the calls answered, and that what is read of it is its 16 bytes or a fault. The first start finds the replica
+//! normal in view 0, each later one finds it down, with the count as its nonce; the thread of a replica has it come up
+//! with that before all else (`specs/Working`). Which tick comes, by what a timer heard (`specs/Patience`). What `serve`
+//! showed last is what the replica is after its last step (`Shown`).
 //!
 //! Only tested: that replicas run at once, that a group over channels answers, that one which was started before
-//! recovers (`cluster_rows` of `tests_threads`), and stores on real files (`store_rows`). No contract says that a
-//! channel hands out what was sent, or that a disk keeps what was flushed.
+//! recovers, that nobody waits for a disk that hangs (`cluster_rows` of `tests_threads`), and stores on real files
+//! (`store_rows`). No contract says that a channel hands out what was sent, or that a disk keeps what was flushed.
 #![tactic(auto)]
 
 mod channels;
@@ -25,6 +28,7 @@ mod cluster;
 mod file_store;
 mod laws;
 mod machine_timer;
+mod patience;
 mod seat;
 mod serving;
 mod shown;
@@ -32,7 +36,7 @@ mod starting;
 mod working;
 
 pub use channels::{ChannelCutter, ChannelLink, Switchboard};
-pub use cluster::{Cluster, ClusterConfig, ClusterError};
+pub use cluster::{Cluster, ClusterConfig, ClusterError, ClusterThreads};
 pub use file_store::FileStore;
 pub use laws::{observations_join, restart_is_observed};
 pub use machine_timer::MachineTimer;

@@ -2,63 +2,32 @@
 
 ghost use Rattle.std.specs.Prelude.{None};
 
+use crate::patience::Patience;
 use std::time::{Clock, Duration, Instant};
-use vr_model::{Body, Message, Party};
+use vr_model::{Config, Message, Standing};
 use vr_ports::{Tick, Timer};
 
-/// A replica times out where nothing showed for a while that its view goes on, and at once where its primary came up
-/// again, which has lost the view. It sends again after each pause. It tells nothing. Where the machine's time cannot
-/// be read, no time passes.
+/// A replica times out where nothing showed for a while that its view goes on, and at once where the primary of its
+/// view came up again, which has lost the view. What shows it are messages of that view or a later one, and to a
+/// primary that f others follow; a message of an earlier view shows nothing. Each view that doesn't begin is waited for
+/// twice as long as the one before, up to sixteen times. It sends again after each pause. It tells nothing. Where the
+/// machine's time cannot be read, no time passes.
 #[derive(Drop)]
 pub struct MachineTimer<R: Clock + Drop> {
     rt: R,
-    patience: Duration,
-    pause: Duration,
-    /// Since when nothing showed it: not known before the next poll.
-    silent_since: Option<Instant>,
-    resent: Option<Instant>,
-    /// Who showed last that it is the primary of a view that goes on.
-    primary: Option<Party>,
-    /// Whether that one has come up again since, with nothing of its view.
-    is_lost: bool,
-}
-
-/// Whether so much time went by since then.
-fn is_over(now: Instant, since: Option<Instant>, time: Duration) -> bool {
-    match since {
-        Some(since) => now.saturating_duration_since(since) >= time,
-        None => false,
-    }
-}
-
-/// Whether the message shows that its sender is the primary of a view that goes on.
-fn is_of_primary(message: &Message) -> bool {
-    matches!(
-        message.body,
-        Body::Prepare { .. } | Body::Commit { .. } | Body::StartView { .. } | Body::NewState { .. }
-    )
-}
-
-/// Whether the message shows that another view is to begin.
-fn is_of_change(message: &Message) -> bool {
-    matches!(
-        message.body,
-        Body::StartViewChange { .. } | Body::DoViewChange { .. }
-    )
+    /// The time of its first poll.
+    begun: Option<Instant>,
+    patience: Patience,
 }
 
 impl<R: Clock + Drop> MachineTimer<R> {
-    /// A timer that begins with its first poll. `pause` is to be well below `patience`: what is sent again keeps a
-    /// silent group patient.
-    pub fn new(rt: R, patience: Duration, pause: Duration) -> MachineTimer<R> {
+    /// A timer of a replica of this group, which begins with its first poll. `pause` is to be well below `patience`:
+    /// what is sent again keeps a silent group patient.
+    pub fn new(rt: R, config: Config, patience: Duration, pause: Duration) -> MachineTimer<R> {
         MachineTimer {
             rt,
-            patience,
-            pause,
-            silent_since: None,
-            resent: None,
-            primary: None,
-            is_lost: false,
+            begun: None,
+            patience: Patience::new(config, patience, pause),
         }
     }
 }
@@ -70,32 +39,16 @@ impl<R: Clock + Drop> Timer for MachineTimer<R> {
         let Ok(now) = Instant::now(&self.rt) else {
             return Tick::None;
         };
-        if self.is_lost || is_over(now, self.silent_since, self.patience) {
-            self.silent_since = Some(now);
-            self.primary = None;
-            self.is_lost = false;
-            return Tick::Timeout;
-        }
-        if is_over(now, self.resent, self.pause) {
-            self.resent = Some(now);
-            return Tick::Resend;
-        }
-        self.silent_since = Some(self.silent_since.unwrap_or(now));
-        self.resent = Some(self.resent.unwrap_or(now));
-        Tick::None
+        let begun = self.begun.unwrap_or(now);
+        self.begun = Some(begun);
+        self.patience.tick(now.saturating_duration_since(begun))
     }
 
     fn heard(&mut self, message: &Message) {
-        if is_of_primary(message) {
-            self.silent_since = None;
-            self.primary = Some(message.from);
-            self.is_lost = false;
-        } else if is_of_change(message) {
-            self.primary = None;
-        } else if matches!(message.body, Body::PrepareOk { .. }) {
-            self.silent_since = None;
-        } else if matches!(message.body, Body::Recovery { .. }) {
-            self.is_lost = self.is_lost || self.primary == Some(message.from);
-        }
+        self.patience.hear(message);
+    }
+
+    fn stepped(&mut self, standing: Standing) {
+        self.patience.stand(standing);
     }
 }

@@ -14,8 +14,8 @@ use vr_ports::{Gate, Input, Link, Tick, Timer, send_all};
 use vr_replica::{Replica, StepFault, ViewStore};
 
 /// Serves a replica for so many turns, or fewer where a receive gives Closed. Each turn takes one event at most, the
-/// timer's first, hands on what `Replica::step` makes of it, and shows what the replica is then. The gate counts the
-/// steps from 1.
+/// timer's first, hands on what `Replica::step` makes of it, and shows what the replica is then, to its timer as well.
+/// The gate counts the steps from 1.
 pub fn serve<L: Link, S: ViewStore, T: Timer, G: Gate>(
     alloc: Global,
     replica: &mut Replica,
@@ -100,7 +100,8 @@ pub(crate) fn act<L: Link, S: ViewStore, T: Timer, G: Gate>(
     seat.gate.before(*call);
     let stepped = replica.step(alloc, event, &mut seat.store);
     let standing = standing_of(replica);
-    shown.show_step(standing, is_store_fault(&stepped));
+    shown.show_step(standing, is_store_fault(&stepped), seat.link.frameless());
+    seat.timer.stepped(standing);
     seat.gate.after(*call, standing);
     *call = call.saturating_add(1);
     if let Ok(sends) = stepped {

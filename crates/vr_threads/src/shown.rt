@@ -3,7 +3,7 @@
 ghost use Rattle.std.specs.Prelude.{◌≡◌, IfOk};
 ghost use Rattle.vr_threads.specs.declared.shown.Shown.{Shown as View};
 ghost use Rattle.vr_threads.specs.Showing.{nothing_shown, shows_normal, shown_words, status_word, flag_word};
-ghost use Rattle.vr_threads.specs.Showing.{down_standing, at_start, after_step, at_end};
+ghost use Rattle.vr_threads.specs.Showing.{down_standing, at_start, after_step, at_end, not_started, while_starting};
 
 use io_board::{BoardReader, BoardWriter};
 use std::alloc::{AllocError, Global};
@@ -11,11 +11,11 @@ use std::marker::Model;
 use vr_model::{Standing, Status};
 
 /// How many words stand for what shows of a replica.
-const WORDS: usize = 5;
+const WORDS: usize = 8;
 
 /// What shows of a replica. It is down until a start of it is counted. Then, before its first step, it is normal in
-/// view 0 where that was its first start, and down otherwise; after each step it is what the replica is then. From the
-/// end of its thread on it is down again.
+/// view 0 where that was its first start, and down otherwise; after each step it is what the replica is then. Once it
+/// is served no more it is down again.
 #[derive(Clone, Copy, Debug, PartialEq, Eq)]
 pub struct Shown {
     pub standing: Standing,
@@ -23,6 +23,12 @@ pub struct Shown {
     pub starts: u64,
     /// Whether its store has failed, at its last start or since: then it is down until it is started anew.
     pub has_failed: bool,
+    /// How many orders to start it have come to an end: it was served then, or could not be.
+    pub tries: u64,
+    /// Whether its thread serves it now.
+    pub is_served: bool,
+    /// How many of its messages were lost by its last step because they are too long for a frame.
+    pub frameless: u64,
 }
 
 impl Shown {
@@ -34,6 +40,23 @@ impl Shown {
             standing: down(),
             starts: 0,
             has_failed: false,
+            tries: 0,
+            is_served: false,
+            frameless: 0,
+        }
+    }
+
+    /// What shows of a replica that is being started, by what showed before.
+    pub(crate) fn starting(self) -> Shown
+        ensures { result ≡ while_starting self }
+    {
+        Shown {
+            standing: down(),
+            starts: self.starts,
+            has_failed: self.has_failed,
+            tries: self.tries,
+            is_served: self.is_served,
+            frameless: self.frameless,
         }
     }
 
@@ -57,6 +80,9 @@ impl Shown {
             flag_word(self.standing.is_primary),
             self.starts,
             flag_word(self.has_failed),
+            self.tries,
+            flag_word(self.is_served),
+            self.frameless,
         ]
     }
 
@@ -72,6 +98,9 @@ impl Shown {
             },
             starts: words[3],
             has_failed: words[4] == 1,
+            tries: words[5],
+            is_served: words[6] == 1,
+            frameless: words[7],
         }
     }
 }
@@ -158,36 +187,65 @@ impl ShownWriter {
     pub(crate) fn show_start(&mut self, standing: Standing, starts: Option<u64>)
         ensures { self.new ≡ at_start self.old standing starts }
     {
+        let shown = self.shown;
         self.publish(Shown {
             standing,
-            starts: starts.unwrap_or(self.shown.starts),
+            starts: starts.unwrap_or(shown.starts),
             has_failed: starts.is_none(),
+            tries: shown.tries.saturating_add(1),
+            is_served: true,
+            frameless: shown.frameless,
         });
     }
 
-    /// The replica is this after a step, in which its store failed or not.
-    pub(crate) fn show_step(&mut self, standing: Standing, has_failed: bool)
-        ensures { self.new ≡ after_step self.old standing has_failed }
+    /// The replica could not be started: it is not served.
+    pub(crate) fn show_not_started(&mut self)
+        ensures { self.new ≡ not_started self.old }
     {
+        let shown = self.shown;
+        self.publish(Shown {
+            standing: down(),
+            starts: shown.starts,
+            has_failed: shown.has_failed,
+            tries: shown.tries.saturating_add(1),
+            is_served: false,
+            frameless: shown.frameless,
+        });
+    }
+
+    /// The replica is this after a step, in which its store failed or not. So many of its messages were lost so far
+    /// because they are too long for a frame.
+    pub(crate) fn show_step(&mut self, standing: Standing, has_failed: bool, frameless: u64)
+        ensures { self.new ≡ after_step self.old standing has_failed frameless }
+    {
+        let shown = self.shown;
         self.publish(Shown {
             standing,
-            starts: self.shown.starts,
-            has_failed: self.shown.has_failed || has_failed,
+            starts: shown.starts,
+            has_failed: shown.has_failed || has_failed,
+            tries: shown.tries,
+            is_served: shown.is_served,
+            frameless,
         });
     }
 
-    /// The thread of the replica ends.
+    /// The replica is served no more.
     pub(crate) fn show_end(&mut self)
         ensures { self.new ≡ at_end self.old }
     {
+        let shown = self.shown;
         self.publish(Shown {
             standing: down(),
-            starts: self.shown.starts,
-            has_failed: self.shown.has_failed,
+            starts: shown.starts,
+            has_failed: shown.has_failed,
+            tries: shown.tries,
+            is_served: false,
+            frameless: shown.frameless,
         });
     }
 
-    fn publish(&mut self, shown: Shown)
+    /// From now on this shows.
+    pub fn publish(&mut self, shown: Shown)
         ensures { self.new ≡ shown }
     {
         self.board.publish(shown.words());
@@ -195,16 +253,26 @@ impl ShownWriter {
     }
 }
 
-/// Reads what shows of one replica.
+/// Reads what shows of one replica; it stands for the words that it read last.
 #[derive(Drop)]
 pub struct ShownReader {
     board: BoardReader<WORDS>,
 }
 
+impl Model for ShownReader {
+    ghost use Rattle.std.specs.Prelude.{ℕ, List};
+
+    ghost Value = { List ℕ };
+
+    ghost view = { λ r. r.board };
+}
+
 impl ShownReader {
     /// What shows now. It waits for nobody: where the replica's thread is just publishing, it may be what this reader
     /// read last.
-    pub fn read(&mut self) -> Shown {
+    pub fn read(&mut self) -> Shown
+        ensures { (shown : View) → self.new ≡ shown_words shown → result ≡ shown }
+    {
         Shown::from_words(self.board.read())
     }
 

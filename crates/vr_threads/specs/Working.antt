@@ -1,0 +1,48 @@
+-- What the thread of a replica did from a start of it until it was served no more.
+use Rattle.std.specs.Prelude.{◌≡◌, ℕ, Bool, Option, Some, None}
+use Rattle.vr_model.specs.declared.event.Event.TheVariants as event
+use Rattle.vr_model.specs.declared.event.Stored.{Stored}
+use Rattle.vr_model.specs.Membership.{Membership}
+use Rattle.vr_core.specs.StandsFor.{member}
+use Rattle.vr_ports.specs.Telling.{Grows}
+use Rattle.vr_replica.specs.declared.state.Replica.{Replica}
+use Rattle.vr_replica.specs.Stepped.{StepResult}
+use Rattle.il_model.specs.Program.{Program}
+use Rattle.vr_threads.specs.declared.cluster.ClusterConfig.{ClusterConfig}
+use Rattle.vr_threads.specs.declared.working.Plan.{Plan}
+use Rattle.vr_threads.specs.Serving.{Scene, Served, StepsTo, sends_in}
+use Rattle.vr_threads.specs.Starting.{HasStarted}
+
+-- the member that is started by a plan
+abbrev pub planned : Plan → Membership
+planned plan = member plan.config.f plan.number plan.image plan.budget.instructions
+
+-- it is for the replica of this number, of this group and program, with these limits
+abbrev pub IsPlannedFor : ClusterConfig → Program → ℕ → Plan → Type 0
+IsPlannedFor config program number plan = (plan.config ≡ config.group) × (plan.number ≡ number)
+    × (plan.image ≡ program) × (plan.budget ≡ config.budget) × (plan.turns ≡ config.turns)
+
+module _ {S : Type 0} (load_gives : S → Option Stored → S → Type 0) (save_gives : S → ℕ → Bool → S → Type 0)
+    (faults : S → ℕ) where
+  -- with a nonce it comes up by one step, a restart with this nonce; with none there is nothing to do
+  abbrev pub ComesUp : Option ℕ → Scene S → Scene S → Type 0
+  ComesUp None a b = b ≡ a
+  ComesUp (Some nonce) a b =
+      (result : StepResult)
+      × StepsTo load_gives save_gives faults a.replica a.store (event.Restart nonce) b.replica b.store result
+      × Grows a.sent b.sent (sends_in result) × (b.inputs ≡ a.inputs) × (b.ticks ≡ a.ticks)
+
+  -- The replica was started from its store as this member. Before all else it came up, with the nonce of this start, if
+  -- it had one; and then it was served for so many turns. What its link and its timer told before and after stands in
+  -- the scenes.
+  pub record Worked (begin_gives : S → Option Stored → S → Type 0) (m : Membership) (turns : ℕ)
+      (before : Replica → S → Scene S) (found : S) (after : Replica → S → Scene S) (left : S) : Type 0 where
+    pub comes : Replica
+    pub begun : S
+    pub nonce : Option ℕ
+    pub starts : Option ℕ
+    pub start : HasStarted begin_gives m found begun comes nonce starts
+    pub up : Scene S
+    pub comes_up : ComesUp nonce (before comes begun) up
+    pub end : Replica
+    pub served : Served load_gives save_gives faults turns up (after end left)
