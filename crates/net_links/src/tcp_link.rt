@@ -93,13 +93,6 @@ impl<R: Wait + Net<Listener = TcpListener, Stream = TcpStream> + Copy + Drop> Tc
         self.wait = wait;
     }
 
-    /// How many messages it lost so far that have no frame, since they are too long.
-    pub fn frameless(&self) -> u64
-        ensures { result ≡ self.now.frameless }
-    {
-        self.frameless
-    }
-
     /// Makes a connection to each other party below this place whose link isn't cut.
     pub(crate) fn connect_below(&mut self, places: usize) -> io::Result<()>
         ensures { self.new.party ≡ self.old.party }
@@ -353,6 +346,10 @@ impl<R: Wait + Net<Listener = TcpListener, Stream = TcpStream> + Copy + Drop> Li
 
     fn send(&mut self, message: Message) {
         self.hand_over(&message);
+    }
+
+    fn frameless(&self) -> u64 {
+        self.frameless
     }
 }
 
