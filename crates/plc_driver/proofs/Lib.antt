@@ -1,2 +1,1 @@
 mod Noted
-mod Printed

@@ -1,4 +1,4 @@
--- What the driver of a group publishes, and why a group doesn't start.
+-- What the driver of a group asks for and publishes, and why a group doesn't start.
 use Rattle.std.specs.Prelude.{◌≡◌, ℕ, ◌+◌, length, Result, IfOk, Bool, List, [], ◌∷◌, ◌++◌, Option, Some, None, is_some}
 use Rattle.il_model.specs.declared.command.Command.{Command}
 use Rattle.il_model.specs.declared.command.Answer.{Answer}
@@ -8,7 +8,11 @@ use Rattle.vr_model.specs.Logs.{Request}
 use Rattle.vr_model.specs.Messages.{Body, Reply}
 use Rattle.vr_model.specs.StandsFor.{body_with}
 use Rattle.vr_model.specs.World.{ClientState}
-use Rattle.io_driver.specs.Driver.{release_by}
+use Rattle.vr_client.specs.Client.{Client}
+use Rattle.vr_ports.specs.Telling.{Grows}
+use Rattle.io_driver.specs.Driver.{release_by, SubmitsSample}
+use Rattle.io_image.specs.Book.{Book}
+use Rattle.plc_driver.specs.Pacing.{IsAwaited}
 use Rattle.io_image.specs.declared.release.Release.{Release}
 use Rattle.plc_host.specs.declared.failed.Failed.{Failed}
 use Rattle.plc_host.specs.declared.failed.Failed.TheVariants as failures
@@ -53,8 +57,16 @@ pub record Scans (scanned : Scanned) (old new : List Release) : Type 0 where
 abbrev pub HasRun : Option ℕ → List Release → List Release → Result ℕ Failed → Type 0
 HasRun asked old new result = IfOk result (λ scans. (asked ≡ Some scans) × (length new ≡ length old + scans))
 
--- why no replica runs: a thread or connections that aren't to be had are a device's failure
+-- why no replica runs: a thread that isn't to be had is a device's failure
 abbrev pub start_failed : ClusterError → Failed
 start_failed starts.Memory = failures.Memory
 start_failed starts.Thread = failures.Device
-start_failed starts.Link = failures.Device
+
+-- A scan was asked for that was due: a sample of the inputs was taken and its scan submitted, of this moment, in
+-- milliseconds; the link took the request; and the next scan is due after it.
+pub record AsksForScan (period due due_after moment : ℕ) (d d' : Client) (told told' : Option Book)
+    (sent sent' : Option (List Message)) : Type 0 where
+  pub awaited : IsAwaited period due due_after moment
+  pub sends : List Message
+  pub submitted : SubmitsSample d told moment sends d' told'
+  pub took : Grows sent sent' sends

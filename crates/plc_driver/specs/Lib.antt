@@ -1,4 +1,5 @@
 pub mod Driving
+pub mod Linking
 pub mod Pacing
 pub mod Tending
 pub mod Watching

@@ -16,6 +16,10 @@ abbrev pub IsAwaited : ℕ → ℕ → ℕ → ℕ → Type 0
 IsAwaited period due due_after moment = (now : ℕ) × (moment ≡ min (now / 1_000_000) (2 ^ 64 - 1))
     × (due_after ≡ next_due due now period)
 
+-- so long the driver waits for a reply before it asks again: a period, but no longer than a second
+abbrev pub longest_silence : ℕ → ℕ
+longest_silence period = min period 1_000_000_000
+
 -- scans that were due at 3 s, each 100 ms, by when they came
 pub record WorkedDues : Type 0 where
   pub at_once : next_due 3_000_000_000 3_000_000_000 100_000_000 ≡ 3_100_000_000

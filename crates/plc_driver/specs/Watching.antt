@@ -38,9 +38,23 @@ abbrev pub IsTurnNoted : ℕ → Option Bool → Journal → Journal → Type 0
 IsTurnNoted number None old new = new ≡ old
 IsTurnNoted number (Some is_normal) old new = IsPut (turned number is_normal) old new
 
--- What is to be told of a scan that was held or stopped, by what was of the scan before it: it was noted where that's
--- another, and else nothing was.
+-- It was noted where the store failed and that wasn't told, and else nothing was.
+abbrev pub IsFailureNoted : ℕ → Bool → Bool → Journal → Journal → Type 0
+IsFailureNoted number is_told false old new = new ≡ old
+IsFailureNoted number true true old new = new ≡ old
+IsFailureNoted number false true old new = IsPut (notices.Store number) old new
+
+-- It was noted where there are more of a replica's messages that have no frame, and else nothing was.
+abbrev pub AreFramesNoted : ℕ → Bool → Journal → Journal → Type 0
+AreFramesNoted number false old new = new ≡ old
+AreFramesNoted number true old new = IsPut (notices.NoFrame number) old new
+
+-- what is told of a scan, by what it was held or stopped by, if it was
+abbrev pub halted : Option Notice → Notice
+halted None = notices.GoesOn
+halted (Some halt) = halt
+
+-- What is to be told of a scan that was held or stopped or goes on, by what was of the scan before it: it was noted where
+-- that's another, and else nothing was.
 abbrev pub IsHaltNoted : Option Notice → Option Notice → Journal → Journal → Type 0
-IsHaltNoted before None old new = new ≡ old
-IsHaltNoted before (Some halt) old new = (before ≡ Some halt → new ≡ old)
-    × ((before ≡ Some halt → ⊥) → IsPut halt old new)
+IsHaltNoted before halt old new = (before ≡ halt → new ≡ old) × ((before ≡ halt → ⊥) → IsPut (halted halt) old new)

@@ -1,15 +1,15 @@
 //! The driver of a group: the client that has it scan once a period, and publishes what it releases.
 
-ghost use Rattle.std.specs.Prelude.{◌≡◌, ◌+◌, if◌then◌else◌, OnOk, OnErr, IfOk, IfSome, IfNone, List, length};
+ghost use Rattle.std.specs.Prelude.{◌≡◌, ◌+◌, ◌*◌, if◌then◌else◌, min, OnOk, OnErr, IfOk, IfSome, IfNone, List, length};
 ghost use Rattle.std.specs.Prelude.{Some, false, vec_len};
+ghost use Rattle.std.specs.Duration.{as_nanos};
 ghost use Rattle.vr_model.specs.Groups.{group_size};
 ghost use Rattle.il_model.specs.declared.command.Command.{Command as Asked};
 ghost use Rattle.vr_model.specs.Logs.{Request as Entry};
 ghost use Rattle.vr_model.specs.StandsFor.{body_with};
 ghost use Rattle.io_driver.specs.Driver.{release_by};
-ghost use Rattle.plc_status.specs.Journal.{AreNoted, Prints};
-ghost use Rattle.plc_status.specs.Notices.{IsChange};
-ghost use Rattle.plc_driver.specs.Driving.{HasRun, Publishes, Scans, halt_by};
+ghost use Rattle.plc_status.specs.Journal.{AreNoted};
+ghost use Rattle.plc_driver.specs.Driving.{AsksForScan, HasRun, Publishes, Scans, halt_by};
 ghost use Rattle.plc_driver.specs.Watching.{IsHaltNoted};
 
 use crate::crashes::Crashes;
@@ -19,20 +19,18 @@ use il_loader::Image;
 use il_model::Answer;
 use io_driver::ScanDriver;
 use io_image::{Naming, Pen, ReleasedWriter, Staging};
-use io_model::CountedWrite;
 use plc_host::{Failed, Host, ServiceRuntime};
 use plc_settings::Settings;
-use plc_status::{Journal, Notice, Printer, ScanStatus, StatusWriter};
+use plc_status::{Journal, Notice, ScanStatus, StatusWriter};
 use std::sync::Wait;
 use std::time::{Clock, Duration, Instant};
 use vr_model::{Body, Message};
 use vr_ports::{Input, Relink, send_all};
-use vr_threads::Starts;
+use vr_threads::{ClusterThreads, Starts};
 
 /// By what the scan was held or stopped whose answer the message brings, if it was.
 fn halt_in(message: &Message) -> Option<Notice>
-    ensures halt { (log : List (Entry Asked)) → result ≡ halt_by (body_with log message.now.body) }
-    ensures changes { IfSome result IsChange }
+    ensures { (log : List (Entry Asked)) → result ≡ halt_by (body_with log message.now.body) }
 {
     match message.body {
         Body::Reply {
@@ -64,18 +62,16 @@ pub struct Parts<L: Drop, S: Drop, J: Naming, P: Pen<J> + Drop> {
     pub stores: Vec<S>,
     pub writer: ReleasedWriter<J, P>,
     pub journal: Journal,
-    pub printer: Printer,
     pub status: StatusWriter,
 }
 
 /// The scan loop of a group: the client that submits its scans, with its link, the images that it publishes, and the
-/// journal that it writes.
+/// journal that it writes. Any thread may have it.
 #[derive(Drop)]
-pub struct Drive<R, L, S, J, P>
+pub struct Drive<R, L, J, P>
 where
     R: Clock + Copy + Drop,
     L: Relink + Drop,
-    S: Drop,
     J: Naming,
     P: Pen<J> + Drop,
 {
@@ -83,13 +79,12 @@ where
     driver: ScanDriver,
     link: L,
     pub writer: ReleasedWriter<J, P>,
-    group: Group<R, L, S>,
+    group: Group<R, L>,
     pace: Pace,
     crashes: Crashes,
     /// By what the last scan was held or stopped, if it was.
     halt: Option<Notice>,
     pub journal: Journal,
-    pub printer: Printer,
     /// After so many releases it ends; without a number it goes on.
     pub scans: Option<u32>,
     /// What shows of the scans.
@@ -97,51 +92,49 @@ where
     status: StatusWriter,
 }
 
-impl<R, L, S, J, P> Drive<R, L, S, J, P>
+impl<R, L, J, P> Drive<R, L, J, P>
 where
     R: ServiceRuntime,
     L: Relink + Send + Drop + 'static,
-    S: Starts + Send + Drop + 'static,
     J: Naming,
     P: Pen<J> + Drop,
 {
-    /// Starts the replicas of an image's program, all or none. The first scan is due at once. Where it fails no thread
-    /// goes on.
-    pub fn start(
+    /// Starts the replicas of an image's program, all or none, each in a thread of its own. The first scan is due at
+    /// once. Beside it their threads, to be joined behind `end`. Where it fails no thread goes on.
+    pub fn start<S: Starts + Send + Drop + 'static>(
         host: Host<R>,
         settings: &Settings,
         image: &Image,
         parts: Parts<L, S, J, P>,
-    ) -> Result<Drive<R, L, S, J, P>, Failed>
+    ) -> Result<(Drive<R, L, J, P>, ClusterThreads), Failed>
         requires { vec_len parts.stores ≡ group_size settings.now.config.f }
-        ensures writer { IfOk result (λ drive. drive.writer ≡ parts.writer) }
-        ensures journal { IfOk result (λ drive. drive.journal ≡ parts.journal) }
-        ensures printer { IfOk result (λ drive. drive.printer ≡ parts.printer) }
-        ensures scans { IfOk result (λ drive. drive.scans ≡ settings.now.scans) }
+        ensures writer { IfOk result (λ r. r.0.writer ≡ parts.writer) }
+        ensures journal { IfOk result (λ r. r.0.journal ≡ parts.journal) }
+        ensures scans { IfOk result (λ r. r.0.scans ≡ settings.now.scans) }
+        ensures period { IfOk result (λ r. as_nanos r.0.pace.period ≡ settings.now.period * 1_000_000) }
     {
         let Parts {
             mut links,
             stores,
             writer,
             journal,
-            printer,
             status,
         } = parts;
         let Some(link) = links.pop() else {
             return Err(Failed::Device);
         };
         let pace = Pace::new(Instant::now(&host.rt)?, settings.period);
-        Ok(Drive {
+        let (group, threads) = Group::start(host, image, settings, links, stores)?;
+        let drive = Drive {
             host,
             driver: ScanDriver::new(&settings.config, 0),
             link,
             writer,
-            group: Group::start(host, image, settings, links, stores)?,
+            group,
             pace,
             crashes: Crashes::new(settings.config, settings.crash),
             halt: None,
             journal,
-            printer,
             scans: settings.scans,
             shown: ScanStatus {
                 releases: 0,
@@ -149,82 +142,71 @@ where
                 halt: None,
             },
             status,
-        })
+        };
+        Ok((drive, threads))
     }
 
-    /// One scan a period, until so many were released as are asked for: how many. What changes meanwhile is noted, and
-    /// printed with each look at the replicas.
-    #[tactic(auto, using(crate::proofs::Noted::both, crate::proofs::Noted::none, crate::proofs::Noted::one, crate::proofs::Printed::both, crate::proofs::Printed::none))]
-    pub fn run<T: Staging, E: CountedWrite>(
-        &mut self,
-        staging: &mut T,
-        err: &mut E,
-    ) -> Result<u32, Failed>
+    /// Waits until each replica's first start has come to its end, but not for ever: whether each has.
+    pub fn await_starts(&mut self) -> bool
+        ensures { (self.new.writer ≡ self.old.writer) × (self.new.journal ≡ self.old.journal)
+            × (self.new.scans ≡ self.old.scans) }
+    {
+        self.group.await_starts()
+    }
+
+    /// One scan a period, until so many were released as are asked for: how many. What changes meanwhile is noted.
+    #[tactic(auto, using(crate::proofs::Noted::both, crate::proofs::Noted::none, crate::proofs::Noted::one))]
+    pub fn run<T: Staging>(&mut self, staging: &mut T) -> Result<u32, Failed>
         ensures counted { HasRun self.old.scans self.old.writer self.new.writer result }
         ensures noted { AreNoted self.old.journal self.new.journal }
-        ensures printed { Prints E.CountedWrite self.old.printer self.new.printer err.old err.new }
     {
         match self.scans {
-            Some(scans) => self.run_for(staging, scans, err),
-            None => Err(self.run_on(staging, err)),
+            Some(scans) => self.run_for(staging, scans),
+            None => Err(self.run_on(staging)),
         }
     }
 
     /// One scan a period, until so many were released.
-    #[tactic(auto, using(crate::proofs::Noted::both, crate::proofs::Noted::none, crate::proofs::Noted::one, crate::proofs::Printed::both, crate::proofs::Printed::none))]
-    fn run_for<T: Staging, E: CountedWrite>(
-        &mut self,
-        staging: &mut T,
-        scans: u32,
-        err: &mut E,
-    ) -> Result<u32, Failed>
+    #[tactic(auto, using(crate::proofs::Noted::both, crate::proofs::Noted::none, crate::proofs::Noted::one))]
+    fn run_for<T: Staging>(&mut self, staging: &mut T, scans: u32) -> Result<u32, Failed>
         ensures counted { IfOk result
             (λ made. (made ≡ scans) × (length self.new.writer ≡ length self.old.writer + scans)) }
         ensures noted { AreNoted self.old.journal self.new.journal }
-        ensures printed { Prints E.CountedWrite self.old.printer self.new.printer err.old err.new }
     {
         for _ in 0..scans {
-            self.release(staging, err)?;
-            self.crash_in_turn()?;
+            self.release(staging)?;
+            self.crash_in_turn();
         }
         Ok(scans)
     }
 
     /// One scan a period, until one fails: why.
-    #[tactic(auto, using(crate::proofs::Noted::both, crate::proofs::Noted::none, crate::proofs::Noted::one, crate::proofs::Printed::both, crate::proofs::Printed::none))]
-    fn run_on<T: Staging, E: CountedWrite>(&mut self, staging: &mut T, err: &mut E) -> Failed
+    #[tactic(auto, using(crate::proofs::Noted::both, crate::proofs::Noted::none, crate::proofs::Noted::one))]
+    fn run_on<T: Staging>(&mut self, staging: &mut T) -> Failed
         ensures noted { AreNoted self.old.journal self.new.journal }
-        ensures printed { Prints E.CountedWrite self.old.printer self.new.printer err.old err.new }
     {
         let rt = self.host.rt;
         for _ in rt.forever() {
-            if let Err(failed) = self.release(staging, err) {
+            if let Err(failed) = self.release(staging) {
                 return failed;
             }
-            if let Err(failed) = self.crash_in_turn() {
-                return failed;
-            }
+            self.crash_in_turn();
         }
         unreachable!()
     }
 
     /// One scan a period, until one was released: a scan that's held releases nothing, and the next period has the next
     /// one.
-    #[tactic(auto, using(crate::proofs::Noted::both, crate::proofs::Noted::none, crate::proofs::Noted::one, crate::proofs::Printed::both, crate::proofs::Printed::none))]
-    fn release<T: Staging, E: CountedWrite>(
-        &mut self,
-        staging: &mut T,
-        err: &mut E,
-    ) -> Result<(), Failed>
+    #[tactic(auto, using(crate::proofs::Noted::both, crate::proofs::Noted::none, crate::proofs::Noted::one))]
+    fn release<T: Staging>(&mut self, staging: &mut T) -> Result<(), Failed>
         ensures counted { OnOk result (length self.new.writer ≡ length self.old.writer + 1) }
         ensures noted { AreNoted self.old.journal self.new.journal }
-        ensures printed { Prints E.CountedWrite self.old.printer self.new.printer err.old err.new }
     {
         let rt = self.host.rt;
         for _ in rt.forever() {
-            self.rest(err)?;
-            let moment = self.pace.await_scan(&self.host.rt)?;
-            let scanned = self.scan(staging, moment, err)?;
+            self.rest()?;
+            let moment = self.submit(staging)?;
+            let scanned = self.await_reply()?;
             self.note_halt(scanned.halt);
             self.show_scan(moment, scanned);
             if scanned.is_released {
@@ -235,15 +217,14 @@ where
     }
 
     /// Sleeps until the next scan is nearly due, and looks at the replicas meanwhile.
-    #[tactic(auto, using(crate::proofs::Noted::both, crate::proofs::Noted::none, crate::proofs::Noted::one, crate::proofs::Printed::both, crate::proofs::Printed::none))]
-    fn rest<E: CountedWrite>(&mut self, err: &mut E) -> Result<(), Failed>
+    #[tactic(auto, using(crate::proofs::Noted::both, crate::proofs::Noted::none, crate::proofs::Noted::one))]
+    fn rest(&mut self) -> Result<(), Failed>
         ensures same { self.new.writer ≡ self.old.writer }
         ensures noted { AreNoted self.old.journal self.new.journal }
-        ensures printed { Prints E.CountedWrite self.old.printer self.new.printer err.old err.new }
     {
         let rt = self.host.rt;
         for _ in rt.forever() {
-            self.tend(err)?;
+            self.tend()?;
             if self.pace.rest(&self.host.rt)? {
                 return Ok(());
             }
@@ -251,16 +232,13 @@ where
         unreachable!()
     }
 
-    /// Looks at the replicas, starts those anew that are due, and prints what was noted.
-    #[tactic(auto, using(crate::proofs::Noted::both, crate::proofs::Noted::none, crate::proofs::Noted::one, crate::proofs::Printed::both, crate::proofs::Printed::none))]
-    fn tend<E: CountedWrite>(&mut self, err: &mut E) -> Result<(), Failed>
+    /// Looks at the replicas, and has those started anew that are due.
+    fn tend(&mut self) -> Result<(), Failed>
         ensures same { self.new.writer ≡ self.old.writer }
         ensures noted { AreNoted self.old.journal self.new.journal }
-        ensures printed { Prints E.CountedWrite self.old.printer self.new.printer err.old err.new }
     {
         let now = self.pace.elapsed(&self.host.rt)?;
         self.group.tend(now, &mut self.journal)?;
-        self.printer.print(err);
         self.group.show(&mut self.status);
         self.status.publish();
         Ok(())
@@ -268,8 +246,7 @@ where
 
     /// Publishes what came of the scan of this moment, in milliseconds.
     fn show_scan(&mut self, moment: u64, scanned: Scanned)
-        ensures { (self.new.writer ≡ self.old.writer) × (self.new.journal ≡ self.old.journal)
-            × (self.new.printer ≡ self.old.printer) }
+        ensures { (self.new.writer ≡ self.old.writer) × (self.new.journal ≡ self.old.journal) }
     {
         if scanned.is_released {
             self.shown.releases = self.shown.releases.saturating_add(1);
@@ -280,22 +257,15 @@ where
         self.status.publish();
     }
 
-    /// Submits a scan of the staged inputs, and publishes what it releases; it asks again after each period without a
-    /// reply. Where the numbers of requests are used up a device failed.
-    #[tactic(auto, using(crate::proofs::Noted::both, crate::proofs::Noted::none, crate::proofs::Noted::one, crate::proofs::Printed::both, crate::proofs::Printed::none))]
-    fn scan<T: Staging, E: CountedWrite>(
-        &mut self,
-        staging: &mut T,
-        moment: u64,
-        err: &mut E,
-    ) -> Result<Scanned, Failed>
-        ensures scanned { IfOk result (λ scanned. Scans scanned self.old.writer self.new.writer) }
-        ensures counted { IfOk result
-            (λ scanned. length self.new.writer ≡ length self.old.writer + (if scanned.is_released then 1 else 0)) }
-        ensures changes { IfOk result (λ scanned. IfSome scanned.halt IsChange) }
-        ensures noted { AreNoted self.old.journal self.new.journal }
-        ensures printed { Prints E.CountedWrite self.old.printer self.new.printer err.old err.new }
+    /// Waits until a scan is due, and submits the scan of a sample of the staged inputs: its moment, in milliseconds.
+    /// Where the numbers of requests are used up a device failed.
+    fn submit<T: Staging>(&mut self, staging: &mut T) -> Result<u64, Failed>
+        ensures asked { IfOk result (λ moment. AsksForScan (as_nanos self.old.pace.period) (as_nanos self.old.pace.due)
+            (as_nanos self.new.pace.due) moment self.old.driver self.new.driver (T.told staging.old)
+            (T.told staging.new) (L.sent self.old.link) (L.sent self.new.link)) }
+        ensures same { (self.new.writer ≡ self.old.writer) × (self.new.journal ≡ self.old.journal) }
     {
+        let moment = self.pace.await_scan(&self.host.rt)?;
         let Some(sends) = self
             .driver
             .sample_and_submit(self.host.alloc, staging, moment)?
@@ -303,6 +273,18 @@ where
             return Err(Failed::Device);
         };
         send_all(&mut self.link, sends);
+        Ok(moment)
+    }
+
+    /// Waits for the reply to the scan, and publishes what it releases; it asks again where no reply comes for a while,
+    /// and looks at the replicas meanwhile.
+    #[tactic(auto, using(crate::proofs::Noted::both, crate::proofs::Noted::none, crate::proofs::Noted::one))]
+    fn await_reply(&mut self) -> Result<Scanned, Failed>
+        ensures scanned { IfOk result (λ scanned. Scans scanned self.old.writer self.new.writer) }
+        ensures counted { IfOk result
+            (λ scanned. length self.new.writer ≡ length self.old.writer + (if scanned.is_released then 1 else 0)) }
+        ensures noted { AreNoted self.old.journal self.new.journal }
+    {
         let mut asked = self.pace.elapsed(&self.host.rt)?;
         let rt = self.host.rt;
         for _ in rt.forever() {
@@ -310,7 +292,7 @@ where
                 return Ok(scanned);
             }
             asked = self.ask_again(asked)?;
-            self.tend(err)?;
+            self.tend()?;
         }
         unreachable!()
     }
@@ -324,8 +306,7 @@ where
             (λ heard. IfSome heard
             (λ scanned. length self.new.writer ≡ length self.old.writer + (if scanned.is_released then 1 else 0))) }
         ensures kept { IfOk result (λ heard. IfNone heard (self.new.writer ≡ self.old.writer)) }
-        ensures changes { IfOk result (λ heard. IfSome heard (λ scanned. IfSome scanned.halt IsChange)) }
-        ensures same { (self.new.journal ≡ self.old.journal) × (self.new.printer ≡ self.old.printer) }
+        ensures same { self.new.journal ≡ self.old.journal }
     {
         match self.link.recv() {
             Input::Message(message) => {
@@ -343,17 +324,19 @@ where
         }
     }
 
-    /// Asks again where a period went by since it asked last: when it asked last.
+    /// Asks again where it's time since it asked last: when it asked last. Where memory is wanting, that's put off until
+    /// the next time.
     fn ask_again(&mut self, asked: Duration) -> Result<Duration, Failed>
-        ensures same { (self.new.writer ≡ self.old.writer) × (self.new.journal ≡ self.old.journal)
-            × (self.new.printer ≡ self.old.printer) }
+        ensures same { (self.new.writer ≡ self.old.writer) × (self.new.journal ≡ self.old.journal) }
     {
-        if !self.pace.is_over(&self.host.rt, asked)? {
+        let now = self.pace.elapsed(&self.host.rt)?;
+        if now.saturating_sub(asked) < self.pace.longest_silence() {
             return Ok(asked);
         }
-        let sends = self.driver.retry(self.host.alloc)?;
-        send_all(&mut self.link, sends);
-        self.pace.elapsed(&self.host.rt)
+        if let Ok(sends) = self.driver.retry(self.host.alloc) {
+            send_all(&mut self.link, sends);
+        }
+        Ok(now)
     }
 
     /// Takes a message of the group. Whether it was the reply that is waited for: then what it releases is published.
@@ -365,7 +348,7 @@ where
             (λ is_released. length self.new.writer ≡ length self.old.writer + (if is_released then 1 else 0)) }
         ensures kept { IfOk result (λ is_released. is_released ≡ false → self.new.writer ≡ self.old.writer) }
         ensures same { OnErr result (self.new.writer ≡ self.old.writer) }
-        ensures journal { (self.new.journal ≡ self.old.journal) × (self.new.printer ≡ self.old.printer) }
+        ensures journal { self.new.journal ≡ self.old.journal }
     {
         let Some(release) = self.driver.on_reply(message) else {
             return Ok(false);
@@ -377,27 +360,25 @@ where
         }
     }
 
-    /// Notes by what the scan was held or stopped, unless the one before it was so.
+    /// Notes by what the scan was held or stopped, unless the one before it was so; or that it wasn't, where that one
+    /// was.
     #[tactic(auto, using(crate::proofs::Noted::both, crate::proofs::Noted::none, crate::proofs::Noted::one))]
     fn note_halt(&mut self, halt: Option<Notice>)
-        requires { IfSome halt IsChange }
         ensures changes { AreNoted self.old.journal self.new.journal }
         ensures noted { IsHaltNoted self.old.halt halt self.old.journal self.new.journal }
         ensures halt { self.new.halt ≡ halt }
-        ensures same { (self.new.writer ≡ self.old.writer) × (self.new.printer ≡ self.old.printer) }
+        ensures same { self.new.writer ≡ self.old.writer }
     {
-        if let Some(notice) = halt {
-            if self.halt != halt {
-                self.journal.put(notice);
-            }
+        if self.halt != halt {
+            self.journal.put(halt.unwrap_or(Notice::GoesOn));
         }
         self.halt = halt;
     }
 
     /// Counts a release. Where a replica is to crash after it, that one is restarted, which is noted.
     #[tactic(auto, using(crate::proofs::Noted::both, crate::proofs::Noted::none, crate::proofs::Noted::one))]
-    fn crash_in_turn(&mut self) -> Result<(), Failed>
-        ensures same { (self.new.writer ≡ self.old.writer) × (self.new.printer ≡ self.old.printer) }
+    fn crash_in_turn(&mut self)
+        ensures same { self.new.writer ≡ self.old.writer }
         ensures noted { AreNoted self.old.journal self.new.journal }
     {
         let is_over = match self.crashes.last() {
@@ -405,11 +386,11 @@ where
             None => true,
         };
         let Some(number) = self.crashes.released(is_over) else {
-            return Ok(());
+            return;
         };
-        self.group.restart(number)?;
-        self.journal.put(Notice::Crashed(number));
-        Ok(())
+        if self.group.restart(number) {
+            self.journal.put(Notice::Crashed(number));
+        }
     }
 
     /// How often a replica crashed because that was asked for.
@@ -417,9 +398,12 @@ where
         self.crashes.count()
     }
 
-    /// Ends each replica, and waits for its thread.
-    pub fn end(self) {
-        let Drive { group, .. } = self;
-        group.end();
+    /// Ends each replica, and waits until its thread is at its end, but not for ever: one that isn't is noted. Whether
+    /// all are.
+    pub fn end(&mut self) -> bool
+        ensures noted { AreNoted self.old.journal self.new.journal }
+        ensures same { self.new.writer ≡ self.old.writer }
+    {
+        self.group.end(&mut self.journal)
     }
 }

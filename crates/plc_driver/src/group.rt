@@ -1,6 +1,7 @@
 //! The group of replicas that a driver has scan.
 
-ghost use Rattle.std.specs.Prelude.{◌≡◌, IfOk, vec_len};
+ghost use Rattle.std.specs.Prelude.{◌≡◌, ◌*◌, ◌-◌, ◌^◌, IfOk, vec_len};
+ghost use Rattle.std.specs.Duration.{as_nanos};
 ghost use Rattle.vr_model.specs.Groups.{group_size};
 ghost use Rattle.plc_status.specs.Journal.{AreNoted};
 ghost use Rattle.plc_driver.specs.Driving.{start_failed};
@@ -9,12 +10,15 @@ use crate::watch::Watch;
 use il_loader::Image;
 use plc_host::{Failed, Host, ServiceRuntime};
 use plc_settings::Settings;
-use plc_status::{Journal, ReplicaStatus, StatusWriter};
+use plc_status::{Journal, Notice, ReplicaStatus, StatusWriter};
 use std::alloc::Global;
+use std::thread;
 use std::time::{Clock, Duration};
 use vr_model::Config;
 use vr_ports::{OpenGate, Relink};
-use vr_threads::{Cluster, ClusterConfig, ClusterError, MachineTimer, Seat, Shown, Starts};
+use vr_threads::{
+    Cluster, ClusterConfig, ClusterError, ClusterThreads, MachineTimer, Seat, Shown, Starts,
+};
 
 /// For so many milliseconds a replica hears nothing of its view before it begins another.
 const TIMEOUT: u64 = 2000;
@@ -22,18 +26,27 @@ const TIMEOUT: u64 = 2000;
 /// After so many milliseconds a replica sends again what may have been lost.
 const RESEND: u64 = 300;
 
-/// A group of replicas with their threads, watched.
+/// In milliseconds: how long replicas have for their first start, and for their end.
+const LONGEST_START: u64 = 30_000;
+
+const LONGEST_END: u64 = 5_000;
+
+/// In milliseconds: the time from one look at them to the next meanwhile.
+const LOOK: u64 = 10;
+
+/// A group of replicas that each have a thread, watched.
 #[derive(Drop)]
-pub(crate) struct Group<R: Clock + Copy + Drop, L: Relink + Drop, S: Drop> {
+pub(crate) struct Group<R: Clock + Copy + Drop, L: Relink + Drop> {
     host: Host<R>,
     config: Config,
-    cluster: Cluster<L, S, MachineTimer<R>, OpenGate>,
+    cluster: Cluster<L>,
     watch: Watch,
 }
 
 /// The parts of a replica with this link and this store.
 fn seat<R: Clock + Copy + Drop, L, S>(
     rt: R,
+    config: Config,
     link: L,
     store: S,
 ) -> Seat<L, S, MachineTimer<R>, OpenGate> {
@@ -42,6 +55,7 @@ fn seat<R: Clock + Copy + Drop, L, S>(
         store,
         timer: MachineTimer::new(
             rt,
+            config,
             Duration::from_millis(TIMEOUT),
             Duration::from_millis(RESEND),
         ),
@@ -53,6 +67,7 @@ fn seat<R: Clock + Copy + Drop, L, S>(
 fn seats<R: Clock + Copy + Drop, L: Drop, S: Drop>(
     rt: R,
     alloc: Global,
+    config: Config,
     links: Vec<L>,
     stores: Vec<S>,
 ) -> Result<Vec<Seat<L, S, MachineTimer<R>, OpenGate>>, Failed>
@@ -64,55 +79,78 @@ fn seats<R: Clock + Copy + Drop, L: Drop, S: Drop>(
         let Some(link) = links.next() else {
             return Err(Failed::Device);
         };
-        seats.push(seat(rt, link, store))?;
+        seats.push(seat(rt, config, link, store))?;
     }
     Ok(seats)
 }
 
-impl<R, L, S> Group<R, L, S>
+impl<R, L> Group<R, L>
 where
     R: ServiceRuntime,
     L: Relink + Send + Drop + 'static,
-    S: Starts + Send + Drop + 'static,
 {
-    /// Starts the replicas of an image's program, all or none, each with the link and the store at its place. Where
-    /// that fails no thread goes on.
-    pub(crate) fn start(
+    /// Has the replicas of an image's program started, all or none, each with the link and the store at its place.
+    /// Beside it their threads, to be joined. Where that fails no thread goes on.
+    pub(crate) fn start<S: Starts + Send + Drop + 'static>(
         host: Host<R>,
         image: &Image,
         settings: &Settings,
         links: Vec<L>,
         stores: Vec<S>,
-    ) -> Result<Group<R, L, S>, Failed>
+    ) -> Result<(Group<R, L>, ClusterThreads), Failed>
         requires { vec_len stores ≡ group_size settings.now.config.f }
+        ensures turns { IfOk result (λ r. r.0.cluster.config.turns ≡ 2 ^ 64 - 1) }
+        ensures patience { IfOk result
+            (λ r. as_nanos r.0.watch.patience ≡ settings.now.lost_after * 1_000_000_000) }
     {
         let Host { rt, alloc } = host;
         let config = settings.config;
         let patience = Duration::from_secs(u64::from(settings.lost_after));
         let watch = Watch::new(alloc, config, patience)?;
-        let seats = seats(rt, alloc, links, stores)?;
+        let seats = seats(rt, alloc, config, links, stores)?;
         let common = ClusterConfig {
             group: config,
             budget: settings.budget,
             turns: u64::MAX,
         };
         match Cluster::start(&rt, alloc, common, image, seats) {
-            Ok(cluster) => Ok(Group {
-                host,
-                config,
-                cluster,
-                watch,
-            }),
+            Ok((cluster, threads)) => {
+                let group = Group {
+                    host,
+                    config,
+                    cluster,
+                    watch,
+                };
+                Ok((group, threads))
+            }
             Err(error) => Err(failed_by(error)),
         }
     }
 
-    /// Starts a replica anew from its store; one that is up crashes first. Where it fails, the replica is down.
-    pub(crate) fn restart(&mut self, number: u8) -> Result<(), Failed> {
-        match self.cluster.restart(&self.host.rt, number) {
-            Ok(()) => Ok(()),
-            Err(error) => Err(failed_by(error)),
+    /// Waits until each replica's first start has come to its end, but not for ever: whether each has.
+    pub(crate) fn await_starts(&mut self) -> bool {
+        for _ in 0..LONGEST_START / LOOK {
+            if !self.is_any_starting() {
+                return true;
+            }
+            thread::sleep(&self.host.rt, Duration::from_millis(LOOK));
         }
+        false
+    }
+
+    /// Whether a replica is being started.
+    fn is_any_starting(&mut self) -> bool {
+        let mut is_any = false;
+        for number in 0..self.config.group_size() {
+            is_any = is_any || self.cluster.is_starting(number);
+        }
+        is_any
+    }
+
+    /// Has a replica started anew from its store; one that is up crashes first. It waits for nothing. Whether that's
+    /// done: not where it's being started.
+    pub(crate) fn restart(&mut self, number: u8) -> bool {
+        self.cluster.restart(&self.host.rt, number)
     }
 
     /// What shows of a replica.
@@ -120,9 +158,8 @@ where
         self.cluster.shown(number)
     }
 
-    /// Notes what changed of the replicas since the last look at them, and starts those anew whose store failed, where
-    /// that is due. Where one can't be started, that's tried again at the next time. Where fewer than f+1 replicas have
-    /// been normal for too long, it's a device that failed.
+    /// Notes what changed of the replicas since the last look at them, and has those started anew that need it, where
+    /// that is due. Where fewer than f+1 replicas have been normal for too long, it's a device that failed.
     #[tactic(auto, using(crate::proofs::Noted::both, crate::proofs::Noted::none, crate::proofs::Noted::one))]
     pub(crate) fn tend(&mut self, now: Duration, journal: &mut Journal) -> Result<(), Failed>
         ensures { AreNoted journal.old journal.new }
@@ -131,7 +168,7 @@ where
         if self.watch.is_lost(normal > self.config.f, now) {
             return Err(Failed::Device);
         }
-        self.revive(now);
+        self.revive(now, journal);
         Ok(())
     }
 
@@ -151,14 +188,23 @@ where
         normal
     }
 
-    /// Starts those replicas anew whose store failed, where that is due.
-    fn revive(&mut self, now: Duration) {
+    /// Has those replicas started anew that need it, where that is due, and notes each.
+    #[tactic(auto, using(crate::proofs::Noted::both, crate::proofs::Noted::none, crate::proofs::Noted::one))]
+    fn revive(&mut self, now: Duration, journal: &mut Journal)
+        ensures { AreNoted journal.old journal.new }
+    {
         for number in 0..self.config.group_size() {
-            let shown = self.shown(number);
-            if self.watch.is_due(number, shown, now) {
-                let _ = self.restart(number);
+            if self.is_due(number, now) && self.restart(number) {
+                journal.put(Notice::Starts(number));
             }
         }
+    }
+
+    /// Whether a replica is to be started anew now.
+    fn is_due(&mut self, number: u8, now: Duration) -> bool {
+        let shown = self.shown(number);
+        let is_starting = self.cluster.is_starting(number);
+        self.watch.is_due(number, shown, is_starting, now)
     }
 
     /// Sets what shows of each replica.
@@ -168,6 +214,7 @@ where
                 standing,
                 starts,
                 has_failed,
+                ..
             } = self.shown(number);
             status.set_replica(
                 number,
@@ -180,20 +227,51 @@ where
         }
     }
 
-    /// Ends each replica, and waits for its thread.
-    pub(crate) fn end(self) {
-        let Group { host, cluster, .. } = self;
-        cluster.cut();
-        cluster.join(&host.rt);
+    /// Ends each replica, and waits until its thread is at its end, but not for ever: one that isn't is noted. Whether
+    /// all are.
+    #[tactic(auto, using(crate::proofs::Noted::both, crate::proofs::Noted::none, crate::proofs::Noted::one))]
+    pub(crate) fn end(&mut self, journal: &mut Journal) -> bool
+        ensures { AreNoted journal.old journal.new }
+    {
+        self.cluster.cut();
+        for _ in 0..LONGEST_END / LOOK {
+            if self.are_idle() {
+                return true;
+            }
+            thread::sleep(&self.host.rt, Duration::from_millis(LOOK));
+        }
+        self.note_hanging(journal);
+        false
+    }
+
+    /// Whether nothing is done for any replica.
+    fn are_idle(&mut self) -> bool {
+        let mut are_all = true;
+        for number in 0..self.config.group_size() {
+            are_all = are_all && self.cluster.is_idle(number);
+        }
+        are_all
+    }
+
+    /// Notes each replica whose thread isn't at its end.
+    #[tactic(auto, using(crate::proofs::Noted::both, crate::proofs::Noted::none, crate::proofs::Noted::one))]
+    fn note_hanging(&mut self, journal: &mut Journal)
+        ensures { AreNoted journal.old journal.new }
+    {
+        for number in 0..self.config.group_size() {
+            if !self.cluster.is_idle(number) {
+                journal.put(Notice::Hangs(number));
+            }
+        }
     }
 }
 
-/// Why no replica runs: a thread or connections that aren't to be had are a device's failure.
+/// Why no replica runs: a thread that isn't to be had is a device's failure.
 fn failed_by(error: ClusterError) -> Failed
     ensures { result ≡ start_failed error }
 {
     match error {
         ClusterError::Memory => Failed::Memory,
-        ClusterError::Thread | ClusterError::Link => Failed::Device,
+        ClusterError::Thread => Failed::Device,
     }
 }

@@ -1,9 +1,12 @@
 //! The links of a group: those of its replicas by their numbers, then that of its driver, and of its console, if it has
 //! one.
 
+ghost use Rattle.std.specs.Prelude.{◌≡◌, IfOk};
+ghost use Rattle.plc_driver.specs.Linking.{kind_of};
+
 use net_links::{TcpLink, links};
 use plc_host::{Failed, Host};
-use plc_settings::Settings;
+use plc_settings::{Links, Settings};
 use std::alloc::AllocError;
 use std::net::{Net, TcpListener, TcpStream};
 use std::sync::{Arc, Wait};
@@ -35,8 +38,33 @@ fn channel_link<R: Wait + Clock + Copy + Drop>(
     ChannelLink::new(host.rt, host.alloc, Arc::try_clone(board)?, party, wait)
 }
 
+/// The links of a group, of one kind or the other.
+#[derive(Drop)]
+pub enum GroupLinks<R>
+where
+    R: Wait + Net<Listener = TcpListener, Stream = TcpStream> + Clock + Copy + Drop,
+{
+    Tcp(Vec<TcpLink<R>>),
+    Channels(Vec<ChannelLink<R>>),
+}
+
+impl<R> GroupLinks<R>
+where
+    R: Wait + Net<Listener = TcpListener, Stream = TcpStream> + Clock + Copy + Drop,
+{
+    /// The links of a group, of the kind that the settings name.
+    pub fn of(host: Host<R>, settings: &Settings) -> Result<GroupLinks<R>, Failed>
+        ensures { IfOk result (λ links. kind_of links ≡ settings.now.links) }
+    {
+        match settings.links {
+            Links::Tcp => Ok(GroupLinks::Tcp(links_over_tcp(host, settings)?)),
+            Links::Channels => Ok(GroupLinks::Channels(links_over_channels(host, settings)?)),
+        }
+    }
+}
+
 /// The links of a group over channels.
-pub fn links_over_channels<R: Wait + Clock + Copy + Drop>(
+fn links_over_channels<R: Wait + Clock + Copy + Drop>(
     host: Host<R>,
     settings: &Settings,
 ) -> Result<Vec<ChannelLink<R>>, Failed> {
@@ -59,7 +87,7 @@ pub fn links_over_channels<R: Wait + Clock + Copy + Drop>(
 }
 
 /// The links of a group over connections.
-pub fn links_over_tcp<R>(host: Host<R>, settings: &Settings) -> Result<Vec<TcpLink<R>>, Failed>
+fn links_over_tcp<R>(host: Host<R>, settings: &Settings) -> Result<Vec<TcpLink<R>>, Failed>
 where
     R: Wait + Net<Listener = TcpListener, Stream = TcpStream> + Copy + Drop,
 {

@@ -2,7 +2,7 @@
 
 ghost use Rattle.std.specs.Prelude.{◌≡◌, ◌*◌, ◌-◌, ◌/◌, ◌^◌, min, IfOk};
 ghost use Rattle.std.specs.Duration.{as_nanos};
-ghost use Rattle.plc_driver.specs.Pacing.{next_due, IsAwaited, WorkedDues};
+ghost use Rattle.plc_driver.specs.Pacing.{longest_silence, next_due, IsAwaited, WorkedDues};
 
 use plc_host::Failed;
 use std::thread;
@@ -59,9 +59,16 @@ impl Pace {
         Ok(milliseconds(now))
     }
 
-    /// Whether a period went by since then.
-    pub(crate) fn is_over<R: Clock>(&self, rt: &R, since: Duration) -> Result<bool, Failed> {
-        Ok(self.elapsed(rt)?.saturating_sub(since) >= self.period)
+    /// So long the driver waits for a reply before it asks again.
+    pub(crate) fn longest_silence(&self) -> Duration
+        ensures { as_nanos result ≡ longest_silence (as_nanos self.now.period) }
+    {
+        let second = Duration::from_secs(1);
+        if self.period.as_nanos() < second.as_nanos() {
+            self.period
+        } else {
+            second
+        }
     }
 }
 

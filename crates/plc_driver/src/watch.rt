@@ -1,9 +1,11 @@
 //! What an operator is told of the replicas: a notice of each change.
 
-ghost use Rattle.std.specs.Prelude.{◌≡◌, option_map};
+ghost use Rattle.std.specs.Prelude.{◌≡◌, IfNone, IfOk, IfSome, nat_lt, option_map, false, None, true};
 ghost use Rattle.std.specs.Duration.{as_nanos};
 ghost use Rattle.plc_status.specs.Journal.{AreNoted};
-ghost use Rattle.plc_driver.specs.Watching.{IsTurnNoted, change, is_lost, lapsed_since, turned};
+ghost use Rattle.plc_driver.specs.Tending.{needs_start, starts_now};
+ghost use Rattle.plc_driver.specs.Watching.{AreFramesNoted, IsFailureNoted, IsTurnNoted, change, is_lost, lapsed_since};
+ghost use Rattle.plc_driver.specs.Watching.{turned};
 
 use crate::reviving::Revival;
 use plc_status::{Journal, Notice};
@@ -63,7 +65,9 @@ impl Seen {
 struct Watched {
     seen: Seen,
     is_told_failed: bool,
-    /// Where its store failed, and it hasn't been normal since.
+    /// So many of its messages had no frame.
+    frameless: u64,
+    /// Where it was to be started anew, and hasn't been normal since.
     revival: Option<Revival>,
 }
 
@@ -74,19 +78,36 @@ impl Watched {
         ensures { AreNoted journal.old journal.new }
     {
         self.note_failure(number, shown.has_failed, journal);
+        self.note_frames(number, shown.frameless, journal);
         self.note_turn(number, shown.is_normal(), now, journal);
     }
 
-    /// Notes that its store failed, once.
+    /// Notes that its store failed, once until it's started well.
     #[tactic(auto, using(crate::proofs::Noted::both, crate::proofs::Noted::none, crate::proofs::Noted::one))]
     fn note_failure(&mut self, number: u8, has_failed: bool, journal: &mut Journal)
-        ensures { AreNoted journal.old journal.new }
+        ensures noted { IsFailureNoted number self.old.is_told_failed has_failed journal.old journal.new }
+        ensures told { self.new.is_told_failed ≡ has_failed }
+        ensures notices { AreNoted journal.old journal.new }
     {
-        if self.is_told_failed || !has_failed {
-            return;
+        let is_new = has_failed && !self.is_told_failed;
+        self.is_told_failed = has_failed;
+        if is_new {
+            journal.put(Notice::Store(number));
         }
-        journal.put(Notice::Store(number));
-        self.is_told_failed = true;
+    }
+
+    /// Notes that messages of it had no frame, where there are more than at the last look.
+    #[tactic(auto, using(crate::proofs::Noted::both, crate::proofs::Noted::none, crate::proofs::Noted::one))]
+    fn note_frames(&mut self, number: u8, frameless: u64, journal: &mut Journal)
+        ensures noted { AreFramesNoted number (nat_lt self.old.frameless frameless) journal.old journal.new }
+        ensures told { self.new.frameless ≡ frameless }
+        ensures notices { AreNoted journal.old journal.new }
+    {
+        let is_new = self.frameless < frameless;
+        self.frameless = frameless;
+        if is_new {
+            journal.put(Notice::NoFrame(number));
+        }
     }
 
     /// Notes that it's down, or normal again, where that is due.
@@ -107,23 +128,39 @@ impl Watched {
         self.seen.is_told_down = !is_normal;
     }
 
-    /// Whether it's to be started anew now: its store failed some time ago, and it hasn't been normal since.
-    fn is_due(&mut self, shown: Shown, now: Duration) -> bool {
-        if shown.is_normal() {
-            self.revival = None;
-            self.is_told_failed = false;
+    /// Whether it's to be started anew now, as it shows: that was needed some time ago, and it hasn't been normal since.
+    /// While it's being started nothing is due.
+    fn is_due(&mut self, shown: Shown, is_starting: bool, now: Duration) -> bool
+        ensures starting { is_starting ≡ true → (result ≡ false) × (self.new ≡ self.old) }
+        ensures well { needs_start shown ≡ false → result ≡ false }
+        ensures first { is_starting ≡ false → needs_start shown ≡ true → self.old.revival ≡ None → result ≡ false }
+        ensures due { is_starting ≡ false → needs_start shown ≡ true → IfSome self.old.revival
+            (λ revival. result ≡ starts_now (option_map as_nanos revival.due) (as_nanos now)) }
+    {
+        if is_starting {
+            return false;
+        }
+        if !needs_start(shown) {
+            if shown.is_normal() {
+                self.revival = None;
+            }
             return false;
         }
         match &mut self.revival {
             Some(revival) => revival.is_due(now),
             None => {
-                if shown.has_failed {
-                    self.revival = Some(Revival::new(now));
-                }
+                self.revival = Some(Revival::new(now));
                 false
             }
         }
     }
+}
+
+/// Whether a replica is to be started anew, as it shows: nothing is done for it, or its store failed.
+fn needs_start(shown: Shown) -> bool
+    ensures { result ≡ needs_start shown }
+{
+    shown.has_failed || !shown.is_served
 }
 
 /// What is noted of a replica that is normal again, or down.
@@ -153,7 +190,9 @@ impl Watch {
         alloc: Global,
         config: Config,
         patience: Duration,
-    ) -> Result<Watch, AllocError> {
+    ) -> Result<Watch, AllocError>
+        ensures { IfOk result (λ watch. watch.patience ≡ patience) }
+    {
         let mut replicas = Vec::new(alloc);
         for _ in 0..config.group_size() {
             replicas.push(Watched {
@@ -162,6 +201,7 @@ impl Watch {
                     is_told_down: false,
                 },
                 is_told_failed: false,
+                frameless: 0,
                 revival: None,
             })?;
         }
@@ -196,10 +236,16 @@ impl Watch {
         }
     }
 
-    /// Whether this replica is to be started anew now, as it shows.
-    pub(crate) fn is_due(&mut self, number: u8, shown: Shown, now: Duration) -> bool {
+    /// Whether this replica is to be started anew now, as it shows, by whether it's being started.
+    pub(crate) fn is_due(
+        &mut self,
+        number: u8,
+        shown: Shown,
+        is_starting: bool,
+        now: Duration,
+    ) -> bool {
         match self.replicas.get_mut(usize::from(number)) {
-            Some(watched) => watched.is_due(shown, now),
+            Some(watched) => watched.is_due(shown, is_starting, now),
             None => false,
         }
     }

@@ -15,6 +15,7 @@
 //! `tests_threads`).
 #![tactic(auto)]
 
+mod driving;
 mod node;
 mod opening;
 

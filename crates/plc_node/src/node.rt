@@ -4,14 +4,15 @@ ghost use Rattle.std.specs.Prelude.{◌≡◌, IfOk, OnOk, Some, vec_len};
 ghost use Rattle.vr_model.specs.Groups.{group_size};
 ghost use Rattle.plc_status.specs.Notices.{IsAtMostServingTold, IsServingTold};
 
+use crate::driving::Driving;
 use crate::opening::Ready;
 use il_loader::Image;
 use io_image::{Naming, NewList};
 use io_model::CountedWrite;
-use plc_driver::{Directory, Drive, Parts, links_over_channels, links_over_tcp};
+use plc_driver::{Directory, GroupLinks, Parts};
 use plc_host::{Failed, Host, ServiceRuntime};
-use plc_settings::{Links, Settings};
-use plc_status::{Counts, Journal, StatusWriter};
+use plc_settings::Settings;
+use plc_status::{Counts, Journals, StatusWriter};
 use std::net::{Net, TcpListener, TcpStream};
 use std::rt::Files;
 use vr_ports::Relink;
@@ -48,15 +49,9 @@ impl<S: Starts + Send + Drop + 'static> Node<'_, S> {
         ensures told { OnOk result (IsServingTold E.CountedWrite err.old err.new) }
         ensures at_most { IsAtMostServingTold E.CountedWrite err.old err.new }
     {
-        match self.settings.links {
-            Links::Tcp => {
-                let links = links_over_tcp(host, &self.settings)?;
-                self.run_over::<J, R, _, E>(host, list, links, err)
-            }
-            Links::Channels => {
-                let links = links_over_channels(host, &self.settings)?;
-                self.run_over::<J, R, _, E>(host, list, links, err)
-            }
+        match GroupLinks::of(host, &self.settings)? {
+            GroupLinks::Tcp(links) => self.run_over::<J, R, _, E>(host, list, links, err),
+            GroupLinks::Channels(links) => self.run_over::<J, R, _, E>(host, list, links, err),
         }
     }
 
@@ -90,30 +85,29 @@ impl<S: Starts + Send + Drop + 'static> Node<'_, S> {
         let (ready, writer) = Ready::<R, L, J>::new(
             host, list, &settings, &image, &mut links, traffic,
         )?;
-        let (journal, printer) = Journal::new(alloc)?;
+        let Journals {
+            driver: journal,
+            printer,
+            ..
+        } = Journals::new(alloc)?;
         let parts = Parts {
             links,
             stores,
             writer,
             journal,
-            printer,
             status,
         };
-        let mut drive = match Drive::start(host, &settings, &image, parts) {
-            Ok(drive) => drive,
+        let driving = match Driving::start(host, &settings, &image, parts) {
+            Ok(driving) => driving,
             Err(failed) => {
                 directory.clear(rt, alloc);
                 return Err(failed);
             }
         };
         match ready.open(host, directory) {
-            Ok(open) => {
-                let done = open.attend(&rt, &mut drive, err);
-                drive.end();
-                done
-            }
+            Ok(open) => open.attend(&rt, driving, printer, err),
             Err(failed) => {
-                drive.end();
+                driving.end(&rt);
                 directory.clear(rt, alloc);
                 Err(failed)
             }

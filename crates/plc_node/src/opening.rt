@@ -1,25 +1,25 @@
 //! What takes connections: the sessions of Modbus clients, and an operator's console if one is asked for.
 
-ghost use Rattle.std.specs.Prelude.{◌≡◌, ◌+◌, [], IfOk, Some, length};
-ghost use Rattle.plc_status.specs.Journal.{IsNew};
+ghost use Rattle.std.specs.Prelude.{◌≡◌, [], IfOk, Some};
+ghost use Rattle.plc_status.specs.Journal.{IsJournalOf};
 ghost use Rattle.plc_status.specs.Notices.{IsServingTold};
 
+use crate::driving::{Driven, Driving};
 use il_loader::Image;
-use io_image::{Naming, NewList, ReleasedWriter, SharedPen, Stage, released};
+use io_image::{Naming, NewList, Pen, ReleasedWriter, SharedPen, Stage, released};
 use io_model::CountedWrite;
 use modbus_server::{OpenServer, Server};
 use plc_console::{Console, Desk, OpenConsole};
-use plc_driver::{Directory, Drive};
+use plc_driver::Directory;
 use plc_host::{Failed, Host, ServiceRuntime, Traffic};
 use plc_listener::Door;
 use plc_settings::Settings;
-use plc_status::{Counts, Notice};
+use plc_status::{Counts, Printer, tell_port};
 use std::net::{Net, TcpListener, TcpStream};
 use std::rt::Files;
 use std::sync::Arc;
 use std::time::Duration;
 use vr_ports::Relink;
-use vr_threads::Starts;
 
 /// So many sessions are served at once.
 const SESSIONS: usize = 16;
@@ -35,6 +35,8 @@ pub(crate) struct Ready<R: ServiceRuntime, L: Relink + Drop, J: Naming> {
 pub(crate) struct Open<R: ServiceRuntime, L: Relink + Drop, J: Naming> {
     server: OpenServer<R, J>,
     console: Option<OpenConsole<R, L>>,
+    /// The inputs that the sessions stage.
+    stage: Arc<Stage>,
 }
 
 impl<R, L, J> Ready<R, L, J>
@@ -92,12 +94,32 @@ where
             Some(console) => Some(console.open()?),
             None => None,
         };
-        match server.open() {
-            Ok(server) => Ok(Open { server, console }),
+        match opened(server) {
+            Ok((server, stage)) => Ok(Open {
+                server,
+                console,
+                stage,
+            }),
             Err(failed) => {
                 close_console(console);
                 Err(failed)
             }
+        }
+    }
+}
+
+/// Opens the sessions. Beside them the inputs that they stage.
+fn opened<R, J>(server: Server<R, J>) -> Result<(OpenServer<R, J>, Arc<Stage>), Failed>
+where
+    R: ServiceRuntime + Net<Listener = TcpListener, Stream = TcpStream> + Files,
+    J: Naming + Send + Sync + 'static,
+{
+    let server = server.open()?;
+    match server.shared_stage() {
+        Ok(stage) => Ok((server, stage)),
+        Err(_) => {
+            server.close();
+            Err(Failed::Memory)
         }
     }
 }
@@ -118,28 +140,38 @@ where
     J: Naming + Send + Sync + 'static,
 {
     /// Tells the port, has the group scan while connections are served, until as many scans are released as are asked
-    /// for, and ends each session and the threads.
-    pub(crate) fn attend<S: Starts + Send + Drop + 'static, E: CountedWrite>(
+    /// for, and ends each session, each replica and the threads. Where a replica's thread isn't at its end after a
+    /// while, that's told, and a device failed.
+    pub(crate) fn attend<P: Pen<J> + Send + Drop + 'static, E: CountedWrite>(
         self,
         rt: &R,
-        drive: &mut Drive<R, L, S, J, SharedPen<J, R>>,
+        driving: Driving<R, L, J, P>,
+        mut printer: Printer,
         err: &mut E,
     ) -> Result<Counts, Failed>
-        requires { IsNew drive.old.journal drive.old.printer }
-        ensures counted { IfOk result
-            (λ counts. length drive.new.writer ≡ length drive.old.writer + counts.scans) }
-        ensures scans { IfOk result (λ counts. drive.old.scans ≡ Some counts.scans) }
+        requires { IsJournalOf driving.drive.journal printer.driver }
+        ensures scans { IfOk result (λ counts. driving.drive.scans ≡ Some counts.scans) }
         ensures told { IsServingTold E.CountedWrite err.old err.new }
     {
-        drive.journal.put(Notice::Serving(self.server.port()));
-        let mut stage = self.server.stage().handle(rt);
-        let done = drive.run(&mut stage, err);
-        let Open { server, console } = self;
+        let Open {
+            server,
+            console,
+            stage,
+        } = self;
+        tell_port(err, server.port());
+        let (Driven { mut drive, done }, threads) = driving.run(rt, stage, &mut printer, err);
         let (sessions, writes) = server.close();
         close_console(console);
-        drive.printer.finish(&mut drive.journal, err);
+        let is_ended = drive.end();
+        printer.finish(&mut drive.journal, err);
+        let crashes = drive.crashes();
+        drop(drive);
+        if !is_ended {
+            return Err(Failed::Device);
+        }
+        threads.join(rt);
         Ok(Counts {
-            crashes: drive.crashes(),
+            crashes,
             scans: done?,
             sessions,
             writes,

@@ -17,6 +17,8 @@ mod failing_rows;
 #[cfg(test)]
 mod falling;
 #[cfg(test)]
+mod hanging_rows;
+#[cfg(test)]
 mod image_rows;
 #[cfg(test)]
 mod link_rows;

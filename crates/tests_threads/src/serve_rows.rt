@@ -287,7 +287,12 @@ const ROWS: &[Row] = &[
         least: 4980,
         status: 0,
         out: b"scans 250\n",
-        err: &["replica 0 store", "replica 0 down", "replica 0 normal"],
+        err: &[
+            "replica 0 store",
+            "replica 0 down",
+            "replica 0 starts",
+            "replica 0 normal",
+        ],
         has_file: true,
         ..REFUSED
     },

@@ -4,6 +4,6 @@ pub returns-else-not-is_released-clause-scanned : goal.returns-else-not-is_relea
 returns-else-not-is_released-clause-scanned g c = record {
   message = c.in-Message.message;
   knows = c.args.self.now.driver.state;
-  halts = c.halt_in.ensures.halt;
+  halts = c.halt_in.ensures;
   published = c.in_ok-is_released-in-Message.ensures.published;
 }
