@@ -52,18 +52,15 @@ impl Link for QuietLink {
     }
 }
 
-/// A period, for how many receives the link is quiet, and how often the request is sent then: once, and after each
-/// period to all three replicas.
-const ROWS: [(Duration, u32, u32); 3] = [
-    (Duration::from_secs(3600), 0, 1),
-    (Duration::from_secs(3600), 5, 1),
-    (Duration::from_secs(0), 5, 16),
-];
+/// A period in seconds, for how many receives the link is quiet, and how often the request is sent then: once, and after
+/// each period to all three replicas.
+const ROWS: [(u64, u32, u32); 3] = [(3600, 0, 1), (3600, 5, 1), (0, 5, 16)];
 
 #[test]
 fn a_request_is_sent_again_after_each_period(rt: HostRuntime) -> Result<(), Fail> {
     let alloc = rt.alloc();
-    for (period, quiet, sent) in ROWS {
+    for (seconds, quiet, sent) in ROWS {
+        let period = Duration::from_secs(seconds);
         let (config, _) = group_of_three()?;
         let mut client = GroupClient::new(&config, OPERATOR, 0);
         let mut link = QuietLink { quiet, sent: 0 };
