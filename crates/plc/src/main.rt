@@ -210,7 +210,10 @@ fn perform<W: Write, E: CountedWrite>(
                 ));
             }
             match to_serve(rt, source, store, report, settings) {
-                Ok((service, report)) => return Outcome::Serve { service, report },
+                Ok((service, report)) => match taken_port(rt, &settings) {
+                    Some(port) => tell_port(port, err),
+                    None => return Outcome::Serve { service, report },
+                },
                 Err(Failed::Device) => tell_unread(source, err),
                 Err(failed) => tell(fault_of_failed(failed), err),
             }
@@ -237,6 +240,23 @@ fn tell_of<E: CountedWrite>(path: &str, fault: Fault, err: &mut E) -> u8 {
     match fault {
         Fault::Device => tell_unread(path, err),
         fault => tell(fault, err),
+    }
+}
+
+/// A port of this machine, or none where it's in use.
+fn listener(rt: &HostRuntime, port: u16) -> Option<TcpListener> {
+    TcpListener::bind(rt, ("127.0.0.1", port)).ok()
+}
+
+/// The first port of a controller that is to be served which isn't to be had.
+fn taken_port(rt: &HostRuntime, settings: &Settings) -> Option<u16> {
+    let clients = listener(rt, settings.port);
+    if clients.is_none() {
+        return Some(settings.port);
+    }
+    match settings.console {
+        Some(port) if listener(rt, port).is_none() => Some(port),
+        _ => None,
     }
 }
 
@@ -508,12 +528,12 @@ where
             Ok(status) => status,
             Err(failed) => tell(fault_of_failed(failed), err),
         },
-        Err(_) => tell_no_console(console.port, err),
+        Err(_) => tell_port(console.port, err),
     }
 }
 
-/// Tells that nobody serves at a port, and answers the status.
-fn tell_no_console<E: CountedWrite>(port: u16, err: &mut E) -> u8 {
+/// Tells that a port isn't to be had, or nobody serves at it, and answers the status.
+fn tell_port<E: CountedWrite>(port: u16, err: &mut E) -> u8 {
     if put_numbered(err, b"plc: device port ", usize::from(port)).is_ok() {
         let _ = put(err, b"\n");
     }
