@@ -1,0 +1,5 @@
+pub mod Links
+pub mod Fresh
+pub mod Hands
+pub mod Rounds
+pub mod Stations
