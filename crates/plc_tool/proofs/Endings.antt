@@ -1,6 +1,6 @@
 -- What a call's end tells, by what it did.
 use Rattle.std.proofs.Common.{◌≡◌, ◌⊎◌, inl, inr, ℕ, List, Result, Ok, Err, subst, sym, ap, ◌∙◌, arith, refl}
-use Rattle.std.specs.Prelude.{IfErr, OnOk}
+use Rattle.std.specs.Prelude.{IfErr, OnOk, IsOk}
 use Rattle.io_model.specs.Counted.{Failed}
 use Rattle.io_model.specs.declared.counted.CountedWrite.{Ghosts as CountedWriter}
 use Rattle.plc_json.specs.declared.command.JsonFault.{JsonFault}
@@ -116,3 +116,8 @@ module _ {W : Type 0} (w : CountedWriter W) (old new : W) where
   ]
   stops_late F A B before after (Err e) status input two (inr h) ends =
       inr (inr h.1, told_as e faults.Memory (is_memory F input e h.0 (sym ends.0 ∙ two)) ends.1)
+
+-- what holds where it is done, holds of what is done
+pub where_ok : (r : Result (Unit {0}) Fault) (P : Type 0) → IsOk r → OnOk r P → P
+where_ok (Ok x) P good h = h
+where_ok (Err e) P good h = absurd cc

@@ -1,4 +1,4 @@
-use Rattle.plc_tool.proofs.Endings.{by_end, told_at_1, unwritten, refused, stops_late, why_stopped}
+use Rattle.plc_tool.proofs.Endings.{by_end, told_at_1, unwritten, refused, stops_late, why_stopped, where_ok}
 use Rattle.plc_tool.proofs.Inputs.{of_schedule}
 use Rattle.plc_tool.specs.Simulated.{IsToldOf}
 use Rattle.plc_tool.proofs.calls.sim_events.Goals as goal
@@ -17,3 +17,6 @@ pub returns-clause-cut : goal.returns-clause-cut
 returns-clause-cut g c = λ two.
     stops_late g.E.CountedWrite _ _ (IsToldOf c.args.source.now c.args.group.now.config.f c.args.group.now.budget.instructions c.args.named.now) _ _ _ _ _ _
     (of_schedule c.args.source.now c.args.group.now.config.f c.args.group.now.budget.instructions c.args.named.now) two c.put_report.ensures.err c.ended.ensures.ends
+
+pub returns-clause-replicated : goal.returns-clause-replicated
+returns-clause-replicated g c = λ done. where_ok c.put_report.result _ (c.ended.ensures.good done) c.put_report.ensures.replicated
