@@ -76,8 +76,8 @@ where
     L: Relink + Send + Drop + 'static,
     J: Naming + Send + Sync + 'static,
     P: Pen<J> + Send + Drop + 'static,
-    ensures scans { IfOk result.done (λ scans. drive.entry.scans ≡ Some scans) }
-    ensures noted { AreNoted drive.entry.journal result.drive.journal }
+    ensures scans { IfOk result.done (λ scans. drive.scans ≡ Some scans) }
+    ensures noted { AreNoted drive.journal result.drive.journal }
 {
     let done = drive.run(&mut stage.handle(&rt));
     drive.journal.end();
@@ -120,8 +120,8 @@ where
         printer: &mut Printer,
         err: &mut E,
     ) -> (Driven<R, L, J, P>, ClusterThreads)
-        ensures scans { IfOk result.0.done (λ scans. self.entry.drive.scans ≡ Some scans) }
-        ensures noted { AreNoted self.entry.drive.journal result.0.drive.journal }
+        ensures scans { IfOk result.0.done (λ scans. self.drive.scans ≡ Some scans) }
+        ensures noted { AreNoted self.drive.journal result.0.drive.journal }
         ensures printed { Prints E.CountedWrite printer.old printer.new err.old err.new }
     {
         let Driving { drive, threads } = self;
@@ -131,8 +131,8 @@ where
         };
         let theirs = *rt;
         let work = move || -> Driven<R, L, J, P>
-            ensures { IfOk result.done (λ scans. drive.entry.scans ≡ Some scans)
-                × AreNoted drive.entry.journal result.drive.journal }
+            ensures { IfOk result.done (λ scans. drive.scans ≡ Some scans)
+                × AreNoted drive.journal result.drive.journal }
         { run_to_end(theirs, drive, stage) };
         let driven = match thread::spawn_with(rt, returning, work) {
             Ok(thread) => {
