@@ -485,47 +485,71 @@ struct Ended {
     has_file: bool,
 }
 
-/// Which replicas were told to be down, and not since to be normal.
+/// What was told of a replica.
 #[derive(Clone, Copy)]
-struct Turns {
-    are_down: [bool; 7],
+struct Turn {
+    /// That it's down, and not since that it's normal.
+    is_down: bool,
+    /// That its store failed.
+    has_failed: bool,
+    /// That it starts, and not since that its store failed.
+    has_started: bool,
 }
 
-impl Turns {
-    /// Whether a line tells that a replica is down, which wasn't told since it was normal, or that one is normal again.
-    fn take(&mut self, line: &str) -> bool {
-        let Some((number, what)) = line
-            .strip_prefix("replica ")
-            .and_then(|it| it.split_once(' '))
-        else {
-            return false;
-        };
-        let number = number.parse::<usize>().unwrap_or(usize::MAX);
-        let Some(is_down) = self.are_down.get_mut(number) else {
-            return false;
-        };
-        let was_down = *is_down;
-        *is_down = what == "down";
+impl Turn {
+    /// Whether this may be told of it without being wanted: that it's down, once, and normal again behind that; and of
+    /// one whose store failed that it starts, and behind that once that its store failed.
+    fn take(&mut self, what: &str) -> bool {
+        let was = *self;
         match what {
-            "down" => !was_down,
-            "normal" => was_down,
+            "down" => self.is_down = true,
+            "normal" => self.is_down = false,
+            "starts" => self.has_started = true,
+            "store" => {
+                self.has_failed = true;
+                self.has_started = false;
+            }
+            _ => {}
+        }
+        match what {
+            "down" => !was.is_down,
+            "normal" => was.is_down,
+            "starts" => was.has_failed,
+            "store" => was.has_started,
             _ => false,
         }
     }
 }
 
+/// Whether a line tells of a replica what may be told without being wanted.
+fn is_turn(turns: &mut [Turn], line: &str) -> bool {
+    let Some((number, what)) = line
+        .strip_prefix("replica ")
+        .and_then(|it| it.split_once(' '))
+    else {
+        return false;
+    };
+    let number = number.parse::<usize>().unwrap_or(usize::MAX);
+    match turns.get_mut(number) {
+        Some(turn) => turn.take(what),
+        None => false,
+    }
+}
+
 /// Whether a text has these lines, in order, and no other but that of a port and those of replicas that are down for a
-/// while: a store that fails and a crash are told only where they are wanted.
+/// while or are started again: that a store failed, or a replica crashed, is told only where it's wanted.
 fn tells(text: &str, lines: &[&str]) -> bool {
     let mut count = 0usize;
-    let mut turns = Turns {
-        are_down: [false; 7],
-    };
+    let mut turns = [Turn {
+        is_down: false,
+        has_failed: false,
+        has_started: false,
+    }; 7];
     for line in text.split_terminator('\n') {
-        let is_turn = turns.take(line);
+        let may_be = is_turn(&mut turns, line);
         if lines.get(count) == Some(&line) {
             count = count.saturating_add(1);
-        } else if !is_turn && !line.starts_with("serving on ") {
+        } else if !may_be && !line.starts_with("serving on ") {
             return false;
         }
     }
