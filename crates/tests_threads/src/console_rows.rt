@@ -94,16 +94,16 @@ const ROWS: [Row; 6] = [
     Row {
         line: b"",
         comes_again: false,
-        asked: Asked::Commands(b"[{\"read\": \"N\"}, {\"break\": 1}]"),
+        asked: Asked::Commands(b"[{\"read\": \"N\"}, {\"break\": 3}]"),
         printed: b"value INT#10\ndone\n",
     },
     Row {
-        line: b"held 1",
+        line: b"held 3",
         comes_again: true,
         asked: Asked::Commands(
-            b"[{\"read\": \"N\"}, \"cr\", {\"clear\": 1}, \"continue\", {\"read\": \"%QW0\"}]",
+            b"[{\"read\": \"N\"}, \"cr\", {\"clear\": 3}, \"continue\", {\"read\": \"%QW0\"}]",
         ),
-        printed: b"value INT#10\nvalue INT#10\ndone\noutputs ? QW0=11\nvalue INT#11\n",
+        printed: b"value INT#10\nvalue INT#11\ndone\noutputs ? QW0=11\nvalue INT#11\n",
     },
 ];
 
@@ -381,8 +381,8 @@ impl<R: Net<Listener = TcpListener, Stream = TcpStream> + Wait + Copy + Drop> Wr
 /// Others come where no replica crashes.
 fn settings(console: u16, links: Links, crash: Option<u32>) -> Option<Settings> {
     let (idle, scans) = match crash {
-        Some(_) => (20 * IDLE, 14),
-        None => (IDLE, 20),
+        Some(_) => (20 * IDLE, 10),
+        None => (IDLE, 12),
     };
     Some(Settings {
         config: Config::new(1, 64)?,
