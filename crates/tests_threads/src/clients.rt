@@ -29,7 +29,7 @@ const CROWD: u8 = 15;
 const QUEUE: u8 = 20;
 
 /// So many are let go.
-const GUESTS: u8 = 3;
+const GUESTS: u8 = 2;
 
 /// What a visit gives that went well, beside its steps.
 pub const ALL: u8 = CROWD + QUEUE + GUESTS + 1;
@@ -155,15 +155,10 @@ enum Manner {
     Silent,
     /// It sends a byte of one request now and then.
     Slow,
-    /// It sends requests, and takes no reply.
-    Deaf,
 }
 
 /// The header and the function of a request with 253 bytes to come.
 const SLOW_REQUEST: [u8; 8] = [0, 7, 0, 0, 0, 254, 1, 16];
-
-/// So many requests a deaf client sends at once.
-const MANY: usize = 20_000;
 
 /// In milliseconds: so often these clients go on.
 const MOMENT: u64 = 100;
@@ -173,8 +168,6 @@ const MOMENT: u64 = 100;
 struct Guest {
     stream: TcpStream,
     manner: Manner,
-    /// How many bytes of its requests it sent.
-    sent: usize,
     stayed: Option<Duration>,
 }
 
@@ -205,28 +198,21 @@ impl Guest {
         Ok(Guest {
             stream,
             manner,
-            sent: 0,
             stayed: None,
         })
     }
 
     /// What it does in a moment.
-    fn act(&mut self, requests: &[u8]) -> io::Result<usize> {
+    fn act(&mut self) -> io::Result<usize> {
         match self.manner {
             Manner::Silent => self.stream.read(&mut [0; 1]),
             Manner::Slow => self.stream.write(&[0; 1]),
-            Manner::Deaf => {
-                let at = self.sent % REQUEST.len();
-                let count = self.stream.write(requests.get(at..).unwrap_or(&[]))?;
-                self.sent = self.sent.wrapping_add(count);
-                Ok(count)
-            }
         }
     }
 
     /// Goes on, if it wasn't let go yet: it's so late now.
-    fn go_on(&mut self, requests: &[u8], now: Duration) {
-        if self.stayed.is_none() && is_over(self.act(requests)) {
+    fn go_on(&mut self, now: Duration) {
+        if self.stayed.is_none() && is_over(self.act()) {
             self.stayed = Some(now);
         }
     }
@@ -239,35 +225,29 @@ impl Guest {
 }
 
 /// Goes on with each of these: whether each was let go.
-fn go_on(guests: &mut [Guest], requests: &[u8], now: Duration) -> bool {
+fn go_on(guests: &mut [Guest], now: Duration) -> bool {
     let mut are_gone = true;
     for guest in guests.iter_mut() {
-        guest.go_on(requests, now);
+        guest.go_on(now);
         are_gone = are_gone && guest.stayed.is_some();
     }
     are_gone
 }
 
-/// How many are let go after two seconds, and not before, of three that come at once.
+/// How many are let go after two seconds, and not before, of two that come at once.
 fn let_go<R: Net<Listener = TcpListener, Stream = TcpStream> + Clock>(
     rt: &R,
-    alloc: Global,
     port: u16,
 ) -> io::Result<u8> {
-    let mut requests = Vec::new(alloc);
-    for _ in 0..MANY {
-        requests.extend_from_slice(&request(3, 0, 64))?;
-    }
     let begun = Instant::now(rt)?;
     let mut guests = [
         Guest::new(rt, port, Manner::Silent)?,
         Guest::new(rt, port, Manner::Slow)?,
-        Guest::new(rt, port, Manner::Deaf)?,
     ];
     for _ in 0..80u8 {
         thread::sleep(rt, Duration::from_millis(MOMENT));
         let now = Instant::now(rt)?.saturating_duration_since(begun);
-        if go_on(&mut guests, requests.as_slice(), now) {
+        if go_on(&mut guests, now) {
             break;
         }
     }
@@ -295,7 +275,7 @@ fn made_visit<R: Net<Listener = TcpListener, Stream = TcpStream> + Clock>(
         Visit::Operator(console) => is_cut(rt, console),
         Visit::All(steps) => {
             let count = crowd(rt, alloc, port)?.saturating_add(queue(rt, port)?);
-            let count = count.saturating_add(let_go(rt, alloc, port)?);
+            let count = count.saturating_add(let_go(rt, port)?);
             Ok(count.saturating_add(stepped(rt, &mut connect(rt, port)?, steps)?))
         }
     }
