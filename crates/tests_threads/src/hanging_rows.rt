@@ -146,7 +146,7 @@ fn a_disk_that_hangs_stops_no_scan(rt: HostRuntime) -> Result<(), Fail> {
         Host { rt, alloc },
         NewList::new(),
         Service {
-            source: Vec::from_slice(alloc, b"LD TRUE\nST %QX0.0\n")?,
+            source: Vec::from_slice(alloc, b"LD %IX0.0\nST %QX0.0\n")?,
             directory: String::from_str(alloc, "hanging")?,
             stores,
             settings,
