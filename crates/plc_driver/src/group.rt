@@ -233,8 +233,9 @@ where
     pub(crate) fn end(&mut self, journal: &mut Journal) -> bool
         ensures { AreNoted journal.old journal.new }
     {
-        self.cluster.cut();
         for _ in 0..LONGEST_END / LOOK {
+            // Again with each look: a start that was under way makes its link anew.
+            self.cluster.cut();
             if self.are_idle() {
                 return true;
             }
