@@ -142,7 +142,6 @@ where
     /// Tells the port, has the group scan while connections are served, until as many scans are released as are asked
     /// for, and ends each session, each replica and the threads. Where a replica's thread isn't at its end after a
     /// while, that's told, and a device failed.
-    #[tactic(auto, using(crate::proofs::Served::served))]
     pub(crate) fn attend<P: Pen<J> + Send + Drop + 'static, E: CountedWrite>(
         self,
         rt: &R,
