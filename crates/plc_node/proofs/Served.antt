@@ -1,5 +1,5 @@
 -- What is told of a controller that was served, by what was put into its journal and printed of it.
-use Rattle.std.proofs.Common.{◌≡◌, List, [], ◌∷◌, ◌++◌, subst, sym, ◌∙◌}
+use Rattle.std.proofs.Common.{◌≡◌, List, [], ◌∷◌, ◌++◌, refl, subst, sym, ◌∙◌, append-nil}
 use Rattle.io_model.specs.declared.counted.CountedWrite.{Ghosts as CountedWriter}
 use Rattle.rtrb.specs.Ring.{SameConsumer}
 use Rattle.plc_status.specs.declared.feed.Feed.{Feed}
@@ -7,7 +7,7 @@ use Rattle.plc_status.specs.declared.journal.Journal.{Journal}
 use Rattle.plc_status.specs.declared.notice.Notice.{Notice}
 use Rattle.plc_status.specs.declared.printer.Printer.{Printer}
 use Rattle.plc_status.specs.Notices.{IsPortTold, IsServingTold, WentOutInOrder}
-use Rattle.plc_status.specs.Journal.{IsJournalOf, IsPrintedOut, IsSameJournal, Prints, loss}
+use Rattle.plc_status.specs.Journal.{printed, IsJournalOf, IsPrintedOut, IsSameJournal, Prints, loss}
 
 joined : {W : Type 0} (w : CountedWriter W) (early late : List Notice) (a b c : W) → WentOutInOrder w early a b → WentOutInOrder w late b c → WentOutInOrder w (early ++ late) a c
 joined w [] late a b c before after = subst (λ it. WentOutInOrder w late it c) before after
@@ -29,3 +29,15 @@ module _ {W : Type 0} (w : CountedWriter W) where
     port = port;
     notices = record { told = while_.notices ++ (out.notices ++ loss m.lost); lines = joined w while_.notices _ b c d while_.lines out.lines };
   }
+
+-- nothing was printed
+pub nothing : {W : Type 0} (w : CountedWriter W) (p : Printer) (a : W) → Prints w p p a a
+nothing w p a = record {
+  of_driver = [];
+  of_console = [];
+  notices = [];
+  driver = record { same = ((refl, refl, refl, refl), refl); taken = sym (append-nil (printed p.driver)) };
+  console = record { same = ((refl, refl, refl, refl), refl); taken = sym (append-nil (printed p.console)) };
+  merged = (refl, refl);
+  lines = refl;
+}

@@ -130,10 +130,7 @@ where
             journal: Snapshot::of(&drive.journal),
         };
         let theirs = *rt;
-        let work = move || -> Driven<R, L, J, P>
-            ensures { IfOk result.done (λ scans. drive.scans ≡ Some scans)
-                × AreNoted drive.journal result.drive.journal }
-        { run_to_end(theirs, drive, stage) };
+        let work = move || run_to_end(theirs, drive, stage);
         let driven = match thread::spawn_with(rt, returning, work) {
             Ok(thread) => {
                 printer.attend(rt, err);

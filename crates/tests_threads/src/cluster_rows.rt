@@ -282,29 +282,29 @@ fn is_answered<L: Link>(link: &mut L, client: ClientNumber, number: u64) -> bool
 
 /// What is waited for, of what shows of a replica.
 #[derive(Clone, Copy)]
-enum Wanted {
+enum Sought {
     Served,
     Ended,
     Normal,
 }
 
-/// Whether a replica shows what is wanted.
-fn shows(shown: Shown, wanted: Wanted) -> bool {
-    match wanted {
-        Wanted::Served => shown.is_served,
-        Wanted::Ended => !shown.is_served,
-        Wanted::Normal => shown.is_normal(),
+/// Whether a replica shows what is sought.
+fn shows(shown: Shown, sought: Sought) -> bool {
+    match sought {
+        Sought::Served => shown.is_served,
+        Sought::Ended => !shown.is_served,
+        Sought::Normal => shown.is_normal(),
     }
 }
 
 /// Whether a replica comes to that in time, once no start of it is under way.
-fn comes_to<R, L>(rt: &R, cluster: &mut Cluster<L>, number: u8, wanted: Wanted) -> bool
+fn comes_to<R, L>(rt: &R, cluster: &mut Cluster<L>, number: u8, sought: Sought) -> bool
 where
     R: time::Clock,
     L: Relink + Send + Drop + 'static,
 {
     for _ in 0..10_000u32 {
-        if !cluster.is_starting(number) && shows(cluster.shown(number), wanted) {
+        if !cluster.is_starting(number) && shows(cluster.shown(number), sought) {
             return true;
         }
         thread::sleep(rt, Duration::from_millis(1));
@@ -328,21 +328,21 @@ where
     R: Threads + Wait + time::Clock + Copy + Send + Drop + 'static,
     L: Relink + Send + Drop + 'static,
 {
-    let started = comes_to(rt, cluster, 0, Wanted::Served);
+    let started = comes_to(rt, cluster, 0, Sought::Served);
     let early = cluster.shown(0);
     goes.store(true, Ordering::SeqCst);
     let answered = is_answered(link, client, 1);
-    let recovered = comes_to(rt, cluster, 2, Wanted::Normal);
+    let recovered = comes_to(rt, cluster, 2, Sought::Normal);
     cluster.crash(0);
-    let ended = comes_to(rt, cluster, 0, Wanted::Ended);
+    let ended = comes_to(rt, cluster, 0, Sought::Ended);
     let down = cluster.shown(0);
     let answered_without = is_answered(link, client, 2);
     goes.store(false, Ordering::SeqCst);
     let restarted = cluster.restart(rt, 0);
-    let held_in_time = comes_to(rt, cluster, 0, Wanted::Served);
+    let held_in_time = comes_to(rt, cluster, 0, Sought::Served);
     let held = cluster.shown(0);
     goes.store(true, Ordering::SeqCst);
-    let back = comes_to(rt, cluster, 0, Wanted::Normal);
+    let back = comes_to(rt, cluster, 0, Sought::Normal);
     let answered_again = is_answered(link, client, 3);
     let unknown = cluster.shown(3);
     (
@@ -550,9 +550,9 @@ fn a_disk_that_hangs_holds_up_its_replica_alone(rt: HostRuntime) -> Result<(), F
     assert!(rt; cluster.is_starting(2) && !cluster.restart(&rt, 2));
     assert!(rt; !cluster.shown(2).is_normal() && !cluster.is_idle(2));
     goes.store(true, Ordering::SeqCst);
-    assert!(rt; comes_to(&rt, &mut cluster, 2, Wanted::Normal));
+    assert!(rt; comes_to(&rt, &mut cluster, 2, Sought::Normal));
     cluster.cut();
-    assert!(rt; comes_to(&rt, &mut cluster, 2, Wanted::Ended));
+    assert!(rt; comes_to(&rt, &mut cluster, 2, Sought::Ended));
     assert!(rt; cluster.is_idle(2));
     drop(cluster);
     threads.join(&rt);
