@@ -23,7 +23,8 @@
 //! is 100 ms at first and doubles up to 5 s. A round takes what each reply shows, step by step, and is handed over only
 //! once each step is done, whole. A round is begun with the outputs only while the controller is fresh, and else without.
 //!
-//! Shown by rows (`fields.rows` of `tests_bytes`): the order of what is done, notices, that a late device doesn't hold up.
+//! By its code alone: the order of what is done, notices, that a late device doesn't hold up. No row or test of the gate
+//! has it yet, and no program uses it.
 #![tactic(auto)]
 
 mod controller;

@@ -16,8 +16,8 @@
 //! were handed over, each place that a reading fills has what was gathered there, or what its device's fallback says,
 //! each alive bit says whether its device answers, and no other place is written (`know_each_place`).
 //!
-//! By its code alone, and shown by rows (`fields.rows` of `tests_bytes`): which key says what, and that a fault is told
-//! by its own.
+//! By its code alone: which key says what, and that a fault is told by its own. No row or test of the gate has it yet,
+//! and no program uses it.
 #![tactic(auto)]
 
 mod device;
