@@ -19,7 +19,7 @@
 //! refused for the first reason; the identity is the SHA-256 of bytes that are different for different terms
 //! (`terms_are_told`).
 //!
-//! Tests (nothing rests on them alone): `hello.rows` of `tests_bytes` cuts a hello at each byte and has each refusal.
+//! No row or test of the gate has it yet, and no program uses it.
 //! That no two groups have one SHA-256 is a premise, and nothing here is authentic or secret.
 #![tactic(auto)]
 

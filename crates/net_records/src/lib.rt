@@ -18,7 +18,7 @@
 //! changes neither, and is put between two records. Of a prefix of a stream a prefix of its bodies is given
 //! (`know_records`).
 //!
-//! Tests (nothing rests on them alone): `frames.rows` of `tests_bytes` cuts a stream of records at each byte.
+//! No row or test of the gate has it yet, and no program uses it.
 #![tactic(auto)]
 
 mod incoming;

@@ -12,7 +12,7 @@
 //! a name goes on exactly where a change of the program carries it over, by the definition of that change
 //! (`specs/Compared`). A source that is refused is told by its first fault, and nothing is written.
 //!
-//! Tests (nothing rests on them alone): rows of `tests_rows`.
+//! Tests (nothing rests on them alone): `names.rows` of `tests_rows`.
 #![tactic(auto)]
 
 mod calls;
