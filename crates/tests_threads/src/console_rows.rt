@@ -247,7 +247,7 @@ fn is_change_answered(
     wanted: &[u8],
 ) -> io::Result<bool> {
     let mut line = b"{\"change\":\"".to_vec(alloc)?;
-    line.extend_from_slice(Vec::from_elem(alloc, b'0', 2 * length)?.as_slice())?;
+    line.extend_from_slice(Vec::from_elem(alloc, b'0', length.saturating_add(length))?.as_slice())?;
     line.extend_from_slice(b"\"}\n")?;
     is_answered(stream, line.as_slice(), wanted)
 }
