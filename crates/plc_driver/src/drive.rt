@@ -68,7 +68,7 @@ pub struct Parts<L: Drop, S: Drop, J: Naming, P: Pen<J> + Drop> {
 /// The scan loop of a group: the client that submits its scans, with its link, the images that it publishes, and the
 /// journal that it writes. Any thread may have it.
 #[derive(Drop)]
-pub struct Drive<R, L, J, P>
+pub(crate) struct Drive<R, L, J, P>
 where
     R: Clock + Copy + Drop,
     L: Relink + Drop,
@@ -405,5 +405,13 @@ where
         ensures same { self.new.writer ≡ self.old.writer }
     {
         self.group.end(&mut self.journal)
+    }
+
+    /// Lets go of the scan loop and its group: its journal.
+    pub fn into_journal(self) -> Journal
+        ensures { result ≡ self.journal }
+    {
+        let Drive { journal, .. } = self;
+        journal
     }
 }

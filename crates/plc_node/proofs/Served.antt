@@ -29,15 +29,3 @@ module _ {W : Type 0} (w : CountedWriter W) where
     port = port;
     notices = record { told = while_.notices ++ (out.notices ++ loss m.lost); lines = joined w while_.notices _ b c d while_.lines out.lines };
   }
-
--- nothing was printed
-pub nothing : {W : Type 0} (w : CountedWriter W) (p : Printer) (a : W) → Prints w p p a a
-nothing w p a = record {
-  of_driver = [];
-  of_console = [];
-  notices = [];
-  driver = record { same = ((refl, refl, refl, refl), refl); taken = sym (append-nil (printed p.driver)) };
-  console = record { same = ((refl, refl, refl, refl), refl); taken = sym (append-nil (printed p.console)) };
-  merged = (refl, refl);
-  lines = refl;
-}

@@ -1,7 +1,6 @@
-//! A served controller, put together: the replicas of a group and the driver that has them scan (`plc_driver`),
-//! sessions at a port of this machine (`modbus_server`), an operator's console at another (`plc_console`), and the
-//! journal that tells what changes (`plc_status`). It opens them in order and closes them in reverse; it has no loop,
-//! no protocol and no text.
+//! A served controller, put together: the driver of a group of replicas (`plc_driver`), sessions at a port of this
+//! machine (`modbus_server`), an operator's console at another (`plc_console`), and the journal that tells what changes
+//! (`plc_status`). It opens them in order and closes them in reverse; it has no loop, no protocol, no text and no thread.
 //!
 //! ```rust
 //! let node = Node { image, directory, stores, settings, status }; // a store for each replica
@@ -15,7 +14,6 @@
 //! `tests_threads`).
 #![tactic(auto)]
 
-mod driving;
 mod node;
 mod opening;
 

@@ -4,12 +4,11 @@ ghost use Rattle.std.specs.Prelude.{◌≡◌, IfOk, OnOk, Some, vec_len};
 ghost use Rattle.vr_model.specs.Groups.{group_size};
 ghost use Rattle.plc_status.specs.Notices.{IsAtMostServingTold, IsServingTold};
 
-use crate::driving::Driving;
 use crate::opening::Ready;
 use il_loader::Image;
 use io_image::{Naming, NewList};
 use io_model::CountedWrite;
-use plc_driver::{Directory, GroupLinks, Parts};
+use plc_driver::{Directory, Driver, GroupLinks, Parts};
 use plc_host::{Failed, Host, ServiceRuntime};
 use plc_settings::Settings;
 use plc_status::{Counts, Journals, StatusWriter};
@@ -97,17 +96,17 @@ impl<S: Starts + Send + Drop + 'static> Node<'_, S> {
             journal,
             status,
         };
-        let driving = match Driving::start(host, &settings, &image, parts) {
-            Ok(driving) => driving,
+        let driver = match Driver::start(host, &settings, &image, parts) {
+            Ok(driver) => driver,
             Err(failed) => {
                 directory.clear(rt, alloc);
                 return Err(failed);
             }
         };
         match ready.open(host, directory) {
-            Ok(open) => open.attend(&rt, driving, printer, err),
+            Ok(open) => open.attend(&rt, driver, printer, err),
             Err(failed) => {
-                driving.end(&rt);
+                driver.end(&rt);
                 directory.clear(rt, alloc);
                 Err(failed)
             }

@@ -4,13 +4,12 @@ ghost use Rattle.std.specs.Prelude.{◌≡◌, [], IfOk, Some};
 ghost use Rattle.plc_status.specs.Journal.{IsJournalOf};
 ghost use Rattle.plc_status.specs.Notices.{IsServingTold};
 
-use crate::driving::{Driven, Driving};
 use il_loader::Image;
 use io_image::{Naming, NewList, Pen, ReleasedWriter, SharedPen, Stage, released};
 use io_model::CountedWrite;
 use modbus_server::{OpenServer, Server};
 use plc_console::{Console, Desk, OpenConsole};
-use plc_driver::Directory;
+use plc_driver::{Directory, Driver, DriverCounts, Ended};
 use plc_host::{Failed, Host, ServiceRuntime, Traffic};
 use plc_listener::Door;
 use plc_settings::Settings;
@@ -145,12 +144,12 @@ where
     pub(crate) fn attend<P: Pen<J> + Send + Drop + 'static, E: CountedWrite>(
         self,
         rt: &R,
-        driving: Driving<R, L, J, P>,
+        driver: Driver<R, L, J, P>,
         mut printer: Printer,
         err: &mut E,
     ) -> Result<Counts, Failed>
-        requires { IsJournalOf driving.drive.journal printer.driver }
-        ensures scans { IfOk result (λ counts. driving.drive.scans ≡ Some counts.scans) }
+        requires { IsJournalOf driver.drive.journal printer.driver }
+        ensures scans { IfOk result (λ counts. driver.drive.scans ≡ Some counts.scans) }
         ensures told { IsServingTold E.CountedWrite err.old err.new }
     {
         let Open {
@@ -159,20 +158,18 @@ where
             stage,
         } = self;
         tell_port(err, server.port());
-        let (Driven { mut drive, done }, threads) = driving.run(rt, stage, &mut printer, err);
+        let driven = driver.run(rt, stage, &mut printer, err);
         let (sessions, writes) = server.close();
         close_console(console);
-        let is_ended = drive.end();
-        printer.finish(&mut drive.journal, err);
-        let crashes = drive.crashes();
-        drop(drive);
-        if !is_ended {
-            return Err(Failed::Device);
-        }
-        threads.join(rt);
+        let Ended {
+            mut journal,
+            counts,
+        } = driven.end(rt);
+        printer.finish(&mut journal, err);
+        let DriverCounts { scans, crashes } = counts?;
         Ok(Counts {
             crashes,
-            scans: done?,
+            scans,
             sessions,
             writes,
         })

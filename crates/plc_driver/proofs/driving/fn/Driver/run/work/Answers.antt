@@ -1,7 +1,7 @@
 use mir.Syntax.{of_param}
 use denote.Exit.{yes}
 use denote.Param.Send.{Quiet-if}
-use Rattle.plc_node.proofs.driving.fn.Driving.run.work.Goals as goal
+use Rattle.plc_driver.proofs.driving.fn.Driver.run.work.Goals as goal
 
 pub run_to_end-requires-send-L : goal.run_to_end-requires-send-L
 run_to_end-requires-send-L g c = λ κs within. record {
