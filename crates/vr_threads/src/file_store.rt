@@ -173,15 +173,24 @@ impl<R: Files + Drop> FileStore<R> {
         }
     }
 
-    /// Writes this beside the file, flushes it, and puts it in the file's place.
+    /// Writes this to a new file beside the file, flushes it, and puts it in the file's place.
     fn write(&self, stored: Stored) -> io::Result<()> {
+        self.clear_beside()?;
         {
-            let mut file = fs::create(&self.rt, self.beside.as_str())?;
+            let mut file = fs::File::create_new(&self.rt, self.beside.as_str())?;
             file.write_all(spelt(stored).as_slice())?;
             file.sync_all()?;
         }
         fs::rename(&self.rt, self.beside.as_str(), self.path.as_str())?;
         fs::open(&self.rt, self.directory.as_str())?.sync_all()
+    }
+
+    /// Takes away what stands beside the file: a link that was put there leads to another file, which stays as it is.
+    fn clear_beside(&self) -> io::Result<()> {
+        match fs::remove_file(&self.rt, self.beside.as_str()) {
+            Err(error) if error.kind() != ErrorKind::NotFound => Err(error),
+            _ => Ok(()),
+        }
     }
 
     /// Writes this over what was found in the file.
