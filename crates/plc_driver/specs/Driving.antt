@@ -19,8 +19,10 @@ use Rattle.plc_host.specs.declared.failed.Failed.TheVariants as failures
 use Rattle.vr_threads.specs.declared.cluster.ClusterError.{ClusterError}
 use Rattle.vr_threads.specs.declared.cluster.ClusterError.TheVariants as starts
 use Rattle.plc_driver.specs.declared.drive.Scanned.{Scanned}
-use Rattle.plc_status.specs.declared.notice.Notice.{Notice}
-use Rattle.plc_status.specs.declared.notice.Notice.TheVariants as notices
+use Rattle.plc_driver.specs.declared.pace.Came.{Came}
+use Rattle.plc_status.specs.declared.scans.Halt.{Halt}
+use Rattle.plc_status.specs.declared.scans.Halt.TheVariants as halts
+use Rattle.plc_status.specs.declared.scans.Scan.{Scan}
 
 -- the releases that there are of a message: one or none
 abbrev pub releases : Option Release → List Release
@@ -32,15 +34,15 @@ abbrev pub Publishes : Option Release → Bool → List Release → List Release
 Publishes release is_released old new = (new ≡ old ++ releases release) × (is_released ≡ is_some release)
 
 -- what a scan was held or stopped by, if it was: with its place
-abbrev pub halt_of : Answer → Option Notice
-halt_of (answers.Held position) = Some (notices.Held position)
-halt_of (answers.Stopped stop position image) = Some (notices.Stopped stop position)
+abbrev pub halt_of : Answer → Option Halt
+halt_of (answers.Held position) = Some (halts.Held position)
+halt_of (answers.Stopped stop position image) = Some (halts.Stopped stop position)
 halt_of (answers.Outputs count image) = None
 halt_of (answers.Value value) = None
 halt_of answers.Done = None
 halt_of (answers.Refused refusal) = None
 
-abbrev pub halt_by : Body Command Answer → Option Notice
+abbrev pub halt_by : Body Command Answer → Option Halt
 halt_by (Reply view number answer) = halt_of answer
 halt_by _ = None
 
@@ -62,11 +64,16 @@ abbrev pub start_failed : ClusterError → Failed
 start_failed starts.Memory = failures.Memory
 start_failed starts.Thread = failures.Device
 
+-- what is counted of a scan that came so, by what came of it
+abbrev pub scan_of : Came → Scanned → Scan
+scan_of came scanned =
+    record { at = came.at; is_late = came.is_late; is_released = scanned.is_released; halt = scanned.halt }
+
 -- A scan was asked for that was due: a sample of the inputs was taken and its scan submitted, of this moment, in
 -- milliseconds; the link took the request; and the next scan is due after it.
-pub record AsksForScan (period due due_after moment : ℕ) (d d' : Client) (told told' : Option Book)
+pub record AsksForScan (period due due_after : ℕ) (came : Came) (d d' : Client) (told told' : Option Book)
     (sent sent' : Option (List Message)) : Type 0 where
-  pub awaited : IsAwaited period due due_after moment
+  pub awaited : IsAwaited period due due_after came
   pub sends : List Message
-  pub submitted : SubmitsSample d told moment sends d' told'
+  pub submitted : SubmitsSample d told came.moment sends d' told'
   pub took : Grows sent sent' sends

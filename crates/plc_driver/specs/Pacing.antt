@@ -1,6 +1,7 @@
 -- When scans are due, in nanoseconds since a beginning.
-use Rattle.std.specs.Prelude.{◌≡◌, ℕ, ◌+◌, ◌-◌, ◌/◌, ◌^◌, min, if◌then◌else◌, nat_lt}
+use Rattle.std.specs.Prelude.{◌≡◌, ℕ, ◌+◌, ◌-◌, ◌/◌, ◌^◌, min, if◌then◌else◌, nat_le, nat_lt, Bool}
 use Rattle.std.specs.Duration.{max_nanos}
+use Rattle.plc_driver.specs.declared.pace.Came.{Came}
 
 -- Behind a scan that was due then and came now: a period after that was due; or, where it came a period late or more, a
 -- period from now, so that none is made up for.
@@ -11,9 +12,14 @@ due_behind due now period = if nat_lt now (due + period) then due + period else 
 abbrev pub next_due : ℕ → ℕ → ℕ → ℕ
 next_due due now period = min (due_behind due now period) max_nanos
 
--- a scan that was due then came at this moment, in milliseconds, and the next one is due after it
-abbrev pub IsAwaited : ℕ → ℕ → ℕ → ℕ → Type 0
-IsAwaited period due due_after moment = (now : ℕ) × (moment ≡ min (now / 1_000_000) (2 ^ 64 - 1))
+-- whether a scan that was due then and came now came a period late or more
+abbrev pub is_late : ℕ → ℕ → ℕ → Bool
+is_late due now period = nat_le (min (due + period) max_nanos) now
+
+-- a scan that was due then came at this moment, in milliseconds and in microseconds, and the next one is due after it
+abbrev pub IsAwaited : ℕ → ℕ → ℕ → Came → Type 0
+IsAwaited period due due_after came = (now : ℕ) × (came.moment ≡ min (now / 1_000_000) (2 ^ 64 - 1))
+    × (came.at ≡ min (now / 1_000) (2 ^ 64 - 1)) × (came.is_late ≡ is_late due now period)
     × (due_after ≡ next_due due now period)
 
 -- so long the driver waits for a reply before it asks again: a period, but no longer than a second

@@ -2,7 +2,7 @@
 use Rattle.std.specs.Prelude.{ℕ, ◌+◌, ◌*◌, min, nat_le, nat_lt, ◌&&◌, ◌||◌, not, Bool, false, if◌then◌else◌, Option, Some}
 use Rattle.std.specs.Prelude.{None}
 use Rattle.std.specs.Duration.{max_nanos}
-use Rattle.vr_threads.specs.declared.shown.Shown.{Shown}
+use Rattle.vr_shown.specs.declared.shown.Shown.{Shown}
 
 -- whether one crashes behind a release: by each how many releases, how many there were since the last crash with this
 -- one, and whether the replica that was restarted last is normal again

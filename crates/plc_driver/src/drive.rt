@@ -9,19 +9,20 @@ ghost use Rattle.vr_model.specs.Logs.{Request as Entry};
 ghost use Rattle.vr_model.specs.StandsFor.{body_with};
 ghost use Rattle.io_driver.specs.Driver.{release_by};
 ghost use Rattle.plc_status.specs.Journal.{AreNoted};
-ghost use Rattle.plc_driver.specs.Driving.{AsksForScan, HasRun, Publishes, Scans, halt_by};
-ghost use Rattle.plc_driver.specs.Watching.{IsHaltNoted};
+ghost use Rattle.plc_status.specs.Scans.{after_scan};
+ghost use Rattle.plc_driver.specs.Driving.{AsksForScan, HasRun, Publishes, Scans, halt_by, scan_of};
+ghost use Rattle.plc_driver.specs.Watching.{IsHaltNoted, halted};
 
 use crate::crashes::Crashes;
 use crate::group::Group;
-use crate::pace::Pace;
+use crate::pace::{Came, Pace};
 use il_loader::Image;
 use il_model::Answer;
 use io_driver::ScanDriver;
 use io_image::{Naming, Pen, ReleasedWriter, Staging};
 use plc_host::{Failed, Host, ServiceRuntime};
 use plc_settings::Settings;
-use plc_status::{Journal, Notice, ScanStatus, StatusWriter};
+use plc_status::{Halt, Journal, Notice, Scan, StatusWriter};
 use std::sync::Wait;
 use std::time::{Clock, Duration, Instant};
 use vr_model::{Body, Message};
@@ -29,19 +30,29 @@ use vr_ports::{Input, Relink, send_all};
 use vr_threads::{ClusterThreads, Starts};
 
 /// By what the scan was held or stopped whose answer the message brings, if it was.
-fn halt_in(message: &Message) -> Option<Notice>
+fn halt_in(message: &Message) -> Option<Halt>
     ensures { (log : List (Entry Asked)) → result ≡ halt_by (body_with log message.now.body) }
 {
     match message.body {
         Body::Reply {
             answer: Answer::Held(position),
             ..
-        } => Some(Notice::Held(position)),
+        } => Some(Halt::Held(position)),
         Body::Reply {
             answer: Answer::Stopped { stop, position, .. },
             ..
-        } => Some(Notice::Stopped(stop, position)),
+        } => Some(Halt::Stopped(stop, position)),
         _ => None,
+    }
+}
+
+/// What is noted of a scan that was held or stopped by this, or goes on.
+fn halted(halt: Option<Halt>) -> Notice
+    ensures { result ≡ halted halt }
+{
+    match halt {
+        Some(halt) => halt.notice(),
+        None => Notice::GoesOn,
     }
 }
 
@@ -49,7 +60,7 @@ fn halt_in(message: &Message) -> Option<Notice>
 #[derive(Clone, Copy)]
 pub(crate) struct Scanned {
     /// By what it was held or stopped, if it was.
-    halt: Option<Notice>,
+    halt: Option<Halt>,
     /// Whether it released outputs: one that's held doesn't.
     is_released: bool,
 }
@@ -63,6 +74,8 @@ pub struct Parts<L: Drop, S: Drop, J: Naming, P: Pen<J> + Drop> {
     pub writer: ReleasedWriter<J, P>,
     pub journal: Journal,
     pub status: StatusWriter,
+    /// Since when the moments of scans are counted.
+    pub begun: Instant,
 }
 
 /// The scan loop of a group: the client that submits its scans, with its link, the images that it publishes, and the
@@ -83,12 +96,10 @@ where
     pace: Pace,
     crashes: Crashes,
     /// By what the last scan was held or stopped, if it was.
-    halt: Option<Notice>,
+    halt: Option<Halt>,
     pub journal: Journal,
     /// After so many releases it ends; without a number it goes on.
     pub scans: Option<u32>,
-    /// What shows of the scans.
-    shown: ScanStatus,
     status: StatusWriter,
 }
 
@@ -119,11 +130,12 @@ where
             writer,
             journal,
             status,
+            begun,
         } = parts;
         let Some(link) = links.pop() else {
             return Err(Failed::Device);
         };
-        let pace = Pace::new(Instant::now(&host.rt)?, settings.period);
+        let pace = Pace::new(begun, settings.period);
         let (group, threads) = Group::start(host, image, settings, links, stores)?;
         let drive = Drive {
             host,
@@ -136,11 +148,6 @@ where
             halt: None,
             journal,
             scans: settings.scans,
-            shown: ScanStatus {
-                releases: 0,
-                released_at: 0,
-                halt: None,
-            },
             status,
         };
         Ok((drive, threads))
@@ -205,10 +212,10 @@ where
         let rt = self.host.rt;
         for _ in rt.forever() {
             self.rest()?;
-            let moment = self.submit(staging)?;
+            let came = self.submit(staging)?;
             let scanned = self.await_reply()?;
             self.note_halt(scanned.halt);
-            self.show_scan(moment, scanned);
+            self.show_scan(came, scanned);
             if scanned.is_released {
                 return Ok(());
             }
@@ -244,36 +251,37 @@ where
         Ok(())
     }
 
-    /// Publishes what came of the scan of this moment, in milliseconds.
-    fn show_scan(&mut self, moment: u64, scanned: Scanned)
-        ensures { (self.new.writer ≡ self.old.writer) × (self.new.journal ≡ self.old.journal) }
+    /// Counts a scan that came so, with what came of it, and publishes what shows of the scans.
+    fn show_scan(&mut self, came: Came, scanned: Scanned)
+        ensures counted { self.new.status.scans ≡ after_scan self.old.status.scans (scan_of came scanned) }
+        ensures same { (self.new.writer ≡ self.old.writer) × (self.new.journal ≡ self.old.journal) }
     {
-        if scanned.is_released {
-            self.shown.releases = self.shown.releases.saturating_add(1);
-            self.shown.released_at = moment;
-        }
-        self.shown.halt = scanned.halt;
-        self.status.set_scans(self.shown);
+        self.status.scanned(Scan {
+            at: came.at,
+            is_late: came.is_late,
+            is_released: scanned.is_released,
+            halt: scanned.halt,
+        });
         self.status.publish();
     }
 
-    /// Waits until a scan is due, and submits the scan of a sample of the staged inputs: its moment, in milliseconds.
-    /// Where the numbers of requests are used up a device failed.
-    fn submit<T: Staging>(&mut self, staging: &mut T) -> Result<u64, Failed>
-        ensures asked { IfOk result (λ moment. AsksForScan (as_nanos self.old.pace.period) (as_nanos self.old.pace.due)
-            (as_nanos self.new.pace.due) moment self.old.driver self.new.driver (T.told staging.old)
+    /// Waits until a scan is due, and submits the scan of a sample of the staged inputs: how it came. Where the numbers
+    /// of requests are used up a device failed.
+    fn submit<T: Staging>(&mut self, staging: &mut T) -> Result<Came, Failed>
+        ensures asked { IfOk result (λ came. AsksForScan (as_nanos self.old.pace.period) (as_nanos self.old.pace.due)
+            (as_nanos self.new.pace.due) came self.old.driver self.new.driver (T.told staging.old)
             (T.told staging.new) (L.sent self.old.link) (L.sent self.new.link)) }
         ensures same { (self.new.writer ≡ self.old.writer) × (self.new.journal ≡ self.old.journal) }
     {
-        let moment = self.pace.await_scan(&self.host.rt)?;
+        let came = self.pace.await_scan(&self.host.rt)?;
         let Some(sends) = self
             .driver
-            .sample_and_submit(self.host.alloc, staging, moment)?
+            .sample_and_submit(self.host.alloc, staging, came.moment)?
         else {
             return Err(Failed::Device);
         };
         send_all(&mut self.link, sends);
-        Ok(moment)
+        Ok(came)
     }
 
     /// Waits for the reply to the scan, and publishes what it releases; it asks again where no reply comes for a while,
@@ -363,14 +371,14 @@ where
     /// Notes by what the scan was held or stopped, unless the one before it was so; or that it wasn't, where that one
     /// was.
     #[tactic(auto, using(crate::proofs::Noted::both, crate::proofs::Noted::none, crate::proofs::Noted::one))]
-    fn note_halt(&mut self, halt: Option<Notice>)
+    fn note_halt(&mut self, halt: Option<Halt>)
         ensures changes { AreNoted self.old.journal self.new.journal }
         ensures noted { IsHaltNoted self.old.halt halt self.old.journal self.new.journal }
         ensures halt { self.new.halt ≡ halt }
         ensures same { self.new.writer ≡ self.old.writer }
     {
         if self.halt != halt {
-            self.journal.put(halt.unwrap_or(Notice::GoesOn));
+            self.journal.put(halted(halt));
         }
         self.halt = halt;
     }

@@ -10,14 +10,15 @@ use crate::watch::Watch;
 use il_loader::Image;
 use plc_host::{Failed, Host, ServiceRuntime};
 use plc_settings::Settings;
-use plc_status::{Journal, Notice, ReplicaStatus, StatusWriter};
+use plc_status::{Journal, Notice, StatusWriter};
 use std::alloc::Global;
 use std::thread;
 use std::time::{Clock, Duration};
 use vr_model::Config;
 use vr_ports::{OpenGate, Relink};
+use vr_shown::Shown;
 use vr_threads::{
-    Cluster, ClusterConfig, ClusterError, ClusterThreads, MachineTimer, Seat, Shown, Starts,
+    Cluster, ClusterConfig, ClusterError, ClusterThreads, MachineTimer, Seat, Starts,
 };
 
 /// For so many milliseconds a replica hears nothing of its view before it begins another.
@@ -210,20 +211,8 @@ where
     /// Sets what shows of each replica.
     pub(crate) fn show(&mut self, status: &mut StatusWriter) {
         for number in 0..self.config.group_size() {
-            let Shown {
-                standing,
-                starts,
-                has_failed,
-                ..
-            } = self.shown(number);
-            status.set_replica(
-                number,
-                ReplicaStatus {
-                    standing,
-                    starts,
-                    has_failed,
-                },
-            );
+            let shown = self.shown(number);
+            status.set_replica(number, shown);
         }
     }
 

@@ -4,7 +4,7 @@
 //! no text.
 //!
 //! ```rust
-//! let parts = Parts { links, stores, writer, journal, status }; // links: the replicas', then the driver's
+//! let parts = Parts { links, stores, writer, journal, status, begun }; // links: the replicas', then the driver's
 //! let driver = Driver::start(host, &settings, &image, parts)?; // each replica has started
 //! let driven = driver.run(&rt, stage, &mut printer, &mut err); // after `settings.scans` releases
 //! let Ended { mut journal, counts } = driven.end(&rt); // each replica has ended, or one hangs, which is noted

@@ -2,7 +2,7 @@
 
 ghost use Rattle.std.specs.Prelude.{◌≡◌, ◌*◌, ◌-◌, ◌/◌, ◌^◌, min, IfOk};
 ghost use Rattle.std.specs.Duration.{as_nanos};
-ghost use Rattle.plc_driver.specs.Pacing.{longest_silence, next_due, IsAwaited, WorkedDues};
+ghost use Rattle.plc_driver.specs.Pacing.{is_late, longest_silence, next_due, IsAwaited, WorkedDues};
 
 use plc_host::Failed;
 use std::thread;
@@ -17,6 +17,17 @@ pub(crate) struct Pace {
     begun: Instant,
     period: Duration,
     due: Duration,
+}
+
+/// How a scan came.
+#[derive(Clone, Copy)]
+pub(crate) struct Came {
+    /// In milliseconds since the beginning.
+    pub(crate) moment: u64,
+    /// In microseconds since the beginning.
+    pub(crate) at: u64,
+    /// It came a period late or more.
+    pub(crate) is_late: bool,
 }
 
 impl Pace {
@@ -47,16 +58,21 @@ impl Pace {
         Ok(false)
     }
 
-    /// Sleeps until the next scan is due, and gives its moment in milliseconds. By then the one behind it is due.
-    pub(crate) fn await_scan<R: Clock>(&mut self, rt: &R) -> Result<u64, Failed>
+    /// Sleeps until the next scan is due, and tells how it came. By then the one behind it is due.
+    pub(crate) fn await_scan<R: Clock>(&mut self, rt: &R) -> Result<Came, Failed>
         ensures awaited { IfOk result
             (IsAwaited (as_nanos self.old.period) (as_nanos self.old.due) (as_nanos self.new.due)) }
         ensures period { self.new.period ≡ self.old.period }
     {
         thread::sleep(rt, self.due.saturating_sub(self.elapsed(rt)?));
         let now = self.elapsed(rt)?;
+        let came = Came {
+            moment: milliseconds(now),
+            at: microseconds(now),
+            is_late: is_late(self.due, now, self.period),
+        };
         self.due = next_due(self.due, now, self.period);
-        Ok(milliseconds(now))
+        Ok(came)
     }
 
     /// So long the driver waits for a reply before it asks again.
@@ -83,6 +99,20 @@ fn next_due(due: Duration, now: Duration, period: Duration) -> Duration
     } else {
         now.saturating_add(period)
     }
+}
+
+/// Whether a scan that was due then and came now came a period late or more.
+fn is_late(due: Duration, now: Duration, period: Duration) -> bool
+    ensures { result ≡ is_late (as_nanos due) (as_nanos now) (as_nanos period) }
+{
+    due.saturating_add(period).as_nanos() <= now.as_nanos()
+}
+
+/// A time in whole microseconds.
+fn microseconds(time: Duration) -> u64
+    ensures { result ≡ min (as_nanos time / 1_000) (2 ^ 64 - 1) }
+{
+    u64::try_from(time.as_micros()).unwrap_or(u64::MAX)
 }
 
 /// A time in whole milliseconds.

@@ -12,7 +12,7 @@ use plc_status::{Journal, Notice};
 use std::alloc::{AllocError, Global};
 use std::time::Duration;
 use vr_model::Config;
-use vr_threads::Shown;
+use vr_shown::Shown;
 
 /// So many nanoseconds a replica may not be normal before that is told.
 const PATIENCE: u128 = 1_000_000_000;

@@ -14,6 +14,7 @@ use plc_settings::Settings;
 use plc_status::{Counts, Journals, StatusWriter};
 use std::net::{Net, TcpListener, TcpStream};
 use std::rt::Files;
+use std::time::Instant;
 use vr_ports::Relink;
 use vr_threads::Starts;
 
@@ -95,6 +96,7 @@ impl<S: Starts + Send + Drop + 'static> Node<'_, S> {
             writer,
             journal,
             status,
+            begun: Instant::now(&rt)?,
         };
         let driver = match Driver::start(host, &settings, &image, parts) {
             Ok(driver) => driver,

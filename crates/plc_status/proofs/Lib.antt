@@ -1,3 +1,4 @@
 mod Merging
 mod Printing
 mod Putting
+mod Spelling

@@ -1,3 +1,5 @@
 pub mod Journal
 pub mod Notices
+pub mod Published
 pub mod Reports
+pub mod Scans

@@ -9,10 +9,13 @@
 //!
 //! Proved: what is put into a journal is added behind what was put, or it's counted as lost where the journal has no
 //! room; what is printed are, in order of each journal and each once, the lines of what was put, and at its end nothing
-//! is left of the driver's (`specs/Journal`).
+//! is left of the driver's (`specs/Journal`). What a status tells of a replica and of the scans is what the writer set and
+//! counted by the publish whose words were read (`specs/Published`, `specs/Scans`).
 //!
-//! Only tested: that what was put is printed at once (`serve_rows` of `tests_threads`), and what is read of a status
-//! (`failing_rows` there).
+//! By the code of io_board alone: that what a reader reads is what the writer published, and never half of two.
+//!
+//! Only tested: that what was put is printed at once (`serve_rows` of `tests_threads`), and what shows of a group that
+//! runs (`failing_rows` there).
 #![tactic(auto)]
 
 mod deed;
@@ -21,6 +24,7 @@ mod journal;
 mod notice;
 mod printer;
 mod report;
+mod scans;
 mod status;
 
 pub use deed::Deed;
@@ -28,4 +32,5 @@ pub use journal::{Journal, Journals};
 pub use notice::{Notice, tell_port};
 pub use printer::Printer;
 pub use report::{Counts, ReportFile, open_report, put_report};
-pub use status::{ReplicaStatus, ScanStatus, Status, StatusReader, StatusWriter};
+pub use scans::{BOUNDS, BUCKETS, Halt, Scan, ScanStatus};
+pub use status::{Status, StatusReader, StatusWriter};

@@ -1,44 +1,34 @@
 //! What shows of a served controller, for whoever watches it.
 
-use crate::notice::Notice;
-use il_model::Stop;
+ghost use Rattle.std.specs.Prelude.{◌≡◌, ◌<◌, List, get_or, length, set, IfOk};
+ghost use Rattle.plc_status.specs.Published.{nothing, status_words, AreOfGroup};
+ghost use Rattle.plc_status.specs.Scans.{after_scan, no_scan};
+ghost use Rattle.plc_status.specs.declared.scans.ScanStatus.{ScanStatus as Scanned};
+ghost use Rattle.vr_shown.specs.Showing.{nothing_shown};
+ghost use Rattle.vr_shown.specs.declared.shown.Shown.{Shown as Replica};
+
+use crate::scans;
+use crate::scans::{BUCKETS, Scan, ScanStatus};
 use io_board::{BoardReader, BoardWriter};
 use plc_host::Traffic;
 use std::alloc::{AllocError, Global};
 use std::sync::Arc;
-use vr_model::{MOST_REPLICAS, Standing, Status as Phase};
+use vr_model::MOST_REPLICAS;
+use vr_shown::Shown;
 
-/// So many words of a board tell of one replica.
-const EACH: usize = 5;
+/// So many words tell of one replica.
+const EACH: usize = vr_shown::WORDS;
 
 /// Where the words begin that tell of the scans.
 const SCANS: usize = EACH * MOST_REPLICAS;
 
+/// Where the counts of intervals begin.
+const INTERVALS: usize = SCANS + scans::WORDS;
+
 /// So many words a board has.
-const WORDS: usize = SCANS + 4;
+const WORDS: usize = INTERVALS + BUCKETS;
 
-/// What shows of one replica.
-#[derive(Clone, Copy)]
-pub struct ReplicaStatus {
-    pub standing: Standing,
-    /// How often it was started.
-    pub starts: u64,
-    /// Its store failed since it was started last.
-    pub has_failed: bool,
-}
-
-/// What shows of the scans.
-#[derive(Clone, Copy)]
-pub struct ScanStatus {
-    /// How many were released.
-    pub releases: u64,
-    /// When the last one was, in milliseconds since the driver began.
-    pub released_at: u64,
-    /// By what the last scan was held or stopped, if it was.
-    pub halt: Option<Notice>,
-}
-
-/// What shows of a controller at one moment.
+/// What shows of a controller at one moment, and what was counted of its clients by then.
 #[derive(Clone, Copy)]
 pub struct Status {
     words: [u64; WORDS],
@@ -48,91 +38,82 @@ pub struct Status {
     pub requests: u64,
 }
 
-/// The word of a phase.
-fn word_of(phase: Phase) -> u64 {
-    match phase {
-        Phase::Normal => 0,
-        Phase::ViewChange => 1,
-        Phase::Recovering => 2,
-        Phase::Down => 3,
-    }
-}
-
-/// The phase of a word.
-fn phase_of(word: u64) -> Phase {
-    match word {
-        0 => Phase::Normal,
-        1 => Phase::ViewChange,
-        2 => Phase::Recovering,
-        _ => Phase::Down,
-    }
-}
-
-/// By what a scan was held or stopped, as two words: what it was, and the place.
-fn words_of(halt: Option<Notice>) -> (u64, u64) {
-    match halt {
-        Some(Notice::Held(position)) => (1, u64::from(position)),
-        Some(Notice::Stopped(Stop::Overflow, position)) => (2, u64::from(position)),
-        Some(Notice::Stopped(Stop::ZeroDivisor, position)) => (3, u64::from(position)),
-        Some(Notice::Stopped(Stop::Budget, position)) => (4, u64::from(position)),
-        _ => (0, 0),
-    }
-}
-
-/// By what a scan was held or stopped that these words tell of, if it was.
-fn halt_of(what: u64, place: u64) -> Option<Notice> {
-    let position = u16::try_from(place).ok()?;
-    match what {
-        1 => Some(Notice::Held(position)),
-        2 => Some(Notice::Stopped(Stop::Overflow, position)),
-        3 => Some(Notice::Stopped(Stop::ZeroDivisor, position)),
-        4 => Some(Notice::Stopped(Stop::Budget, position)),
-        _ => None,
-    }
-}
-
 impl Status {
     /// What shows of a replica; down and never started where there is none with this number.
-    pub fn replica(&self, number: u8) -> ReplicaStatus {
-        let at = EACH * usize::from(number);
-        if at + EACH > SCANS {
-            return ReplicaStatus {
-                standing: Standing {
-                    status: Phase::Down,
-                    view: 0,
-                    is_primary: false,
-                },
-                starts: 0,
-                has_failed: false,
-            };
-        }
-        ReplicaStatus {
-            standing: Standing {
-                status: phase_of(self.words[at]),
-                view: self.words[at + 1],
-                is_primary: self.words[at + 2] == 1,
-            },
-            starts: self.words[at + 3],
-            has_failed: self.words[at + 4] == 1,
+    pub fn replica(&self, number: u8) -> Shown
+        ensures { (replicas : List Replica) (scans : Scanned) → AreOfGroup replicas
+            → self.now.words ≡ status_words replicas scans → result ≡ get_or replicas number nothing_shown }
+    {
+        let number = usize::from(number);
+        if number < MOST_REPLICAS {
+            replica_in(&self.words, number)
+        } else {
+            Shown::nothing()
         }
     }
 
     /// What shows of the scans.
-    pub fn scans(&self) -> ScanStatus {
-        ScanStatus {
-            releases: self.words[SCANS],
-            released_at: self.words[SCANS + 1],
-            halt: halt_of(self.words[SCANS + 2], self.words[SCANS + 3]),
-        }
+    pub fn scans(&self) -> ScanStatus
+        ensures { (replicas : List Replica) (scans : Scanned) → AreOfGroup replicas
+            → self.now.words ≡ status_words replicas scans → result ≡ scans }
+    {
+        scans_in(&self.words)
     }
+}
+
+/// What these words tell of a replica.
+fn replica_in(words: &[u64; WORDS], number: usize) -> Shown
+    requires { number < 7 }
+    ensures { (replicas : List Replica) (scans : Scanned) → AreOfGroup replicas
+        → words.now ≡ status_words replicas scans → result ≡ get_or replicas number nothing_shown }
+{
+    let at = EACH * number;
+    let mut part = [0; EACH];
+    part.copy_from_slice(&words[at..at + EACH]);
+    Shown::from_words(part)
+}
+
+/// What these words tell of the scans.
+fn scans_in(words: &[u64; WORDS]) -> ScanStatus
+    ensures { (replicas : List Replica) (scans : Scanned) → AreOfGroup replicas
+        → words.now ≡ status_words replicas scans → result ≡ scans }
+{
+    let mut counts = [0; scans::WORDS];
+    counts.copy_from_slice(&words[SCANS..INTERVALS]);
+    let mut intervals = [0; BUCKETS];
+    intervals.copy_from_slice(&words[INTERVALS..]);
+    ScanStatus::from_words(counts, intervals)
+}
+
+/// Has these words tell this of a replica.
+fn put_replica(words: &mut [u64; WORDS], number: usize, shown: Shown)
+    requires { number < 7 }
+    ensures { (replicas : List Replica) (scans : Scanned) → AreOfGroup replicas
+        → words.old ≡ status_words replicas scans → words.new ≡ status_words (set replicas number shown) scans }
+{
+    let at = EACH * number;
+    words[at..at + EACH].copy_from_slice(&shown.words());
+}
+
+/// Has these words tell this of the scans.
+fn put_scans(words: &mut [u64; WORDS], scans: &ScanStatus)
+    ensures { (replicas : List Replica) (before : Scanned) → AreOfGroup replicas
+        → words.old ≡ status_words replicas before → words.new ≡ status_words replicas scans.now }
+{
+    words[SCANS..INTERVALS].copy_from_slice(&scans.words());
+    words[INTERVALS..].copy_from_slice(&scans.interval_counts);
 }
 
 /// Publishes what shows of a group and of its scans. It waits for nobody.
 #[derive(Drop)]
 pub struct StatusWriter {
+    replicas: [Shown; MOST_REPLICAS],
+    scans: ScanStatus,
     words: [u64; WORDS],
     board: BoardWriter<WORDS>,
     traffic: Arc<Traffic>,
+    // What is published next tells of these.
+    ghost spelt: { words ≡ status_words replicas scans },
 }
 
 /// Reads what was published last. It waits for nobody.
@@ -143,13 +124,15 @@ pub struct StatusReader {
 }
 
 impl StatusWriter {
-    /// Nothing was released, and no replica was started.
-    pub fn new(alloc: Global) -> Result<StatusWriter, AllocError> {
-        let mut words = [0u64; WORDS];
-        for number in 0..MOST_REPLICAS {
-            words[EACH * number] = word_of(Phase::Down);
-        }
+    /// No replica was started, and nothing was scanned.
+    pub fn new(alloc: Global) -> Result<StatusWriter, AllocError>
+        ensures { IfOk result
+            (λ writer. (writer.replicas ≡ nothing) × (writer.scans ≡ no_scan) × (writer.board ≡ status_words nothing no_scan)) }
+    {
+        let words = [0; WORDS];
         Ok(StatusWriter {
+            replicas: [Shown::nothing(); MOST_REPLICAS],
+            scans: ScanStatus::none(),
             words,
             board: BoardWriter::new(alloc, words)?,
             traffic: Arc::new(alloc, Traffic::new())?,
@@ -162,49 +145,51 @@ impl StatusWriter {
     }
 
     /// A reader, for any thread.
-    pub fn reader(&self) -> Result<StatusReader, AllocError> {
+    pub fn reader(&self) -> Result<StatusReader, AllocError>
+        ensures { IfOk result (λ reader. reader.board ≡ self.now.board) }
+    {
         Ok(StatusReader {
             board: self.board.reader()?,
             traffic: self.traffic()?,
         })
     }
 
-    /// What shows of a replica is this, from the next publish on.
-    pub fn set_replica(&mut self, number: u8, replica: ReplicaStatus) {
-        let at = EACH * usize::from(number);
-        if at + EACH > SCANS {
-            return;
+    /// What shows of a replica is this, from the next publish on. Of one that no group has nothing shows.
+    pub fn set_replica(&mut self, number: u8, shown: Shown)
+        ensures replicas { self.new.replicas ≡ set self.old.replicas number shown }
+        ensures same { (self.new.scans ≡ self.old.scans) × (self.new.board ≡ self.old.board) }
+    {
+        let number = usize::from(number);
+        if number < MOST_REPLICAS {
+            self.replicas[number] = shown;
+            put_replica(&mut self.words, number, shown);
         }
-        let Standing {
-            status,
-            view,
-            is_primary,
-        } = replica.standing;
-        self.words[at] = word_of(status);
-        self.words[at + 1] = view;
-        self.words[at + 2] = u64::from(is_primary);
-        self.words[at + 3] = replica.starts;
-        self.words[at + 4] = u64::from(replica.has_failed);
     }
 
-    /// What shows of the scans is this, from the next publish on.
-    pub fn set_scans(&mut self, scans: ScanStatus) {
-        let (what, place) = words_of(scans.halt);
-        self.words[SCANS] = scans.releases;
-        self.words[SCANS + 1] = scans.released_at;
-        self.words[SCANS + 2] = what;
-        self.words[SCANS + 3] = place;
+    /// Counts a scan, which shows from the next publish on.
+    pub fn scanned(&mut self, scan: Scan)
+        ensures scans { self.new.scans ≡ after_scan self.old.scans scan }
+        ensures same { (self.new.replicas ≡ self.old.replicas) × (self.new.board ≡ self.old.board) }
+    {
+        self.scans.scanned(scan);
+        put_scans(&mut self.words, &self.scans);
     }
 
-    /// What was set is read from now on.
-    pub fn publish(&mut self) {
+    /// What was set and counted is read from now on.
+    pub fn publish(&mut self)
+        ensures published { self.new.board ≡ status_words self.old.replicas self.old.scans }
+        ensures same { (self.new.replicas ≡ self.old.replicas) × (self.new.scans ≡ self.old.scans) }
+    {
         self.board.publish(self.words);
     }
 }
 
 impl StatusReader {
-    /// What shows of the controller now.
-    pub fn read(&mut self) -> Status {
+    /// What shows of the controller now: what was published last. Where publishes crossed each try, it's what this
+    /// reader read before.
+    pub fn read(&mut self) -> Status
+        ensures { result.words ≡ self.new.board }
+    {
         Status {
             words: self.board.read(),
             sessions: self.traffic.sessions(),

@@ -16,9 +16,8 @@ use std::{thread, time};
 use vr_model::{Body, ClientNumber, Config, Message, Party, Request, Standing, Status, Stored};
 use vr_ports::{Gate, Input, Link, OpenGate, Relink, Tick, Timer};
 use vr_replica::{StoreFault, ViewStore};
-use vr_threads::{
-    ChannelLink, Cluster, ClusterConfig, MachineTimer, Seat, Shown, Starts, Switchboard,
-};
+use vr_shown::Shown;
+use vr_threads::{ChannelLink, Cluster, ClusterConfig, MachineTimer, Seat, Starts, Switchboard};
 
 fn wire(alloc: Global) -> Result<Image, Fail> {
     match load(alloc, WIRE) {

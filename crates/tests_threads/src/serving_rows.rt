@@ -8,7 +8,8 @@ use std::test::Fail;
 use vr_model::{Body, ClientNumber, Message, Party, Request, Standing, Status};
 use vr_ports::{Gate, Input, Link, Tick, Timer};
 use vr_replica::Replica;
-use vr_threads::{Seat, Shown, ShownWriter, serve};
+use vr_shown::{Shown, ShownWriter};
+use vr_threads::{Seat, serve};
 
 /// What a receive gives: the request of this number, from client 0.
 #[derive(Clone, Copy)]

@@ -2,7 +2,7 @@
 use Rattle.std.proofs.Common.{◌≡◌, ◌||◌, Bool, true, refl, ap, ◌∙◌}
 use Rattle.vr_replica.specs.declared.state.Replica.{Replica}
 use Rattle.vr_replica.specs.Stepped.{StepResult}
-use Rattle.vr_threads.specs.declared.shown.Shown.{Shown}
+use Rattle.vr_shown.specs.declared.shown.Shown.{Shown}
 use Rattle.vr_threads.specs.Showing.{ShowsStep, KeepsShowing, is_store_fault}
 
 pub shows_still : (q : Replica) (a : Shown) → KeepsShowing q q a a

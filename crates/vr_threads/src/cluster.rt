@@ -5,7 +5,6 @@ ghost use Rattle.vr_model.specs.Groups.{group_size};
 ghost use Rattle.vr_threads.specs.Working.{IsPlannedFor};
 
 use crate::seat::Seat;
-use crate::shown::{Shown, ShownReader, ShownWriter};
 use crate::starting::Starts;
 use crate::working::{Plan, Work, spawned};
 use crossbeam_channel::{Sender, bounded};
@@ -17,6 +16,7 @@ use std::thread::{JoinHandle, Threads};
 use thiserror::Error;
 use vr_model::Config;
 use vr_ports::{Cutter, Gate, Relink, Timer};
+use vr_shown::{Shown, ShownReader, ShownWriter};
 
 /// Why no replica is served.
 #[derive(Clone, Copy, Debug, PartialEq, Eq, Error)]

@@ -1,6 +1,6 @@
 //! Replicas, each started and served by a thread of its own: the loop of that thread over any link, timer, gate and
-//! store; links over channels; a store in a file; the machine's time as a timer; and what shows of each replica to other
-//! threads. A disk that hangs holds up its replica and nobody else: orders wait for nothing.
+//! store; links over channels; a store in a file; and the machine's time as a timer. What shows of each replica others read
+//! (`vr_shown`). A disk that hangs holds up its replica and nobody else: orders wait for nothing.
 //!
 //! ```rust
 //! use vr_threads::{FileStore, Starts};
@@ -16,7 +16,7 @@
 //! by what the calls answered, and that what is read of it is its 16 bytes or a fault. The first start finds the replica
 //! normal in view 0, each later one finds it down, with the count as its nonce; the thread of a replica has it come up
 //! with that before all else (`specs/Working`). Which tick comes, by what a timer heard (`specs/Patience`). What `serve`
-//! showed last is what the replica is after its last step (`Shown`).
+//! showed last is what the replica is after its last step (`specs/Showing`).
 //!
 //! Only tested: that replicas run at once, that a group over channels answers, that one which was started before
 //! recovers, that nobody waits for a disk that hangs (`cluster_rows` of `tests_threads`), and stores on real files
@@ -31,7 +31,6 @@ mod machine_timer;
 mod patience;
 mod seat;
 mod serving;
-mod shown;
 mod starting;
 mod working;
 
@@ -42,5 +41,4 @@ pub use laws::{observations_join, restart_is_observed};
 pub use machine_timer::MachineTimer;
 pub use seat::Seat;
 pub use serving::serve;
-pub use shown::{Shown, ShownReader, ShownWriter};
 pub use starting::Starts;

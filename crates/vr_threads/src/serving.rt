@@ -7,11 +7,11 @@ ghost use Rattle.vr_threads.specs.Serving.{StepsTo, Served, Turned, sends_in, sc
 ghost use Rattle.vr_threads.specs.Showing.{ShowsStep, KeepsShowing, IsStandingOf, is_store_fault};
 
 use crate::seat::Seat;
-use crate::shown::ShownWriter;
 use std::alloc::Global;
 use vr_model::{Event, Standing};
 use vr_ports::{Gate, Input, Link, Tick, Timer, send_all};
 use vr_replica::{Replica, StepFault, ViewStore};
+use vr_shown::ShownWriter;
 
 /// Serves a replica for so many turns, or fewer where a receive gives Closed. Each turn takes one event at most, the
 /// timer's first, hands on what `Replica::step` makes of it, and shows what the replica is then, to its timer as well.

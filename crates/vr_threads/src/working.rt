@@ -2,13 +2,12 @@
 
 ghost use Rattle.std.specs.Prelude.{◌≡◌, IfOk, OnOk, false};
 ghost use Rattle.vr_threads.specs.Serving.{scene};
-ghost use Rattle.vr_threads.specs.Showing.{down_standing};
+ghost use Rattle.vr_shown.specs.Showing.{down_standing};
 ghost use Rattle.vr_threads.specs.Starting.{HasStarted};
 ghost use Rattle.vr_threads.specs.Working.{ComesUp, Worked, planned};
 
 use crate::seat::Seat;
 use crate::serving::{act, serve_from};
-use crate::shown::ShownWriter;
 use crate::starting::{Started, Starts, start_from};
 use crossbeam_channel::Receiver;
 use il_loader::Image;
@@ -20,6 +19,7 @@ use std::thread::{JoinHandle, Threads};
 use vr_model::{Config, Event};
 use vr_ports::{Gate, Relink, Timer};
 use vr_replica::Replica;
+use vr_shown::ShownWriter;
 
 /// What a replica is started from, each time: its group and its number there, its program, and for how long it is
 /// served.

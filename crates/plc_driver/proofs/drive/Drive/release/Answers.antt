@@ -9,7 +9,7 @@ returns-then-scanned-clause-noted g c =
     let asked = both c.args.self.now.journal c.rest.new.self.journal c.submit.new.self.journal rested (none c.rest.new.self.journal c.submit.new.self.journal c.submit.ensures.same.1) in
     let scanned = both c.args.self.now.journal c.submit.new.self.journal c.await_reply.new.self.journal asked c.await_reply.ensures.noted in
     let halted = both c.args.self.now.journal c.await_reply.new.self.journal c.note_halt.new.self.journal scanned c.note_halt.ensures.changes in
-    both c.args.self.now.journal c.note_halt.new.self.journal c.show_scan.new.self.journal halted (none c.note_halt.new.self.journal c.show_scan.new.self.journal c.show_scan.ensures.1)
+    both c.args.self.now.journal c.note_halt.new.self.journal c.show_scan.new.self.journal halted (none c.note_halt.new.self.journal c.show_scan.new.self.journal c.show_scan.ensures.same.1)
 
 pub loop-preserved : goal.loop-preserved
 loop-preserved g c =
@@ -20,5 +20,5 @@ loop-preserved g c =
       can_next = tt;
       finite = tt;
       counted = first_of (search rules, grind (arith, common_steps));
-      noted = both c.args.self.now.journal c.note_halt.new.self.journal c.show_scan.new.self.journal halted (none c.note_halt.new.self.journal c.show_scan.new.self.journal c.show_scan.ensures.1);
+      noted = both c.args.self.now.journal c.note_halt.new.self.journal c.show_scan.new.self.journal halted (none c.note_halt.new.self.journal c.show_scan.new.self.journal c.show_scan.ensures.same.1);
     }
