@@ -1,5 +1,5 @@
 -- What an operator is told while a controller is served.
-use Rattle.std.specs.Prelude.{◌≡◌, ℕ, ◌-◌, nat_le, Bool, true, false, if◌then◌else◌, Option, Some, None}
+use Rattle.std.specs.Prelude.{◌≡◌, ℕ, ◌-◌, nat_eq, nat_le, not, Bool, true, false, if◌then◌else◌, Option, Some, None}
 use Rattle.plc_status.specs.declared.journal.Journal.{Journal}
 use Rattle.plc_status.specs.declared.notice.Notice.{Notice}
 use Rattle.plc_status.specs.declared.notice.Notice.TheVariants as notices
@@ -40,11 +40,21 @@ abbrev pub IsTurnNoted : ℕ → Option Bool → Journal → Journal → Type 0
 IsTurnNoted number None old new = new ≡ old
 IsTurnNoted number (Some is_normal) old new = IsPut (turned number is_normal) old new
 
+-- at which try to start a replica its store failed, if it did
+abbrev pub failed_at : Bool → ℕ → Option ℕ
+failed_at false tries = None
+failed_at true tries = Some tries
+
+-- whether a store failed, and that wasn't told of the same try
+abbrev pub is_failure_new : Option ℕ → Option ℕ → Bool
+is_failure_new told None = false
+is_failure_new None (Some tries) = true
+is_failure_new (Some at) (Some tries) = not (nat_eq at tries)
+
 -- It was noted where the store failed and that wasn't told, and else nothing was.
-abbrev pub IsFailureNoted : ℕ → Bool → Bool → Journal → Journal → Type 0
-IsFailureNoted number is_told false old new = new ≡ old
-IsFailureNoted number true true old new = new ≡ old
-IsFailureNoted number false true old new = IsPut (notices.Store number) old new
+abbrev pub IsFailureNoted : ℕ → Bool → Journal → Journal → Type 0
+IsFailureNoted number false old new = new ≡ old
+IsFailureNoted number true old new = IsPut (notices.Store number) old new
 
 -- It was noted where there are more of a replica's messages that have no frame, and else nothing was.
 abbrev pub AreFramesNoted : ℕ → Bool → Journal → Journal → Type 0

@@ -5,7 +5,7 @@ ghost use Rattle.std.specs.Duration.{as_nanos};
 ghost use Rattle.plc_status.specs.Journal.{AreNoted};
 ghost use Rattle.plc_driver.specs.Tending.{needs_start, starts_now};
 ghost use Rattle.plc_driver.specs.Watching.{AreFramesNoted, IsFailureNoted, IsTurnNoted, change, is_lost, lapsed_since};
-ghost use Rattle.plc_driver.specs.Watching.{turned};
+ghost use Rattle.plc_driver.specs.Watching.{failed_at, is_failure_new, turned};
 
 use crate::reviving::Revival;
 use plc_status::{Journal, Notice};
@@ -64,7 +64,8 @@ impl Seen {
 #[derive(Clone, Copy)]
 struct Watched {
     seen: Seen,
-    is_told_failed: bool,
+    /// At which try to start it it was told last that its store failed, by how many there were before it.
+    told_failed: Option<u64>,
     /// So many of its messages had no frame.
     frameless: u64,
     /// Where it was to be started anew, and hasn't been normal since.
@@ -77,20 +78,22 @@ impl Watched {
     fn look(&mut self, number: u8, shown: Shown, now: Duration, journal: &mut Journal)
         ensures { AreNoted journal.old journal.new }
     {
-        self.note_failure(number, shown.has_failed, journal);
+        self.note_failure(number, shown.has_failed, shown.tries, journal);
         self.note_frames(number, shown.frameless, journal);
         self.note_turn(number, shown.is_normal(), now, journal);
     }
 
-    /// Notes that its store failed, once until it's started well.
+    /// Notes that its store failed, once for each try to start it.
     #[tactic(auto, using(crate::proofs::Noted::both, crate::proofs::Noted::none, crate::proofs::Noted::one))]
-    fn note_failure(&mut self, number: u8, has_failed: bool, journal: &mut Journal)
-        ensures noted { IsFailureNoted number self.old.is_told_failed has_failed journal.old journal.new }
-        ensures told { self.new.is_told_failed ≡ has_failed }
+    fn note_failure(&mut self, number: u8, has_failed: bool, tries: u64, journal: &mut Journal)
+        ensures noted { IsFailureNoted number (is_failure_new self.old.told_failed (failed_at has_failed tries))
+            journal.old journal.new }
+        ensures told { self.new.told_failed ≡ failed_at has_failed tries }
         ensures notices { AreNoted journal.old journal.new }
     {
-        let is_new = has_failed && !self.is_told_failed;
-        self.is_told_failed = has_failed;
+        let failed = failed_at(has_failed, tries);
+        let is_new = is_failure_new(self.told_failed, failed);
+        self.told_failed = failed;
         if is_new {
             journal.put(Notice::Store(number));
         }
@@ -156,6 +159,24 @@ impl Watched {
     }
 }
 
+/// At which try to start a replica its store failed, if it did, by how many there were before it.
+fn failed_at(has_failed: bool, tries: u64) -> Option<u64>
+    ensures { result ≡ failed_at has_failed tries }
+{
+    if has_failed { Some(tries) } else { None }
+}
+
+/// Whether a store failed otherwise than was told, by at which tries.
+fn is_failure_new(told: Option<u64>, failed: Option<u64>) -> bool
+    ensures { result ≡ is_failure_new told failed }
+{
+    match (told, failed) {
+        (_, None) => false,
+        (None, Some(_)) => true,
+        (Some(at), Some(tries)) => at != tries,
+    }
+}
+
 /// Whether a replica is to be started anew, as it shows: nothing is done for it, or its store failed.
 fn needs_start(shown: Shown) -> bool
     ensures { result ≡ needs_start shown }
@@ -200,7 +221,7 @@ impl Watch {
                     since: None,
                     is_told_down: false,
                 },
-                is_told_failed: false,
+                told_failed: None,
                 frameless: 0,
                 revival: None,
             })?;
