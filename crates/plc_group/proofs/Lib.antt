@@ -1,0 +1,6 @@
+pub mod Addresses
+pub mod Firsts
+pub mod Tables
+pub mod Walks
+pub mod Sizes
+pub mod Loopbacks

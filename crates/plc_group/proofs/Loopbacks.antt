@@ -1,0 +1,18 @@
+-- Which addresses are loopbacks.
+use Rattle.std.proofs.Common.{◌≡◌, Bool, IsTrue, ◌↔◌, ◌∷◌, [], take, subst}
+use Rattle.std.proofs.lemmas.Bool.Decides.{same_from_decides}
+use Rattle.std.proofs.lemmas.Slice.Eq.{bytes_eq-Decides}
+use Rattle.std.specs.Net.Addr.{MatchIp, IsLoopbackV4, IsLoopbackV6}
+use Rattle.std.specs.Net.Socket.{socket_ip}
+use Rattle.std.specs.declared.net.ip_addr.IpAddr.{IpAddr}
+use Rattle.std.specs.declared.net.socket_addr.SocketAddr.{SocketAddr}
+use Rattle.std.specs.declared.net.socket_addr.SocketAddr.TheVariants.{V4, V6}
+use Rattle.plc_group.specs.Exposed.{is_loopback}
+
+at_socket : (b : Bool) (a : SocketAddr) → IsTrue b ↔ MatchIp (socket_ip a) IsLoopbackV4 IsLoopbackV6 → b ≡ is_loopback a
+at_socket b (V4 a) d = same_from_decides b (is_loopback (V4 a)) d (bytes_eq-Decides (take 1 a.ip.octets) (127 ∷ []))
+at_socket b (V6 a) d = same_from_decides b (is_loopback (V6 a)) d (bytes_eq-Decides a.ip.segments (0 ∷ 0 ∷ 0 ∷ 0 ∷ 0 ∷ 0 ∷ 0 ∷ 1 ∷ []))
+
+-- what std answers of the IP address is what is defined of the socket's
+pub loopback : (b : Bool) (ip : IpAddr) (a : SocketAddr) → ip ≡ socket_ip a → IsTrue b ↔ MatchIp ip IsLoopbackV4 IsLoopbackV6 → b ≡ is_loopback a
+loopback b ip a is h = at_socket b a (subst (λ i. IsTrue b ↔ MatchIp i IsLoopbackV4 IsLoopbackV6) is h)

@@ -1,0 +1,132 @@
+-- What a value of a group file is read as: nothing, where the key doesn't take it.
+use Rattle.std.specs.Prelude.{◌≡◌, ◌⊎◌, ℕ, ◌==◌, ◌&&◌, ◌||◌, ℤ, pos, negsuc, Bool}
+use Rattle.std.specs.Prelude.{List, [], ◌∷◌, length, Option, Some, None}
+use Rattle.std.specs.Prelude.{option_and_then, option_map, bytes_eq, codes, nat_eq, nat_le, if◌then◌else◌}
+use Rattle.std.specs.List.{list_all}
+use Rattle.std.specs.Net.Reader.{read_socket_v4, read_socket_v6, whole_value}
+use Rattle.std.specs.Net.Socket.{socket_port}
+use Rattle.std.specs.declared.net.ipv4_addr.Ipv4Addr.{Ipv4Addr}
+use Rattle.std.specs.declared.net.ipv6_addr.Ipv6Addr.{Ipv6Addr}
+use Rattle.std.specs.declared.net.socket_addr.SocketAddr.{SocketAddr}
+use Rattle.std.specs.declared.net.socket_addr.SocketAddr.TheVariants.{V4, V6}
+use Rattle.std.specs.declared.net.socket_addr.SocketAddrV4.{SocketAddrV4}
+use Rattle.std.specs.declared.net.socket_addr.SocketAddrV6.{SocketAddrV6}
+use Rattle.toml.specs.Data.{Data, Items, no_items, item, Members, get_member, as_integer, as_str, as_array, as_table}
+use Rattle.plc_group.specs.declared.group.ColdStart.{ColdStart}
+use Rattle.plc_group.specs.declared.group.ColdStart.TheVariants.{Auto, ByHand}
+use Rattle.plc_group.specs.declared.group.Machine.{Machine}
+use Rattle.plc_group.specs.declared.key.Key.{Key}
+use Rattle.plc_group.specs.declared.key.Key.TheVariants as keys
+use Rattle.plc_group.specs.declared.key.Range.{Range}
+use Rattle.plc_group.specs.Keys.{word_of}
+
+infixl 10 ◌>>=◌
+abbrev ◌>>=◌ : {A B : Type 0} → Option A → (A → Option B) → Option B
+o >>= f = option_and_then f o
+
+-- what a table has at a key, read so
+abbrev pub value_at : {A : Type 0} → (Data → Option A) → Key → Members → Option A
+value_at read key table = option_and_then read (get_member (word_of key) table)
+
+-- ---- numbers
+
+abbrev pub within : Range → ℤ → Option ℕ
+within range (pos n) = if nat_le range.least n && nat_le n range.most then Some n else None
+within range (negsuc n) = None
+
+-- a whole number of this range
+abbrev pub number_in : Range → Data → Option ℕ
+number_in range d = option_and_then (within range) (as_integer d)
+
+-- ---- texts
+
+-- a byte of ASCII that is printed, and no space
+abbrev pub is_visible : ℕ → Bool
+is_visible byte = nat_le 33 byte && nat_le byte 126
+
+-- from 1 to 64 visible bytes
+abbrev pub is_name : List ℕ → Bool
+is_name text = (nat_le 1 (length text) && nat_le (length text) 64) && list_all is_visible text
+
+abbrev pub named : List ℕ → Option (List ℕ)
+named text = if is_name text then Some text else None
+
+abbrev pub name_of : Data → Option (List ℕ)
+name_of d = option_and_then named (as_str d)
+
+abbrev pub cold_start_in : List ℕ → Option ColdStart
+cold_start_in text = if bytes_eq text (codes "auto") then Some Auto
+    else (if bytes_eq text (codes "by hand") then Some ByHand else None)
+
+abbrev pub cold_start_of : Data → Option ColdStart
+cold_start_of d = option_and_then cold_start_in (as_str d)
+
+-- ---- addresses
+
+abbrev pub v4_of : List ℕ × ℕ → SocketAddr
+v4_of parts = let ip : Ipv4Addr = record { octets = parts.0 } in
+    let address : SocketAddrV4 = record { ip = ip; port = parts.1 } in V4 address
+
+abbrev pub v6_of : List ℕ × ℕ × ℕ × ℕ → SocketAddr
+v6_of parts = let ip : Ipv6Addr = record { segments = parts.0 } in
+    let address : SocketAddrV6 = record { ip = ip; port = parts.1; flowinfo = parts.2; scope_id = parts.3 } in
+    V6 address
+
+abbrev pub first_of : {A : Type 0} → Option A → Option A → Option A
+first_of None other = other
+first_of (Some x) other = Some x
+
+-- The address that a text writes: one of IPv4, else one of IPv6 (std's readers, of which `addresses_are_written` tells
+-- that they read the grammar).
+unfoldable pub written_address : List ℕ → Option SocketAddr
+written_address text = first_of (option_map v4_of (whole_value (read_socket_v4 text)))
+    (option_map v6_of (whole_value (read_socket_v6 text)))
+
+-- port 0 is none
+abbrev pub with_port : SocketAddr → Option SocketAddr
+with_port address = if socket_port address == 0 then None else Some address
+
+abbrev pub address_in : List ℕ → Option SocketAddr
+address_in text = option_and_then with_port (written_address text)
+
+abbrev pub address_of : Data → Option SocketAddr
+address_of d = option_and_then address_in (as_str d)
+
+-- ---- machines
+
+abbrev pub items_in : Items → List Data
+items_in no_items = []
+items_in (item d more) = d ∷ items_in more
+
+abbrev pub is_size : ℕ → Bool
+is_size n = (nat_eq n 3 || nat_eq n 5) || nat_eq n 7
+
+-- three, five or seven
+abbrev pub IsSize : ℕ → Type 0
+IsSize n = (n ≡ 3) ⊎ ((n ≡ 5) ⊎ (n ≡ 7))
+
+abbrev pub sized : List Data → Option (List Data)
+sized ds = if is_size (length ds) then Some ds else None
+
+-- three, five or seven values
+abbrev pub machines_of : Data → Option (List Data)
+machines_of d = option_and_then (λ items. sized (items_in items)) (as_array d)
+
+abbrev pub machine_in : Members → Option Machine
+machine_in table =
+    value_at address_of keys.Replica table >>= λ replica. value_at address_of keys.Modbus table >>= λ modbus.
+    Some (record {
+      replica = replica;
+      modbus = modbus;
+      console = value_at address_of keys.Console table;
+      status = value_at address_of keys.Status table;
+    })
+
+-- a machine with its addresses
+abbrev pub machine_of : Data → Option Machine
+machine_of d = option_and_then machine_in (as_table d)
+
+-- what each of a list gives, if each gives something
+abbrev pub all_of : {A B : Type 0} → (A → Option B) → List A → Option (List B)
+all_of f [] = Some []
+all_of f (x ∷ xs) = option_and_then (λ y. option_map (λ ys. y ∷ ys) (all_of f xs)) (f x)

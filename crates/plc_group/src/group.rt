@@ -1,0 +1,60 @@
+//! A group of machines, as its file says it.
+
+ghost use Rattle.std.specs.Prelude.{◌≡◌, vec_len};
+ghost use Rattle.vr_model.specs.Groups.{group_size};
+
+use il_model::Budget;
+use std::net::SocketAddr;
+use vr_model::Config;
+
+/// Where a machine is reached.
+#[derive(Clone, Copy, PartialEq, Eq)]
+pub struct Machine {
+    /// By the other machines.
+    pub replica: SocketAddr,
+    /// By Modbus clients.
+    pub modbus: SocketAddr,
+    /// By an operator's console, if it has one.
+    pub console: Option<SocketAddr>,
+    /// By who asks for its status, if it's shown.
+    pub status: Option<SocketAddr>,
+}
+
+/// How long a machine waits.
+#[derive(Clone, Copy, Debug, PartialEq, Eq)]
+pub struct Times {
+    /// In milliseconds: a backup that hears nothing of its primary for so long begins a view change.
+    pub patience: u32,
+    /// In milliseconds: what may have been lost is sent again.
+    pub resend: u32,
+    /// In milliseconds: outputs are shown for so long after their scan was submitted.
+    pub fresh: u32,
+    /// In seconds: a session ends whose client sends nothing, or takes nothing, for so long.
+    pub idle: u32,
+}
+
+/// What a group does whose replicas have lost their memory together.
+#[derive(Clone, Copy, Debug, PartialEq, Eq)]
+pub enum ColdStart {
+    /// It begins anew by itself.
+    Auto,
+    /// It waits for an operator.
+    ByHand,
+}
+
+/// A group of machines.
+#[derive(Drop)]
+pub struct Group {
+    /// From 1 to 64 visible bytes of ASCII.
+    pub name: String,
+    /// How many machines there are, and how often their replicas make checkpoints.
+    pub config: Config,
+    /// How many instructions a scan may perform.
+    pub budget: Budget,
+    /// In milliseconds, from one scan to the next.
+    pub period: u32,
+    pub times: Times,
+    pub cold_start: ColdStart,
+    pub machines: Vec<Machine>,
+    ghost one_each: { vec_len machines ≡ group_size config.f },
+}

@@ -1,0 +1,113 @@
+//! The keys of the file, and the ranges of its numbers.
+
+ghost use Rattle.std.specs.Prelude.{◌≡◌};
+ghost use Rattle.plc_group.specs.Keys.{word_of};
+
+/// A key of the file.
+#[derive(Clone, Copy, Debug, PartialEq, Eq)]
+pub enum Key {
+    Name,
+    Period,
+    Budget,
+    Every,
+    Patience,
+    Resend,
+    Fresh,
+    Idle,
+    ColdStart,
+    Machine,
+    Replica,
+    Modbus,
+    Console,
+    Status,
+}
+
+/// The keys of the whole group.
+pub(crate) const GROUP_KEYS: [Key; 10] = [
+    Key::Name,
+    Key::Period,
+    Key::Budget,
+    Key::Every,
+    Key::Patience,
+    Key::Resend,
+    Key::Fresh,
+    Key::Idle,
+    Key::ColdStart,
+    Key::Machine,
+];
+
+/// The keys of a machine.
+pub(crate) const MACHINE_KEYS: [Key; 4] = [Key::Replica, Key::Modbus, Key::Console, Key::Status];
+
+impl Key {
+    /// The word of the key in the file.
+    pub fn word(self) -> &'static str
+        ensures { result.now ≡ word_of self }
+    {
+        match self {
+            Key::Name => "name",
+            Key::Period => "period",
+            Key::Budget => "budget",
+            Key::Every => "every",
+            Key::Patience => "patience",
+            Key::Resend => "resend",
+            Key::Fresh => "fresh",
+            Key::Idle => "idle",
+            Key::ColdStart => "cold_start",
+            Key::Machine => "machine",
+            Key::Replica => "replica",
+            Key::Modbus => "modbus",
+            Key::Console => "console",
+            Key::Status => "status",
+        }
+    }
+}
+
+/// The numbers from one to another.
+#[derive(Clone, Copy, Debug, PartialEq, Eq)]
+pub struct Range {
+    pub least: u32,
+    pub most: u32,
+}
+
+/// In milliseconds.
+pub(crate) const PERIODS: Range = Range {
+    least: 1,
+    most: 3_600_000,
+};
+
+/// In instructions of a scan.
+pub(crate) const BUDGETS: Range = Range {
+    least: 1,
+    most: 1_000_000,
+};
+
+/// In entries from one checkpoint to the next; with 0 there is none.
+pub(crate) const DISTANCES: Range = Range {
+    least: 0,
+    most: 65_535,
+};
+
+/// In milliseconds.
+pub(crate) const PATIENCES: Range = Range {
+    least: 10,
+    most: 60_000,
+};
+
+/// In milliseconds.
+pub(crate) const RESENDS: Range = Range {
+    least: 5,
+    most: 60_000,
+};
+
+/// In milliseconds.
+pub(crate) const FRESHNESSES: Range = Range {
+    least: 1,
+    most: 86_400_000,
+};
+
+/// In seconds.
+pub(crate) const IDLES: Range = Range {
+    least: 1,
+    most: 86_400,
+};

@@ -1,0 +1,37 @@
+//! The file of a group of machines, as a value: its name, its times, and where each of its machines is reached. The
+//! file is the same on each machine.
+//!
+//! ```rust
+//! use plc_group::{read_group, tell_group_fault};
+//!
+//! match read_group(alloc, text) {
+//!     Ok(group) => println!(rt; "{}", group.machines.len())?, // three, five or seven
+//!     Err(fault) => return tell_group_fault(&fault, &mut err), // plc: group period refused
+//! }
+//! ```
+//!
+//! Proved: a group is given exactly where its table has no fault, and is the one that the table says (`Says` of
+//! `specs/Said`, defaults in it); else the fault is the first of those that the table has, in the order of
+//! `specs/Faults` (`faults_of`), or the bytes are no table of TOML 1.1 in UTF-8. An address is one that std's grammar
+//! has, with a port. Each fault has its line.
+//!
+//! In no clause: where the fault of bytes lies that are no TOML, which is the crate `toml`'s to say.
+#![tactic(auto)]
+
+mod exposed;
+mod fault;
+mod fields;
+mod group;
+mod key;
+mod machines;
+mod reading;
+mod telling;
+mod values;
+
+pub use exposed::exposed_lines;
+pub use fault::{GroupFault, Why};
+pub use group::{ColdStart, Group, Machine, Times};
+pub use key::{Key, Range};
+pub use reading::read_group;
+pub use telling::tell_group_fault;
+pub use values::addresses_are_written;
