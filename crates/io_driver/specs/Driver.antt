@@ -1,4 +1,4 @@
--- The scan driver: client 0 of the replication rules, which submits scans.
+-- The scan driver: a client of the replication rules, which submits scans.
 use Rattle.std.specs.Prelude.{ℕ, if◌then◌else◌, List, Option, None, option_map}
 use Rattle.il_model.specs.declared.cells.Cells.{Cells}
 use Rattle.il_model.specs.declared.command.Command.{Command}

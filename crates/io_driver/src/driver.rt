@@ -1,10 +1,12 @@
 //! The scan driver: the client of a replicated controller that submits its scans and takes what they release.
-ghost use Rattle.std.specs.Prelude.{◌≡◌, ◌↔◌, true, List, [], IfOk, IfSome, IfNone, OnErr, IsNone, is_some};
+ghost use Rattle.std.specs.Prelude.{◌≡◌, ◌↔◌, false, true, List, [], IfOk, IfSome, IfNone, IsTrue, OnErr, IsNone};
+ghost use Rattle.std.specs.Prelude.{is_some};
+ghost use Rattle.il_model.specs.declared.command.Answer.{Answer as Given};
 ghost use Rattle.il_model.specs.declared.command.Command.{Command as Asked};
 ghost use Rattle.vr_model.specs.Logs.{Request as Entry};
 ghost use Rattle.vr_model.specs.StandsFor.{body_with, message_with};
-ghost use Rattle.vr_model.specs.Steps.{Retries, Hears};
-ghost use Rattle.vr_client.specs.Client.{SendsAt, BecomesAt, cannot_submit};
+ghost use Rattle.vr_model.specs.Steps.{Retries, StartsAgain, Hears, MayClient};
+ghost use Rattle.vr_client.specs.Client.{SendsAt, BecomesAt, cannot_submit, new_client};
 ghost use Rattle.io_driver.specs.Driver.{SubmitsSample, first_driver, release_by};
 
 use il_model::Command;
@@ -17,8 +19,9 @@ use vr_model::{ClientNumber, Config, Message, Sends};
 /// The driver's number among the clients.
 const DRIVER: ClientNumber = ClientNumber { number: 0 };
 
-/// Client 0 of a group. It submits one scan at a time, of a sample of the staged inputs, and waits for the first REPLY
-/// to it. Contracts see it as what the replication rules say that this client knows.
+/// A client of a group, client 0 unless another is named. It submits one scan at a time, of a sample of the staged
+/// inputs, and waits for the first REPLY to it. Contracts see it as what the replication rules say that this client
+/// knows.
 #[derive(Drop)]
 pub struct ScanDriver {
     client: GroupClient,
@@ -38,8 +41,16 @@ impl ScanDriver {
     pub fn new(config: &Config, starts: u32) -> ScanDriver
         ensures { result ≡ first_driver config.now.f starts }
     {
+        ScanDriver::of_client(config, DRIVER, starts)
+    }
+
+    /// A driver that is this client and has submitted nothing, where a group has several, one of which drives at a
+    /// time. `starts` says how often that client started before.
+    pub fn of_client(config: &Config, client: ClientNumber, starts: u32) -> ScanDriver
+        ensures { result ≡ new_client config.now.f client.number starts }
+    {
         ScanDriver {
-            client: GroupClient::new(config, DRIVER, starts),
+            client: GroupClient::new(config, client, starts),
         }
     }
 
@@ -89,7 +100,18 @@ impl ScanDriver {
         self.client.retry(alloc)
     }
 
-    /// Takes a message to client 0. The first REPLY with the number that waits ends the waiting, and gives a release
+    /// Starts again as a client: it waits for nothing, and its numbers are above all that it gave. So a scan whose inputs
+    /// are old is never asked for again. `false` where its starts are used up, and then nothing changed.
+    pub fn start_again(&mut self) -> bool
+        ensures may { (answer : List Asked → Given) → IsTrue result
+            ↔ MayClient self.old.f self.old.number answer self.old.state StartsAgain }
+        ensures again { result ≡ true → BecomesAt self.old StartsAgain self.new }
+        ensures same { result ≡ false → self.new ≡ self.old }
+    {
+        self.client.start_again()
+    }
+
+    /// Takes a message to its client. The first REPLY with the number that waits ends the waiting, and gives a release
     /// where its answer has an image.
     pub fn on_reply(&mut self, message: &Message) -> Option<Release>
         ensures heard { (log : List (Entry Asked))
