@@ -3,7 +3,7 @@
 use crate::notation::{hexadecimal, lines_of, otherwise, unreadable};
 use ctl_blocks::Block;
 use il_model::{BlockKind, Field, Ty, Value};
-use std::alloc::Global;
+use std::alloc::{AllocError, Global};
 use std::{io, str};
 
 fn kind_named(name: &str) -> io::Result<BlockKind> {
@@ -42,16 +42,32 @@ fn shows_by_number(block: &Block) -> bool {
     true
 }
 
-/// Performs calls, each as `inputs at moment`.
+/// The inputs of a call, and its moment.
+fn parts(call: &str) -> Option<(&str, u64)> {
+    let (given, moment) = call.split_once(" at ")?;
+    Some((given, moment.parse::<u64>().ok()?))
+}
+
+/// Whether a call with these inputs answers what the block then shows.
+fn answers_as_shown(block: &mut Block, given: &[Value], moment: u64) -> bool {
+    let answer = block.call(given, moment);
+    answer == block.outputs()
+}
+
+/// Performs a call, as `inputs at moment`.
+fn call(alloc: Global, block: &mut Block, text: &str) -> io::Result<()> {
+    let (given, moment) = parts(text).ok_or(unreadable())?;
+    let given = inputs(alloc, block.kind(), given)?;
+    if answers_as_shown(block, given.as_slice(), moment) {
+        Ok(())
+    } else {
+        Err(otherwise())
+    }
+}
+
 fn call_all(alloc: Global, block: &mut Block, calls: &str) -> io::Result<()> {
-    for call in calls.split(", ") {
-        let (given, moment) = call.split_once(" at ").ok_or(unreadable())?;
-        let moment = moment.parse::<u64>().ok().ok_or(unreadable())?;
-        let given = inputs(alloc, block.kind(), given)?;
-        let answer = block.call(given.as_slice(), moment);
-        if answer != block.outputs() {
-            return Err(otherwise());
-        }
+    for text in calls.split(", ") {
+        call(alloc, block, text)?;
     }
     Ok(())
 }
@@ -59,32 +75,64 @@ fn call_all(alloc: Global, block: &mut Block, calls: &str) -> io::Result<()> {
 /// Performs the calls of a line, as many times as it says.
 fn perform(alloc: Global, block: &mut Block, line: &str) -> io::Result<()> {
     let (times, calls) = line.split_once(" times ").unwrap_or(("1", line));
-    for _ in 0..times.parse::<u16>().ok().ok_or(unreadable())? {
+    let times = times.parse::<u16>().ok().ok_or(unreadable())?;
+    for _ in 0..times {
         call_all(alloc, block, calls)?;
     }
     Ok(())
 }
 
-fn put_outputs(alloc: Global, came: &mut String, block: &Block) -> io::Result<()> {
+fn put_number(alloc: Global, came: &mut String, number: i64) -> Result<(), AllocError> {
+    came.push_str(format!(in alloc; " {number}")?.as_str())
+}
+
+/// The calls of a line, and what the block shows after them.
+fn shown(alloc: Global, block: &Block, calls: &str) -> io::Result<String> {
     if !shows_by_number(block) {
         return Err(otherwise());
     }
+    let mut came = format!(in alloc; "{calls}:")?;
     for output in block.outputs() {
-        let shown = format!(in alloc; " {}", output.number())?;
-        came.push_str(shown.as_str())?;
+        put_number(alloc, &mut came, output.number())?;
     }
-    Ok(())
+    Ok(came)
+}
+
+/// Whether an equal block comes back of the words of its state.
+fn comes_back(block: &Block, words: [u64; 4]) -> bool {
+    match Block::restore(block.kind(), words) {
+        Some(again) => again.save() == words,
+        None => false,
+    }
 }
 
 /// The words of a block's state, from which an equal one comes back.
 fn words(alloc: Global, block: &Block) -> io::Result<String> {
     let words = block.save();
-    match Block::restore(block.kind(), words) {
-        Some(again) if again.save() == words => {}
-        _ => return Err(otherwise()),
+    if !comes_back(block, words) {
+        return Err(otherwise());
     }
     let [first, second, third, fourth] = words;
     Ok(format!(in alloc; "words {first:x} {second:x} {third:x} {fourth:x}")?)
+}
+
+/// What comes of a line: its words, or its calls with what the block shows after them.
+fn told(alloc: Global, block: &mut Block, line: &str) -> io::Result<String> {
+    if line.starts_with("words ") {
+        return words(alloc, block);
+    }
+    let calls = line.split_once(':').ok_or(unreadable())?.0;
+    perform(alloc, block, calls)?;
+    shown(alloc, block, calls)
+}
+
+fn tell_all(alloc: Global, block: &mut Block, body: &str) -> io::Result<String> {
+    let mut came = String::new(alloc);
+    for line in lines_of(alloc, body)? {
+        came.push_str(told(alloc, block, line)?.as_str())?;
+        came.push('\n')?;
+    }
+    Ok(came)
 }
 
 /// The lines of a run: what a cold block of this kind shows after the calls of each line, and its words where a line
@@ -94,38 +142,33 @@ pub fn run(alloc: Global, kind: &str, body: &str) -> io::Result<String> {
     if block.save() != [0; 4] {
         return Err(otherwise());
     }
-    let mut came = String::new(alloc);
-    for line in lines_of(alloc, body)? {
-        if line.starts_with("words ") {
-            came.push_str(words(alloc, &block)?.as_str())?;
-        } else {
-            let calls = line.split_once(':').ok_or(unreadable())?.0;
-            perform(alloc, &mut block, calls)?;
-            came.push_str(calls)?;
-            came.push(':')?;
-            put_outputs(alloc, &mut came, &block)?;
-        }
-        came.push('\n')?;
-    }
-    Ok(came)
+    tell_all(alloc, &mut block, body)
 }
 
+/// Four words, in hexadecimal.
 pub fn four_words(text: &str) -> Option<[u64; 4]> {
-    let mut words = text.split_whitespace().map(hexadecimal);
-    let (first, second) = (words.next()??, words.next()??);
-    let (third, fourth) = (words.next()??, words.next()??);
-    Some([first, second, third, fourth])
+    let mut words = [0; 4];
+    let mut place = 0usize;
+    for word in text.split_whitespace() {
+        *words.get_mut(place)? = hexadecimal(word)?;
+        place = place.saturating_add(1);
+    }
+    (place == 4).then_some(words)
 }
 
-/// Whether words are those of a state, as `KIND WORD WORD WORD WORD`: `a state` or `none`.
-pub fn judged(alloc: Global, row: &str) -> io::Result<String> {
-    let (kind, words) = row.split_once(' ').ok_or(unreadable())?;
-    let words = four_words(words).ok_or(unreadable())?;
-    let found = match Block::restore(kind_named(kind)?, words) {
+/// A kind and four words, as `KIND WORD WORD WORD WORD`.
+fn state(row: &str) -> Option<(BlockKind, [u64; 4])> {
+    let (kind, words) = row.split_once(' ')?;
+    Some((BlockKind::of_name(kind.as_bytes())?, four_words(words)?))
+}
+
+/// Whether words are those of a state: `a state` or `none`.
+fn judged(row: &str) -> io::Result<&'static str> {
+    let (kind, words) = state(row).ok_or(unreadable())?;
+    Ok(match Block::restore(kind, words) {
         Some(_) => "a state",
         None => "none",
-    };
-    Ok(String::from_str(alloc, found)?)
+    })
 }
 
 fn text(bytes: &[u8]) -> io::Result<&str> {
@@ -142,51 +185,81 @@ fn type_name(ty: Ty) -> &'static str {
     }
 }
 
-/// A field of a kind by its number, found by its name too.
-fn field_line(alloc: Global, kind: BlockKind, number: u8) -> io::Result<String> {
-    let Some(field) = kind.field(number) else {
-        return Ok(String::from_str(alloc, "none")?);
-    };
-    if kind.field_number(field.name()) != Some(number)
-        || field.is_input() != (number < kind.input_count())
-    {
-        return Err(otherwise());
-    }
-    let side = if field.is_input() { "in" } else { "out" };
+/// Whether a field of a kind is found by its name, and is an input where it stands among the inputs.
+fn is_found(kind: BlockKind, number: u8, field: Field) -> bool {
+    kind.field_number(field.name()) == Some(number)
+        && field.is_input() == (number < kind.input_count())
+}
+
+/// A field's name, type and side.
+fn field_line(alloc: Global, field: Field) -> io::Result<String> {
     let (name, ty) = (text(field.name())?, type_name(field.ty()));
+    let side = if field.is_input() { "in" } else { "out" };
     Ok(format!(in alloc; "{name} {ty} {side}")?)
 }
 
-/// A kind's code and fields, by a name; by a code, the kind's name.
-pub fn kind(alloc: Global, row: &str) -> io::Result<String> {
-    if let Some(code) = row.parse::<u8>().ok() {
-        let name = match BlockKind::of_code(code) {
-            Some(kind) if kind.code() == code => text(kind.name())?,
-            _ => "none",
-        };
-        return Ok(String::from_str(alloc, name)?);
+/// A field of a kind by its number, found by its name too.
+fn field_at(alloc: Global, kind: BlockKind, number: u8) -> io::Result<String> {
+    match kind.field(number) {
+        Some(field) if is_found(kind, number, field) => field_line(alloc, field),
+        Some(_) => Err(otherwise()),
+        None => Ok(String::from_str(alloc, "none")?),
     }
-    let Some(kind) = BlockKind::of_name(row.as_bytes()) else {
-        return Ok(String::from_str(alloc, "none")?);
-    };
+}
+
+/// The name of the kind with this code.
+fn kind_of_code(code: u8) -> io::Result<&'static str> {
+    match BlockKind::of_code(code) {
+        Some(kind) if kind.code() == code => text(kind.name()),
+        _ => Ok("none"),
+    }
+}
+
+/// A kind's code and fields.
+fn kind_line(alloc: Global, kind: BlockKind) -> io::Result<String> {
     let mut came = format!(in alloc; "{}", kind.code())?;
     for number in (0u8..).take(kind.fields().len()) {
-        let line = field_line(alloc, kind, number)?;
         came.push_str(", ")?;
-        came.push_str(line.as_str())?;
+        came.push_str(field_at(alloc, kind, number)?.as_str())?;
     }
     Ok(came)
 }
 
+/// A kind's code and fields, by a name; by a code, the kind's name.
+fn kind(alloc: Global, row: &str) -> io::Result<String> {
+    if let Some(code) = row.parse::<u8>().ok() {
+        return Ok(String::from_str(alloc, kind_of_code(code)?)?);
+    }
+    match BlockKind::of_name(row.as_bytes()) {
+        Some(kind) => kind_line(alloc, kind),
+        None => Ok(String::from_str(alloc, "none")?),
+    }
+}
+
+/// The number of a kind's field of this name.
+fn number_line(alloc: Global, kind: BlockKind, name: &str) -> Result<String, AllocError> {
+    match kind.field_number(name.as_bytes()) {
+        Some(number) => format!(in alloc; "{number}"),
+        None => String::from_str(alloc, "none"),
+    }
+}
+
 /// A field of a kind, as `KIND NUMBER`; its number, as `KIND NAME`.
-pub fn field(alloc: Global, row: &str) -> io::Result<String> {
+fn field(alloc: Global, row: &str) -> io::Result<String> {
     let (kind, field) = row.split_once(' ').ok_or(unreadable())?;
     let kind = kind_named(kind)?;
-    if let Some(number) = field.parse::<u8>().ok() {
-        return field_line(alloc, kind, number);
+    match field.parse::<u8>().ok() {
+        Some(number) => field_at(alloc, kind, number),
+        None => Ok(number_line(alloc, kind, field)?),
     }
-    match kind.field_number(field.as_bytes()) {
-        Some(number) => Ok(format!(in alloc; "{number}")?),
-        None => Ok(String::from_str(alloc, "none")?),
+}
+
+/// What comes out of a cell in a table of this title.
+pub fn table(alloc: Global, title: &str, cell: &str) -> io::Result<String> {
+    match title {
+        "state" => Ok(String::from_str(alloc, judged(cell)?)?),
+        "kind" => kind(alloc, cell),
+        "field" => field(alloc, cell),
+        _ => Err(unreadable()),
     }
 }

@@ -7,9 +7,9 @@ use crate::notation::{behind, bytes_of, cells_of, number_of, unreadable};
 use il_model::{
     BlockKind, Cells, Deferred, ForcedSlot, SavedInstance, SavedPhase, Snapshot, Stop, Value, op_of,
 };
-use std::alloc::Global;
+use std::alloc::{AllocError, Global};
 use std::io;
-use vr_model::{Checkpoint, ClientNumber, Executed};
+use vr_model::{Checkpoint, Executed};
 
 fn small(text: &str, name: &str) -> Option<u16> {
     u16::try_from(number_of(text, name)?).ok()
@@ -17,6 +17,11 @@ fn small(text: &str, name: &str) -> Option<u16> {
 
 fn code(text: &str, name: &str) -> Option<u8> {
     u8::try_from(number_of(text, name)?).ok()
+}
+
+/// Puts an item behind those of a list.
+fn put<T: Drop>(list: &mut Vec<T>, item: Option<T>) -> io::Result<()> {
+    Ok(list.push(item.ok_or(unreadable())?)?)
 }
 
 /// `idle`, `held=3` after so many instructions, or `stopped=` with the name of the stop.
@@ -54,26 +59,40 @@ pub fn cold(alloc: Global) -> Snapshot {
     }
 }
 
-/// A checkpoint of no clients.
-pub fn nothing(alloc: Global) -> io::Result<Checkpoint> {
+/// The answers of no client.
+fn no_answers(alloc: Global) -> Result<Vec<Option<Executed>>, AllocError> {
     let mut clients = Vec::new(alloc);
     for _ in 0..16 {
         clients.push(None)?;
     }
+    Ok(clients)
+}
+
+/// A checkpoint of no clients.
+pub fn nothing(alloc: Global) -> Result<Checkpoint, AllocError> {
     Ok(Checkpoint {
         base: 0,
+        clients: no_answers(alloc)?,
         snapshot: cold(alloc),
-        clients,
     })
 }
 
-/// `client C3 7 held 2`: the client's last request and its answer.
-fn executed(rest: &str) -> Option<(ClientNumber, Executed)> {
-    let (who, rest) = rest.split_once(' ')?;
+/// A checkpoint of no clients, in place of one entry, with this snapshot.
+pub fn with(alloc: Global, snapshot: &Snapshot) -> Result<Checkpoint, AllocError> {
+    Ok(Checkpoint {
+        base: 1,
+        clients: no_answers(alloc)?,
+        snapshot: snapshot.copy(alloc)?,
+    })
+}
+
+/// The last request of a client and its answer, as `7 held 2`.
+fn executed(rest: &str) -> Option<Executed> {
     let (number, said) = rest.split_once(' ')?;
-    let number = number.parse::<u64>().ok()?;
-    let answer = answer(said)?;
-    Some((client(who)?, Executed { number, answer }))
+    Some(Executed {
+        number: number.parse::<u64>().ok()?,
+        answer: answer(said)?,
+    })
 }
 
 /// `deferred op=5 negated=1 BOOL#1`.
@@ -93,18 +112,29 @@ fn words(front: &str) -> Option<[u64; 4]> {
     }
 }
 
+/// The values of an instance's inputs.
+fn inputs(alloc: Global, texts: &str) -> io::Result<Vec<Value>> {
+    let mut inputs = Vec::new(alloc);
+    for text in texts.split_whitespace() {
+        put(&mut inputs, value(text))?;
+    }
+    Ok(inputs)
+}
+
+/// The kind of an instance, its words, and what stands behind them.
+fn front(rest: &str) -> Option<(BlockKind, [u64; 4], &str)> {
+    let (front, texts) = rest.split_once(" inputs")?;
+    let kind = BlockKind::of_code(code(front, "kind=")?)?;
+    Some((kind, words(front)?, texts))
+}
+
 /// `instance kind=9 second=5 inputs TRUE T#5ms`.
 fn instance(alloc: Global, rest: &str) -> io::Result<SavedInstance> {
-    let mut inputs: Vec<Value> = Vec::new(alloc);
-    let (front, texts) = rest.split_once(" inputs").ok_or(unreadable())?;
-    for text in texts.split_whitespace() {
-        inputs.push(value(text).ok_or(unreadable())?)?;
-    }
-    let kind = code(front, "kind=").and_then(BlockKind::of_code);
+    let (kind, words, texts) = front(rest).ok_or(unreadable())?;
     Ok(SavedInstance {
-        kind: kind.ok_or(unreadable())?,
-        inputs,
-        words: words(front).ok_or(unreadable())?,
+        kind,
+        inputs: inputs(alloc, texts)?,
+        words,
     })
 }
 
@@ -127,9 +157,23 @@ fn put_scan(snapshot: &mut Snapshot, rest: &str) -> Option<()> {
     Some(())
 }
 
+/// `client C3 7 held 2`: the client's last request and its answer.
 fn put_executed(checkpoint: &mut Checkpoint, rest: &str) -> Option<()> {
-    let (client, executed) = executed(rest)?;
-    *checkpoint.clients.get_mut(usize::from(client.number))? = Some(executed);
+    let (who, rest) = rest.split_once(' ')?;
+    let executed = executed(rest)?;
+    let place = usize::from(client(who)?.number);
+    *checkpoint.clients.get_mut(place)? = Some(executed);
+    Some(())
+}
+
+/// How many entries the checkpoint stands in place of, as `base=4`.
+fn put_base(checkpoint: &mut Checkpoint, rest: &str) -> Option<()> {
+    checkpoint.base = number_of(rest, "base=")?;
+    Some(())
+}
+
+fn put_image(alloc: Global, snapshot: &mut Snapshot, hexadecimal: &str) -> Option<()> {
+    snapshot.image = bytes_of(alloc, hexadecimal).ok()?;
     Some(())
 }
 
@@ -146,35 +190,53 @@ fn empty(alloc: Global, snapshot: &mut Snapshot, table: &str) -> Option<()> {
     Some(())
 }
 
-/// Puts what a line says; whether it speaks of a snapshot.
-pub fn put_part(alloc: Global, snapshot: &mut Snapshot, line: &str) -> io::Result<bool> {
-    let (name, rest) = line.split_once(' ').unwrap_or((line, ""));
+/// Puts the cells of an area; none where there is no area of this name.
+fn put_area(snapshot: &mut Snapshot, area: &str, rest: &str) -> Option<()> {
+    let cells = cells_of(rest).ok()?;
+    match area {
+        "input" => snapshot.input = cells,
+        "output" => snapshot.output = cells,
+        "memory" => snapshot.memory = cells,
+        _ => return None,
+    }
+    Some(())
+}
+
+/// Puts an item behind those of a snapshot's tables; whether the name is that of an item.
+fn put_item(alloc: Global, snapshot: &mut Snapshot, name: &str, rest: &str) -> io::Result<bool> {
     match name {
-        "no" => empty(alloc, snapshot, rest).ok_or(unreadable())?,
-        "image" => snapshot.image = bytes_of(alloc, rest)?,
-        "scan" => put_scan(snapshot, rest).ok_or(unreadable())?,
-        "deferred" => snapshot.deferred.push(deferred(rest).ok_or(unreadable())?)?,
-        "input" => snapshot.input = cells_of(rest)?,
-        "output" => snapshot.output = cells_of(rest)?,
-        "memory" => snapshot.memory = cells_of(rest)?,
-        "variable" => snapshot.variables.push(value(rest).ok_or(unreadable())?)?,
+        "deferred" => put(&mut snapshot.deferred, deferred(rest))?,
+        "variable" => put(&mut snapshot.variables, value(rest))?,
         "instance" => snapshot.instances.push(instance(alloc, rest)?)?,
-        "break" => snapshot
-            .breaks
-            .push(rest.parse::<u16>().map_err(|_| unreadable())?)?,
-        "force" => snapshot.forces.push(forced(rest).ok_or(unreadable())?)?,
+        "break" => put(&mut snapshot.breaks, rest.parse::<u16>().ok())?,
+        "force" => put(&mut snapshot.forces, forced(rest))?,
         _ => return Ok(false),
     }
     Ok(true)
 }
 
-/// Puts what a line says; whether it speaks of a checkpoint.
-pub fn put(alloc: Global, checkpoint: &mut Checkpoint, line: &str) -> io::Result<bool> {
+/// Puts what a line says; whether it speaks of a snapshot.
+pub fn put_part(alloc: Global, snapshot: &mut Snapshot, line: &str) -> io::Result<bool> {
     let (name, rest) = line.split_once(' ').unwrap_or((line, ""));
-    match name {
-        "checkpoint" => checkpoint.base = number_of(rest, "base=").ok_or(unreadable())?,
-        "client" => put_executed(checkpoint, rest).ok_or(unreadable())?,
+    let done = match name {
+        "no" => empty(alloc, snapshot, rest),
+        "scan" => put_scan(snapshot, rest),
+        "input" | "output" | "memory" => put_area(snapshot, name, rest),
+        "image" => put_image(alloc, snapshot, rest),
+        _ => return put_item(alloc, snapshot, name, rest),
+    };
+    done.ok_or(unreadable())?;
+    Ok(true)
+}
+
+/// Puts what a line says; whether it speaks of a checkpoint.
+pub fn put_line(alloc: Global, checkpoint: &mut Checkpoint, line: &str) -> io::Result<bool> {
+    let (name, rest) = line.split_once(' ').unwrap_or((line, ""));
+    let done = match name {
+        "checkpoint" => put_base(checkpoint, rest),
+        "client" => put_executed(checkpoint, rest),
         _ => return put_part(alloc, &mut checkpoint.snapshot, line),
-    }
+    };
+    done.ok_or(unreadable())?;
     Ok(true)
 }

@@ -30,6 +30,24 @@ pub fn cut_at<'a>(requests: &'a [u8], place: usize) -> Client<'a> {
     }
 }
 
+impl<'a> Client<'a> {
+    /// The same client, of whose reads and then of whose writes the one at this place fails, where it has so many reads.
+    pub fn failing_at(self, call: usize, reads: usize) -> Client<'a> {
+        match call.checked_sub(reads) {
+            None => Client {
+                reads: call,
+                writes: usize::MAX,
+                ..self
+            },
+            Some(write) => Client {
+                reads: usize::MAX,
+                writes: write,
+                ..self
+            },
+        }
+    }
+}
+
 /// What a client's stream has left, and how often it was read.
 #[derive(Drop)]
 pub struct Pieces<'a> {

@@ -23,11 +23,15 @@ pub fn image(alloc: Global, hexadecimal: &str) -> io::Result<Image> {
     }
 }
 
+/// The budget of `10 494c..`, and what stands behind it.
+fn budget(text: &str) -> Option<(Budget, &str)> {
+    let (instructions, hexadecimal) = text.split_once(' ')?;
+    Some((Budget::new(instructions.parse::<u32>().ok()?)?, hexadecimal))
+}
+
 /// A budget and an image, as `10 494c..`.
 fn given(alloc: Global, text: &str) -> io::Result<(Budget, Image)> {
-    let (instructions, hexadecimal) = text.split_once(' ').ok_or(unreadable())?;
-    let instructions = instructions.parse::<u32>().ok().ok_or(unreadable())?;
-    let budget = Budget::new(instructions).ok_or(unreadable())?;
+    let (budget, hexadecimal) = budget(text).ok_or(unreadable())?;
     Ok((budget, image(alloc, hexadecimal)?))
 }
 
@@ -56,10 +60,10 @@ fn why(error: SnapError) -> &'static str {
 }
 
 /// What the refusal of this number prints.
-pub fn refusal(alloc: Global, number: &str) -> io::Result<String> {
+fn refusal(alloc: Global, number: &str) -> io::Result<String> {
     for error in [SnapError::BadBlock, SnapError::BadShape, SnapError::Memory] {
         let shown = format!(in alloc; "{} {error}", error.number())?;
-        if shown.as_str().strip_prefix(number).is_some() {
+        if shown.as_str().starts_with(number) {
             return Ok(shown);
         }
     }
@@ -68,7 +72,14 @@ pub fn refusal(alloc: Global, number: &str) -> io::Result<String> {
 
 /// Whether two snapshots are the same: they have one frame.
 fn are_same(alloc: Global, one: &Snapshot, other: &Snapshot) -> io::Result<bool> {
-    Ok(snapshot_frame(alloc, one)?.as_slice() == snapshot_frame(alloc, other)?.as_slice())
+    let one = snapshot_frame(alloc, one)?;
+    let other = snapshot_frame(alloc, other)?;
+    Ok(one.as_slice() == other.as_slice())
+}
+
+/// Whether a controller saves this.
+fn saves_anew(alloc: Global, controller: &Controller, snapshot: &Snapshot) -> io::Result<bool> {
+    are_same(alloc, &controller.save(alloc)?, snapshot)
 }
 
 /// Whether a controller saves this in place of an earlier snapshot.
@@ -76,25 +87,44 @@ fn saves_over(
     alloc: Global,
     controller: &Controller,
     snapshot: &Snapshot,
-    mut earlier: Snapshot,
+    earlier: &mut Snapshot,
 ) -> io::Result<bool> {
-    controller.save_over(alloc, &mut earlier)?;
-    are_same(alloc, &earlier, snapshot)
+    controller.save_over(alloc, earlier)?;
+    are_same(alloc, earlier, snapshot)
 }
 
-/// Whether a controller saves this: anew, in place of what a cold one of its program saves, and in place of a snapshot
-/// of another program.
+/// Whether a controller saves this in place of what a cold one of its program saves.
+fn saves_over_first(
+    alloc: Global,
+    controller: &Controller,
+    snapshot: &Snapshot,
+    text: &str,
+) -> io::Result<bool> {
+    let mut first = cold(alloc, text)?.save(alloc)?;
+    saves_over(alloc, controller, snapshot, &mut first)
+}
+
+/// Whether a controller saves this in place of a snapshot of another program.
+fn saves_over_other(
+    alloc: Global,
+    controller: &Controller,
+    snapshot: &Snapshot,
+) -> io::Result<bool> {
+    let mut other = checkpoints::cold(alloc);
+    saves_over(alloc, controller, snapshot, &mut other)
+}
+
+/// Whether a controller saves this, anew and in place of earlier snapshots.
 fn saves(
     alloc: Global,
     controller: &Controller,
     snapshot: &Snapshot,
     text: &str,
 ) -> io::Result<bool> {
-    let first = cold(alloc, text)?.save(alloc)?;
     Ok(
-        are_same(alloc, &controller.save(alloc)?, snapshot)?
-            && saves_over(alloc, controller, snapshot, first)?
-            && saves_over(alloc, controller, snapshot, checkpoints::cold(alloc))?,
+        saves_anew(alloc, controller, snapshot)?
+            && saves_over_first(alloc, controller, snapshot, text)?
+            && saves_over_other(alloc, controller, snapshot)?,
     )
 }
 
@@ -108,49 +138,67 @@ fn put_all(alloc: Global, snapshot: &mut Snapshot, parts: &str) -> io::Result<()
     Ok(())
 }
 
+/// A snapshot of these parts alone.
+fn made(alloc: Global, parts: &str) -> io::Result<Snapshot> {
+    let mut snapshot = checkpoints::cold(alloc);
+    put_all(alloc, &mut snapshot, parts)?;
+    Ok(snapshot)
+}
+
+/// A copy of a snapshot with these parts changed.
+fn changed(alloc: Global, snapshot: &Snapshot, parts: &str) -> io::Result<Snapshot> {
+    let mut copy = snapshot.copy(alloc)?;
+    put_all(alloc, &mut copy, parts)?;
+    Ok(copy)
+}
+
+/// `saved` where that is so.
+fn saved(is_so: bool) -> io::Result<&'static str> {
+    if is_so { Ok("saved") } else { Err(otherwise()) }
+}
+
 impl Bench {
     /// Saves the controller; a copy of its snapshot is equal.
     fn save(&mut self, alloc: Global) -> io::Result<&'static str> {
-        let snapshot = self.controller.save(alloc)?;
-        if !are_same(alloc, &snapshot.copy(alloc)?, &snapshot)? {
-            return Err(otherwise());
-        }
-        self.saved = snapshot;
-        Ok("saved")
+        self.saved = self.controller.save(alloc)?;
+        let copy = self.saved.copy(alloc)?;
+        saved(are_same(alloc, &copy, &self.saved)?)
     }
 
     /// Whether what was saved is a snapshot with these parts.
     fn is_saved(&self, alloc: Global, parts: &str) -> io::Result<&'static str> {
-        let mut snapshot = checkpoints::cold(alloc);
-        put_all(alloc, &mut snapshot, parts)?;
-        if are_same(alloc, &snapshot, &self.saved)? {
-            Ok("saved")
+        let snapshot = made(alloc, parts)?;
+        saved(are_same(alloc, &snapshot, &self.saved)?)
+    }
+
+    /// Whether the snapshot with these parts changed comes back with a budget and an image.
+    fn judge(&self, alloc: Global, text: &str, parts: &str) -> io::Result<&'static str> {
+        let snapshot = changed(alloc, &self.saved, parts)?;
+        match restored(alloc, text, &snapshot)? {
+            Ok(_) => Ok("restored"),
+            Err(error) => Ok(why(error)),
+        }
+    }
+
+    /// Takes the controller that came back, which saves the same again.
+    fn take(
+        &mut self,
+        alloc: Global,
+        text: &str,
+        controller: Controller,
+    ) -> io::Result<&'static str> {
+        self.controller = controller;
+        if saves(alloc, &self.controller, &self.saved, text)? {
+            Ok("restored")
         } else {
             Err(otherwise())
         }
     }
 
-    /// Whether the snapshot with these parts changed comes back with a budget and an image.
-    fn judge(&self, alloc: Global, text: &str, parts: &str) -> io::Result<&'static str> {
-        let mut snapshot = self.saved.copy(alloc)?;
-        put_all(alloc, &mut snapshot, parts)?;
-        Ok(match restored(alloc, text, &snapshot)? {
-            Ok(_) => "restored",
-            Err(error) => why(error),
-        })
-    }
-
-    /// Restores the snapshot with a budget and an image; the controller is then the one that came back, and saves the
-    /// same again.
+    /// Restores the snapshot with a budget and an image.
     fn restore(&mut self, alloc: Global, text: &str) -> io::Result<&'static str> {
         match restored(alloc, text, &self.saved)? {
-            Ok(controller) => {
-                if !saves(alloc, &controller, &self.saved, text)? {
-                    return Err(otherwise());
-                }
-                self.controller = controller;
-                Ok("restored")
-            }
+            Ok(controller) => self.take(alloc, text, controller),
             Err(error) => Ok(why(error)),
         }
     }
@@ -187,16 +235,19 @@ impl Bench {
         }
     }
 
-    /// What comes of a line.
+    /// What comes of what a line asks.
+    fn come(&mut self, alloc: Global, text: &str, asked: &str, said: &str) -> io::Result<String> {
+        if let Some(command) = command(alloc, asked) {
+            return self.answer(alloc, &command, said);
+        }
+        let (verb, rest) = asked.split_once(' ').unwrap_or((asked, ""));
+        Ok(String::from_str(alloc, self.ask(alloc, text, verb, rest)?)?)
+    }
+
+    /// A line with what comes of it.
     fn tell(&mut self, alloc: Global, text: &str, line: &str) -> io::Result<String> {
         let (asked, said) = line.split_once(": ").ok_or(unreadable())?;
-        let came = match command(alloc, asked) {
-            Some(command) => self.answer(alloc, &command, said)?,
-            None => {
-                let (verb, rest) = asked.split_once(' ').unwrap_or((asked, ""));
-                String::from_str(alloc, self.ask(alloc, text, verb, rest)?)?
-            }
-        };
+        let came = self.come(alloc, text, asked, said)?;
         Ok(format!(in alloc; "{asked}: {came}\n")?)
     }
 
@@ -209,12 +260,18 @@ impl Bench {
     }
 }
 
+/// Whether a controller's image has the bytes that the row has.
+fn has_image(alloc: Global, controller: &Controller, text: &str) -> io::Result<bool> {
+    let (_, hexadecimal) = text.split_once(' ').ok_or(unreadable())?;
+    let bytes = bytes_of(alloc, hexadecimal)?;
+    Ok(controller.image().bytes() == bytes.as_slice())
+}
+
 /// The lines of a run, each with what comes of it: commands of a controller with this budget and image that never ran,
 /// and what is asked of its snapshots.
 pub fn run(alloc: Global, text: &str, body: &str) -> io::Result<String> {
     let controller = cold(alloc, text)?;
-    let (_, hexadecimal) = text.split_once(' ').ok_or(unreadable())?;
-    if controller.image().bytes() != bytes_of(alloc, hexadecimal)?.as_slice() {
+    if !has_image(alloc, &controller, text)? {
         return Err(otherwise());
     }
     let saved = checkpoints::cold(alloc);
@@ -222,9 +279,18 @@ pub fn run(alloc: Global, text: &str, body: &str) -> io::Result<String> {
 }
 
 /// The slot of a name in an image, in hexadecimal.
-pub fn slot(alloc: Global, hexadecimal: &str, name: &str) -> io::Result<String> {
+fn slot(alloc: Global, hexadecimal: &str, name: &str) -> io::Result<String> {
     match ctl_debugger::slot(&image(alloc, hexadecimal)?, name.as_bytes()) {
         Some(slot) => Ok(format!(in alloc; "{:04x}", slot.0)?),
         None => Ok(String::from_str(alloc, "none")?),
+    }
+}
+
+/// What comes out of a cell in a table of this title.
+pub fn table(alloc: Global, title: &str, cell: &str) -> io::Result<String> {
+    match title.strip_prefix("slot in ") {
+        Some(image) => slot(alloc, image, cell),
+        None if title == "refusal of a snapshot" => refusal(alloc, cell),
+        None => Err(unreadable()),
     }
 }

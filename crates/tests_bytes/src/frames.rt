@@ -1,5 +1,5 @@
 //! Frames between replicas: streams that are cut or replaced, and the frames of messages.
-ghost use Rattle.std.specs.Prelude.{◌≤◌, length};
+ghost use Rattle.std.specs.Prelude.{◌≤◌, ◌<◌, length};
 
 use crate::messages::message;
 use crate::notation::{bytes_of, lines_of, otherwise, unreadable};
@@ -21,14 +21,23 @@ type Seen = (usize, Option<WireFault>);
 fn fed(alloc: Global, stream: &[u8], cut: usize) -> Result<Fed, AllocError>
     requires { cut ≤ length stream.now }
 {
-    let (front, behind) = stream.split_at(cut);
-    let mut feed = Feed::new(alloc);
     let mut out = Vec::new(alloc);
-    let _first = feed.feed(alloc, front, &mut out);
-    let _second = feed.feed(alloc, behind, &mut out);
-    match feed.feed(alloc, b"", &mut out) {
-        Ok(()) => Ok((out, None)),
-        Err(WireError::Fault(fault)) => Ok((out, Some(fault))),
+    let fault = fault_of(alloc, stream.split_at(cut), &mut out)?;
+    Ok((out, fault))
+}
+
+/// The fault of two pieces, behind which nothing more comes.
+fn fault_of(
+    alloc: Global,
+    (front, behind): (&[u8], &[u8]),
+    out: &mut Vec<Message>,
+) -> Result<Option<WireFault>, AllocError> {
+    let mut feed = Feed::new(alloc);
+    let _first = feed.feed(alloc, front, out);
+    let _second = feed.feed(alloc, behind, out);
+    match feed.feed(alloc, b"", out) {
+        Ok(()) => Ok(None),
+        Err(WireError::Fault(fault)) => Ok(Some(fault)),
         Err(WireError::Memory) => Err(AllocError),
     }
 }
@@ -70,13 +79,29 @@ fn is_read_as_framed(alloc: Global, stream: &[u8]) -> Result<bool, AllocError> {
     Ok(behind(alloc, stream, messages.as_slice()).is_some_and(|rest| is_judged(rest, fault)))
 }
 
-/// The same of each beginning of a stream, and of it with each byte replaced by `FF`.
+/// A stream whose byte at a place is `FF`.
+fn replaced_at(alloc: Global, stream: &[u8], place: usize) -> Result<Vec<u8>, AllocError>
+    requires { place < length stream.now }
+{
+    let mut replaced = Vec::from_slice(alloc, stream)?;
+    replaced[place] = 0xff;
+    Ok(replaced)
+}
+
+/// The same of the beginning of a stream up to a place, and of it with the byte there replaced by `FF`.
+fn is_read_when_spoilt_at(alloc: Global, stream: &[u8], place: usize) -> Result<bool, AllocError>
+    requires { place < length stream.now }
+{
+    let replaced = replaced_at(alloc, stream, place)?;
+    Ok(
+        is_read_as_framed(alloc, &stream[..place])?
+            && is_read_as_framed(alloc, replaced.as_slice())?,
+    )
+}
+
 fn is_read_when_spoilt(alloc: Global, stream: &[u8]) -> Result<bool, AllocError> {
     for place in 0..stream.len() {
-        let mut replaced = Vec::from_slice(alloc, stream)?;
-        replaced[place] = 0xff;
-        let beginning = is_read_as_framed(alloc, &stream[..place])?;
-        if !beginning || !is_read_as_framed(alloc, replaced.as_slice())? {
+        if !is_read_when_spoilt_at(alloc, stream, place)? {
             return Ok(false);
         }
     }
@@ -92,20 +117,25 @@ fn told(alloc: Global, seen: Seen) -> Result<String, AllocError> {
     }
 }
 
-/// How many messages a stream has, and the fault behind them, wherever it is cut.
-pub fn stream(alloc: Global, text: &str) -> io::Result<String> {
-    let stream = bytes_of(alloc, text)?;
-    let whole = seen(alloc, stream.as_slice(), stream.len())?;
+/// What is seen of a stream, wherever it is cut; none where that depends on the cut.
+fn seen_at_each_cut(alloc: Global, stream: &[u8]) -> Result<Option<Seen>, AllocError> {
+    let whole = seen(alloc, stream, stream.len())?;
     for cut in 0..stream.len() {
-        if seen(alloc, stream.as_slice(), cut)? != whole {
-            return Err(otherwise());
+        if seen(alloc, stream, cut)? != whole {
+            return Ok(None);
         }
     }
-    if is_read_when_spoilt(alloc, stream.as_slice())? {
-        Ok(told(alloc, whole)?)
-    } else {
-        Err(otherwise())
+    Ok(Some(whole))
+}
+
+/// How many messages a stream has, and the fault behind them.
+fn stream(alloc: Global, text: &str) -> io::Result<String> {
+    let stream = bytes_of(alloc, text)?;
+    let seen = seen_at_each_cut(alloc, stream.as_slice())?;
+    if !is_read_when_spoilt(alloc, stream.as_slice())? {
+        return Err(otherwise());
     }
+    Ok(told(alloc, seen.ok_or(otherwise())?)?)
 }
 
 /// `m` a message, `.` none yet, `B` a bad frame, `L` too large.
@@ -119,16 +149,32 @@ fn letter(seen: Seen) -> char {
     }
 }
 
+/// The letter for the frame whose byte at a place is `FF`.
+fn letter_at(alloc: Global, frame: &[u8], place: usize) -> Result<char, AllocError>
+    requires { place < length frame.now }
+{
+    let replaced = replaced_at(alloc, frame, place)?;
+    Ok(letter(seen(alloc, replaced.as_slice(), 0)?))
+}
+
 /// A letter for each byte of a frame: what is seen of it where that byte is replaced by `FF`.
-pub fn replaced(alloc: Global, text: &str) -> io::Result<String> {
+fn replaced(alloc: Global, text: &str) -> io::Result<String> {
     let frame = bytes_of(alloc, text)?;
+    let frame = frame.as_slice();
     let mut letters = String::new(alloc);
     for place in 0..frame.len() {
-        let mut stream = Vec::from_slice(alloc, frame.as_slice())?;
-        stream[place] = 0xff;
-        letters.push(letter(seen(alloc, stream.as_slice(), 0)?))?;
+        letters.push(letter_at(alloc, frame, place)?)?;
     }
     Ok(letters)
+}
+
+/// What comes out of a cell in a table of this title.
+pub fn table(alloc: Global, title: &str, cell: &str) -> io::Result<String> {
+    match title {
+        "stream of frames" => stream(alloc, cell),
+        "byte replaced" => replaced(alloc, cell),
+        _ => Err(unreadable()),
+    }
 }
 
 /// Whether a frame is read as one message, which has just that frame.
@@ -140,19 +186,27 @@ fn is_read_back(alloc: Global, frame: &[u8]) -> bool {
         && write(alloc, &out[0]).is_ok_and(|again| again.as_slice() == frame)
 }
 
-/// The frame of a message, from which that message alone is read, in hexadecimal; `none` where it has none.
+/// Whether a frame is read as just its message, and what is read when it's spoilt is as it should be.
+fn is_sound(alloc: Global, frame: &[u8]) -> Result<bool, AllocError> {
+    Ok(is_read_back(alloc, frame) && is_read_when_spoilt(alloc, frame)?)
+}
+
+/// A sound frame in hexadecimal.
+fn shown(alloc: Global, frame: &[u8]) -> io::Result<String> {
+    if is_sound(alloc, frame)? {
+        Ok(hex::encode(alloc, frame)?)
+    } else {
+        Err(otherwise())
+    }
+}
+
+/// The frame of a message, in hexadecimal; `none` where it has none.
 pub fn frame(alloc: Global, text: &str) -> io::Result<String> {
     let lines = lines_of(alloc, text)?;
     let message = message(alloc, lines.as_slice())?;
-    let frame = match write(alloc, &message) {
-        Ok(frame) => frame,
-        Err(WireError::Fault(WireFault::BadFrame)) => return Ok(String::from_str(alloc, "none")?),
-        Err(_) => return Err(unreadable()),
-    };
-    let is_sound = is_read_back(alloc, frame.as_slice());
-    if is_sound && is_read_when_spoilt(alloc, frame.as_slice())? {
-        Ok(hex::encode(alloc, frame.as_slice())?)
-    } else {
-        Err(otherwise())
+    match write(alloc, &message) {
+        Ok(frame) => shown(alloc, frame.as_slice()),
+        Err(WireError::Fault(WireFault::BadFrame)) => Ok(String::from_str(alloc, "none")?),
+        Err(_) => Err(unreadable()),
     }
 }

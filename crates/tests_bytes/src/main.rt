@@ -17,8 +17,19 @@ mod sessions;
 mod stores;
 mod values;
 
+use rows::Found;
 use std::process::ExitCode;
 use std::{env, fs, io};
+
+/// Prints what came of a file: whether each row came out as it says.
+fn is_as_said(rt: &HostRuntime, name: &str, found: &Found) -> io::Result<bool> {
+    for row in &found.otherwise {
+        println!(rt; "otherwise: {row}")?;
+    }
+    let (rows, otherwise) = (found.rows, found.otherwise.len());
+    println!(rt; "{name}: {rows} rows, {otherwise} otherwise")?;
+    Ok(otherwise == 0)
+}
 
 fn main(rt: HostRuntime) -> io::Result<ExitCode> {
     let words: Vec<String> = env::args(&rt)?.collect(rt.alloc())?;
@@ -26,13 +37,10 @@ fn main(rt: HostRuntime) -> io::Result<ExitCode> {
     for file in words.iter().skip(1) {
         let name = file.as_str();
         let text = fs::read_to_string(&rt, name)?;
-        let found = rows::checked(&rt, rt.alloc(), text.as_str())?;
-        for row in &found.otherwise {
-            println!(rt; "otherwise: {row}")?;
+        let found = rows::checked(&rt, rt.alloc(), name, text.as_str())?;
+        if !is_as_said(&rt, name, &found)? {
             status = ExitCode::FAILURE;
         }
-        let (rows, otherwise) = (found.rows, found.otherwise.len());
-        println!(rt; "{name}: {rows} rows, {otherwise} otherwise")?;
     }
     Ok(status)
 }

@@ -16,12 +16,7 @@ pub fn otherwise() -> io::Error {
 
 /// A number in hexadecimal.
 pub fn hexadecimal(digits: &str) -> Option<u64> {
-    let mut number = 0u64;
-    for digit in digits.chars() {
-        let digit = u64::from(digit.to_digit(16)?);
-        number = number.checked_mul(16)?.checked_add(digit)?;
-    }
-    Some(number)
+    u64::from_str_radix(digits, 16).ok()
 }
 
 /// Puts a text so many times.
@@ -32,17 +27,18 @@ fn put_times(out: &mut String, count: u16, text: &str) -> Result<(), AllocError>
     Ok(())
 }
 
-/// Words without the blanks between them; `576*00` is `00` so many times.
+/// Puts a word; `576*00` is `00` so many times.
+fn put_word(out: &mut String, word: &str) -> io::Result<()> {
+    let (count, text) = word.split_once('*').unwrap_or(("1", word));
+    let count = count.parse::<u16>().ok().ok_or(unreadable())?;
+    Ok(put_times(out, count, text)?)
+}
+
+/// Words without the blanks between them.
 pub fn spread(alloc: Global, words: &str) -> io::Result<String> {
     let mut spread = String::new(alloc);
     for word in words.split_whitespace() {
-        match word.split_once('*') {
-            None => spread.push_str(word)?,
-            Some((count, text)) => {
-                let count = count.parse::<u16>().map_err(|_| unreadable())?;
-                put_times(&mut spread, count, text)?;
-            }
-        }
+        put_word(&mut spread, word)?;
     }
     Ok(spread)
 }
@@ -55,11 +51,16 @@ pub fn bytes_of(alloc: Global, words: &str) -> io::Result<Vec<u8>> {
     }
 }
 
+/// Whether a line is no remark and isn't blank.
+fn is_told(line: &str) -> bool {
+    !line.is_empty() && !line.starts_with('#')
+}
+
 /// The lines of a section that are no remarks and aren't blank.
 pub fn lines_of<'a>(alloc: Global, body: &'a str) -> Result<Vec<&'a str>, AllocError> {
     let mut lines = Vec::new(alloc);
     for line in body.lines() {
-        if !line.is_empty() && !line.starts_with('#') {
+        if is_told(line) {
             lines.push(line)?;
         }
     }
@@ -91,25 +92,34 @@ pub fn number_of(text: &str, name: &str) -> Option<u64> {
     behind(text, name)?.parse::<u64>().ok()
 }
 
+/// Puts a value at a place; none where there is no such place.
+fn put_at<T: Copy + Drop>(cells: &mut [T], place: u16, value: T) -> Option<()> {
+    *cells.get_mut(usize::from(place))? = value;
+    Some(())
+}
+
 /// Puts a cell as a row writes it: `%QX0.0`, which is TRUE, or `%QW0=-2`.
 fn put_cell(cells: &mut Cells, word: &str) -> Option<()> {
     let (place, number) = word.split_once('=').unwrap_or((word, "1"));
     match il_model::location_from(place.as_bytes())? {
-        Loc::Bit(_, bit) => *cells.bits.get_mut(usize::from(bit))? = true,
-        Loc::Word(_, place) => {
-            *cells.words.get_mut(usize::from(place))? = number.parse::<i16>().ok()?;
+        Loc::Bit(_, bit) => put_at(&mut cells.bits, bit, true),
+        Loc::Word(_, place) => put_at(&mut cells.words, place, number.parse::<i16>().ok()?),
+    }
+}
+
+/// Puts the cells of these words; those that begin with no `%` aren't read.
+fn put_cells(cells: &mut Cells, text: &str) -> Option<()> {
+    for word in text.split_whitespace() {
+        if word.starts_with('%') {
+            put_cell(cells, word)?;
         }
     }
     Some(())
 }
 
-/// The cells of these words; those that begin with no `%` aren't read.
+/// The cells of these words.
 pub fn cells_of(text: &str) -> io::Result<Cells> {
     let mut cells = Cells::clear();
-    for word in text.split_whitespace() {
-        if word.starts_with('%') {
-            put_cell(&mut cells, word).ok_or(unreadable())?;
-        }
-    }
+    put_cells(&mut cells, text).ok_or(unreadable())?;
     Ok(cells)
 }

@@ -4,8 +4,9 @@ use crate::controllers::image;
 use crate::messages::{frame_of, message, request};
 use crate::notation::{behind, lines_of, number_of, unreadable};
 use crate::stores::Store;
+use il_loader::Image;
 use il_model::Budget;
-use std::alloc::Global;
+use std::alloc::{AllocError, Global};
 use std::io;
 use vr_model::{Config, Event, Message, Party};
 use vr_replica::{Replica, StepFault};
@@ -25,6 +26,9 @@ struct Group {
     sent: Vec<Message>,
 }
 
+/// What a step sent, or its fault.
+type Stepped = Result<Vec<Message>, StepFault>;
+
 /// What happens to a replica.
 #[derive(Drop)]
 enum Happens {
@@ -41,16 +45,26 @@ fn code(text: &str, name: &str, otherwise: u64) -> Option<u16> {
     u16::try_from(number_of(text, name).unwrap_or(otherwise)).ok()
 }
 
+/// A group of three with a checkpoint as `every=1` says.
+fn config(text: &str) -> Option<Config> {
+    Config::new(1, code(text, "every=", 0)?)
+}
+
+/// The image, as `image=494c..`.
+fn image_of(alloc: Global, text: &str) -> io::Result<Image> {
+    image(alloc, behind(text, "image=").ok_or(unreadable())?)
+}
+
 /// The replica of this number, as `every=1 image=494c..` and maybe `is=down` say.
 fn replica(alloc: Global, number: u8, text: &str) -> io::Result<Replica> {
-    let every = code(text, "every=", 0).ok_or(unreadable())?;
-    let config = Config::new(1, every).ok_or(unreadable())?;
+    let config = config(text).ok_or(unreadable())?;
     let budget = Budget::new(10_000).ok_or(unreadable())?;
-    let image = image(alloc, behind(text, "image=").ok_or(unreadable())?)?;
-    Ok(match behind(text, "is=") {
-        None => Replica::new(alloc, config, number, image, budget)?,
-        Some(_) => Replica::down(alloc, config, number, image, budget)?,
-    })
+    let image = image_of(alloc, text)?;
+    let made = match behind(text, "is=") {
+        None => Replica::new(alloc, config, number, image, budget),
+        Some(_) => Replica::down(alloc, config, number, image, budget),
+    };
+    Ok(made?)
 }
 
 fn new_node(alloc: Global, number: u8, text: &str) -> io::Result<Node> {
@@ -81,10 +95,16 @@ fn written(alloc: Global, text: &str) -> io::Result<Message> {
     message(alloc, lines.as_slice())
 }
 
+/// Whether two messages are the same: they have one frame.
+fn are_same(alloc: Global, one: &Message, other: &Message) -> io::Result<bool> {
+    let one = frame_of(alloc, one)?;
+    let other = frame_of(alloc, other)?;
+    Ok(one.as_slice() == other.as_slice())
+}
+
 /// Whether a message is as it's written.
 fn is_written(alloc: Global, sent: &Message, text: &str) -> io::Result<bool> {
-    let written = written(alloc, text)?;
-    Ok(frame_of(alloc, sent)?.as_slice() == frame_of(alloc, &written)?.as_slice())
+    are_same(alloc, sent, &written(alloc, text)?)
 }
 
 /// Whether messages are as they're written, with `; ` between them.
@@ -104,7 +124,7 @@ fn are_written(alloc: Global, sent: &[Message], text: &str) -> io::Result<bool> 
 
 impl Node {
     /// What an event makes it send, or its fault.
-    fn step(&mut self, alloc: Global, happens: Happens) -> Result<Vec<Message>, StepFault> {
+    fn step(&mut self, alloc: Global, happens: Happens) -> Stepped {
         match happens {
             Happens::Event(event) => self.replica.step(alloc, event, &mut self.store),
             Happens::Crash => {
@@ -114,17 +134,21 @@ impl Node {
         }
     }
 
-    /// What it is, and its commit number.
-    fn standing(&self, alloc: Global) -> io::Result<String> {
-        let commit = self.replica.commit();
-        let standing = if self.replica.is_down() {
+    /// Whether it's down, normal, or neither.
+    fn is(&self) -> &'static str {
+        if self.replica.is_down() {
             "down"
         } else if self.replica.is_normal() {
             "normal"
         } else {
             "not normal"
-        };
-        Ok(format!(in alloc; "{standing} commit={commit}")?)
+        }
+    }
+
+    /// What it is, and its commit number.
+    fn standing(&self, alloc: Global) -> Result<String, AllocError> {
+        let (is, commit) = (self.is(), self.replica.commit());
+        format!(in alloc; "{is} commit={commit}")
     }
 
     /// Whether its log has this entry, as `op=1 C0 1 step`.
@@ -141,22 +165,25 @@ impl Node {
             .count()
     }
 
-    /// Whether its log has just these entries, or how many it has.
-    fn log(&self, alloc: Global, said: &str) -> io::Result<String> {
+    /// How many entries are said, all of which its log has.
+    fn count_said(&self, alloc: Global, said: &str) -> Option<usize> {
         let mut count = 0usize;
         for text in said.split(", ") {
             if text != "none" {
-                if !self.has(alloc, text).ok_or(unreadable())? {
-                    return Ok(format!(in alloc; "not {text}")?);
-                }
+                self.has(alloc, text)?.then_some(())?;
                 count = count.saturating_add(1);
             }
         }
+        Some(count)
+    }
+
+    /// Whether its log has just these entries, or how many it has.
+    fn log(&self, alloc: Global, said: &str) -> Result<String, AllocError> {
         let entries = self.entries();
-        if entries == count {
-            Ok(String::from_str(alloc, said)?)
+        if self.count_said(alloc, said) == Some(entries) {
+            String::from_str(alloc, said)
         } else {
-            Ok(format!(in alloc; "{entries} entries")?)
+            format!(in alloc; "{entries} entries")
         }
     }
 }
@@ -173,23 +200,14 @@ impl Group {
     }
 
     /// What an event makes a replica of this number send, or its fault.
-    fn step(
-        &mut self,
-        alloc: Global,
-        number: u8,
-        happens: Happens,
-    ) -> io::Result<Result<Vec<Message>, StepFault>> {
+    fn step(&mut self, alloc: Global, number: u8, happens: Happens) -> io::Result<Stepped> {
         let place = self.place(number)?;
         let node = self.nodes.get_mut(place).ok_or(unreadable())?;
         Ok(node.step(alloc, happens))
     }
 
     /// A message comes; to a client nothing happens.
-    fn deliver(
-        &mut self,
-        alloc: Global,
-        message: Message,
-    ) -> io::Result<Result<Vec<Message>, StepFault>> {
+    fn deliver(&mut self, alloc: Global, message: Message) -> io::Result<Stepped> {
         match message.to {
             Party::Client(_) => Ok(Ok(Vec::new(alloc))),
             Party::Replica(number) => {
@@ -204,30 +222,39 @@ impl Group {
         Ok(self.sent.get(place).ok_or(unreadable())?.copy(alloc)?)
     }
 
-    /// What happens: `timeout R1`, `resend R1`, `restart R1 7` with a nonce, `crash R1`, `deliver 2`, or a message.
-    fn happen(&mut self, alloc: Global, text: &str) -> io::Result<Result<Vec<Message>, StepFault>> {
-        let (verb, rest) = text.split_once(' ').ok_or(unreadable())?;
+    /// What happens to a replica: `timeout R1`, `resend R1`, `restart R1 7` with a nonce, `crash R1`.
+    fn happen_to(&mut self, alloc: Global, verb: &str, rest: &str) -> io::Result<Stepped> {
         let (name, nonce) = rest.split_once(' ').unwrap_or((rest, "0"));
+        let number = number(name).ok_or(unreadable())?;
         let happens = match verb {
             "timeout" => Happens::Event(Event::Timeout),
             "resend" => Happens::Event(Event::Resend),
             "restart" => Happens::Event(Event::Restart(nonce.parse().ok().ok_or(unreadable())?)),
-            "crash" => Happens::Crash,
-            "deliver" => {
-                let message = self.message(alloc, rest)?;
-                return self.deliver(alloc, message);
-            }
-            _ => return self.deliver(alloc, written(alloc, text)?),
+            _ => Happens::Crash,
         };
-        self.step(alloc, number(name).ok_or(unreadable())?, happens)
+        self.step(alloc, number, happens)
     }
 
-    /// What an event comes to: the messages as they're said, or how many there are, or a fault.
-    fn tell_event(&mut self, alloc: Global, text: &str, said: &str) -> io::Result<String> {
-        let mut sent = match self.happen(alloc, text)? {
-            Ok(sent) => sent,
-            Err(fault) => return Ok(format!(in alloc; "{fault}")?),
+    /// What happens: an event of a replica, `deliver 2`, or a message.
+    fn happen(&mut self, alloc: Global, text: &str) -> io::Result<Stepped> {
+        let (verb, rest) = text.split_once(' ').ok_or(unreadable())?;
+        let message = match verb {
+            "timeout" | "resend" | "restart" | "crash" => {
+                return self.happen_to(alloc, verb, rest);
+            }
+            "deliver" => self.message(alloc, rest)?,
+            _ => written(alloc, text)?,
         };
+        self.deliver(alloc, message)
+    }
+
+    /// The messages that were sent, as they're said, or how many there are.
+    fn tell_sent(
+        &mut self,
+        alloc: Global,
+        mut sent: Vec<Message>,
+        said: &str,
+    ) -> io::Result<String> {
         let count = sent.len();
         let is_said = count > 0 && said.contains('=') && are_written(alloc, sent.as_slice(), said)?;
         self.sent.append(&mut sent)?;
@@ -238,26 +265,43 @@ impl Group {
         })
     }
 
+    /// What an event comes to: the messages, or a fault.
+    fn tell_event(&mut self, alloc: Global, text: &str, said: &str) -> io::Result<String> {
+        match self.happen(alloc, text)? {
+            Ok(sent) => self.tell_sent(alloc, sent, said),
+            Err(fault) => Ok(format!(in alloc; "{fault}")?),
+        }
+    }
+
+    /// Whether the message at this place is as it's said.
+    fn tell_message(&self, alloc: Global, place: &str, said: &str) -> io::Result<String> {
+        let message = self.message(alloc, place)?;
+        let is_said = is_written(alloc, &message, said)?;
+        Ok(String::from_str(alloc, if is_said { said } else { "another" })?)
+    }
+
     /// What there is: `is R1`, `log R1`, `store R1`, or the message `sent 6`.
     fn tell(&mut self, alloc: Global, text: &str, said: &str) -> io::Result<String> {
         match text.split_once(' ').ok_or(unreadable())? {
-            ("is", name) => self.node(name)?.standing(alloc),
-            ("log", name) => self.node(name)?.log(alloc, said),
+            ("is", name) => Ok(self.node(name)?.standing(alloc)?),
+            ("log", name) => Ok(self.node(name)?.log(alloc, said)?),
             ("store", name) => Ok(self.node(name)?.store.told(alloc)?),
-            ("sent", place) => {
-                let is_said = is_written(alloc, &self.message(alloc, place)?, said)?;
-                Ok(String::from_str(alloc, if is_said { said } else { "another" })?)
-            }
+            ("sent", place) => self.tell_message(alloc, place, said),
             _ => self.tell_event(alloc, text, said),
         }
+    }
+
+    /// A line with what comes of it.
+    fn tell_line(&mut self, alloc: Global, line: &str) -> io::Result<String> {
+        let (text, said) = line.split_once(": ").ok_or(unreadable())?;
+        let told = self.tell(alloc, text, said)?;
+        Ok(format!(in alloc; "{text}: {told}\n")?)
     }
 
     fn tell_all(&mut self, alloc: Global, body: &str) -> io::Result<String> {
         let mut came = String::new(alloc);
         for line in lines_of(alloc, body)? {
-            let (text, said) = line.split_once(": ").ok_or(unreadable())?;
-            let told = self.tell(alloc, text, said)?;
-            came.push_str(format!(in alloc; "{text}: {told}\n")?.as_str())?;
+            came.push_str(self.tell_line(alloc, line)?.as_str())?;
         }
         Ok(came)
     }

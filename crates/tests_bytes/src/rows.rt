@@ -1,8 +1,9 @@
-//! The rows of a file. A section of a row hands something in or says what comes out; a table is a row a line.
+//! The rows of a file. A section of a row hands something in or says what comes out; a table is a row a line. The name of
+//! the file says whose rows these are.
 
 use crate::notation::{bytes_of, lines_of, plain, spread, unreadable};
 use crate::sessions::Exchange;
-use crate::{blocks, controllers, frames, groups, replicas, sessions, values};
+use crate::{blocks, controllers, frames, groups, replicas};
 use std::alloc::{AllocError, Global};
 use std::io;
 use std::sync::Wait;
@@ -32,47 +33,96 @@ impl Found {
     }
 }
 
-/// What the sections of a row hand in: an exchange of requests and replies, and the lines of a message.
+/// What a row hands in: the name of its file, and by sections an exchange of requests and replies, and the lines of a
+/// message.
 #[derive(Drop)]
 struct Given<'a> {
+    file: &'a str,
     exchange: Exchange,
     message: &'a str,
 }
 
+impl<'a> Given<'a> {
+    fn new(alloc: Global, file: &'a str) -> Given<'a> {
+        Given {
+            file,
+            exchange: Exchange::new(alloc),
+            message: "",
+        }
+    }
+
+    /// Takes what a section hands in; false where it hands in nothing.
+    fn take(&mut self, title: &str, body: &'a str) -> io::Result<bool> {
+        match title {
+            "message" => self.message = body,
+            "released" => self.exchange.release(body.trim_end())?,
+            _ => return Ok(false),
+        }
+        Ok(true)
+    }
+}
+
 /// The rows of a file, which stand below the headings of its themes.
-pub fn checked<R: Wait>(rt: &R, alloc: Global, file: &str) -> io::Result<Found> {
+pub fn checked<R: Wait>(rt: &R, alloc: Global, name: &str, text: &str) -> io::Result<Found> {
     let mut found = Found {
         rows: 0,
         otherwise: Vec::new(alloc),
     };
-    for theme in file.split("\n== ") {
-        for row in theme.split("\n=== ").skip(1) {
-            check_row(rt, alloc, row, &mut found)?;
-        }
+    for theme in text.split("\n== ") {
+        check_theme(rt, alloc, name, theme, &mut found)?;
     }
     Ok(found)
 }
 
-/// A row: its name, and sections behind it.
-fn check_row<R: Wait>(rt: &R, alloc: Global, row: &str, found: &mut Found) -> io::Result<()> {
-    let mut sections = row.split("\n--- ");
-    let name = sections.next().unwrap_or("");
-    let mut given = Given {
-        exchange: Exchange::new(alloc),
-        message: "",
-    };
-    for section in sections {
-        let (title, body) = section.split_once('\n').unwrap_or((section, ""));
-        match title.strip_prefix("each ") {
-            Some(title) => check_table(rt, alloc, &mut given, title, body, found)?,
-            None => match title {
-                "message" => given.message = body,
-                "released" => given.exchange.release(body.trim_end())?,
-                _ => check_section(alloc, &given, name, title, body, found)?,
-            },
-        }
+/// The rows of a theme, behind its heading.
+fn check_theme<R: Wait>(
+    rt: &R,
+    alloc: Global,
+    file: &str,
+    theme: &str,
+    found: &mut Found,
+) -> io::Result<()> {
+    for row in theme.split("\n=== ").skip(1) {
+        check_row(rt, alloc, Given::new(alloc, file), row, found)?;
     }
     Ok(())
+}
+
+/// A row: its name, and sections behind it.
+fn check_row<'a, R: Wait>(
+    rt: &R,
+    alloc: Global,
+    mut given: Given<'a>,
+    row: &'a str,
+    found: &mut Found,
+) -> io::Result<()> {
+    let mut sections = row.split("\n--- ");
+    let name = sections.next().unwrap_or("");
+    for section in sections {
+        check_section(rt, alloc, &mut given, name, section, found)?;
+    }
+    Ok(())
+}
+
+/// A section, which is a table, hands something in or says what comes out.
+fn check_section<'a, R: Wait>(
+    rt: &R,
+    alloc: Global,
+    given: &mut Given<'a>,
+    name: &str,
+    section: &'a str,
+    found: &mut Found,
+) -> io::Result<()> {
+    let (title, body) = section.split_once('\n').unwrap_or((section, ""));
+    if let Some(title) = title.strip_prefix("each ") {
+        return check_table(rt, alloc, given, title, body, found);
+    }
+    if given.take(title, body)? {
+        return Ok(());
+    }
+    let said = said(alloc, title, body)?;
+    let came = runs(alloc, given, title, body);
+    Ok(found.count(alloc, name, said.as_str(), came)?)
 }
 
 /// A table: a row a line, as `what is handed in | what comes out`.
@@ -86,82 +136,61 @@ fn check_table<R: Wait>(
 ) -> io::Result<()> {
     for line in lines_of(alloc, body)? {
         let (cell, said) = line.split_once(" | ").unwrap_or((line, ""));
-        if title == "request" {
-            let came = given.exchange.request(rt, alloc, cell, said);
-            let reply = hexadecimals(alloc, said)?;
-            found.count(alloc, line, reply.as_str(), came)?;
-        } else if title == "written request" {
-            let pdu = if said == "none" {
-                String::from_str(alloc, said)?
-            } else {
-                hexadecimals(alloc, said)?
-            };
-            found.count(alloc, line, pdu.as_str(), values::written(alloc, cell))?;
-        } else if title == "byte replaced" {
-            let letters = spread(alloc, said)?;
-            found.count(alloc, line, letters.as_str(), frames::replaced(alloc, cell))?;
-        } else {
-            found.count(alloc, line, said, comes_out(rt, alloc, given, title, cell))?;
-        }
+        let came = comes_out(rt, alloc, given, title, cell, said);
+        let said = said_in(alloc, title, said)?;
+        found.count(alloc, line, said.as_str(), came)?;
     }
     Ok(())
+}
+
+/// What a line of a table of this title says.
+fn said_in(alloc: Global, title: &str, said: &str) -> io::Result<String> {
+    match title {
+        "request" => hexadecimals(alloc, said),
+        "written request" if said != "none" => hexadecimals(alloc, said),
+        "byte replaced" => spread(alloc, said),
+        _ => Ok(String::from_str(alloc, said)?),
+    }
 }
 
 /// What comes out of a cell in a table of this title.
 fn comes_out<R: Wait>(
     rt: &R,
     alloc: Global,
-    given: &Given<'_>,
+    given: &mut Given<'_>,
     title: &str,
     cell: &str,
+    said: &str,
 ) -> io::Result<String> {
-    if let Some(image) = title.strip_prefix("slot in ") {
-        return controllers::slot(alloc, image, cell);
+    match given.file {
+        "blocks.rows" => blocks::table(alloc, title, cell),
+        "modbus.rows" => given.exchange.table(rt, alloc, title, cell, said),
+        "frames.rows" => frames::table(alloc, title, cell),
+        "controllers.rows" => controllers::table(alloc, title, cell),
+        "replicas.rows" => groups::table(alloc, title, cell),
+        _ => Err(unreadable()),
     }
-    let end = match title {
-        "state" => return blocks::judged(alloc, cell),
-        "kind" => return blocks::kind(alloc, cell),
-        "field" => return blocks::field(alloc, cell),
-        "read reply" => return values::answered(alloc, cell),
-        "refusal of a snapshot" => return controllers::refusal(alloc, cell),
-        "group" => return groups::group(alloc, cell),
-        "choice of a log" => return groups::choice(alloc, cell),
-        "count of releases" => return sessions::numbers_shown(rt, alloc, cell),
-        "stream of frames" => return frames::stream(alloc, cell),
-        "client" => given.exchange.with_client(rt, alloc, cell)?,
-        "stream of requests" => sessions::stream(rt, alloc, cell)?,
-        "fault for good" => sessions::fault(alloc, cell)?,
-        _ => return Err(unreadable()),
-    };
-    Ok(String::from_str(alloc, end)?)
 }
 
-/// A section that says what comes out.
-fn check_section(
-    alloc: Global,
-    given: &Given<'_>,
-    name: &str,
-    title: &str,
-    body: &str,
-    found: &mut Found,
-) -> io::Result<()> {
-    let (said, came) = match title.split_once(' ') {
-        Some(("calls", kind)) => (plain(alloc, body)?, blocks::run(alloc, kind, body)),
-        Some(("controller", of)) => (plain(alloc, body)?, controllers::run(alloc, of, body)),
-        Some(("replicas", of)) => (plain(alloc, body)?, replicas::run(alloc, of, body)),
-        _ => match title {
-            "frame" => (
-                hexadecimals(alloc, body)?,
-                frames::frame(alloc, given.message),
-            ),
-            "no frame" => (
-                String::from_str(alloc, "none")?,
-                frames::frame(alloc, given.message),
-            ),
-            _ => (String::new(alloc), Err(unreadable())),
-        },
-    };
-    Ok(found.count(alloc, name, said.as_str(), came)?)
+/// What a section says that comes out.
+fn said(alloc: Global, title: &str, body: &str) -> io::Result<String> {
+    match title {
+        "frame" => hexadecimals(alloc, body),
+        "no frame" => Ok(String::from_str(alloc, "none")?),
+        _ => Ok(plain(alloc, body)?),
+    }
+}
+
+/// What comes out where a section says it: of the lines of its run, or of what was handed in.
+fn runs(alloc: Global, given: &Given<'_>, title: &str, body: &str) -> io::Result<String> {
+    let (_, of) = title.split_once(' ').unwrap_or((title, ""));
+    match given.file {
+        "blocks.rows" => blocks::run(alloc, of, body),
+        "frames.rows" => frames::frame(alloc, given.message),
+        "controllers.rows" => controllers::run(alloc, of, body),
+        "replicas.rows" => replicas::run(alloc, of, body),
+        _ => Err(unreadable()),
+    }
 }
 
 /// Bytes without the blanks between them.

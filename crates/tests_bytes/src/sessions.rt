@@ -3,6 +3,7 @@ ghost use Rattle.std.specs.Prelude.{◌≡◌};
 
 use crate::clients::{Client, Pieces, Publishing, Writes, cut_at};
 use crate::notation::{behind, bytes_of, cells_of, otherwise, unreadable};
+use crate::values;
 use il_model::OutImage;
 use io_image::{
     Naming, NewList, Release, ReleasedReader, Sample, Stage, StageBook, Staging, released,
@@ -99,7 +100,23 @@ fn talk<R: Wait, S: Staging, J: Naming>(
     }
 }
 
-/// A session over nothing staged and this release, over a book or over one behind a lock.
+/// A session over nothing staged, over a book or over one behind a lock.
+fn talk_over<R: Wait, J: Naming>(
+    rt: &R,
+    alloc: Global,
+    reader: &mut ReleasedReader<J>,
+    client: Client<'_>,
+    is_locked: bool,
+) -> Talked {
+    let mut book = StageBook::new(alloc);
+    if is_locked {
+        let stage = Stage::new(book);
+        return talk(rt, alloc, &mut stage.handle(rt), reader, client);
+    }
+    talk(rt, alloc, &mut book, reader, client)
+}
+
+/// A session over this release.
 fn session<R: Wait, J: Naming>(
     rt: &R,
     alloc: Global,
@@ -116,12 +133,7 @@ fn session<R: Wait, J: Naming>(
     if let Some(release) = release {
         writer.publish(release).ok().ok_or(otherwise())?;
     }
-    let mut book = StageBook::new(alloc);
-    if is_locked {
-        let stage = Stage::new(book);
-        return Ok(talk(rt, alloc, &mut stage.handle(rt), &mut reader, client));
-    }
-    Ok(talk(rt, alloc, &mut book, &mut reader, client))
+    Ok(talk_over(rt, alloc, &mut reader, client, is_locked))
 }
 
 /// A session over a new list of releases.
@@ -179,9 +191,27 @@ impl Exchange {
         Ok(())
     }
 
+    /// Puts a request so many times behind those before, and its replies but for the last one.
+    fn put(&mut self, request: &[u8], reply: &[u8], count: usize) -> Result<(), AllocError> {
+        put_times(&mut self.requests, request, count)?;
+        put_times(&mut self.replies, reply, count.saturating_sub(1))
+    }
+
+    /// What a session of all requests gets behind the replies so far, in hexadecimal.
+    fn last_reply<R: Wait>(&self, rt: &R, alloc: Global) -> io::Result<String> {
+        let whole = cut_at(self.requests.as_slice(), usize::MAX);
+        let talked = served(rt, alloc, self.released, whole, false)?;
+        if talked.end != SessionEnd::Closed {
+            return Err(otherwise());
+        }
+        let written = talked.written.as_slice();
+        let came = written.get(self.replies.len()..).unwrap_or(&[]);
+        Ok(hex::encode(alloc, came)?)
+    }
+
     /// Puts a request and its reply behind those before, and gives the reply that comes, in hexadecimal. Of a request
     /// that is sent so many times it gives the last reply, where those before are as said.
-    pub fn request<R: Wait>(
+    fn request<R: Wait>(
         &mut self,
         rt: &R,
         alloc: Global,
@@ -190,19 +220,8 @@ impl Exchange {
     ) -> io::Result<String> {
         let (count, request) = repeated(request);
         let (request, reply) = (bytes_of(alloc, request)?, bytes_of(alloc, reply)?);
-        put_times(&mut self.requests, request.as_slice(), count)?;
-        put_times(&mut self.replies, reply.as_slice(), count.saturating_sub(1))?;
-        let whole = cut_at(self.requests.as_slice(), usize::MAX);
-        let talked = served(rt, alloc, self.released, whole, false)?;
-        if talked.end != SessionEnd::Closed {
-            return Err(otherwise());
-        }
-        let came = talked
-            .written
-            .as_slice()
-            .get(self.replies.len()..)
-            .unwrap_or(&[]);
-        let came = hex::encode(alloc, came)?;
+        self.put(request.as_slice(), reply.as_slice(), count)?;
+        let came = self.last_reply(rt, alloc)?;
         self.replies.extend_from_slice(reply.as_slice())?;
         Ok(came)
     }
@@ -217,6 +236,15 @@ impl Exchange {
         Ok(closed.end == SessionEnd::Closed && closed.sample == talked.sample)
     }
 
+    /// Whether a session wrote these replies, or a beginning of them where its device failed.
+    fn has_written(&self, talked: &Talked) -> bool {
+        let (written, replies) = (talked.written.as_slice(), self.replies.as_slice());
+        match talked.end {
+            SessionEnd::Device => replies.starts_with(written),
+            _ => replies == written,
+        }
+    }
+
     /// How a session with a client ends; its replies are all of these. Where the device fails they are a beginning of
     /// them, and what was staged is in the next sample.
     fn end<R: Wait>(
@@ -227,12 +255,7 @@ impl Exchange {
         is_locked: bool,
     ) -> io::Result<&'static str> {
         let talked = served(rt, alloc, self.released, client, is_locked)?;
-        let (written, replies) = (talked.written.as_slice(), self.replies.as_slice());
-        let is_as_said = match talked.end {
-            SessionEnd::Device => replies.starts_with(written),
-            _ => replies == written,
-        };
-        if !is_as_said {
+        if !self.has_written(&talked) {
             return Ok("other replies");
         }
         if talked.end == SessionEnd::Device && !self.has_staged(rt, alloc, &talked)? {
@@ -251,21 +274,13 @@ impl Exchange {
     ) -> io::Result<&'static str> {
         let whole = served(rt, alloc, self.released, client, is_locked)?;
         for call in 0..whole.reads.saturating_add(whole.writes) {
-            let (reads, writes) = match call.checked_sub(whole.reads) {
-                None => (call, usize::MAX),
-                Some(write) => (usize::MAX, write),
-            };
-            let failing = Client {
-                reads,
-                writes,
-                ..client
-            };
+            let failing = client.failing_at(call, whole.reads);
             let end = self.end(rt, alloc, failing, is_locked)?;
-            if end != end_name(SessionEnd::Device) {
+            if end != "device" {
                 return Ok(end);
             }
         }
-        Ok(end_name(SessionEnd::Device))
+        Ok("device")
     }
 
     /// How the session ends wherever its requests are cut in two.
@@ -280,35 +295,69 @@ impl Exchange {
         Ok(first)
     }
 
-    /// How the session ends with a client: `cut at each place`, or the sizes of its pieces, behind how many reads or
-    /// writes one fails or is interrupted, or that each of them fails in turn, and `over a lock`.
-    pub fn with_client<R: Wait>(
-        &self,
-        rt: &R,
-        alloc: Global,
-        text: &str,
-    ) -> io::Result<&'static str> {
-        if text == "cut at each place" {
-            return self.end_at_each_cut(rt, alloc);
-        }
-        let client = Client {
+    /// A client with pieces of these sizes, behind how many of whose reads or writes one fails or is interrupted.
+    fn client(&self, text: &str) -> Client<'_> {
+        Client {
             requests: self.requests.as_slice(),
             first: size_of(text, "first="),
             others: size_of(text, "others="),
             reads: size_of(text, "reads="),
             writes: size_of(text, "writes="),
             interrupted: size_of(text, "interrupted="),
-        };
+        }
+    }
+
+    /// How the session ends with a client: `cut at each place`, or its pieces and failures, or that each read and write
+    /// fails in turn, and `over a lock`.
+    fn with_client<R: Wait>(&self, rt: &R, alloc: Global, text: &str) -> io::Result<&'static str> {
+        if text == "cut at each place" {
+            return self.end_at_each_cut(rt, alloc);
+        }
+        let client = self.client(text);
         let is_locked = text.ends_with("over a lock");
         if text.contains("each read and write fails") {
             return self.end_at_each_failure(rt, alloc, client, is_locked);
         }
         self.end(rt, alloc, client, is_locked)
     }
+
+    /// How a session ends, in a table of this title.
+    fn ends<R: Wait>(
+        &self,
+        rt: &R,
+        alloc: Global,
+        title: &str,
+        cell: &str,
+    ) -> io::Result<&'static str> {
+        match title {
+            "client" => self.with_client(rt, alloc, cell),
+            "stream of requests" => stream(rt, alloc, cell),
+            "fault for good" => fault(alloc, cell),
+            _ => Err(unreadable()),
+        }
+    }
+
+    /// What comes out of a cell in a table of this title.
+    pub fn table<R: Wait>(
+        &mut self,
+        rt: &R,
+        alloc: Global,
+        title: &str,
+        cell: &str,
+        said: &str,
+    ) -> io::Result<String> {
+        match title {
+            "request" => self.request(rt, alloc, cell, said),
+            "written request" => values::written(alloc, cell),
+            "read reply" => values::answered(alloc, cell),
+            "count of releases" => numbers_shown(rt, alloc, cell),
+            _ => Ok(String::from_str(alloc, self.ends(rt, alloc, title, cell)?)?),
+        }
+    }
 }
 
 /// How a stream ends, as `REQUESTS > REPLIES`, wherever it is cut.
-pub fn stream<R: Wait>(rt: &R, alloc: Global, text: &str) -> io::Result<&'static str> {
+fn stream<R: Wait>(rt: &R, alloc: Global, text: &str) -> io::Result<&'static str> {
     let (requests, replies) = text.split_once('>').ok_or(unreadable())?;
     let exchange = Exchange {
         released: None,
@@ -319,7 +368,7 @@ pub fn stream<R: Wait>(rt: &R, alloc: Global, text: &str) -> io::Result<&'static
 }
 
 /// The fault of bytes, which is answered again for each later piece.
-pub fn fault(alloc: Global, text: &str) -> io::Result<&'static str> {
+fn fault(alloc: Global, text: &str) -> io::Result<&'static str> {
     let bytes = bytes_of(alloc, text)?;
     let mut session = Session::new();
     let mut found = Vec::new(alloc);
@@ -364,17 +413,22 @@ fn publishing<R: Wait, J: Naming>(
     Ok((taken, end))
 }
 
-/// What so many requests show: the numbers of the releases before them, each one more than the one before.
-pub fn numbers_shown<R: Wait>(rt: &R, alloc: Global, count: &str) -> io::Result<String> {
-    let count = count.parse::<u64>().ok().ok_or(unreadable())?;
-    let (taken, end) = publishing::<R, Brand>(rt, alloc, NewList::new(), count)?;
+/// The last of the numbers that these replies show, each one more than the one before.
+fn last_of(replies: &[u8]) -> io::Result<u8> {
     let mut last = 0u8;
-    for reply in taken.as_slice().chunks(10) {
+    for reply in replies.chunks(10) {
         last = last.wrapping_add(1);
         if reply != [0, 1, 0, 0, 0, 4, 1, 2, 1, last].as_slice() {
             return Err(otherwise());
         }
     }
-    let end = end_name(end);
+    Ok(last)
+}
+
+/// What so many requests show: the numbers of the releases before them, each one more than the one before.
+fn numbers_shown<R: Wait>(rt: &R, alloc: Global, count: &str) -> io::Result<String> {
+    let count = count.parse::<u64>().ok().ok_or(unreadable())?;
+    let (taken, end) = publishing::<R, Brand>(rt, alloc, NewList::new(), count)?;
+    let (last, end) = (last_of(taken.as_slice())?, end_name(end));
     Ok(format!(in alloc; "1 to {last}, {end}")?)
 }

@@ -50,52 +50,71 @@ fn reading(text: &str, code: u16, address: u16) -> Option<Request> {
     })
 }
 
-/// A request, as `code=23 at=3 count=6 into=14 words=255,255`.
-fn request(text: &str) -> Option<Request> {
-    let address = number(text, "at=")?;
-    let made = match number(text, "code=")? {
-        code @ 1..=4 => return reading(text, code, address),
-        5 => Request::WriteBit {
+/// What writes one bit or one word, or masks a word.
+fn writing_one(text: &str, code: u16, address: u16) -> Option<Request> {
+    match code {
+        5 => Some(Request::WriteBit {
             address,
             value: number(text, "bit=")? == 1,
-        },
-        6 => Request::WriteWord {
+        }),
+        6 => Some(Request::WriteWord {
             address,
             value: behind(text, "word=")?.parse::<i16>().ok()?,
-        },
-        15 => Request::WriteBits {
-            address,
-            values: bits(text)?,
-        },
-        16 => Request::WriteWords {
-            address,
-            values: words(text)?,
-        },
-        22 => Request::MaskWord {
+        }),
+        22 => Some(Request::MaskWord {
             address,
             and_mask: number(text, "and=")?,
             or_mask: number(text, "or=")?,
-        },
-        23 => Request::WriteReadWords {
+        }),
+        _ => None,
+    }
+}
+
+/// What writes several bits or words.
+fn writing(text: &str, code: u16, address: u16) -> Option<Request> {
+    match code {
+        15 => Some(Request::WriteBits {
+            address,
+            values: bits(text)?,
+        }),
+        16 => Some(Request::WriteWords {
+            address,
+            values: words(text)?,
+        }),
+        23 => Some(Request::WriteReadWords {
             address,
             quantity: number(text, "count=")?,
             write_address: number(text, "into=")?,
             values: words(text)?,
-        },
-        _ => return None,
-    };
-    Some(made)
+        }),
+        _ => None,
+    }
 }
 
-/// The PDU of a request, in hexadecimal, which is read as one of the same PDU; `none` where the request has none.
+/// A request, as `code=23 at=3 count=6 into=14 words=255,255`.
+fn request(text: &str) -> Option<Request> {
+    let address = number(text, "at=")?;
+    let code = number(text, "code=")?;
+    match code {
+        1..=4 => reading(text, code, address),
+        5 | 6 | 22 => writing_one(text, code, address),
+        _ => writing(text, code, address),
+    }
+}
+
+/// Whether the PDU of a request is read as one of the same PDU.
+fn is_read_back(pdu: &[u8]) -> Option<bool> {
+    let again = Request::read(pdu).ok()?.write()?;
+    Some(again.as_slice() == pdu)
+}
+
+/// The PDU of a request, in hexadecimal; `none` where the request has none.
 pub fn written(alloc: Global, text: &str) -> io::Result<String> {
     let request = request(text).ok_or(unreadable())?;
     let Some(pdu) = request.write() else {
         return Ok(String::from_str(alloc, "none")?);
     };
-    let again = Request::read(pdu.as_slice()).ok().ok_or(otherwise())?;
-    let again = again.write().ok_or(otherwise())?;
-    if again.as_slice() != pdu.as_slice() {
+    if is_read_back(pdu.as_slice()) != Some(true) {
         return Err(otherwise());
     }
     Ok(hex::encode(alloc, pdu.as_slice())?)
@@ -111,30 +130,45 @@ fn put_bits(alloc: Global, bits: &[bool]) -> io::Result<String> {
 
 fn put_words(alloc: Global, words: &[i16]) -> io::Result<String> {
     let mut shown = String::from_str(alloc, "words=")?;
-    for (place, word) in words.iter().enumerate() {
-        let comma = if place == 0 { "" } else { "," };
-        let word = format!(in alloc; "{comma}{word}")?;
-        shown.push_str(word.as_str())?;
+    let mut comma = "";
+    for word in words {
+        shown.push_str(format!(in alloc; "{comma}{word}")?.as_str())?;
+        comma = ",";
     }
     Ok(shown)
 }
 
-/// What a PDU answers to a request, as `REQUEST > PDU`; `none` where it's no reply to it.
-pub fn answered(alloc: Global, text: &str) -> io::Result<String> {
-    let (asked, pdu) = text.split_once('>').ok_or(unreadable())?;
-    let request = request(asked).ok_or(unreadable())?;
-    let pdu = bytes_of(alloc, pdu)?;
-    let Some(reply) = Reply::read(&request, pdu.as_slice()) else {
-        return Ok(String::from_str(alloc, "none")?);
-    };
-    let again: Pdu = reply.write(&request).ok_or(otherwise())?;
-    if Reply::read(&request, again.as_slice()).is_none() {
-        return Err(otherwise());
-    }
+/// What a reply answers.
+fn shown(alloc: Global, reply: &Reply) -> io::Result<String> {
     match reply {
         Reply::Bits(bits) => put_bits(alloc, bits.as_slice()),
         Reply::Words(words) => put_words(alloc, words.as_slice()),
         Reply::Done => Ok(String::from_str(alloc, "done")?),
         Reply::Failed(number) => Ok(format!(in alloc; "exception {number}")?),
     }
+}
+
+/// Whether what is written of a reply is a reply to that request again.
+fn is_answer_again(request: &Request, reply: &Reply) -> Option<()> {
+    let again: Pdu = reply.write(request)?;
+    Reply::read(request, again.as_slice())?;
+    Some(())
+}
+
+/// What a PDU answers to a request; `none` where it's no reply to it.
+fn reply_of(alloc: Global, request: &Request, pdu: &[u8]) -> io::Result<String> {
+    match Reply::read(request, pdu) {
+        Some(reply) => {
+            is_answer_again(request, &reply).ok_or(otherwise())?;
+            shown(alloc, &reply)
+        }
+        None => Ok(String::from_str(alloc, "none")?),
+    }
+}
+
+/// What a PDU answers to a request, as `REQUEST > PDU`.
+pub fn answered(alloc: Global, text: &str) -> io::Result<String> {
+    let (asked, pdu) = text.split_once('>').ok_or(unreadable())?;
+    let request = request(asked).ok_or(unreadable())?;
+    reply_of(alloc, &request, bytes_of(alloc, pdu)?.as_slice())
 }
