@@ -9,6 +9,7 @@ mod clients;
 mod controllers;
 mod frames;
 mod groups;
+mod hellos;
 mod messages;
 mod notation;
 mod replicas;

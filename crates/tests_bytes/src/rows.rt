@@ -3,7 +3,7 @@
 
 use crate::notation::{bytes_of, lines_of, plain, spread, unreadable};
 use crate::sessions::Exchange;
-use crate::{blocks, controllers, frames, groups, replicas};
+use crate::{blocks, controllers, frames, groups, hellos, replicas};
 use std::alloc::{AllocError, Global};
 use std::io;
 use std::sync::Wait;
@@ -168,6 +168,7 @@ fn comes_out<R: Wait>(
         "frames.rows" => frames::table(alloc, title, cell),
         "controllers.rows" => controllers::table(alloc, title, cell),
         "replicas.rows" => groups::table(alloc, title, cell),
+        "hellos.rows" => hellos::table(alloc, title, cell),
         _ => Err(unreadable()),
     }
 }
