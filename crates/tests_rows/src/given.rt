@@ -8,8 +8,8 @@ use std::io;
 /// One scan on inputs that are all FALSE and 0.
 const ONE_SCAN: &[u8] = br#"[{"scan": {"ix": [], "iw": [], "moment": 0}}]"#;
 
-/// A text, that of a program before it, the bytes of an image, files of commands and of a schedule, how many replicas may fail, and how many
-/// instructions a scan may perform.
+/// A text, that of a program before it, the bytes of an image, files of commands and of a schedule, how many replicas
+/// may fail, and how many instructions a scan may perform.
 #[derive(Drop)]
 pub struct Given {
     pub text: Vec<u8>,
@@ -31,6 +31,15 @@ fn budget(number: &str) -> io::Result<Budget> {
 fn failures(number: &str) -> io::Result<u8> {
     let failures = number.trim_end().parse::<u8>().ok();
     failures.ok_or(io::Error::from(io::ErrorKind::InvalidData))
+}
+
+/// The bytes of a section, as it writes them, or as a text.
+fn bytes(alloc: Global, title: &str, body: &str) -> io::Result<Vec<u8>> {
+    if title.ends_with("in bytes") {
+        bytes_of(alloc, body)
+    } else {
+        Ok(Vec::from_slice(alloc, body.as_bytes())?)
+    }
 }
 
 impl Given {
@@ -58,18 +67,35 @@ impl Given {
         }
     }
 
+    /// Where the bytes of a section of this title go; none where it hands in no bytes.
+    fn place(&mut self, title: &str) -> Option<&mut Vec<u8>> {
+        match title {
+            "commands" | "commands in bytes" => Some(&mut self.commands),
+            "schedule" => Some(&mut self.schedule),
+            "old text" => Some(&mut self.old_text),
+            "text in bytes" => Some(&mut self.text),
+            "image in bytes" => Some(&mut self.image),
+            _ => None,
+        }
+    }
+
+    /// Takes the bytes that a section hands in; false where it hands in none.
+    fn take_bytes(&mut self, alloc: Global, title: &str, body: &str) -> io::Result<bool> {
+        match self.place(title) {
+            Some(place) => {
+                *place = bytes(alloc, title, body)?;
+                Ok(true)
+            }
+            None => Ok(false),
+        }
+    }
+
     /// Takes what a section hands in; false where it hands in nothing.
     pub fn take(&mut self, alloc: Global, title: &str, body: &str) -> io::Result<bool> {
         match title {
-            "commands" => self.commands = Vec::from_slice(alloc, body.as_bytes())?,
-            "commands in bytes" => self.commands = bytes_of(alloc, body)?,
-            "schedule" => self.schedule = Vec::from_slice(alloc, body.as_bytes())?,
             "f" => self.failures = failures(body)?,
             "budget" => self.budget = budget(body)?,
-            "old text" => self.old_text = Vec::from_slice(alloc, body.as_bytes())?,
-            "text in bytes" => self.text = bytes_of(alloc, body)?,
-            "image in bytes" => self.image = bytes_of(alloc, body)?,
-            _ => return Ok(false),
+            _ => return self.take_bytes(alloc, title, body),
         }
         Ok(true)
     }

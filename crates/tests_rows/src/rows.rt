@@ -31,14 +31,20 @@ pub fn checked(alloc: Global, file: &str) -> io::Result<Found> {
         otherwise: Vec::new(alloc),
     };
     for theme in file.split("\n== ") {
-        for row in theme.split("\n=== ").skip(1) {
-            match row.split_once("\n--- each ") {
-                Some((_, table)) => check_table(alloc, table, &mut found)?,
-                None => check_row(alloc, row, &mut found)?,
-            }
-        }
+        check_theme(alloc, theme, &mut found)?;
     }
     Ok(found)
+}
+
+/// The rows of a theme, behind its heading.
+fn check_theme(alloc: Global, theme: &str, found: &mut Found) -> io::Result<()> {
+    for row in theme.split("\n=== ").skip(1) {
+        match row.split_once("\n--- each ") {
+            Some((_, table)) => check_table(alloc, table, found)?,
+            None => check_row(alloc, row, found)?,
+        }
+    }
+    Ok(())
 }
 
 /// A row: its name, its text, and sections behind them.
@@ -58,44 +64,75 @@ fn check_row(alloc: Global, row: &str, found: &mut Found) -> io::Result<()> {
     Ok(found.count(alloc, name, is_as_said && said > 0)?)
 }
 
-/// A table: behind its title a row a line, as `what is handed in | what comes out`, with ` / ` between two lines of
-/// either. Lines that begin with # are remarks.
+/// A table: behind its title a row a line, as `what is handed in | what comes out`. Lines that begin with # are remarks.
 fn check_table(alloc: Global, table: &str, found: &mut Found) -> io::Result<()> {
     let (title, lines) = table.split_once('\n').unwrap_or((table, ""));
-    for line in lines
-        .lines()
-        .filter(|line| !line.is_empty() && !line.starts_with('#'))
-    {
-        let (cell, said) = line.split_once(" | ").unwrap_or((line, ""));
-        let cell = cell.trim_end().replace(alloc, " / ", "\n")?;
-        let said = said.replace(alloc, " / ", "\n")?;
-        let given = Given::in_table(alloc, title, cell.as_str())?;
-        found.count(alloc, line, comes_out(alloc, &given, title, said.as_str())?)?;
+    for line in lines.lines() {
+        if !line.is_empty() && !line.starts_with('#') {
+            let is_as_said = check_line(alloc, title, line)?;
+            found.count(alloc, line, is_as_said)?;
+        }
     }
     Ok(())
 }
 
+/// Whether a line of a table comes out as it says, with ` / ` between two lines of either side.
+fn check_line(alloc: Global, title: &str, line: &str) -> io::Result<bool> {
+    let (cell, said) = line.split_once(" | ").unwrap_or((line, ""));
+    let cell = cell.trim_end().replace(alloc, " / ", "\n")?;
+    let said = said.replace(alloc, " / ", "\n")?;
+    let given = Given::in_table(alloc, title, cell.as_str())?;
+    comes_out(alloc, &given, title, said.as_str())
+}
+
 /// Whether what is given comes out as a section says; false for a section of no kind.
 fn comes_out(alloc: Global, given: &Given, title: &str, said: &str) -> io::Result<bool> {
-    let lines = lines_of(alloc, said)?;
-    let (lines, text) = (lines.as_bytes(), given.text.as_slice());
-    Ok(match title {
+    match title {
+        "image" => is_assembled(alloc, given.text.as_slice(), said),
+        "every other byte" => {
+            let came = changes::what_comes(alloc, given.image.as_slice())?;
+            Ok(came.as_str() == said.trim_end())
+        }
+        _ => Ok(prints(alloc, given, title, lines_of(alloc, said)?.as_bytes())),
+    }
+}
+
+/// Whether a text is assembled to these bytes.
+fn is_assembled(alloc: Global, text: &[u8], said: &str) -> io::Result<bool> {
+    let bytes = bytes_of(alloc, said)?;
+    Ok(assembled(alloc, text).image == bytes)
+}
+
+/// Whether what a section of this title asks for prints these lines.
+fn prints(alloc: Global, given: &Given, title: &str, lines: &[u8]) -> bool {
+    match title {
         "one scan" | "lines" | "commands" => runs(alloc, given, lines),
         "report" | "schedule" => reports(alloc, given, lines),
         "asm" => assembles(alloc, given, lines),
-        "image" => assembled(alloc, text).image == bytes_of(alloc, said)?,
-        "listing" if given.image.is_empty() => {
-            lists(alloc, assembled(alloc, text).image.as_slice(), lines)
+        "names" => named(alloc, given.text.as_slice()).is(lines),
+        "difference" => compares(alloc, given, lines),
+        _ => lists_as(alloc, given, title, lines),
+    }
+}
+
+/// Whether the comparing of two texts prints these lines.
+fn compares(alloc: Global, given: &Given, lines: &[u8]) -> bool {
+    let (old, new) = (given.old_text.as_slice(), given.text.as_slice());
+    compared(alloc, old, new).is(lines)
+}
+
+/// Whether `list` prints these lines of an image: the one that is given, or that of the text.
+fn lists_as(alloc: Global, given: &Given, title: &str, lines: &[u8]) -> bool {
+    let image = given.image.as_slice();
+    match title {
+        "listing" if image.is_empty() => {
+            let assembled = assembled(alloc, given.text.as_slice());
+            lists(alloc, assembled.image.as_slice(), lines)
         }
-        "listing" | "image in bytes" => lists(alloc, given.image.as_slice(), lines),
-        "names" => named(alloc, text).is(lines),
-        "difference" => compared(alloc, given.old_text.as_slice(), text).is(lines),
-        "every beginning" => all_list(alloc, given.image.as_slice(), lines),
-        "every other byte" => {
-            changes::what_comes(alloc, given.image.as_slice())?.as_str() == said.trim_end()
-        }
+        "listing" | "image in bytes" => lists(alloc, image, lines),
+        "every beginning" => all_list(alloc, image, lines),
         _ => false,
-    })
+    }
 }
 
 /// Whether the commands print these lines.
