@@ -82,9 +82,9 @@ pub(crate) const BUDGETS: Range = Range {
     most: 1_000_000,
 };
 
-/// In entries from one checkpoint to the next; with 0 there is none.
+/// In entries from one checkpoint to the next. Without checkpoints a log would grow without an end.
 pub(crate) const DISTANCES: Range = Range {
-    least: 0,
+    least: 1,
     most: 65_535,
 };
 
