@@ -1,0 +1,58 @@
+-- Where the fields of a store stand.
+use Rattle.std.specs.Prelude.{◌≡◌, ◌<◌, ◌≤◌, ◌==◌, ◌&&◌, ℕ, Bool, not, List, length, take, drop, slice_index, codes}
+use Rattle.std.specs.Prelude.{bytes_eq, nat_le, nat_lt, Option, Some, None, if◌then◌else◌}
+use Rattle.std.specs.Prelude.{[], ◌∷◌, IsTrue, Result, Ok, Err}
+use Rattle.std.specs.Int.{w32, w64, from_be_bytes}
+use Rattle.plc_store.specs.declared.header.Header.{Header}
+use Rattle.plc_store.specs.declared.header.Store.{Store}
+use Rattle.plc_store.specs.declared.reading.StoreFault.{StoreFault}
+use Rattle.plc_store.specs.declared.reading.StoreFault.TheVariants.{OtherFormat, Torn, Memory}
+use Rattle.plc_store.specs.Spelling.{Saying, saying, spelling}
+
+-- it begins as a store does, but for the number of the format
+abbrev pub is_other_format : List ℕ → Bool
+is_other_format bytes = (nat_le 10 (length bytes) && bytes_eq (take 8 bytes) (codes "PLCSTORE"))
+    && not (bytes_eq (take 2 (drop 8 bytes)) (0 ∷ 1 ∷ []))
+
+abbrev pub IsOtherFormat : List ℕ → Type 0
+IsOtherFormat bytes = IsTrue (is_other_format bytes)
+
+abbrev pub fields_after : List ℕ → List ℕ → List ℕ → List ℕ → Header
+fields_after identity epoch program rest = record {
+  identity = identity;
+  epoch = from_be_bytes w64 epoch;
+  program = program;
+  machine = slice_index rest 0;
+  is_started = slice_index rest 1 == 1;
+}
+
+-- the identity of 32 bytes behind the first ten, the epoch of 8, its program of 32, the machine, and whether it started
+abbrev pub header_of : List ℕ → Header
+header_of bytes =
+    let identity = drop 10 bytes in let epoch = drop 32 identity in let program = drop 8 epoch in
+    fields_after (take 32 identity) (take 8 epoch) (take 32 program) (drop 32 program)
+
+abbrev pub length_of : List ℕ → ℕ
+length_of front = from_be_bytes w32 (drop 84 front)
+
+abbrev pub fields_in : List ℕ → List ℕ → Option Saying
+fields_in front rest = if nat_lt (length rest) (length_of front) then None
+    else Some (record { header = header_of (take 84 front); image = take (length_of front) rest })
+
+-- what stands where the fields do, whatever stands behind
+abbrev pub fields_of : List ℕ → Option Saying
+fields_of bytes = if nat_lt (length bytes) 88 then None else fields_in (take 88 bytes) (drop 88 bytes)
+
+abbrev pub spelled_so : List ℕ → Option Saying → Result Saying StoreFault
+spelled_so bytes None = Err Torn
+spelled_so bytes (Some said) = if bytes_eq (spelling said) bytes then Ok said else Err Torn
+
+-- the store that the bytes spell
+abbrev pub read_of : List ℕ → Result Saying StoreFault
+read_of bytes = if is_other_format bytes then Err OtherFormat else spelled_so bytes (fields_of bytes)
+
+-- this is what is read, unless memory ran out
+abbrev pub Gives : Result Saying StoreFault → Result Store StoreFault → Type 0
+Gives read (Ok store) = read ≡ Ok (saying store)
+Gives read (Err Memory) = Unit {0}
+Gives read (Err fault) = read ≡ Err fault

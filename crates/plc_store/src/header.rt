@@ -1,0 +1,40 @@
+//! What a store says.
+
+ghost use Rattle.std.specs.Prelude.{◌<◌, ◌^◌, ◌≡◌, ◌↔◌, IfSome, IsSome, vec_len};
+
+/// Which store it is.
+#[derive(Clone, Copy, Debug, PartialEq, Eq)]
+pub struct Header {
+    /// Of its group: SHA-256 of what its machines have to agree on.
+    pub identity: [u8; 32],
+    /// From 1, one more at each cold start of the group.
+    pub epoch: u64,
+    /// SHA-256 of the image with which the epoch began.
+    pub program: [u8; 32],
+    /// The machine's place in the group file, from 0.
+    pub machine: u8,
+    /// Whether it was started in this epoch.
+    pub is_started: bool,
+}
+
+/// A store: its header, and the image of the program that its machine begins with.
+#[derive(Drop)]
+pub struct Store {
+    pub header: Header,
+    pub image: Vec<u8>,
+    ghost short: { vec_len image < 2 ^ 32 },
+}
+
+impl Store {
+    /// The store of this header and this image; None where the image has 4 GiB or more.
+    pub fn new(header: Header, image: Vec<u8>) -> Option<Store>
+        ensures short { IsSome result ↔ (vec_len image < 2 ^ 32) }
+        ensures value { IfSome result (λ store. (store.header ≡ header) × (store.image ≡ image)) }
+    {
+        if image.len() < 1 << 32 {
+            Some(Store { header, image })
+        } else {
+            None
+        }
+    }
+}
