@@ -41,7 +41,7 @@ handed_is_whole c (Some p) (Some g) w v = carried_is_whole p c g w v
 all_is_whole : (b : Bool) → IsWhole (all_cells b)
 all_is_whole b = (search rules, search rules)
 
-clear_is_whole : IsWhole clear_cells
+pub clear_is_whole : IsWhole clear_cells
 clear_is_whole = (search rules, search rules)
 
 fallen_is_whole : (fallback : Fallback) (g : Option Cells) → IsWholeIf g → IsWholeIf (handed_cells fallback g)

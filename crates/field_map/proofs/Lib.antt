@@ -1,3 +1,5 @@
 pub mod ApartLaws
 pub mod PlaceLaws
 pub mod GivenLaws
+pub mod GatheredLaws
+pub mod CarriedLaws

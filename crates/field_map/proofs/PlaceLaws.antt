@@ -29,18 +29,18 @@ length-laid xs ys a m h k =
     let e : length (slice_range ys a (a + m)) ≡ m = length-part ys a m k in
     rw e (grind (arith, common_steps, e))
 
-laid_before : {A : Type 0} (xs rs : List A) (a b n : ℕ) (d : A) → a ≤ length xs → n < a
+pub laid_before : {A : Type 0} (xs rs : List A) (a b n : ℕ) (d : A) → a ≤ length xs → n < a
     → get_or (splice xs a b rs) n d ≡ get_or xs n d
 laid_before xs rs a b n d h lt =
     get_or_append_left (take a xs) (rs ++ drop b xs) d n (grind (arith, common_steps)) ∙ get_or-take a xs n d lt
 
-laid_within : {A : Type 0} (xs rs : List A) (a b n : ℕ) (d : A) → a ≤ length xs → a ≤ n → n < a + length rs
+pub laid_within : {A : Type 0} (xs rs : List A) (a b n : ℕ) (d : A) → a ≤ length xs → a ≤ n → n < a + length rs
     → get_or (splice xs a b rs) n d ≡ get_or rs (n - a) d
 laid_within xs rs a b n d h le lt =
     get_or-append_right (take a xs) (rs ++ drop b xs) a n d (grind (arith, common_steps)) le
     ∙ get_or_append_left rs (drop b xs) d (n - a) (omega arith)
 
-laid_behind : {A : Type 0} (xs rs : List A) (a b n : ℕ) (d : A) → a ≤ length xs → a + length rs ≡ b → b ≤ n
+pub laid_behind : {A : Type 0} (xs rs : List A) (a b n : ℕ) (d : A) → a ≤ length xs → a + length rs ≡ b → b ≤ n
     → get_or (splice xs a b rs) n d ≡ get_or xs n d
 laid_behind xs rs a b n d h e le =
     get_or-append_right (take a xs) (rs ++ drop b xs) a n d (grind (arith, common_steps)) (omega arith)
@@ -68,7 +68,7 @@ get_or-laid xs ys a m n d h k =
         let ge : a + m ≤ n = grind (arith, nat_tests) in
         laid_behind xs (slice_range ys a (a + m)) a (a + length (slice_range ys a (a + m))) n d (omega arith) refl (omega arith)
 
-if_ap : {A B : Type 0} (f : A → B) (b : Bool) (x y : A) → f (if b then x else y) ≡ (if b then f x else f y)
+pub if_ap : {A B : Type 0} (f : A → B) (b : Bool) (x y : A) → f (if b then x else y) ≡ (if b then f x else f y)
 if_ap f true x y = refl
 if_ap f false x y = refl
 

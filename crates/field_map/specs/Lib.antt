@@ -6,3 +6,5 @@ pub mod Field
 pub mod Filled
 pub mod Rounds
 pub mod Given
+pub mod Gathered
+pub mod Carried

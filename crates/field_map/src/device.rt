@@ -52,8 +52,8 @@ fn all(value: bool) -> Cells
     }
 }
 
-/// One request that writes and reads in place of two, if both are of registers that a client may write, and it can carry
-/// them.
+/// One request that writes and reads in place of two, if both are of registers that a client may write, and it can
+/// carry them.
 fn joined(write: Request, read: Request) -> Option<Request>
     requires write { is_request write ≡ true }
     requires read { is_request read ≡ true }
@@ -87,7 +87,8 @@ fn joined(write: Request, read: Request) -> Option<Request>
 }
 
 impl Device {
-    ghost use Rattle.field_map.specs.Rounds.{steps_of, asked_at, both_at, is_taken_at, taken_at, handed_inputs, handed_alive};
+    ghost use Rattle.field_map.specs.Rounds.{steps_of, asked_at, both_at, is_taken_at, taken_at, handed_inputs};
+    ghost use Rattle.field_map.specs.Rounds.{handed_alive};
 
     /// How many steps a round has: one for each writing, and then one for each reading.
     pub fn steps(&self) -> usize
@@ -123,8 +124,8 @@ impl Device {
         joined(self.ask(step, outputs)?, self.ask(step + 1, outputs)?)
     }
 
-    /// Takes the reply to the request of a step: of a read, lays what it shows over the cells. False where it's no reply
-    /// to that: then nothing changes.
+    /// Takes the reply to the request of a step: of a read, lays what it shows over the cells. False where it's no
+    /// reply to that: then nothing changes.
     pub fn take(&self, step: usize, reply: &Reply, gathered: &mut Cells) -> bool
         ensures is { result ≡ is_taken_at self.now step reply.now }
         ensures taken { gathered.new ≡ after_some gathered.old (taken_at self.now step reply.now) }
@@ -139,7 +140,8 @@ impl Device {
         }
     }
 
-    /// The request that hands its inputs over, whole: as they were gathered, or by its fallback where it doesn't answer.
+    /// The request that hands its inputs over, whole: as they were gathered, or by its fallback where it doesn't
+    /// answer.
     pub fn hand_inputs(&self, gathered: Option<&Cells>) -> Option<Request>
         ensures is { result ≡ handed_inputs self.now (option_copied gathered.entry) }
         ensures lawful { IfSome result (λ r. is_request r ≡ true) }

@@ -1,6 +1,6 @@
-//! A field: the Modbus devices of a controller, which of their cells go to which places of `%I`, and which places of `%Q`
-//! go to which of theirs. It's read from a text in TOML, and says what a device is asked and what is handed over of it.
-//! It knows no socket and no time.
+//! A field: the Modbus devices of a controller, which of their cells go to which places of `%I`, and which places of
+//! `%Q` go to which of theirs. It's read from a text in TOML, and says what a device is asked and what is handed over
+//! of it. It knows no socket and no time.
 //!
 //! ```rust
 //! let map = FieldMap::read(alloc, text)?; // or the first fault, as `device 1 read 2 to: a place that is filled twice`
@@ -11,13 +11,15 @@
 //! let alive = device.hand_alive(true);
 //! ```
 //!
-//! Proved: a map that is read has each place of `%I` filled once at most, ranges inside their areas and lawful requests;
-//! each request and each thing taken of a reply is that of `specs/Asking` and `specs/Rounds`. Where the devices of a map
-//! were handed over, each place that a reading fills has what was gathered there, or what its device's fallback says,
-//! each alive bit says whether its device answers, and no other place is written (`know_each_place`).
+//! Proved: a map that is read has each place of `%I` filled once at most, ranges inside their areas and lawful
+//! requests; each request and each thing taken of a reply is that of `specs/Asking` and `specs/Rounds`. Where the
+//! devices of a map were handed over, each place that a reading fills has what was gathered there, or what its device's
+//! fallback says, each alive bit says whether its device answers, and no other place is written (`know_each_place`);
+//! what is gathered of replies has at each place the value that was read for it (`know_each_reading`). So after a cycle
+//! each place has what its device answered for it, or what the fallback of a lost device says (`know_a_cycle`).
 //!
-//! By its code alone: which key says what, and that a fault is told by its own. No row or test of the gate has it yet,
-//! and no program uses it.
+//! By its code alone, and shown by rows (`fields.rows` of `tests_bytes`): which key says what, and that a fault is told
+//! by its own.
 #![tactic(auto)]
 
 mod device;
@@ -35,6 +37,6 @@ pub use device::{Device, MOST_WRITINGS};
 pub use fault::{FieldFault, Spot, Why};
 pub use field::FieldMap;
 pub use inputs::Inputs;
-pub use laws::know_each_place;
+pub use laws::{know_a_cycle, know_each_place, know_each_reading};
 pub use places::{Kind, Places};
 pub use reading::{Fallback, Reading, Writing};

@@ -133,7 +133,8 @@ fn claim(
 
 /// The readings of a device with this number.
 fn readings(section: &Section, device: usize, filled: &mut Filled) -> Result<Inputs, FieldFault>
-    ensures { IfOk result (λ inputs. filled.new.places.items ≡ filled.old.places.items ++ places_read inputs.readings.items) }
+    ensures { IfOk result (λ inputs. filled.new.places.items ≡ filled.old.places.items
+        ++ places_read inputs.readings.items) }
 {
     let mut inputs = Inputs::new(section.alloc);
     for (index, table) in section.tables("read")?.iter().enumerate() {
@@ -214,7 +215,8 @@ fn device(section: &Section, number: usize, filled: &mut Filled) -> Result<Devic
 
 /// The devices.
 fn devices(section: &Section, filled: &mut Filled) -> Result<Vec<Device>, FieldFault>
-    ensures { IfOk result (λ devices. filled.new.places.items ≡ filled.old.places.items ++ flat_map filled_by devices.items) }
+    ensures { IfOk result (λ devices. filled.new.places.items ≡ filled.old.places.items
+        ++ flat_map filled_by devices.items) }
 {
     let mut devices = Vec::new(section.alloc);
     for (index, table) in section.tables("device")?.iter().enumerate() {
