@@ -61,6 +61,11 @@ is_waiting Connecting = true
 is_waiting (Waiting asked) = true
 is_waiting _ = false
 
+abbrev pub is_up : Phase → Bool
+is_up Idle = true
+is_up (Waiting asked) = true
+is_up _ = false
+
 abbrev pub is_due : Link → ℕ → Bool
 is_due l now = is_down l.phase && nat_le l.until now
 
@@ -100,10 +105,18 @@ asking l request now =
 abbrev pub IsSent : Link → Request → Adu → Type 0
 IsSent l request adu = (adu.transaction ≡ next_transaction l.transaction) × (adu.unit ≡ l.unit) × (adu.pdu ≡ request_bytes request)
 
--- nothing is asked, and the next pause is the first again
+-- nothing is asked
 abbrev pub answered : Link → Link
-answered l = record l { phase = Idle; pause = FIRST_PAUSE }
+answered l = record l { phase = Idle }
+
+-- the next pause is the first again
+abbrev pub trusted : Link → Link
+trusted l = record l { pause = FIRST_PAUSE }
 
 -- down for a pause, of which the next is twice as long, up to the longest
 abbrev pub failed : Link → ℕ → Link
 failed l now = record l { phase = Down; until = later now l.pause; pause = min (later 0 (2 * l.pause)) LONGEST_PAUSE }
+
+-- down, with no pause
+abbrev pub given_up : Link → Link
+given_up l = record l { phase = Down; until = 0 }

@@ -1,11 +1,12 @@
 -- A round of a device.
-use Rattle.std.specs.Prelude.{◌≡◌, ℕ, ◌+◌, ◌<◌, ◌≤◌, ◌⊎◌, if◌then◌else◌, Option, Some, None, IsSome}
+use Rattle.std.specs.Prelude.{◌≡◌, ℕ, ◌+◌, ◌^◌, ◌<◌, ◌≤◌, ◌⊎◌, if◌then◌else◌, List, [], ◌∷◌, length, Option, Some, None, IsSome}
 use Rattle.il_model.specs.declared.cells.Cells.{Cells}
 use Rattle.il_model.specs.Cells.{clear_cells}
 use Rattle.modbus_wire.specs.declared.reply.Reply.{Reply}
 use Rattle.field_map.specs.declared.device.Device.{Device}
 use Rattle.field_map.specs.Carrying.{after_some}
-use Rattle.field_map.specs.Rounds.{asked_at, both_at, taken_at, is_taken_at}
+use Rattle.field_map.specs.Gathered.{gathered_of, AreShown}
+use Rattle.field_map.specs.Rounds.{steps_of, asked_at, both_at, taken_at, is_taken_at}
 use Rattle.modbus_wire.specs.declared.request.Request.{Request}
 use Rattle.field_cycle.specs.declared.round.Round.{Round}
 use Rattle.field_cycle.specs.Links.{later}
@@ -13,6 +14,10 @@ use Rattle.field_cycle.specs.Links.{later}
 -- nothing is written yet, and nothing read
 abbrev pub begun : Option Cells → Round
 begun outputs = record { outputs = outputs; step = 0; gathered = clear_cells }
+
+-- it begins with the readings, so nothing is written
+abbrev pub only_reading : Device → Round
+only_reading d = record { outputs = None; step = length d.writings.items; gathered = clear_cells }
 
 -- the request of a step, or of the step before and this one
 abbrev pub Asks : Device → Option Cells → ℕ → Request → Type 0
@@ -45,3 +50,16 @@ next_step d r reply =
 -- the round after a reply, which changes nothing where it's none to its step
 abbrev pub taken : Device → Round → Reply → Round
 taken d r reply = if is_taken_at d r.step reply then next_step d r reply else r
+
+-- the round once these replies were taken, one after the other
+abbrev pub taken_all : Device → Round → List Reply → Round
+taken_all d r [] = r
+taken_all d r (reply ∷ replies) = taken_all d (taken d r reply) replies
+
+-- A round whose writings are done takes a reply to each reading that shows its cells, and then it's whole, and has gathered
+-- what they show.
+abbrev pub IsEachRoundGathered : Type 0
+IsEachRoundGathered = (d : Device) (r : Round) (replies : List Reply) → steps_of d < 2 ^ 64
+    → r.step ≡ length d.writings.items → AreShown d.inputs.readings.items replies
+    → ((taken_all d r replies).gathered ≡ gathered_of d.inputs.readings.items replies r.gathered)
+    × ((taken_all d r replies).step ≡ steps_of d)

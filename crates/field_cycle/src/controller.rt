@@ -5,7 +5,7 @@ ghost use Rattle.std.specs.Option.{option_copied};
 ghost use Rattle.field_cycle.specs.Stations.{known_outputs};
 
 use crate::freshness::Freshness;
-use crate::link::{Link, LinkFault, Moment, Phase};
+use crate::link::{Link, LinkFault, Moment};
 use crate::station::{Change, Standing};
 use field_map::{Kind, Places, Reading};
 use il_model::{BITS, Cells, WORDS};
@@ -89,23 +89,26 @@ impl Controller {
         }
     }
 
-    /// Its outputs, while it's fresh.
+    /// Its outputs, while there is a connection and it's fresh.
     pub fn outputs(&self, now: Moment) -> Option<&Cells>
         ensures { option_copied result ≡ known_outputs self.now now }
     {
-        if self
-            .freshness
-            .is_fresh(now, self.fresh, self.scan_count.is_some())
-        {
+        let counts = self.scan_count.is_some();
+        if self.link.is_up() && self.freshness.is_fresh(now, self.fresh, counts) {
             Some(&self.outputs)
         } else {
             None
         }
     }
 
-    /// Whether there is a connection.
-    pub fn is_up(&self) -> bool {
-        matches!(self.link.phase, Phase::Idle | Phase::Waiting(_))
+    /// Whether it answered, or is known to be lost.
+    pub fn is_known(&self) -> bool {
+        !matches!(self.standing, Standing::Unknown)
+    }
+
+    /// Whether it's known to be lost.
+    pub fn is_lost(&self) -> bool {
+        matches!(self.standing, Standing::Lost)
     }
 
     /// The address that is tried, or connected.
@@ -168,6 +171,7 @@ impl Controller {
         ensures outputs { self.new.outputs ≡ self.old.shown }
     {
         self.outputs = self.shown;
+        self.link.trust();
         self.freshness
             .hear(now, count_of(&self.shown, self.scan_count));
         self.notice = self.standing.found().or(self.notice);

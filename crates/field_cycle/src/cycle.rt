@@ -1,11 +1,11 @@
 //! The cycle of a field: what is due, and what is done with what comes.
 
 ghost use Rattle.std.specs.Prelude.{◌≡◌};
-ghost use Rattle.field_cycle.specs.Stations.{begins, outputs_for};
+ghost use Rattle.field_cycle.specs.Stations.{begins, has_outputs, outputs_for};
 
 use crate::controller::Controller;
 use crate::link::{LinkFault, Moment};
-use crate::station::{Change, Standing, Station};
+use crate::station::{Change, Station};
 use field_map::FieldMap;
 use modbus_wire::{Adu, Request};
 use std::alloc::{AllocError, Global};
@@ -49,7 +49,8 @@ pub struct Cycle {
 
 /// Begins the round of a device, if it's due and can be asked: with the outputs, while the controller is fresh.
 fn begin_round(station: &mut Station, controller: &Controller, now: Moment, is_ending: bool)
-    ensures { station.new.round ≡ begins station.old (outputs_for controller.now now is_ending) }
+    ensures round { station.new.round ≡ begins station.old (outputs_for controller.now now is_ending) }
+    ensures has { station.new.has_outputs ≡ has_outputs station.old (outputs_for controller.now now is_ending) }
 {
     if is_ending {
         station.begin(None);
@@ -103,7 +104,7 @@ impl Cycle {
         } else {
             now.saturating_add(self.period)
         };
-        self.waits = !self.waits && self.controller.is_up();
+        self.waits = !self.waits && self.controller.link.is_up();
         self.controller.is_due = true;
         for station in self.stations.iter_mut() {
             station.is_due = true;
@@ -150,8 +151,10 @@ impl Cycle {
         Some(Action::Send(Who::Controller, adu))
     }
 
-    /// What is to be done about a device.
+    /// What is to be done about a device. Nothing is asked of it while the controller is lost, once its outputs fell
+    /// back: another field may write them then, beside another controller.
     fn act_station(&mut self, place: usize, now: Moment) -> Option<Action> {
+        let is_lost = self.controller.is_lost();
         let station = self.stations.get_mut(place)?;
         let who = Who::Device(place);
         if let Some(change) = station.notice.take() {
@@ -161,11 +164,19 @@ impl Cycle {
             station.lose(LinkFault::Timeout, now);
             return Some(Action::Close(who));
         }
+        if station.is_left(is_lost) {
+            return if station.leave() {
+                Some(Action::Close(who))
+            } else {
+                None
+            };
+        }
         if station.link.is_due(now) {
             station.link.connect(now);
             return Some(Action::Connect(who, station.device.address));
         }
-        if !self.waits {
+        // At first rounds wait until it's known whether there are outputs.
+        if !self.waits && self.controller.is_known() {
             begin_round(station, &self.controller, now, self.is_ending);
         }
         match station.send(now) {
@@ -228,12 +239,13 @@ impl Cycle {
 
     /// By when something is due, if nothing comes before.
     pub fn until(&self) -> Moment {
+        let is_lost = self.controller.is_lost();
         let mut until = self.next;
         if !self.controller.link.is_idle() {
             until = until.min(self.controller.link.until);
         }
         for station in self.stations.iter() {
-            if !station.link.is_idle() {
+            if !station.link.is_idle() && !station.is_left(is_lost) {
                 until = until.min(station.link.until);
             }
         }
@@ -245,7 +257,8 @@ impl Cycle {
         self.next = Moment::MAX;
     }
 
-    /// One round more for each device that answers, by the fallbacks of its writings.
+    /// One round more for each device that answers, in which it's written what its writings fall back to, if it has
+    /// outputs.
     pub fn stop(&mut self) {
         self.next = Moment::MAX;
         self.waits = false;
@@ -255,15 +268,9 @@ impl Cycle {
         }
     }
 
-    /// Whether each device had its round, or is lost, and all is handed over that can be.
+    /// Whether each device had its round, or is lost or left, and all is handed over that can be.
     pub fn is_settled(&self) -> bool {
-        let is_lost = match self.controller.standing {
-            Standing::Unknown => return false,
-            Standing::Answers => false,
-            Standing::Lost => true,
-        };
-        self.stations
-            .iter()
-            .all(|station| station.is_settled(is_lost))
+        let is_lost = self.controller.is_lost();
+        self.controller.is_known() && self.stations.iter().all(|s| s.is_settled(is_lost))
     }
 }

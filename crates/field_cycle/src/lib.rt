@@ -1,5 +1,5 @@
-//! The cycle of a field, as a value that is told what comes, and when, and says what is to be done: connections, requests
-//! and their deadlines, what is handed over to the controller, notices. It has no socket and no clock.
+//! The cycle of a field, as a value that is told what comes, and when, and says what is to be done: connections,
+//! requests and their deadlines, what is handed over to the controller, notices. It has no socket and no clock.
 //!
 //! ```rust
 //! let mut cycle = Cycle::new(alloc, map)?;
@@ -21,16 +21,19 @@
 //! Proved (`specs/Links`, `specs/Fresh`, `specs/Rounds`, `specs/Stations`, `specs/Hands`): a reply is taken only of the
 //! transaction and the unit that were asked, and as `modbus_wire` reads it; what else comes is its named fault. A pause
 //! is 100 ms at first and doubles up to 5 s. A round takes what each reply shows, step by step, and is handed over only
-//! once each step is done, whole. A round is begun with the outputs only while the controller is fresh, and else without.
+//! once each step is done, whole; then it has what the replies show (`know_a_round`). A round is begun with the outputs
+//! only while there is a connection to the controller and it's fresh; else by what the writings fall back to, if the
+//! device has outputs, and else it only reads. After a whole round without outputs the device has none.
 //!
-//! By its code alone: the order of what is done, notices, that a late device doesn't hold up. No row or test of the gate
-//! has it yet, and no program uses it.
+//! By its code alone, and shown by rows (`fields.rows` of `tests_bytes`): the order of what is done, notices, that a
+//! late device doesn't hold up, and that no device is asked while the controller is lost.
 #![tactic(auto)]
 
 mod controller;
 mod cycle;
 mod freshness;
 mod hands;
+mod laws;
 mod link;
 mod round;
 mod station;
@@ -39,6 +42,7 @@ pub use controller::{Controller, Task};
 pub use cycle::{Action, Cycle, Who};
 pub use freshness::Freshness;
 pub use hands::Hands;
+pub use laws::know_a_round;
 pub use link::{Asked, FIRST_PAUSE, LONGEST_PAUSE, Link, LinkFault, Moment, Phase};
 pub use round::Round;
 pub use station::{Change, Standing, Station};

@@ -1,8 +1,8 @@
 //! One connection to a server: what was asked there, and by when an answer is wanted.
 
 ghost use Rattle.std.specs.Prelude.{◌≡◌, ◌↔◌, true, None, IfSome, IsSome, OnOk, OnErr};
-ghost use Rattle.field_cycle.specs.Links.{misfit, reply_by, IsNew, is_due, is_late, is_idle, connecting, opened};
-ghost use Rattle.field_cycle.specs.Links.{may_ask, IsSent, asking, heard, answered, failed};
+ghost use Rattle.field_cycle.specs.Links.{misfit, reply_by, IsNew, is_due, is_late, is_idle, is_up, connecting, opened};
+ghost use Rattle.field_cycle.specs.Links.{may_ask, IsSent, asking, heard, answered, trusted, failed, given_up};
 
 use modbus_wire::{Adu, HeaderFault, Reply, Request};
 use thiserror::Error;
@@ -145,6 +145,13 @@ impl Link {
         matches!(self.phase, Phase::Idle)
     }
 
+    /// Whether there is a connection.
+    pub fn is_up(&self) -> bool
+        ensures { result ≡ is_up self.now.phase }
+    {
+        matches!(self.phase, Phase::Idle | Phase::Waiting(_))
+    }
+
     /// It's being made from now on.
     pub fn connect(&mut self, now: Moment)
         ensures { self.new ≡ connecting self.old now }
@@ -199,16 +206,31 @@ impl Link {
         };
         let reply = asked.reply(self.unit, adu)?;
         self.phase = Phase::Idle;
-        self.pause = FIRST_PAUSE;
         Ok(reply)
     }
 
-    /// Gives the connection up, and waits: 100 ms at first, each time twice as long, up to 5 s, until a reply comes.
+    /// It has shown that it's good: the next pause is the first again.
+    pub fn trust(&mut self)
+        ensures { self.new ≡ trusted self.old }
+    {
+        self.pause = FIRST_PAUSE;
+    }
+
+    /// Gives the connection up, and waits: 100 ms at first, each time twice as long, up to 5 s, until it's trusted
+    /// again.
     pub fn fail(&mut self, now: Moment)
         ensures { self.new ≡ failed self.old now }
     {
         self.phase = Phase::Down;
         self.until = now.saturating_add(self.pause);
         self.pause = self.pause.saturating_mul(2).min(LONGEST_PAUSE);
+    }
+
+    /// Gives the connection up though it has no fault: one may be made again at once.
+    pub fn give_up(&mut self)
+        ensures { self.new ≡ given_up self.old }
+    {
+        self.phase = Phase::Down;
+        self.until = 0;
     }
 }

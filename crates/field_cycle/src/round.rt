@@ -4,7 +4,7 @@ ghost use Rattle.std.specs.Prelude.{◌≡◌, ◌<◌, ◌≤◌, true, None, I
 ghost use Rattle.std.specs.Option.{option_copied};
 ghost use Rattle.modbus_wire.specs.Requests.{is_request};
 ghost use Rattle.field_map.specs.Rounds.{asked_at, steps_of, is_taken_at};
-ghost use Rattle.field_cycle.specs.Rounds.{begun, taken, Advances, ArePassed, Asks, Reaches};
+ghost use Rattle.field_cycle.specs.Rounds.{begun, only_reading, taken, Advances, ArePassed, Asks, Reaches};
 
 use field_map::Device;
 use il_model::Cells;
@@ -54,7 +54,7 @@ fn ahead(device: &Device, from: usize, outputs: Option<&Cells>) -> Option<Found>
 /// How far a round came.
 #[derive(Clone, Copy)]
 pub struct Round {
-    /// What is written; none where the controller isn't fresh.
+    /// What is written. None: what the writings fall back to.
     pub outputs: Option<Cells>,
     /// The step whose reply comes next.
     pub step: usize,
@@ -70,6 +70,17 @@ impl Round {
         Round {
             outputs: outputs.copied(),
             step: 0,
+            gathered: Cells::clear(),
+        }
+    }
+
+    /// One that writes nothing: it begins with the readings.
+    pub fn only_reading(device: &Device) -> Round
+        ensures { result ≡ only_reading device.now }
+    {
+        Round {
+            outputs: None,
+            step: device.writings.len(),
             gathered: Cells::clear(),
         }
     }

@@ -5,7 +5,7 @@ ghost use Rattle.std.specs.Option.{option_copied};
 ghost use Rattle.field_cycle.specs.Stations.{found_by, lost_by};
 
 use crate::hands::Hands;
-use crate::link::{Link, LinkFault, Moment};
+use crate::link::{Link, LinkFault, Moment, Phase};
 use crate::round::Round;
 use field_map::Device;
 use il_model::Cells;
@@ -64,6 +64,8 @@ pub struct Station {
     pub last: Option<Round>,
     /// Whether a round is to begin.
     pub is_due: bool,
+    /// Whether outputs were written to it, and not since what its writings fall back to.
+    pub has_outputs: bool,
     pub standing: Standing,
     /// Whether the controller is to be told that it answers.
     pub tells: bool,
@@ -74,7 +76,7 @@ pub struct Station {
 }
 
 impl Station {
-    ghost use Rattle.field_cycle.specs.Stations.{begins, IsWhole, HandsOver};
+    ghost use Rattle.field_cycle.specs.Stations.{begins, has_outputs, IsWhole, HandsOver};
 
     /// A device that nothing is known of.
     pub fn new(device: Device) -> Station {
@@ -85,6 +87,7 @@ impl Station {
             round: None,
             last: None,
             is_due: false,
+            has_outputs: false,
             standing: Standing::Unknown,
             tells: true,
             hands: Hands::none(),
@@ -92,14 +95,22 @@ impl Station {
         }
     }
 
-    /// Begins the round that is due, if the device can be asked.
+    /// Begins the round that is due, if the device can be asked: one with the outputs, where they are known; else one
+    /// by what its writings fall back to, where it has outputs; else one that only reads.
     pub fn begin(&mut self, outputs: Option<&Cells>)
-        ensures { self.new.round ≡ begins self.old (option_copied outputs.entry) }
+        ensures round { self.new.round ≡ begins self.old (option_copied outputs.entry) }
+        ensures has { self.new.has_outputs ≡ has_outputs self.old (option_copied outputs.entry) }
     {
-        if self.is_due && self.round.is_none() && self.link.is_idle() {
-            self.round = Some(Round::new(outputs));
-            self.is_due = false;
+        if !self.is_due || self.round.is_some() || !self.link.is_idle() {
+            return;
         }
+        self.is_due = false;
+        self.round = Some(if outputs.is_some() || self.has_outputs {
+            Round::new(outputs)
+        } else {
+            Round::only_reading(&self.device)
+        });
+        self.has_outputs = self.has_outputs || outputs.is_some();
     }
 
     /// What is to be sent to the device now. Where its round is whole, what it gathered is to be handed over.
@@ -120,15 +131,18 @@ impl Station {
         }
     }
 
-    /// Ends a round that is whole: its inputs are to be handed over.
+    /// Ends a round that is whole: its inputs are to be handed over, and where it was one without outputs, the device
+    /// has none any more.
     fn finish(&mut self)
         requires { IsWhole self.old.device self.old.round }
         ensures { HandsOver self.old self.new }
     {
         if let Some(round) = &self.round {
             self.hands.answer(&self.device, &round.gathered, self.tells);
+            self.has_outputs = self.has_outputs && round.outputs.is_some();
             self.last = Some(*round);
         }
+        self.link.trust();
         self.round = None;
         self.tells = false;
         self.notice = self.standing.found().or(self.notice);
@@ -162,8 +176,27 @@ impl Station {
         }
     }
 
-    /// Whether it had its round, or is lost, and what it gathered is handed over, or can't be.
+    /// Whether it isn't to be asked: the controller is lost, and the device has no outputs of it.
+    pub fn is_left(&self, is_controller_lost: bool) -> bool {
+        is_controller_lost && !self.has_outputs
+    }
+
+    /// Gives up its connection and what is to be handed over of it. Whether there was one.
+    pub fn leave(&mut self) -> bool {
+        if matches!(self.link.phase, Phase::Down) {
+            return false;
+        }
+        self.link.give_up();
+        self.round = None;
+        self.hands = Hands::none();
+        true
+    }
+
+    /// Whether it had its round, or is lost or left, and what it gathered is handed over, or can't be.
     pub fn is_settled(&self, is_controller_lost: bool) -> bool {
+        if self.is_left(is_controller_lost) {
+            return true;
+        }
         let is_asked = match self.standing {
             Standing::Unknown => false,
             Standing::Answers => !self.is_due && self.round.is_none(),
