@@ -1,0 +1,4 @@
+pub mod Accepting
+pub mod Courses
+pub mod Passing
+pub mod Sent

@@ -1,0 +1,51 @@
+//! Links of the parties of one machine, in a group whose replicas run on several: frames over connections to the
+//! parties of other machines, and messages of the machine's own parties in memory. Only replicas listen; each
+//! connection begins with a hello (`net_hello`) and goes on with records (`net_records`), so an end that falls silent
+//! is dialled again.
+//!
+//! ```rust
+//! use net_peers::{Machine, machine_links};
+//!
+//! let machine = Machine { identity, epoch, starts: 3, number: 0, replicas: addresses, has_console: true };
+//! // the links of replica 0, of driver 0 and of the console, which is client 8
+//! let (exchange, links) = machine_links(rt, alloc, &machine, listener, Duration::from_millis(5))?;
+//! let is_connected = exchange.reached() & 0b10 != 0; // to replica 1; `near`: it was heard of within 60 ms
+//! for notice in exchange.notices(&rt, alloc) {} // LinkNotice::Joined(..), Lost(..), Refused(..)
+//! ```
+//!
+//! Proved: when a connection is dialled, given up after 400 ms, dialled again after 50 to 400 ms, kept alive by a beat
+//! after 25 ms, and over after 500 ms of silence, as definitions (`Course`). A message that a link gives is to its own
+//! party, and came from the machine's own parties or over a connection whose other end said a hello that was accepted,
+//! of another party of this group in this epoch, which is the message's sender; then it's no scan. Behind 1 MiB that
+//! waits for a party a message to it is lost, whole. A refusal is told once for each cause and party. Of what was put
+//! at the other end since the hello a prefix is given, in order, where TCP gives a prefix of what was written
+//! (`only_sent_is_given_in_records`). Each call is safe and returns, but for the wait of a poll or a lock.
+//!
+//! Tested (`peer_rows` of `tests_threads`): each refusal, that it's answered and noticed at both ends, that a higher
+//! start replaces an older one, hello and record cut at each byte, strangers that are let go, a partition that heals,
+//! and a party that stands still. By its code alone: that a party which isn't connected has no `Outbox`, since only an
+//! open connection has one. In no clause: that a socket delivers, what a poll reports, that a send doesn't wait, that
+//! what is handed to the exchange is given to its party. Nothing is authentic or secret: addresses belong on a network
+//! of the group's own. No program uses it yet.
+#![tactic(auto)]
+
+mod accepted;
+mod connection;
+mod course;
+mod exchange;
+mod greeting;
+mod laws;
+mod link;
+mod machine;
+mod notice;
+mod peer;
+mod phase;
+mod strangers;
+
+pub use course::Course;
+pub use exchange::{Exchange, PeerCutter};
+pub use laws::only_sent_is_given_in_records;
+pub use link::PeerLink;
+pub use machine::{FIRST_CONSOLE, Machine, machine_links};
+pub use notice::LinkNotice;
+pub use phase::{Duty, Phase};

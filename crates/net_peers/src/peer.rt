@@ -1,0 +1,297 @@
+//! A party of another machine, and the connection to it.
+
+ghost use Rattle.std.specs.Prelude.{◌≡◌, [], Err};
+ghost use Rattle.vr_wire.specs.Frames.{IsFramed};
+ghost use Rattle.net_ends.specs.declared.outbox.Loss.TheVariants.{NoFrame};
+ghost use Rattle.net_peers.specs.Passing.{CameFrom};
+
+use crate::accepted::Accepted;
+use crate::connection::{Connection, Unopened};
+use crate::course::Course;
+use crate::greeting::{Greeted, Greeting, greet};
+use crate::phase::Duty;
+use mio::net::TcpStream as Wire;
+use net_ends::Loss;
+use net_hello::{Hello, HelloFault, Refusal};
+use std::alloc::Global;
+use std::mem;
+use std::net::SocketAddr;
+use vr_model::{Message, Party};
+
+/// Where the connection to a party stands.
+#[derive(Drop)]
+enum State {
+    Away,
+    Dialling(Wire),
+    Greeting(Greeting),
+    Open(Box<Connection>),
+}
+
+/// What came of a look at a connection.
+#[derive(Clone, Copy, Debug, PartialEq, Eq)]
+pub(crate) enum Change {
+    None,
+    /// Something came behind the hello.
+    Joined,
+    /// That was so, and it's over.
+    Lost,
+    /// The other end's hello was refused.
+    Refused(Refusal),
+}
+
+impl Change {
+    /// That a connection wasn't opened.
+    pub(crate) fn of_unopened(unopened: Unopened) -> Change {
+        match unopened {
+            Unopened::Refused(refusal) => Change::Refused(refusal),
+            Unopened::Memory => Change::None,
+        }
+    }
+}
+
+/// What this end says, and its bytes.
+#[derive(Drop)]
+pub(crate) struct Own {
+    pub(crate) hello: Hello,
+    pub(crate) bytes: Vec<u8>,
+}
+
+/// A party of another machine.
+#[derive(Drop)]
+pub(crate) struct Peer {
+    pub(crate) party: Party,
+    /// Where it's dialled, if it's this end that dials.
+    address: Option<SocketAddr>,
+    state: State,
+    course: Course,
+    /// The most starts that it told.
+    starts: u64,
+    has_joined: bool,
+}
+
+impl Peer {
+    /// A party that is not connected yet, and is dialled at once if it's this end that dials.
+    pub(crate) fn new(party: Party, address: Option<SocketAddr>, now: u64) -> Peer {
+        Peer {
+            party,
+            address,
+            state: State::Away,
+            course: Course::new(now),
+            starts: 0,
+            has_joined: false,
+        }
+    }
+
+    /// The most starts that it told, if it's the other end that dials.
+    pub(crate) fn seen(&self) -> Option<u64> {
+        match self.address {
+            None => Some(self.starts),
+            Some(_) => None,
+        }
+    }
+
+    /// Whether something came over its connection, and that isn't over.
+    pub(crate) fn has_joined(&self) -> bool {
+        self.has_joined
+    }
+
+    /// Whether its hello was accepted, and its connection isn't over.
+    pub(crate) fn is_open(&self) -> bool {
+        self.course.is_open()
+    }
+
+    /// Whether something came from it just now.
+    pub(crate) fn is_near(&self, now: u64) -> bool {
+        self.has_joined && self.course.is_near(now)
+    }
+
+    /// Until when there is nothing to be done.
+    pub(crate) fn next_due(&self) -> u64 {
+        match (&self.state, self.address) {
+            (State::Away, None) => u64::MAX,
+            _ => self.course.next_due(),
+        }
+    }
+
+    /// Where it's to be dialled now.
+    pub(crate) fn to_dial(&self, now: u64) -> Option<SocketAddr> {
+        match self.course.duty(now) {
+            Duty::Dial => self.address,
+            _ => None,
+        }
+    }
+
+    /// It was dialled.
+    pub(crate) fn dialled(&mut self, wire: Wire, now: u64) {
+        self.state = State::Dialling(wire);
+        self.course.dialled(now);
+    }
+
+    /// It's not connected, and is dialled again after a pause.
+    pub(crate) fn failed(&mut self, now: u64) {
+        self.state = State::Away;
+        self.course.failed(now);
+    }
+
+    /// Its connection is over.
+    pub(crate) fn over(&mut self, now: u64) -> Change {
+        self.state = State::Away;
+        self.course.closed(now);
+        if self.has_joined {
+            self.has_joined = false;
+            return Change::Lost;
+        }
+        Change::None
+    }
+
+    /// From now on this is its connection. One that it had is over.
+    pub(crate) fn opens(&mut self, alloc: Global, connection: Connection, now: u64) -> Change {
+        let change = self.over(now);
+        self.starts = connection.accepted().hello.starts;
+        if let Ok(connection) = Box::new(alloc, connection) {
+            self.state = State::Open(connection);
+            self.course.opened(now);
+        }
+        change
+    }
+
+    /// Goes on with what is under way.
+    pub(crate) fn tend(&mut self, alloc: Global, own: &Own, now: u64) -> Change {
+        match mem::replace(&mut self.state, State::Away) {
+            State::Away => Change::None,
+            State::Dialling(wire) => {
+                self.tend_dialling(wire, own, now);
+                Change::None
+            }
+            State::Greeting(greeting) => self.tend_greeting(alloc, greeting, own, now),
+            State::Open(connection) => self.tend_open(connection, now),
+        }
+    }
+
+    /// Says hello once it's connected.
+    fn tend_dialling(&mut self, wire: Wire, own: &Own, now: u64) {
+        let is_late = self.course.duty(now) == Duty::GiveUp;
+        if is_late || !matches!(wire.take_error(), Ok(None)) {
+            return self.failed(now);
+        }
+        if wire.peer_addr().is_err() {
+            self.state = State::Dialling(wire);
+            return;
+        }
+        let mut wire = wire;
+        if !greet(&mut wire, own.bytes.as_slice()) {
+            return self.failed(now);
+        }
+        self.state = State::Greeting(Greeting::new(wire));
+    }
+
+    /// Hears the other end's hello.
+    fn tend_greeting(&mut self, alloc: Global, greeting: Greeting, own: &Own, now: u64) -> Change {
+        let mut greeting = greeting;
+        match greeting.hear() {
+            Greeted::Waits if self.course.duty(now) != Duty::GiveUp => {
+                self.state = State::Greeting(greeting);
+                Change::None
+            }
+            Greeted::Said(hello) => self.answered(alloc, greeting.wire, own, &hello, now),
+            Greeted::Faulty(HelloFault::OtherVersion) => {
+                self.failed(now);
+                Change::Refused(Refusal::OtherVersion)
+            }
+            _ => {
+                self.failed(now);
+                Change::None
+            }
+        }
+    }
+
+    /// The other end, which was dialled, said this hello.
+    fn answered(
+        &mut self,
+        alloc: Global,
+        wire: Wire,
+        own: &Own,
+        hello: &Hello,
+        now: u64,
+    ) -> Change {
+        let seen = if hello.party == self.party {
+            Some(self.starts)
+        } else {
+            None
+        };
+        match Connection::accept(alloc, &own.hello, seen, hello, wire) {
+            Ok(connection) => self.opens(alloc, connection, now),
+            Err(unopened) => {
+                self.failed(now);
+                Change::of_unopened(unopened)
+            }
+        }
+    }
+
+    /// Notes what came and went, sends a beat where one is due, and ends a connection that is silent and of which
+    /// nothing waits to be read: this end may have stood still.
+    fn tend_open(&mut self, connection: Box<Connection>, now: u64) -> Change {
+        let mut connection = connection;
+        let signs = connection.signs();
+        if signs.has_come {
+            self.course.heard(now);
+        }
+        if signs.has_gone {
+            self.course.sent(now);
+        }
+        let goes_on = match self.course.duty(now) {
+            Duty::End => connection.is_ready(),
+            Duty::Beat => connection.beat(),
+            _ => true,
+        };
+        if !goes_on {
+            return self.over(now);
+        }
+        self.state = State::Open(connection);
+        if signs.has_come && !self.has_joined {
+            self.has_joined = true;
+            return Change::Joined;
+        }
+        Change::None
+    }
+
+    /// Its connection may have something to read, or take more. False where it's over.
+    pub(crate) fn wake(&mut self) -> bool {
+        match &mut self.state {
+            State::Open(connection) => connection.wake(),
+            _ => true,
+        }
+    }
+
+    /// Sends a message over its connection, if there is one: `false` where that's over. One that's lost changes
+    /// nothing.
+    pub(crate) fn send(&mut self, alloc: Global, message: &Message) -> Result<bool, Loss>
+        ensures { result ≡ Err NoFrame → IsFramed message.now → ⊥ }
+    {
+        match &mut self.state {
+            State::Open(connection) => connection.send(alloc, message),
+            _ => Ok(true),
+        }
+    }
+
+    /// Reads until a message came or there is no more for now; nothing had come before. Notes whose hello the
+    /// connection began with. False where the connection is over.
+    #[tactic(auto, using(crate::proofs::Passed::nothing_passes, crate::proofs::Passed::nothing_came))]
+    pub(crate) fn read(
+        &mut self,
+        alloc: Global,
+        own: Party,
+        source: &mut Option<Accepted>,
+        came: &mut Vec<Message>,
+    ) -> bool
+        ensures { came.old.items ≡ [] → CameFrom source.new own came.new.items }
+    {
+        match &mut self.state {
+            State::Open(connection) => {
+                *source = Some(connection.accepted());
+                connection.read(alloc, own, came)
+            }
+            _ => true,
+        }
+    }
+}
