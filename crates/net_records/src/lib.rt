@@ -18,7 +18,7 @@
 //! changes neither, and is put between two records. Of a prefix of a stream a prefix of its bodies is given
 //! (`know_records`).
 //!
-//! No row or test of the gate has it yet, and no program uses it.
+//! Rows of `tests_bytes` have streams of records, cut at each byte. No program uses it yet.
 #![tactic(auto)]
 
 mod incoming;
