@@ -1,5 +1,5 @@
 -- What shows of the scans, and the words that are published for it.
-use Rattle.std.specs.Prelude.{◌≡◌, ℕ, ◌+◌, ◌-◌, ◌^◌, min, if◌then◌else◌, nat_lt, List, [], ◌∷◌, Option, Some, None, get_or, set}
+use Rattle.std.specs.Prelude.{◌≡◌, ℕ, ◌<◌, ◌+◌, ◌-◌, ◌^◌, min, if◌then◌else◌, nat_lt, List, [], ◌∷◌, Option, Some, None, get_or, set}
 use Rattle.std.specs.List.{prefix_len}
 use Rattle.il_model.specs.declared.value.Stop.TheVariants as stops
 use Rattle.plc_status.specs.declared.notice.Notice.{Notice}
@@ -78,6 +78,10 @@ abbrev pub halt_place : Option Halt → ℕ
 halt_place None = 0
 halt_place (Some (halts.Held position)) = position
 halt_place (Some (halts.Stopped stop position)) = position
+
+-- a scan is held or stopped at a place of a program, if it is
+abbrev pub IsPlaced : ScanStatus → Type 0
+IsPlaced s = halt_place s.halt < 65536
 
 -- the words that are published, beside the counts of intervals
 abbrev pub scan_words : ScanStatus → List ℕ

@@ -2,7 +2,7 @@
 
 ghost use Rattle.std.specs.Prelude.{◌≡◌, ◌<◌, ◌+◌, ◌-◌, ◌^◌, min, if◌then◌else◌};
 ghost use Rattle.plc_status.specs.Scans.{after_scan, bucket_of, halt_notice, halt_place, halt_what, more, no_scan};
-ghost use Rattle.plc_status.specs.Scans.{scan_words, with_interval};
+ghost use Rattle.plc_status.specs.Scans.{scan_words, with_interval, IsPlaced};
 ghost use Rattle.plc_status.specs.declared.scans.ScanStatus.{ScanStatus as Scanned};
 
 use crate::notice::Notice;
@@ -16,6 +16,9 @@ pub const BOUNDS: [u64; 12] = [
 
 /// So many buckets there are.
 pub const BUCKETS: usize = 13;
+
+/// The greatest place at which a scan is held or stopped.
+const MOST_PLACE: u64 = 65_535;
 
 /// So many words tell of the scans, beside their intervals.
 pub(crate) const WORDS: usize = 9;
@@ -162,7 +165,7 @@ impl ScanStatus {
 
     /// What was published as these words, and these counts of intervals.
     pub(crate) fn from_words(words: [u64; WORDS], interval_counts: [u64; BUCKETS]) -> ScanStatus
-        ensures { (scans : Scanned) → words ≡ scan_words scans → interval_counts ≡ scans.interval_counts
+        ensures { (scans : Scanned) → IsPlaced scans → words ≡ scan_words scans → interval_counts ≡ scans.interval_counts
             → result ≡ scans }
     {
         ScanStatus {
@@ -204,9 +207,12 @@ fn halt_place(halt: Option<Halt>) -> u64
 
 /// By what a scan was held or stopped that these words tell of, if it was.
 fn halt_from(what: u64, place: u64) -> Option<Halt>
-    ensures { (halt : _) → what ≡ halt_what halt → place ≡ halt_place halt → result ≡ halt }
+    ensures { (halt : _) → halt_place halt < 65536 → what ≡ halt_what halt → place ≡ halt_place halt → result ≡ halt }
 {
-    let position = u16::try_from(place).ok()?;
+    if place > MOST_PLACE {
+        return None;
+    }
+    let position = place as u16;
     match what {
         1 => Some(Halt::Held(position)),
         2 => Some(Halt::Stopped(Stop::Overflow, position)),

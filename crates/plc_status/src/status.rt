@@ -2,7 +2,7 @@
 
 ghost use Rattle.std.specs.Prelude.{◌≡◌, ◌<◌, List, get_or, length, set, IfOk};
 ghost use Rattle.plc_status.specs.Published.{nothing, status_words, AreOfGroup};
-ghost use Rattle.plc_status.specs.Scans.{after_scan, no_scan};
+ghost use Rattle.plc_status.specs.Scans.{after_scan, no_scan, IsPlaced};
 ghost use Rattle.plc_status.specs.declared.scans.ScanStatus.{ScanStatus as Scanned};
 ghost use Rattle.vr_shown.specs.Showing.{nothing_shown};
 ghost use Rattle.vr_shown.specs.declared.shown.Shown.{Shown as Replica};
@@ -54,7 +54,7 @@ impl Status {
 
     /// What shows of the scans.
     pub fn scans(&self) -> ScanStatus
-        ensures { (replicas : List Replica) (scans : Scanned) → AreOfGroup replicas
+        ensures { (replicas : List Replica) (scans : Scanned) → AreOfGroup replicas → IsPlaced scans
             → self.now.words ≡ status_words replicas scans → result ≡ scans }
     {
         scans_in(&self.words)
@@ -75,7 +75,7 @@ fn replica_in(words: &[u64; WORDS], number: usize) -> Shown
 
 /// What these words tell of the scans.
 fn scans_in(words: &[u64; WORDS]) -> ScanStatus
-    ensures { (replicas : List Replica) (scans : Scanned) → AreOfGroup replicas
+    ensures { (replicas : List Replica) (scans : Scanned) → AreOfGroup replicas → IsPlaced scans
         → words.now ≡ status_words replicas scans → result ≡ scans }
 {
     let mut counts = [0; scans::WORDS];
