@@ -1,3 +1,4 @@
+pub mod Ages
 pub mod Book
 pub mod Entries
 pub mod Calls

@@ -6,10 +6,12 @@ ghost use Rattle.io_image.specs.Releases.{IsRising, number_of, shown};
 use crate::copies::{Pen, SharedPen, Shown};
 use crate::list::{Front, Naming, NewList};
 use crate::release::{Release, View};
+use crate::stamp::{MarkingPen, Stamp};
 use left_right::{ReadHandle, WriteHandle};
 use std::alloc::{AllocError, Global};
 use std::marker::Model;
 use std::sync::{Arc, Wait};
+use std::time::Clock;
 use thiserror::Error;
 
 /// `left_right` has room for fewer readers.
@@ -96,6 +98,20 @@ impl<J: Naming, P: Pen<J>> ReleasedWriter<J, P> {
         }
         self.front = self.pen.front().again();
         Ok(())
+    }
+
+    /// The same writer, which marks when each release is published.
+    pub fn marked<R: Clock + Drop>(
+        self,
+        stamp: Arc<Stamp<R>>,
+    ) -> ReleasedWriter<J, MarkingPen<P, R>>
+        ensures { result ≡ self }
+    {
+        let ReleasedWriter { pen, front } = self;
+        ReleasedWriter {
+            pen: MarkingPen { pen, stamp },
+            front,
+        }
     }
 
     /// What was published so far. It takes no memory, and waits for nobody.

@@ -13,10 +13,11 @@
 //! Proved: over any list of calls each write that got a ticket stands whole, in ticket order, in the first sample after
 //! it (`each_sample_holds_its_writes`); a refusal changes nothing. A `read` of the outputs shows the last release of a
 //! list of which all that this reader saw before is a prefix; of what a writer told and a reader saw, one is a prefix
-//! of the other (`agree`).
+//! of the other (`agree`). Outputs that were released longer ago than a limit are stale (`is_stale`).
 //!
 //! Tests alone show that each call of a `Stage` is one hold of its lock, and one call of its book (`process_image_rows`
-//! of `tests_parts`, by threads, in many rounds). That a reader waits for nobody is `left_right`'s.
+//! of `tests_parts`, by threads, in many rounds). That a reader waits for nobody is `left_right`'s. That a `Stamp` has the
+//! time of the last release is by its code alone.
 #![tactic(auto)]
 
 mod book;
@@ -26,6 +27,7 @@ mod ends;
 mod list;
 mod release;
 mod staging;
+mod stamp;
 
 pub use book::{Sample, StageBook, StageError, Ticket, Written};
 pub use calls::each_sample_holds_its_writes;
@@ -34,3 +36,4 @@ pub use ends::{PublishError, ReleasedReader, ReleasedWriter, Told, Unmade, agree
 pub use list::{Naming, NewList};
 pub use release::{Release, View};
 pub use staging::{Stage, StageHandle, Staging};
+pub use stamp::{Ages, MarkingPen, Stamp, is_stale};

@@ -1,5 +1,5 @@
 -- Replies over a staging that tells its book, and over one that doesn't.
-use Rattle.std.proofs.Common.{◌≡◌, ℕ, ℤ, length, drop, le_refl, slice_range, true, false, List, [], ◌∷◌, sym, ◌∙◌, ap, refl, Option, Some, None, Result, Ok, Err, IfOk, OnErr, ◌↔◌}
+use Rattle.std.proofs.Common.{◌≡◌, ℕ, ℤ, length, drop, le_refl, slice_range, Bool, true, false, List, [], ◌∷◌, sym, ◌∙◌, ap, refl, Option, Some, None, Result, Ok, Err, IfOk, OnErr, ◌↔◌}
 use Rattle.il_model.specs.declared.cells.Cells.{Cells}
 use Rattle.il_model.specs.Cells.{clear_cells}
 use Rattle.std.proofs.lemmas.List.Sums.{fold-append}
@@ -17,12 +17,18 @@ use Rattle.std.proofs.lemmas.Slice.{between_to_end}
 use Rattle.modbus_wire.specs.Frames.{number_at}
 use Rattle.modbus_wire.specs.Packing.{words_of_bytes}
 use Rattle.modbus_wire.specs.Replies.{exception_of}
-use Rattle.modbus_server.specs.Replies.{Replies, LooksAt, table_cells, read_outcome, write_outcome, words_written}
+use Rattle.modbus_server.specs.Requests.{request_of}
+use Rattle.modbus_server.specs.Replies.{Replies, LooksAt, table_cells, read_outcome, write_outcome, words_written, shows_outputs, timely_reply}
 
 -- nothing was asked of the staging
 pub untouched : (told : Option Book) (answer : List ℕ) → Replies told told (λ staged refused. read_outcome answer) answer
 untouched None answer = (refl, clear_cells, false, refl)
 untouched (Some b) answer = (is_full b, λ e. e, refl, refl)
+
+-- outputs that are stale weren't shown
+pub withheld : (told : Option Book) (stale : Bool) (pdu : List ℕ) (released : Cells) (answer : List ℕ) → stale ≡ true → shows_outputs (request_of pdu) ≡ true → answer ≡ exception_of pdu ServerDeviceFailure
+    → Replies told told (λ staged refused. timely_reply stale pdu staged released refused) answer
+withheld told stale pdu released answer is shows e = rw (is, shows, e) (untouched told (exception_of pdu ServerDeviceFailure))
 
 -- its cells were read
 looked : (before after : Option Book) (f : Cells → List ℕ) (answer : List ℕ) (cells : Cells) → Changed before after (λ b c. Does b (read_gave cells) c) → answer ≡ f cells

@@ -1,5 +1,5 @@
 -- The reply to a request, and the write that it makes.
-use Rattle.std.specs.Prelude.{◌≡◌, ℕ, ◌+◌, ◌==◌, Bool, true, if◌then◌else◌, List, [], ◌∷◌, take, drop, slice_range}
+use Rattle.std.specs.Prelude.{◌≡◌, ℕ, ◌+◌, ◌==◌, ◌&&◌, Bool, true, false, if◌then◌else◌, List, [], ◌∷◌, take, drop, slice_range}
 use Rattle.std.specs.Prelude.{Option, Some, None, Result, Ok, Err}
 use Rattle.std.specs.Int.{w16, cast_signed}
 use Rattle.il_model.specs.declared.cells.Cells.{Cells}
@@ -81,6 +81,23 @@ outcome_of pdu staged released refused (Ok r) = outcome_by pdu staged released r
 -- the reply to a PDU, where these are the staged cells with each write so far, and these the released ones
 abbrev pub modbus_reply : List ℕ → Cells → Cells → Bool → Outcome
 modbus_reply pdu staged released refused = outcome_of pdu staged released refused (request_of pdu)
+
+-- it reads outputs
+abbrev pub reads_outputs : Function → Bool
+reads_outputs (ReadBits ReadOnly) = true
+reads_outputs (ReadWords ReadOnly) = true
+reads_outputs _ = false
+
+-- it passed each check, and reads outputs
+abbrev pub shows_outputs : Result Asked Exception → Bool
+shows_outputs (Err e) = false
+shows_outputs (Ok r) = reads_outputs r.function
+
+-- the same where outputs that are stale aren't shown: exception 4 in their place
+abbrev pub timely_reply : Bool → List ℕ → Cells → Cells → Bool → Outcome
+timely_reply stale pdu staged released refused =
+    if stale && shows_outputs (request_of pdu) then read_outcome (exception_of pdu ServerDeviceFailure)
+    else modbus_reply pdu staged released refused
 
 abbrev pub book_after : Book → Option Change → Book
 book_after b None = b

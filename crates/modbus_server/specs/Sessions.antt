@@ -1,35 +1,47 @@
 -- What a session reads, answers and writes.
-use Rattle.std.specs.Prelude.{◌≡◌, ℕ, ◌⊎◌, List, [], ◌∷◌, ◌++◌, take, Option}
+use Rattle.std.specs.Prelude.{◌≡◌, ℕ, ◌⊎◌, Bool, false, List, [], ◌∷◌, ◌++◌, take, Option, Some, None}
 use Rattle.std.specs.List.{flat_map}
 use Rattle.std.specs.Io.KnownBytes.{Appends, Consumes, IsAtEnd}
 use mathlib.Core.List.{IsPrefix}
 use Rattle.io_model.specs.Counted.{Failed}
 use Rattle.io_model.specs.Stream.{Ending, Rest, Fault, Feeds, Starts}
+use Rattle.io_image.specs.Ages.{is_stale}
 use Rattle.io_image.specs.Book.{Book}
 use Rattle.io_image.specs.Releases.{IsRising, shown}
 use Rattle.io_image.specs.declared.release.Release.{Release}
 use Rattle.modbus_wire.specs.Frames.{Adu, frame_of, adus}
 use Rattle.modbus_wire.specs.declared.header.HeaderFault.{HeaderFault}
-use Rattle.modbus_server.specs.Replies.{Replies, modbus_reply}
+use Rattle.modbus_server.specs.Replies.{Replies, timely_reply}
 use Rattle.modbus_server.specs.declared.serve.SessionEnd.{SessionEnd}
 use Rattle.modbus_server.specs.declared.serve.SessionEnd.TheVariants as ends
 
--- what a session works with: the book that its staging tells, if it does, and the releases that its reader saw
+-- what a session works with: the book that its staging tells, if it does, the releases that its reader saw, and for how
+-- many milliseconds outputs are shown without a release, if there is a limit
 pub record Images : Type 0 where
   pub told : Option Book
   pub seen : List Release
+  pub limit : Option ℕ
 
-abbrev pub images_of : Option Book → List Release → Images
-images_of told seen = record { told = told; seen = seen }
+abbrev pub images_of : Option Book → List Release → Option ℕ → Images
+images_of told seen limit = record { told = told; seen = seen; limit = limit }
 
--- What the reader shows never goes back; the reply is the table's for it, and the header is echoed.
+-- whether outputs are stale, by the age that they have when it's asked; without a limit they never are
+abbrev pub IsJudged : Option ℕ → Bool → Type 0
+IsJudged None stale = stale ≡ false
+IsJudged (Some limit) stale = (age : Option ℕ) × (stale ≡ is_stale (Some limit) age)
+
+-- What the reader shows never goes back; the reply is the table's for it, or exception 4 in place of outputs that are
+-- stale, and the header is echoed.
 pub record Answers (before : Images) (request reply : Adu) (after : Images) : Type 0 where
   pub seen : IsPrefix before.seen after.seen
   pub rising : IsRising after.seen
+  pub limit : after.limit ≡ before.limit
+  pub stale : Bool
+  pub judged : IsJudged before.limit stale
   pub transaction : reply.transaction ≡ request.transaction
   pub unit : reply.unit ≡ request.unit
   pub pdu : Replies before.told after.told
-      (λ staged refused. modbus_reply request.pdu staged (shown after.seen).image.cells refused) reply.pdu
+      (λ staged refused. timely_reply stale request.pdu staged (shown after.seen).image.cells refused) reply.pdu
 
 -- these requests, one behind another
 abbrev pub AnswersAll : Images → List Adu → List Adu → Images → Type 0

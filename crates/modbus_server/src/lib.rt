@@ -4,28 +4,32 @@
 //! program.
 //!
 //! ```rust
-//! let server = Server::new(host, Door::open(&rt, 502)?, readers, Duration::from_secs(60), traffic)?;
+//! let shown = Shown { readers, stamp, limit: Some(2000) }; // outputs of the last two seconds
+//! let server = Server::new(host, Door::open(&rt, 502)?, shown, Duration::from_secs(60), traffic)?;
 //! let open = server.open()?; // clients are served from now on, at `open.port()`; what they write is in `open.stage()`
 //! let (sessions, writes) = open.close(); // how many clients there were, and how many writes got a ticket
 //! ```
 //!
 //! Proved: `reply` is the table of functions, with its order of checks, cells and reply, by the bytes of a request and by
-//! its values (`values_are_served`). `serve_session` writes the
-//! replies in order, each by what its reader shows, behind all that it saw before, and ends by Closed only at the
-//! reader's end, by a fault of the header only where the stream has it, by Device only where a device failed.
+//! its values (`values_are_served`). `serve_session` writes the replies in order, each by what its reader shows, behind
+//! all that it saw before, or with exception 4 in place of outputs that were released longer ago than the limit, if
+//! there's one. It ends by Closed only at the reader's end, by a fault of the header only where the stream has it, by
+//! Device only where a device failed.
 //!
 //! Shown by tests: that a reply doesn't wait for the next request, and that the read for it enters anew (`modbus.rows`
 //! of `tests_bytes`, with sessions that fail in the middle); the service (`serve_rows` and `failing_rows` of
 //! `tests_threads`); that clients of others are content (`tools/try-clients`).
 #![tactic(auto)]
 
+mod outputs;
 mod replies;
 mod request;
 mod serve;
 mod service;
 mod values;
 
-pub use replies::reply;
+pub use outputs::Outputs;
+pub use replies::{reply, timely_reply};
 pub use serve::{SessionEnd, serve_session};
-pub use service::{OpenServer, Server};
+pub use service::{OpenServer, Server, Shown};
 pub use values::values_are_served;

@@ -4,9 +4,9 @@ ghost use Rattle.modbus_wire.specs.declared.function.Function.TheVariants.{MaskW
 ghost use Rattle.modbus_wire.specs.Functions.{HasLength};
 ghost use Rattle.modbus_wire.specs.Packing.{bytes_of_bits, bytes_of_words};
 ghost use Rattle.modbus_wire.specs.Replies.{data_reply};
-ghost use Rattle.modbus_server.specs.Requests.{IsSound};
+ghost use Rattle.modbus_server.specs.Requests.{request_of as judged, IsSound};
 ghost use Rattle.modbus_server.specs.Replies.{mask_outcome, write_read_outcome, LooksAt};
-ghost use Rattle.modbus_server.specs.Replies.{outcome_by, modbus_reply, Replies};
+ghost use Rattle.modbus_server.specs.Replies.{outcome_by, modbus_reply, shows_outputs, timely_reply, Replies};
 
 use crate::request::{Asked, request_of};
 use il_model::{BITS, Cells, WORDS};
@@ -120,4 +120,35 @@ pub fn reply<S: Staging>(pdu: &[u8], staging: &mut S, released: &View) -> Pdu
         Ok(request) => perform(pdu, request, staging, released),
         Err(fault) => exception_reply(pdu, fault),
     }
+}
+
+/// Whether a request passes each check, and reads outputs.
+fn shows_outputs(pdu: &[u8]) -> bool
+    requires { 0 < length pdu.now }
+    ensures { result ≡ shows_outputs (judged pdu.now) }
+{
+    match request_of(pdu) {
+        Ok(request) => matches!(
+            request.function,
+            Function::ReadBits(Table::ReadOnly) | Function::ReadWords(Table::ReadOnly)
+        ),
+        Err(_) => false,
+    }
+}
+
+/// The same where outputs may be stale: then exception 04 stands in their place.
+pub fn timely_reply<S: Staging>(
+    pdu: &[u8],
+    staging: &mut S,
+    released: &View,
+    are_stale: bool,
+) -> Pdu
+    requires { (0 < length pdu.now) × (length pdu.now ≤ 253) }
+    ensures { Replies (S.told staging.old) (S.told staging.new)
+        (λ staged refused. timely_reply are_stale pdu.now staged released.now.image.cells refused) result.items }
+{
+    if are_stale && shows_outputs(pdu) {
+        return exception_reply(pdu, Exception::ServerDeviceFailure);
+    }
+    reply(pdu, staging, released)
 }

@@ -6,8 +6,9 @@ ghost use Rattle.io_model.specs.Stream.{IsRest};
 ghost use Rattle.modbus_wire.specs.Frames.{IsFramed};
 ghost use Rattle.modbus_server.specs.Sessions.{images_of, Answers, Adds, AnswersSome, Serves, Stops, Talks};
 
-use crate::replies::reply;
-use io_image::{Naming, ReleasedReader, Staging};
+use crate::outputs::Outputs;
+use crate::replies::timely_reply;
+use io_image::{Ages, Naming, Staging};
 use io_model::{CountedRead, CountedWrite, write_all};
 use modbus_wire::{Adu, HeaderFault, Session, SessionFault, know_any_pieces};
 use plc_host::{Host, Traffic};
@@ -30,41 +31,42 @@ pub enum SessionEnd {
     Memory,
 }
 
-fn answer<S: Staging, J: Naming>(
+fn answer<S: Staging, J: Naming, A: Ages>(
     request: &Adu,
     staging: &mut S,
-    released: &mut ReleasedReader<J>,
+    outputs: &mut Outputs<J, A>,
 ) -> Adu
     requires { IsFramed request.now }
-    ensures is { Answers (images_of (S.told staging.old) released.old) request.now result
-        (images_of (S.told staging.new) released.new) }
+    ensures is { Answers (images_of (S.told staging.old) outputs.old.released outputs.old.limit) request.now result
+        (images_of (S.told staging.new) outputs.new.released outputs.new.limit) }
     ensures short { length result.pdu ≤ 253 }
 {
-    let view = released.read();
+    let are_stale = outputs.are_stale();
+    let view = outputs.released.read();
     Adu {
         transaction: request.transaction,
         unit: request.unit,
-        pdu: reply(request.pdu.as_slice(), staging, &view),
+        pdu: timely_reply(request.pdu.as_slice(), staging, &view, are_stale),
     }
 }
 
 /// Adds the replies to these requests.
-fn answer_all<S: Staging, J: Naming>(
+fn answer_all<S: Staging, J: Naming, A: Ages>(
     requests: &[Adu],
     out: &mut Vec<u8>,
     staging: &mut S,
-    released: &mut ReleasedReader<J>,
+    outputs: &mut Outputs<J, A>,
 ) -> Result<(), AllocError>
     requires { AllByRecursion IsFramed requests.now }
     ensures ok { OnOk result
-        (Adds (images_of (S.told staging.old) released.old) requests.now out.old.items out.new.items
-        (images_of (S.told staging.new) released.new)) }
+        (Adds (images_of (S.told staging.old) outputs.old.released outputs.old.limit) requests.now
+        out.old.items out.new.items (images_of (S.told staging.new) outputs.new.released outputs.new.limit)) }
     ensures err { OnErr result
-        (AnswersSome (images_of (S.told staging.old) released.old) requests.now
-        (images_of (S.told staging.new) released.new)) }
+        (AnswersSome (images_of (S.told staging.old) outputs.old.released outputs.old.limit) requests.now
+        (images_of (S.told staging.new) outputs.new.released outputs.new.limit)) }
 {
     for request in requests {
-        answer(request, staging, released).write_to(out)?;
+        answer(request, staging, outputs).write_to(out)?;
     }
     Ok(())
 }
@@ -78,21 +80,21 @@ struct Buffers {
 }
 
 /// Answers each request that is whole with this piece, in one write, and counts them once it went out.
-fn serve_piece<W: CountedWrite, S: Staging, J: Naming>(
+fn serve_piece<W: CountedWrite, S: Staging, J: Naming, A: Ages>(
     piece: &[u8],
     buffers: &mut Buffers,
     traffic: &Traffic,
     writer: &mut W,
     staging: &mut S,
-    released: &mut ReleasedReader<J>,
+    outputs: &mut Outputs<J, A>,
 ) -> Result<(), SessionEnd>
     requires { IsRest buffers.old.session }
     ensures served { MatchResult result
-        (λ _. Serves buffers.old.session piece.now buffers.new.session (images_of (S.told staging.old) released.old)
-        (images_of (S.told staging.new) released.new) (W.held writer.old) (W.held writer.new)
+        (λ _. Serves buffers.old.session piece.now buffers.new.session (images_of (S.told staging.old) outputs.old.released outputs.old.limit)
+        (images_of (S.told staging.new) outputs.new.released outputs.new.limit) (W.held writer.old) (W.held writer.new)
         × IsRest buffers.new.session)
         (λ end. Stops end buffers.old.session piece.now (Failed (W.faults writer.old) (W.faults writer.new))
-        (images_of (S.told staging.old) released.old) (images_of (S.told staging.new) released.new)
+        (images_of (S.told staging.old) outputs.old.released outputs.old.limit) (images_of (S.told staging.new) outputs.new.released outputs.new.limit)
         (W.held writer.old) (W.held writer.new)) }
     ensures counts { W.faults writer.old ≤ W.faults writer.new }
 {
@@ -104,7 +106,7 @@ fn serve_piece<W: CountedWrite, S: Staging, J: Naming>(
     requests.clear();
     replies.clear();
     let fed = session.feed(piece, requests);
-    if answer_all(requests.as_slice(), replies, staging, released).is_err() {
+    if answer_all(requests.as_slice(), replies, staging, outputs).is_err() {
         return Err(SessionEnd::Memory);
     }
     if write_all(writer, replies.as_slice()).is_err() {
@@ -119,20 +121,28 @@ fn serve_piece<W: CountedWrite, S: Staging, J: Naming>(
 }
 
 /// Serves a session to its end. It reads requests in pieces, as they come, and writes the replies in order: those to
-/// the requests that a piece makes whole in one write, each by what `released` shows when its turn comes. Where it ends
-/// by `Device`, or for want of memory, a prefix of the replies went out, and requests whose replies didn't may have been
-/// done. `traffic` counts the requests that were answered, as they are.
-pub fn serve_session<H: Wait + Copy, R: CountedRead, W: CountedWrite, S: Staging, J: Naming>(
+/// the requests that a piece makes whole in one write, each by what `outputs` shows when its turn comes, or by exception
+/// 4 where it asks for outputs that are stale then. Where it ends by `Device`, or for want of memory, a prefix of the
+/// replies went out, and requests whose replies didn't may have been done. `traffic` counts the requests that were
+/// answered, as they are.
+pub fn serve_session<
+    H: Wait + Copy,
+    R: CountedRead,
+    W: CountedWrite,
+    S: Staging,
+    J: Naming,
+    A: Ages,
+>(
     host: &Host<H>,
     traffic: &Traffic,
     reader: &mut R,
     writer: &mut W,
     staging: &mut S,
-    released: &mut ReleasedReader<J>,
+    outputs: &mut Outputs<J, A>,
 ) -> SessionEnd
     ensures { Talks result (R.left reader.old) (R.left reader.new) (R.faults reader.old) (R.faults reader.new)
         (W.held writer.old) (W.held writer.new) (W.faults writer.old) (W.faults writer.new)
-        (images_of (S.told staging.old) released.old) (images_of (S.told staging.new) released.new) }
+        (images_of (S.told staging.old) outputs.old.released outputs.old.limit) (images_of (S.told staging.new) outputs.new.released outputs.new.limit) }
 {
     let mut buffers = Buffers {
         session: Session::new(),
@@ -149,7 +159,7 @@ pub fn serve_session<H: Wait + Copy, R: CountedRead, W: CountedWrite, S: Staging
             return SessionEnd::Closed;
         }
         let piece = &piece[..count];
-        if let Err(end) = serve_piece(piece, &mut buffers, traffic, writer, staging, released) {
+        if let Err(end) = serve_piece(piece, &mut buffers, traffic, writer, staging, outputs) {
             return end;
         }
     }

@@ -1,7 +1,8 @@
 //! The service: a port for Modbus clients, each with a session of its own.
 
+use crate::outputs::Outputs;
 use crate::serve::serve_session;
-use io_image::{Naming, ReleasedReader, Stage, StageBook, Staging};
+use io_image::{Naming, ReleasedReader, Stage, StageBook, Staging, Stamp};
 use io_model::Counted;
 use plc_host::{Failed, Host, ServiceRuntime, Traffic};
 use plc_listener::{Connection, Door, Listener, OpenListener, Session, WhenFull};
@@ -11,13 +12,13 @@ use std::time::{Clock, Duration};
 
 /// What one client at a time is served with: where its writes go, and what it reads.
 #[derive(Drop)]
-struct Seat<J: Naming> {
+struct Seat<R: Clock + Drop, J: Naming> {
     stage: Arc<Stage>,
-    released: ReleasedReader<J>,
+    outputs: Outputs<J, Arc<Stamp<R>>>,
     traffic: Arc<Traffic>,
 }
 
-impl<R: Wait + Clock + Copy + Drop, J: Naming> Session<R> for Seat<J> {
+impl<R: Wait + Clock + Copy + Drop, J: Naming> Session<R> for Seat<R, J> {
     fn serve(&mut self, host: &Host<R>, connection: &Connection<'_, R>) {
         self.traffic.add_session();
         let _ = serve_session(
@@ -26,7 +27,7 @@ impl<R: Wait + Clock + Copy + Drop, J: Naming> Session<R> for Seat<J> {
             &mut Counted::new(connection),
             &mut Counted::new(connection),
             &mut self.stage.handle(&host.rt),
-            &mut self.released,
+            &mut self.outputs,
         );
     }
 }
@@ -35,23 +36,43 @@ impl<R: Wait + Clock + Copy + Drop, J: Naming> Session<R> for Seat<J> {
 #[derive(Drop)]
 pub struct Server<R: ServiceRuntime, J: Naming> {
     host: Host<R>,
-    listener: Listener<R, Seat<J>>,
+    listener: Listener<R, Seat<R, J>>,
     stage: Arc<Stage>,
     traffic: Arc<Traffic>,
 }
 
-/// A seat for each of these readers.
-fn seats<J: Naming>(
+/// The outputs of a controller, as its clients are shown them.
+#[derive(Drop)]
+pub struct Shown<R: Clock + Drop, J: Naming> {
+    /// One for each client that is served at once.
+    pub readers: Vec<ReleasedReader<J>>,
+    /// When they were released last.
+    pub stamp: Arc<Stamp<R>>,
+    /// In milliseconds: those aren't shown that were released longer ago, or never; without it they always are.
+    pub limit: Option<u32>,
+}
+
+/// A seat for each of the readers.
+fn seats<R: Clock + Drop, J: Naming>(
     alloc: Global,
     stage: &Arc<Stage>,
     traffic: &Arc<Traffic>,
-    readers: Vec<ReleasedReader<J>>,
-) -> Result<Vec<Seat<J>>, AllocError> {
+    shown: Shown<R, J>,
+) -> Result<Vec<Seat<R, J>>, AllocError> {
+    let Shown {
+        readers,
+        stamp,
+        limit,
+    } = shown;
     let mut seats = Vec::new(alloc);
     for released in readers {
         seats.push(Seat {
             stage: Arc::try_clone(stage)?,
-            released,
+            outputs: Outputs {
+                released,
+                ages: Arc::try_clone(&stamp)?,
+                limit,
+            },
             traffic: Arc::try_clone(traffic)?,
         })?;
     }
@@ -59,18 +80,18 @@ fn seats<J: Naming>(
 }
 
 impl<R: ServiceRuntime, J: Naming + Send + Sync + 'static> Server<R, J> {
-    /// So many clients at this door are served at once as there are readers of the released outputs. No input is staged
+    /// So many clients at this door are served at once as there are readers of the outputs. No input is staged
     /// yet. A session ends whose client has no whole request, or doesn't take its replies, for as long as `idle`.
     /// `traffic` counts the sessions, and the requests that were answered.
     pub fn new(
         host: Host<R>,
         door: Door,
-        readers: Vec<ReleasedReader<J>>,
+        shown: Shown<R, J>,
         idle: Duration,
         traffic: Arc<Traffic>,
     ) -> Result<Server<R, J>, Failed> {
         let stage = Arc::new(host.alloc, Stage::new(StageBook::new(host.alloc)))?;
-        let seats = seats(host.alloc, &stage, &traffic, readers)?;
+        let seats = seats(host.alloc, &stage, &traffic, shown)?;
         Ok(Server {
             host,
             listener: Listener::new(host, door, seats, idle, WhenFull::Closes)?,
@@ -99,7 +120,7 @@ impl<R: ServiceRuntime, J: Naming + Send + Sync + 'static> Server<R, J> {
 /// A server that clients are served by. It can't be let go of but by `close`, which joins its threads.
 pub struct OpenServer<R: ServiceRuntime, J: Naming> {
     host: Host<R>,
-    listener: OpenListener<R, Seat<J>>,
+    listener: OpenListener<R, Seat<R, J>>,
     stage: Arc<Stage>,
     traffic: Arc<Traffic>,
 }

@@ -5,9 +5,11 @@ ghost use Rattle.plc_status.specs.Journal.{IsJournalOf};
 ghost use Rattle.plc_status.specs.Notices.{IsServingTold};
 
 use il_loader::Image;
-use io_image::{Naming, NewList, Pen, ReleasedWriter, SharedPen, Stage, released};
+use io_image::{
+    MarkingPen, Naming, NewList, Pen, ReleasedWriter, SharedPen, Stage, Stamp, released,
+};
 use io_model::CountedWrite;
-use modbus_server::{OpenServer, Server};
+use modbus_server::{OpenServer, Server, Shown};
 use plc_console::{Console, Desk, OpenConsole};
 use plc_driver::{Directory, Driver, DriverCounts, Ended};
 use plc_host::{Failed, Host, ServiceRuntime, Traffic};
@@ -22,6 +24,9 @@ use vr_ports::Relink;
 
 /// So many sessions are served at once.
 const SESSIONS: usize = 16;
+
+/// What outputs are released to: it marks when.
+pub(crate) type Releases<J, R> = ReleasedWriter<J, MarkingPen<SharedPen<J, R>, R>>;
 
 /// What takes no connection yet.
 #[derive(Drop)]
@@ -53,7 +58,7 @@ where
         image: &Image,
         links: &mut Vec<L>,
         traffic: Arc<Traffic>,
-    ) -> Result<(Ready<R, L, J>, ReleasedWriter<J, SharedPen<J, R>>), Failed>
+    ) -> Result<(Ready<R, L, J>, Releases<J, R>), Failed>
         requires { list ≡ J.book }
         ensures { IfOk result (λ r. r.1 ≡ []) }
     {
@@ -74,7 +79,14 @@ where
         let Ok((writer, readers)) = released::<J, R>(list, alloc, rt, SESSIONS) else {
             return Err(Failed::Memory);
         };
-        let server = Server::new(host, door, readers, idle, traffic)?;
+        let stamp = Arc::new(alloc, Stamp::new(rt)?)?;
+        let writer = writer.marked(Arc::try_clone(&stamp)?);
+        let shown = Shown {
+            readers,
+            stamp,
+            limit: None,
+        };
+        let server = Server::new(host, door, shown, idle, traffic)?;
         Ok((Ready { server, console }, writer))
     }
 

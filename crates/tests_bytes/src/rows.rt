@@ -56,6 +56,7 @@ impl<'a> Given<'a> {
         match title {
             "message" => self.message = body,
             "released" => self.exchange.release(body.trim_end())?,
+            "limit" => self.exchange.limit(body.trim_end())?,
             _ => return Ok(false),
         }
         Ok(true)

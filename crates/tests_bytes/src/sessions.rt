@@ -5,11 +5,9 @@ use crate::clients::{Client, Pieces, Publishing, Writes, cut_at};
 use crate::notation::{behind, bytes_of, cells_of, otherwise, unreadable};
 use crate::values;
 use il_model::OutImage;
-use io_image::{
-    Naming, NewList, Release, ReleasedReader, Sample, Stage, StageBook, Staging, released,
-};
+use io_image::{Ages, Naming, NewList, Release, Sample, Stage, StageBook, Staging, released};
 use io_model::Counted;
-use modbus_server::{SessionEnd, serve_session};
+use modbus_server::{Outputs, SessionEnd, serve_session};
 use modbus_wire::{HeaderFault, Session, SessionFault};
 use plc_host::{Host, Traffic};
 use std::alloc::{AllocError, Global};
@@ -32,10 +30,35 @@ struct Talked {
     sample: Sample,
 }
 
+/// How long ago outputs were released, in milliseconds, if they were.
+#[derive(Clone, Copy, Drop)]
+struct Age(Option<u64>);
+
+impl Ages for Age {
+    fn age(&self) -> Option<u64> {
+        self.0
+    }
+}
+
+/// What is released before a session, its age, and the age up to which it's shown.
+#[derive(Clone, Copy)]
+struct Shown {
+    release: Option<Release>,
+    age: Age,
+    limit: Option<u32>,
+}
+
+/// Nothing, which is shown at any age.
+const NOTHING: Shown = Shown {
+    release: None,
+    age: Age(None),
+    limit: None,
+};
+
 /// What is released before a session, its requests, and their replies.
 #[derive(Drop)]
 pub struct Exchange {
-    released: Option<Release>,
+    shown: Shown,
     requests: Vec<u8>,
     replies: Vec<u8>,
 }
@@ -68,7 +91,7 @@ fn talk<R: Wait, S: Staging, J: Naming>(
     rt: &R,
     alloc: Global,
     staging: &mut S,
-    reader: &mut ReleasedReader<J>,
+    outputs: &mut Outputs<J, Age>,
     client: Client<'_>,
 ) -> Talked {
     let mut pieces = Pieces::new(client);
@@ -87,7 +110,7 @@ fn talk<R: Wait, S: Staging, J: Naming>(
             &mut reads,
             &mut counted,
             staging,
-            reader,
+            outputs,
         )
     };
     Talked {
@@ -104,24 +127,24 @@ fn talk<R: Wait, S: Staging, J: Naming>(
 fn talk_over<R: Wait, J: Naming>(
     rt: &R,
     alloc: Global,
-    reader: &mut ReleasedReader<J>,
+    outputs: &mut Outputs<J, Age>,
     client: Client<'_>,
     is_locked: bool,
 ) -> Talked {
     let mut book = StageBook::new(alloc);
     if is_locked {
         let stage = Stage::new(book);
-        return talk(rt, alloc, &mut stage.handle(rt), reader, client);
+        return talk(rt, alloc, &mut stage.handle(rt), outputs, client);
     }
-    talk(rt, alloc, &mut book, reader, client)
+    talk(rt, alloc, &mut book, outputs, client)
 }
 
-/// A session over this release.
+/// A session over what is shown.
 fn session<R: Wait, J: Naming>(
     rt: &R,
     alloc: Global,
     list: NewList,
-    release: Option<Release>,
+    shown: Shown,
     client: Client<'_>,
     is_locked: bool,
 ) -> io::Result<Talked>
@@ -129,22 +152,26 @@ fn session<R: Wait, J: Naming>(
 {
     let made = released::<J, &R>(list, alloc, rt, 1);
     let (mut writer, mut readers) = made.ok().ok_or(otherwise())?;
-    let mut reader = readers.pop().ok_or(otherwise())?;
-    if let Some(release) = release {
+    let mut outputs = Outputs {
+        released: readers.pop().ok_or(otherwise())?,
+        ages: shown.age,
+        limit: shown.limit,
+    };
+    if let Some(release) = shown.release {
         writer.publish(release).ok().ok_or(otherwise())?;
     }
-    Ok(talk_over(rt, alloc, &mut reader, client, is_locked))
+    Ok(talk_over(rt, alloc, &mut outputs, client, is_locked))
 }
 
 /// A session over a new list of releases.
 fn served<R: Wait>(
     rt: &R,
     alloc: Global,
-    release: Option<Release>,
+    shown: Shown,
     client: Client<'_>,
     is_locked: bool,
 ) -> io::Result<Talked> {
-    session::<R, Brand>(rt, alloc, NewList::new(), release, client, is_locked)
+    session::<R, Brand>(rt, alloc, NewList::new(), shown, client, is_locked)
 }
 
 /// How often a request is sent, as `4096 times`, and the request.
@@ -173,7 +200,7 @@ fn size_of(text: &str, name: &str) -> usize {
 impl Exchange {
     pub fn new(alloc: Global) -> Exchange {
         Exchange {
-            released: None,
+            shown: NOTHING,
             requests: Vec::new(alloc),
             replies: Vec::new(alloc),
         }
@@ -182,12 +209,20 @@ impl Exchange {
     /// Takes what is released before the session: a number, and the outputs that aren't FALSE or 0.
     pub fn release(&mut self, text: &str) -> io::Result<()> {
         let (number, cells) = text.split_once(' ').unwrap_or((text, ""));
-        self.released = Some(Release {
+        self.shown.release = Some(Release {
             number: number.parse::<u64>().ok().ok_or(unreadable())?,
             image: OutImage {
                 cells: cells_of(cells)?,
             },
         });
+        Ok(())
+    }
+
+    /// Takes the age up to which outputs are shown, and how old they are, as `200 201`; `none` is no number.
+    pub fn limit(&mut self, text: &str) -> io::Result<()> {
+        let (limit, age) = text.split_once(' ').ok_or(unreadable())?;
+        self.shown.limit = limit.parse::<u32>().ok();
+        self.shown.age = Age(age.parse::<u64>().ok());
         Ok(())
     }
 
@@ -200,7 +235,7 @@ impl Exchange {
     /// What a session of all requests gets behind the replies so far, in hexadecimal.
     fn last_reply<R: Wait>(&self, rt: &R, alloc: Global) -> io::Result<String> {
         let whole = cut_at(self.requests.as_slice(), usize::MAX);
-        let talked = served(rt, alloc, self.released, whole, false)?;
+        let talked = served(rt, alloc, self.shown, whole, false)?;
         if talked.end != SessionEnd::Closed {
             return Err(otherwise());
         }
@@ -232,7 +267,7 @@ impl Exchange {
         let requests = self.requests.as_slice();
         let count = requests.len().saturating_sub(talked.left);
         let read = requests.get(..count).unwrap_or(&[]);
-        let closed = served(rt, alloc, self.released, cut_at(read, usize::MAX), false)?;
+        let closed = served(rt, alloc, self.shown, cut_at(read, usize::MAX), false)?;
         Ok(closed.end == SessionEnd::Closed && closed.sample == talked.sample)
     }
 
@@ -254,7 +289,7 @@ impl Exchange {
         client: Client<'_>,
         is_locked: bool,
     ) -> io::Result<&'static str> {
-        let talked = served(rt, alloc, self.released, client, is_locked)?;
+        let talked = served(rt, alloc, self.shown, client, is_locked)?;
         if !self.has_written(&talked) {
             return Ok("other replies");
         }
@@ -272,7 +307,7 @@ impl Exchange {
         client: Client<'_>,
         is_locked: bool,
     ) -> io::Result<&'static str> {
-        let whole = served(rt, alloc, self.released, client, is_locked)?;
+        let whole = served(rt, alloc, self.shown, client, is_locked)?;
         for call in 0..whole.reads.saturating_add(whole.writes) {
             let failing = client.failing_at(call, whole.reads);
             let end = self.end(rt, alloc, failing, is_locked)?;
@@ -360,7 +395,7 @@ impl Exchange {
 fn stream<R: Wait>(rt: &R, alloc: Global, text: &str) -> io::Result<&'static str> {
     let (requests, replies) = text.split_once('>').ok_or(unreadable())?;
     let exchange = Exchange {
-        released: None,
+        shown: NOTHING,
         requests: bytes_of(alloc, requests)?,
         replies: bytes_of(alloc, replies)?,
     };
@@ -395,7 +430,11 @@ fn publishing<R: Wait, J: Naming>(
 {
     let made = released::<J, &R>(list, alloc, rt, 1);
     let (mut writer, mut readers) = made.ok().ok_or(otherwise())?;
-    let mut reader = readers.pop().ok_or(otherwise())?;
+    let mut outputs = Outputs {
+        released: readers.pop().ok_or(otherwise())?,
+        ages: Age(None),
+        limit: None,
+    };
     let mut book = StageBook::new(alloc);
     let mut taken = Vec::new(alloc);
     let end = serve_session(
@@ -408,7 +447,7 @@ fn publishing<R: Wait, J: Naming>(
         }),
         &mut Counted::new(&mut taken),
         &mut book,
-        &mut reader,
+        &mut outputs,
     );
     Ok((taken, end))
 }
