@@ -1,5 +1,6 @@
 //! A hello that was accepted.
 
+ghost use Rattle.std.specs.Prelude.{◌≡◌};
 ghost use Rattle.net_peers.specs.Accepting.{IsAccepted};
 
 use net_hello::Hello;
