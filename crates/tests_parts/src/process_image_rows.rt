@@ -1,7 +1,7 @@
 //! Staged writes and released images: what no contract says of them.
 ghost use Rattle.std.specs.Prelude.{◌≡◌};
 
-use il_model::{Cells, InImage, OutImage};
+use il_model::{Cells, InImage, OutImage, WORDS};
 use io_image::{
     Naming, NewList, Pen, PublishError, Release, ReleasedReader, ReleasedWriter, Sample, Stage,
     StageBook, StageError, Staging, Ticket, View, released,
@@ -279,7 +279,7 @@ fn replays<R: Threads + Wait + Abort + Sync>(rt: &R, alloc: Global) -> Result<()
     Ok(())
 }
 
-// In one round a sampler may come too late to meet a writer; in so many it doesn't.
+// In one round threads may come too late to meet one another; in so many they don't.
 const ROUNDS: usize = 64;
 
 #[test]
@@ -290,8 +290,8 @@ fn each_sample_replays_the_writes_below_its_number(rt: HostRuntime) -> Result<()
     Ok(())
 }
 
-// So often each thread lays masks on one word.
-const MASKS: u16 = 2000;
+// So often each thread lays masks on one word in a round.
+const MASKS: u16 = 1000;
 
 // Masks one word, once more where memory refused it.
 fn mask_word<S: Staging>(staging: &mut S, and: u16, or: u16) -> Result<Ticket, StageError> {
@@ -316,16 +316,107 @@ fn mask_all<S: Staging>(staging: &mut S, bit: u16) -> u16 {
     wrong
 }
 
-#[test]
-fn a_mask_is_laid_in_one_hold_of_the_lock(rt: HostRuntime) {
-    let stage = &Stage::new(StageBook::new(rt.alloc()));
-    let rt = &rt;
+// One round.
+fn masks_stay<R: Threads + Wait + Abort + Sync>(rt: &R, alloc: Global) {
+    let stage = &Stage::new(StageBook::new(alloc));
     let (first, second) = join(
         rt,
         || mask_all(&mut stage.handle(rt), 1),
         || mask_all(&mut stage.handle(rt), 0x8000),
     );
     assert_eq!(rt; (first, second), (0, 0));
+}
+
+#[test]
+fn a_mask_is_laid_in_one_hold_of_the_lock(rt: HostRuntime) {
+    for _ in 0..ROUNDS {
+        masks_stay(&rt, rt.alloc());
+    }
+}
+
+// So often each thread writes and reads in one call in a round.
+const EXCHANGES: i16 = 500;
+
+// The numbers of the writes 1, 2 and so on, and the word of the other thread that each of them showed.
+#[derive(Drop)]
+struct Exchanges {
+    numbers: Vec<u64>,
+    shown: Vec<i16>,
+}
+
+// Writes one word and shows all, once more where memory refused it.
+fn write_read<S: Staging>(
+    staging: &mut S,
+    address: usize,
+    word: i16,
+) -> Result<io_image::Written, StageError> {
+    match staging.write_read(address, &[word]) {
+        Err(StageError::Memory) => staging.write_read(address, &[word]),
+        answer => answer,
+    }
+}
+
+// Writes 1, 2 and so on at its own place, up to a write that is refused, and each time shows the other place.
+fn exchange_all<S: Staging>(
+    staging: &mut S,
+    alloc: Global,
+    own: usize,
+    other: usize,
+) -> Result<Exchanges, AllocError> {
+    let mut exchanges = Exchanges {
+        numbers: Vec::new(alloc),
+        shown: Vec::new(alloc),
+    };
+    for word in 1..=EXCHANGES {
+        let Ok(written) = write_read(staging, own, word) else {
+            break;
+        };
+        exchanges.numbers.push(written.ticket.number)?;
+        exchanges
+            .shown
+            .push(written.inputs.cells.words[other % WORDS])?;
+    }
+    Ok(exchanges)
+}
+
+// How many of these showed the word of another than the last write of the other thread before them.
+fn count_stale(exchanges: &Exchanges, others: &[u64]) -> usize {
+    let mut count = 0usize;
+    for (number, shown) in exchanges.numbers.iter().zip(exchanges.shown.iter()) {
+        let before = match others.binary_search(number) {
+            Ok(place) | Err(place) => place,
+        };
+        if usize::try_from(*shown) != Ok(before) {
+            count = count.saturating_add(1);
+        }
+    }
+    count
+}
+
+// One round.
+fn reads_back<R: Threads + Wait + Abort + Sync>(rt: &R, alloc: Global) -> Result<(), Fail> {
+    let stage = &Stage::new(StageBook::new(alloc));
+    let (first, second) = join(
+        rt,
+        || exchange_all(&mut stage.handle(rt), alloc, 0, 63),
+        || exchange_all(&mut stage.handle(rt), alloc, 63, 0),
+    );
+    let (first, second) = (first?, second?);
+    assert_eq!(rt; (first.numbers.len(), second.numbers.len()), (500, 500));
+    let stale = (
+        count_stale(&first, second.numbers.as_slice()),
+        count_stale(&second, first.numbers.as_slice()),
+    );
+    assert_eq!(rt; stale, (0, 0));
+    Ok(())
+}
+
+#[test]
+fn a_write_is_read_back_in_one_hold_of_the_lock(rt: HostRuntime) -> Result<(), Fail> {
+    for _ in 0..ROUNDS {
+        reads_back(&rt, rt.alloc())?;
+    }
+    Ok(())
 }
 
 // An image of its own for each number.

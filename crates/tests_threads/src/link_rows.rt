@@ -4,12 +4,12 @@ use net_ends::{Flow, Inbox, NonBlocking};
 use net_links::{TcpLink, links, pair};
 use std::alloc::Global;
 use std::io::{Read, Write};
-use std::net::{Net, TcpListener, TcpStream};
+use std::net::{Net, Shutdown, SocketAddr, TcpListener, TcpStream};
 use std::process::Abort;
-use std::sync::Wait;
+use std::sync::{Mutex, Wait};
 use std::test::Fail;
 use std::time::{Duration, Instant};
-use std::{fs, thread};
+use std::{fs, io, thread};
 use vr_model::{Body, Message, Party};
 use vr_ports::{Cutter, Input, Link, Relink};
 
@@ -112,6 +112,60 @@ fn a_link_is_cut_and_made_anew(rt: HostRuntime) -> Result<(), Fail> {
     assert!(rt; matches!(second.recv(), Input::Nothing));
     second.send(commit(1, 7));
     assert_eq!(rt; sum_of(&mut first, 1), 7);
+    Ok(())
+}
+
+/// A machine's network. It keeps a second handle of each connection that is made, so that a test can end it.
+#[derive(Clone, Copy)]
+struct Watched<'a, R> {
+    rt: R,
+    made: &'a Mutex<Vec<TcpStream>>,
+}
+
+impl<R: Wait> Wait for Watched<'_, R> {}
+
+impl<R: Wait + Net<Listener = TcpListener, Stream = TcpStream>> Net for Watched<'_, R> {
+    type Stream = TcpStream;
+
+    type Listener = TcpListener;
+
+    fn bind(&self, addr: SocketAddr) -> io::Result<TcpListener> {
+        self.rt.bind(addr)
+    }
+
+    fn connect(&self, addr: SocketAddr) -> io::Result<TcpStream> {
+        let stream = self.rt.connect(addr)?;
+        self.made.lock(&self.rt).push(stream.try_clone()?)?;
+        Ok(stream)
+    }
+}
+
+/// Ends each of these connections, and keeps none of them. How many there were.
+fn end_all<R: Wait>(rt: &R, made: &Mutex<Vec<TcpStream>>) -> io::Result<usize> {
+    let mut made = made.lock(rt);
+    for stream in made.iter() {
+        stream.shutdown(Shutdown::Both)?;
+    }
+    let count = made.len();
+    made.clear();
+    Ok(count)
+}
+
+/// A connection ends while the link at neither end is cut: another is made, and messages come over it, each time.
+#[test]
+fn a_connection_that_is_over_is_made_anew(rt: HostRuntime) -> Result<(), Fail> {
+    let made = Mutex::new(Vec::new(rt.alloc()));
+    let watched = Watched { rt, made: &made };
+    let (mut first, mut second) = two(watched, rt.alloc(), 50)?;
+    for number in 1..=3u64 {
+        assert_eq!(rt; end_all(&rt, &made)?, 1, "before {number}");
+        // The ends see that it's over, and then the second makes another.
+        for _ in 0..3u32 {
+            let _ = (first.recv(), second.recv());
+        }
+        second.send(commit(1, number));
+        assert_eq!(rt; sum_of(&mut first, 3), number);
+    }
     Ok(())
 }
 
