@@ -23,6 +23,8 @@ mod image_rows;
 #[cfg(test)]
 mod link_rows;
 #[cfg(test)]
+mod listener_rows;
+#[cfg(test)]
 mod serve_rows;
 #[cfg(test)]
 mod serving_rows;
