@@ -15,6 +15,8 @@ pub came_first : AreJoined → (came more took rest all : List ℕ) → whole_bo
 came_first law came more took rest all whole is =
     let prefix = law.prefixes came more in
     let taken : bodies_from Length came ++ prefix.0 ≡ took =
-        sym prefix.1 ∙ at_end (place_behind Length (came ++ more)) (bodies_from Length (came ++ more)) took whole in
-    (prefix.0 ++ rest, sym (append_assoc (bodies_from Length came) prefix.0 rest) ∙
-        (ap (λ (t : List ℕ). t ++ rest) taken ∙ is))
+    sym prefix.1 ∙ at_end (place_behind Length (came ++ more)) (bodies_from Length (came ++ more)) took whole in (
+      prefix.0 ++ rest,
+      sym (append_assoc (bodies_from Length came) prefix.0 rest) ∙
+          (ap (λ (t : List ℕ). t ++ rest) taken ∙ is),
+    )

@@ -10,5 +10,5 @@ pub returns : goal.returns
 returns c =
     let to = λ (m : Message). is_same m.to c.args.party in
     subst (λ (ms : List Message). AreTo c.args.party ms)
-        (sym (filter_same _ to _ (λ x b f k. search rules) _ _ c.retain.ensures.filtered))
-        (filter_passes to c.args.messages.now.items)
+    (sym (filter_same _ to _ (λ x b f k. search rules) _ _ c.retain.ensures.filtered))
+    (filter_passes to c.args.messages.now.items)
