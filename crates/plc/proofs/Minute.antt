@@ -11,7 +11,7 @@ use Rattle.plc.specs.Asked.{ServesAsAsked, IsLostAfterAMinute}
 pub as_asked : (asked : Words) (outcome : Outcome) → AsksForAMinute asked → ServesAsAsked asked outcome → IsLostAfterAMinute outcome
 as_asked asked (outcomes.Done status) minute serves = tt
 as_asked asked (outcomes.Ask console commands) minute serves = tt
-as_asked (words.Serve source store report settings) (outcomes.Serve service path) minute serves = ap (λ (s : Settings). s.lost_after) serves ∙ minute
+as_asked (words.Serve source stores report settings) (outcomes.Serve service path) minute serves = ap (λ (s : Settings). s.lost_after) serves ∙ minute
 as_asked (words.Asm source image) (outcomes.Serve service path) minute serves = absurd serves
 as_asked (words.List image) (outcomes.Serve service path) minute serves = absurd serves
 as_asked (words.Names source) (outcomes.Serve service path) minute serves = absurd serves

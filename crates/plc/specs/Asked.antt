@@ -11,7 +11,7 @@ use Rattle.plc.specs.declared.Outcome.TheVariants as outcomes
 abbrev pub ServesAsAsked : Words → Outcome → Type 0
 ServesAsAsked asked (outcomes.Done status) = Unit {0}
 ServesAsAsked asked (outcomes.Ask console commands) = Unit {0}
-ServesAsAsked (words.Serve source store report settings) (outcomes.Serve service path) = service.settings ≡ settings
+ServesAsAsked (words.Serve source stores report settings) (outcomes.Serve service path) = service.settings ≡ settings
 ServesAsAsked _ (outcomes.Serve service report) = ⊥
 
 -- a controller that is to be served ends after a minute without a majority of its replicas

@@ -199,17 +199,18 @@ fn perform<W: Write, E: CountedWrite>(
         },
         Words::Serve {
             source,
-            store,
+            stores,
             report,
             settings,
         } => {
-            if is_misplaced(rt, source, store, report) {
+            let stores = stores.as_slice();
+            if is_misplaced(rt, source, stores, report) {
                 return Outcome::Done(refuse(
                     err,
                     b"plc: the report lies over the source or a store\n",
                 ));
             }
-            match to_serve(rt, source, store, report, settings) {
+            match to_serve(rt, source, stores, report, settings) {
                 Ok((service, report)) => match taken_port(rt, &settings) {
                     Some(port) => tell_port(port, err),
                     None => return Outcome::Serve { service, report },
@@ -277,13 +278,16 @@ fn directory_of(path: &str) -> &str {
     }
 }
 
+/// Whether a path lies in one of these directories.
+fn is_among(rt: &HostRuntime, path: &str, directories: &[&str]) -> bool {
+    let own = directory_of(path);
+    directories.iter().any(|directory| own == *directory || are_same(rt, own, directory))
+}
+
 /// Whether a report would be written over the source, or among the stores.
-fn is_misplaced(rt: &HostRuntime, source: &str, store: &str, report: Option<&str>) -> bool {
+fn is_misplaced(rt: &HostRuntime, source: &str, stores: &[&str], report: Option<&str>) -> bool {
     match report {
-        Some(path) => {
-            let directory = directory_of(path);
-            are_same(rt, source, path) || directory == store || are_same(rt, directory, store)
-        }
+        Some(path) => are_same(rt, source, path) || is_among(rt, path, stores),
         None => false,
     }
 }
@@ -295,12 +299,12 @@ fn host_of(rt: &HostRuntime) -> Host<HostRuntime> {
     }
 }
 
-/// A controller that is to be served from this file and this directory, and the file of its report. Only reading the
+/// A controller that is to be served from this file and these directories, and the file of its report. Only reading the
 /// source is a device's failure.
 fn to_serve(
     rt: &HostRuntime,
     source: &str,
-    store: &str,
+    stores: &[&str],
     report: Option<&str>,
     settings: Settings,
 ) -> Result<(Service<FileStore<HostRuntime>>, Option<Report>), Failed>
@@ -313,7 +317,7 @@ fn to_serve(
         }),
         None => None,
     };
-    Ok((Service::new(host_of(rt), source, store, settings)?, report))
+    Ok((Service::new(host_of(rt), source, stores, settings)?, report))
 }
 
 fn given_words(rt: &HostRuntime) -> Result<Vec<String>, WordsError> {

@@ -1,10 +1,11 @@
-//! The directory of a group's stores, which one start at a time has.
+//! The directories of a group's stores, which one start at a time has.
 
 ghost use Rattle.std.specs.Prelude.{◌≡◌, IfOk, vec_len};
 ghost use Rattle.vr_model.specs.Groups.{group_size};
 
 use plc_host::Failed;
 use std::alloc::{AllocError, Global};
+use std::fs::{File, TryLockError};
 use std::io::ErrorKind;
 use std::os::unix::fs::MetadataExt;
 use std::rt::Files;
@@ -15,31 +16,38 @@ use vr_threads::FileStore;
 /// The bit of a mode by which all may write.
 const OTHERS_WRITE: u32 = 0o002;
 
-/// Where a group of replicas has its stores.
+/// Where a group of replicas has its stores: in one directory, or each in its own, in their order.
 #[derive(Clone, Copy)]
 pub struct Directory<'a> {
-    pub path: &'a str,
+    pub paths: &'a [String],
     pub config: Config,
 }
 
-/// A directory that one start has, by a file that it made there. It's let go of by `leave` alone.
+/// A file of a directory, by the lock on which one start has it. The system unlocks it where the process ends.
+#[derive(Drop)]
+struct Lock {
+    path: String,
+    file: File,
+}
+
+/// Directories that one start has. They are let go of by `leave`, or where the process ends.
 pub struct Taken {
-    lock: String,
+    locks: Vec<Lock>,
 }
 
 impl Directory<'_> {
-    /// Makes the directory, where it isn't there, and takes it in one step: of two starts at once one has it. None, and
-    /// nothing was changed, where another start has it, the file of a replica is there, it's somebody else's, or all may
-    /// write to it.
-    pub fn take<R: Files + Copy + Drop>(
+    /// Makes each directory that isn't there, and takes it: of two starts at once one has it. None, and nothing was
+    /// changed, where another start has one, the file of a replica is there, one is somebody else's, or all may write to
+    /// it.
+    pub fn take<R: Files<File = File> + Copy + Drop>(
         self,
         rt: R,
         alloc: Global,
     ) -> Result<Option<Taken>, Failed> {
-        let Some(taken) = self.lock(rt, alloc)? else {
-            return Ok(None);
+        let mut taken = Taken {
+            locks: Vec::new(alloc),
         };
-        match self.is_fit(rt, alloc, &taken) {
+        match self.take_each(rt, alloc, &mut taken) {
             Ok(true) => Ok(Some(taken)),
             unfit => {
                 taken.leave(&rt);
@@ -49,34 +57,24 @@ impl Directory<'_> {
         }
     }
 
-    /// Whether the directory that was taken is one's own, and without the file of a replica.
-    fn is_fit<R: Files + Copy + Drop>(
+    /// Takes each directory. Whether all were to be had, and hold no file of a replica.
+    fn take_each<R: Files<File = File> + Copy + Drop>(
         self,
         rt: R,
         alloc: Global,
-        taken: &Taken,
+        taken: &mut Taken,
     ) -> Result<bool, Failed> {
-        Ok(self.is_own(&rt, taken)? && self.file_count(rt, alloc)? == 0)
-    }
-
-    /// Whether the directory is of the user who made the file in it, and not open to all: others could put a link in the
-    /// place of a file there, and have another file written.
-    fn is_own<R: Files>(self, rt: &R, taken: &Taken) -> io::Result<bool> {
-        let directory = fs::metadata(rt, self.path)?;
-        let lock = fs::metadata(rt, taken.lock.as_str())?;
-        Ok(directory.uid() == lock.uid() && directory.mode() & OTHERS_WRITE == 0)
-    }
-
-    /// Makes the file by which one start has the directory.
-    fn lock<R: Files + Drop>(self, rt: R, alloc: Global) -> Result<Option<Taken>, Failed> {
-        let path = self.path;
-        let lock = format!(in alloc; "{path}/lock")?;
-        fs::create_dir_all(&rt, path)?;
-        match fs::File::create_new(&rt, lock.as_str()) {
-            Ok(_) => Ok(Some(Taken { lock })),
-            Err(error) if error.kind() == ErrorKind::AlreadyExists => Ok(None),
-            Err(error) => Err(Failed::from(error)),
+        for path in self.paths {
+            let Some(lock) = Lock::of(&rt, alloc, path.as_str())? else {
+                return Ok(false);
+            };
+            let is_own = lock.is_own(&rt, path.as_str());
+            taken.locks.push(lock)?;
+            if !is_own? {
+                return Ok(false);
+            }
         }
+        Ok(self.file_count(rt, alloc)? == 0)
     }
 
     /// The store of a replica, which is not opened yet.
@@ -86,7 +84,19 @@ impl Directory<'_> {
         alloc: Global,
         replica: u8,
     ) -> Result<FileStore<R>, AllocError> {
-        FileStore::new(rt, alloc, self.path, replica)
+        let path = match self.paths.get(usize::from(replica)) {
+            Some(own) => own.as_str(),
+            None => self.shared(),
+        };
+        FileStore::new(rt, alloc, path, replica)
+    }
+
+    /// The directory of each replica that has none of its own.
+    fn shared(&self) -> &str {
+        match self.paths.first() {
+            Some(first) => first.as_str(),
+            None => ".",
+        }
     }
 
     /// The stores of the group: none is opened yet.
@@ -131,10 +141,76 @@ impl Directory<'_> {
     }
 }
 
+impl Lock {
+    /// Makes the file of a directory, which is made where it isn't there, and locks it. None where another start has it.
+    fn of<R: Files<File = File>>(
+        rt: &R,
+        alloc: Global,
+        directory: &str,
+    ) -> Result<Option<Lock>, Failed> {
+        fs::create_dir_all(rt, directory)?;
+        let path = format!(in alloc; "{directory}/lock")?;
+        match File::create_new(rt, path.as_str()) {
+            Ok(file) => Ok(Lock { path, file }.held(rt)?),
+            Err(error) if error.kind() == ErrorKind::AlreadyExists => Ok(Lock::behind(rt, path)?),
+            Err(error) => Err(Failed::from(error)),
+        }
+    }
+
+    /// The same where the file is there already: it's made anew, so that it's one's own, if a start left it that was
+    /// killed.
+    fn behind<R: Files<File = File>>(rt: &R, path: String) -> io::Result<Option<Lock>> {
+        if !fs::symlink_metadata(rt, path.as_str())?.is_file() {
+            return Ok(None);
+        }
+        let file = File::open(rt, path.as_str())?;
+        let Some(Lock { path, file: left }) = (Lock { path, file }).held(rt)? else {
+            return Ok(None);
+        };
+        fs::remove_file(rt, path.as_str())?;
+        let file = match File::create_new(rt, path.as_str()) {
+            Ok(file) => file,
+            Err(error) if error.kind() == ErrorKind::AlreadyExists => return Ok(None),
+            Err(error) => return Err(error),
+        };
+        let held = Lock { path, file }.held(rt);
+        // Until now no other start could take what was left.
+        drop(left);
+        held
+    }
+
+    /// Locks the file, if no other start has it locked, or has put another one in its place.
+    fn held<R: Files<File = File>>(self, rt: &R) -> io::Result<Option<Lock>> {
+        match self.file.try_lock() {
+            Ok(()) => {}
+            Err(TryLockError::WouldBlock) => return Ok(None),
+            Err(TryLockError::Error(error)) => return Err(error),
+        }
+        let own = self.file.metadata()?;
+        match fs::metadata(rt, self.path.as_str()) {
+            Ok(there) if there.ino() == own.ino() && there.dev() == own.dev() => Ok(Some(self)),
+            Ok(_) => Ok(None),
+            Err(error) if error.kind() == ErrorKind::NotFound => Ok(None),
+            Err(error) => Err(error),
+        }
+    }
+
+    /// Whether the directory is of the user who made the file in it, and not open to all: others could put a link in the
+    /// place of a file there, and have another file written.
+    fn is_own<R: Files<File = File>>(&self, rt: &R, directory: &str) -> io::Result<bool> {
+        let directory = fs::metadata(rt, directory)?;
+        let lock = self.file.metadata()?;
+        Ok(directory.uid() == lock.uid() && directory.mode() & OTHERS_WRITE == 0)
+    }
+}
+
 impl Taken {
-    /// Takes the file away. Where that fails no start has the directory any more, as after one that was killed.
+    /// Takes the files away, and unlocks them.
     pub fn leave<R: Files>(self, rt: &R) {
-        let Taken { lock } = self;
-        let _ = fs::remove_file(rt, lock.as_str());
+        let Taken { locks } = self;
+        for Lock { path, file } in locks {
+            let _ = fs::remove_file(rt, path.as_str());
+            drop(file);
+        }
     }
 }

@@ -84,7 +84,7 @@ where
         let shown = Shown {
             readers,
             stamp,
-            limit: None,
+            limit: settings.stale,
         };
         let server = Server::new(host, door, shown, idle, traffic)?;
         Ok((Ready { server, console }, writer))

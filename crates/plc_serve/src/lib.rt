@@ -1,10 +1,10 @@
-//! A controller that Modbus clients drive, from its text to its end: the text is judged, then the directory of its
-//! stores is taken, the controller served (`plc_node`), and its report written. It knows no command words and names no
+//! A controller that Modbus clients drive, from its text to its end: the text is judged, then the directories of its
+//! stores are taken, the controller served (`plc_node`), and its report written. It knows no command words and names no
 //! runtime.
 //!
 //! ```rust
 //! let host = Host { rt, alloc };
-//! let service = Service::new(host, "motor.il", "stores", settings)?;
+//! let service = Service::new(host, "motor.il", &["stores"], settings)?;
 //! let mut file = Counted::new(ReportFile::at(&rt, None)); // no report is wanted
 //! let status = serve::<Brand, _, _, _, _, _>(host, NewList::new(), service, &mut file, &mut out, &mut err);
 //! // 0 after so many scans as the settings ask for

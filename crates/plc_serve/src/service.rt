@@ -1,4 +1,4 @@
-//! What a controller is served from: a file with its text, and a directory.
+//! What a controller is served from: a file with its text, and directories.
 
 ghost use Rattle.std.specs.Prelude.{◌≡◌, IfErr, IfOk, OnOk, vec_len};
 ghost use Rattle.vr_model.specs.Groups.{group_size};
@@ -10,7 +10,7 @@ use plc_driver::Directory;
 use plc_host::{Failed, Host};
 use plc_settings::Settings;
 use plc_status::StatusWriter;
-use std::alloc::Global;
+use std::alloc::{AllocError, Global};
 use std::fs;
 use std::rt::Files;
 use vr_threads::FileStore;
@@ -19,7 +19,8 @@ use vr_threads::FileStore;
 #[derive(Drop)]
 pub struct Service<S: Drop> {
     pub source: Vec<u8>,
-    pub directory: String,
+    /// One directory for all stores, or one for each, in their order.
+    pub directories: Vec<String>,
     pub stores: Vec<S>,
     pub settings: Settings,
     /// What is shown of it while it's served: a reader of it is to be had before.
@@ -28,28 +29,39 @@ pub struct Service<S: Drop> {
 }
 
 impl<R: Files + Alloc<A = Global> + Copy + Drop> Service<FileStore<R>> {
-    /// Of the text that this file holds, with stores in this directory.
+    /// Of the text that this file holds, with stores in this directory, or in one for each replica.
     pub fn new(
         host: Host<R>,
         source: &str,
-        directory: &str,
+        directories: &[&str],
         settings: Settings,
     ) -> Result<Service<FileStore<R>>, Failed>
         ensures { IfOk result (λ service. service.settings ≡ settings) }
     {
         let Host { rt, alloc } = host;
+        let directories = owned(alloc, directories)?;
         let place = Directory {
-            path: directory,
+            paths: directories.as_slice(),
             config: settings.config,
         };
+        let stores = place.stores(rt, alloc)?;
         Ok(Service {
             source: fs::read(&rt, source)?,
-            directory: format!(in alloc; "{directory}")?,
-            stores: place.stores(rt, alloc)?,
+            directories,
+            stores,
             settings,
             status: StatusWriter::new(alloc)?,
         })
     }
+}
+
+/// These paths, kept.
+fn owned(alloc: Global, paths: &[&str]) -> Result<Vec<String>, AllocError> {
+    let mut kept = Vec::new(alloc);
+    for path in paths {
+        kept.push(String::from_str(alloc, path)?)?;
+    }
+    Ok(kept)
 }
 
 /// A controller that is to be served, with the image of its text's program.
@@ -57,7 +69,7 @@ impl<R: Files + Alloc<A = Global> + Copy + Drop> Service<FileStore<R>> {
 pub(crate) struct Loaded<S: Drop> {
     pub(crate) source: Vec<u8>,
     pub(crate) image: Image,
-    pub(crate) directory: String,
+    pub(crate) directories: Vec<String>,
     pub(crate) stores: Vec<S>,
     pub(crate) settings: Settings,
     pub(crate) status: StatusWriter,
@@ -75,7 +87,7 @@ impl<S: Drop> Loaded<S> {
     {
         let Service {
             source,
-            directory,
+            directories,
             stores,
             settings,
             status,
@@ -83,7 +95,7 @@ impl<S: Drop> Loaded<S> {
         Ok(Loaded {
             image: image(alloc, source.as_slice())?,
             source,
-            directory,
+            directories,
             stores,
             settings,
             status,

@@ -17,14 +17,15 @@ use plc_driver::Directory;
 use plc_host::{Failed, Host, ServiceRuntime};
 use plc_node::Node;
 use plc_status::{open_report, put_report};
+use std::fs::File;
 use std::io::Write;
 use std::net::{Net, TcpListener, TcpStream};
 use std::rt::Files;
 use vr_threads::Starts;
 
-/// Judges the text, then the directory, and serves the controller until it has released as many scans as are asked for:
-/// the status. What it serves is the controller of the text's program, by replicas that each keep a file of the
-/// directory. Once it takes connections, `err` has the line that tells where, and then a line for each change of a
+/// Judges the text, then the directories, and serves the controller until it has released as many scans as are asked for:
+/// the status. What it serves is the controller of the text's program, by replicas that each keep a file of
+/// their directory. Once it takes connections, `err` has the line that tells where, and then a line for each change of a
 /// replica, for a hold and for a stop. At the end `report` has its line, and `out` then the line that tells how many
 /// scans there were, or `err` that of the fault.
 pub fn serve<J, R, S, F: CountedWrite, W: Write, E: CountedWrite>(
@@ -37,7 +38,7 @@ pub fn serve<J, R, S, F: CountedWrite, W: Write, E: CountedWrite>(
 ) -> u8
 where
     J: Naming + Send + Sync + 'static,
-    R: ServiceRuntime + Net<Listener = TcpListener, Stream = TcpStream> + Files,
+    R: ServiceRuntime + Net<Listener = TcpListener, Stream = TcpStream> + Files<File = File>,
     S: Starts + Send + Drop + 'static,
     requires list { list ≡ J.book }
     ensures status { result ≤ 2 }
@@ -81,7 +82,7 @@ fn served<J, R, S, F: CountedWrite, W: Write, E: CountedWrite>(
 ) -> Result<(), Fault>
 where
     J: Naming + Send + Sync + 'static,
-    R: ServiceRuntime + Net<Listener = TcpListener, Stream = TcpStream> + Files,
+    R: ServiceRuntime + Net<Listener = TcpListener, Stream = TcpStream> + Files<File = File>,
     S: Starts + Send + Drop + 'static,
     requires list { list ≡ J.book }
     ensures served { OnOk result (IsSomeAnd service.settings.scans
@@ -112,8 +113,8 @@ fn put_scans<W: Write>(scans: u32, out: &mut W) -> Result<(), Fault>
     Ok(out.flush()?)
 }
 
-/// Takes the directory, serves the controller of the text's program from it, and writes the report: how many scans
-/// there were. None where the directory was used, or another start has it.
+/// Takes the directories, serves the controller of the text's program from them, and writes the report: how many scans
+/// there were. None where one was used, or another start has it.
 fn controlled<J, R, S, F: CountedWrite, E: CountedWrite>(
     host: Host<R>,
     list: NewList,
@@ -123,7 +124,7 @@ fn controlled<J, R, S, F: CountedWrite, E: CountedWrite>(
 ) -> Result<Option<u32>, Failed>
 where
     J: Naming + Send + Sync + 'static,
-    R: ServiceRuntime + Net<Listener = TcpListener, Stream = TcpStream> + Files,
+    R: ServiceRuntime + Net<Listener = TcpListener, Stream = TcpStream> + Files<File = File>,
     S: Starts + Send + Drop + 'static,
     requires list { list ≡ J.book }
     requires program { IsTypedProgramOfText loaded.source.items loaded.image }
@@ -134,7 +135,7 @@ where
 {
     let Host { rt, alloc } = host;
     let Loaded {
-        directory,
+        directories,
         image,
         stores,
         settings,
@@ -142,7 +143,7 @@ where
         ..
     } = loaded;
     let directory = Directory {
-        path: directory.as_str(),
+        paths: directories.as_slice(),
         config: settings.config,
     };
     let Some(taken) = directory.take(rt, alloc)? else {
@@ -171,7 +172,7 @@ fn reported<J, R, S, F: CountedWrite, E: CountedWrite>(
 ) -> Result<u32, Failed>
 where
     J: Naming + Send + Sync + 'static,
-    R: ServiceRuntime + Net<Listener = TcpListener, Stream = TcpStream> + Files,
+    R: ServiceRuntime + Net<Listener = TcpListener, Stream = TcpStream> + Files<File = File>,
     S: Starts + Send + Drop + 'static,
     requires list { list ≡ J.book }
     ensures scans { IfOk result (λ scans. node.entry.settings.scans ≡ Some scans) }

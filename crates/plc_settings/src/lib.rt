@@ -16,6 +16,7 @@
 //!     crash: None,
 //!     lost_after: 60,
 //!     console: None,
+//!     stale: None,
 //! };
 //! ```
 //!
@@ -58,4 +59,6 @@ pub struct Settings {
     pub lost_after: u32,
     /// Of 127.0.0.1: where an operator's console is served, if one is.
     pub console: Option<u16>,
+    /// In milliseconds, from 1: outputs aren't shown that were released longer ago, if that is asked for.
+    pub stale: Option<u32>,
 }

@@ -60,13 +60,15 @@ const CHANGE: &str = "change";
 /// The word of the option `--timeout`.
 const TIMEOUT: &str = "timeout";
 
-/// The word of the option `--status`.
-const STATUS: &str = "status";
+/// The word of the option `--stale`.
+const STALE: &str = "stale";
 
 /// In seconds: a served controller ends after so long without a majority of its replicas.
 const LOST_AFTER: u32 = 60;
 
 const NO_FORM: &str = "error: the words name no form of call\n";
+
+const NO_STORES: &str = "error: --store is given once, or once for each of the 2F+1 replicas\n";
 
 const STATUSES: &str = "Exit status:
   0  good
@@ -208,7 +210,8 @@ const SERVING: &str = with_source_faults!(
 standard error. Each period the 2F+1 replicas scan the inputs that clients wrote, until it's
 interrupted; with --scans N it ends after N scans, and prints 'scans N'. Up to 16 clients are served
 at once; a connection beyond is closed. So is one whose client has no whole request for S seconds, or
-doesn't take its replies within that time.
+doesn't take its replies within that time. With --stale MS outputs aren't shown that were released
+longer ago, or never: functions 2 and 4 answer exception 4 then.
 Bits are numbered 0 to 511 (%IXb.n is 8b+n), registers 0 to 63:
   functions 1, 5, 15         read and write the bits of %I
   functions 3, 6, 16         read and write its words
@@ -216,8 +219,9 @@ Bits are numbered 0 to 511 (%IXb.n is 8b+n), registers 0 to 63:
   function 23                writes some of its words, and then reads some
   functions 2, 4             read the bits and the words of %Q, as the last scan released them
 
-Each replica keeps its view in a file of DIR, replica-0 to replica-2F. DIR is made where it isn't
-there. Where it holds such a file, or another start has it by a file 'lock', 'plc: store' is told, and
+Each replica keeps its view in a file of DIR, replica-0 to replica-2F. With --store given 2F+1 times
+each has it in a directory of its own, in their order. DIR is made where it isn't there. Where it
+holds such a file, or another start has it by a lock on the file 'lock', 'plc: store' is told, and
 nothing has started.
 
 What changes is told by a line on standard error, and the status stays:
@@ -225,17 +229,31 @@ What changes is told by a line on standard error, and the status stays:
   replica I normal           it's normal again
   replica I store            its file couldn't be read or written: it's down, and started anew after
                              5 s, then after 10 s, up to each minute, until it's normal again
+  replica I starts           it's started anew
   replica I crashed          it was crashed and restarted, as --crash asks for
   held P                     a scan is held before instruction P; outputs stay as they were released last
   stopped WHY P              the program stopped at instruction P: overflow, zerodivisor or budget; all
                              outputs are FALSE or 0 from then on, until a reset
+  goes on                    a scan was neither held nor stopped, behind one that was
+  console begins             an operator has the console
+  console ends               he has gone
+  console taken over         he has it no more: another one has come
+  console WORD N             a command of his was done that changes something: break and clear have
+                             their instruction, force and unforce a number (%IXb.n is 8b+n, %IWk
+                             1024+k, %QXb.n 4096+8b+n, %QWk 5120+k)
+  N lines lost               so many found no room, since nobody read them in time
 Where fewer than F+1 replicas have been normal for a minute it ends with 'plc: device'.
 
 With --console P an operator's console is served at port P of 127.0.0.1, to one client at a time. Each
-line is one of the commands of 'plc run' in JSON, but no scan, and is answered by its line; any other
-line by 'plc: commands'. Where another client comes, it takes the console over once a command that
-waits is answered, and the first is told 'plc: taken over'. At a breakpoint all outputs stay as they
-are until the scan goes on.
+line is one of the commands of 'plc run' in JSON, but no scan, and is answered by its line, or a
+question, which changes nothing; any other line is answered by 'plc: commands'. The questions:
+  \"forces\"                   tells what lies over which location
+  \"breaks\"                   tells the instructions before which scans are held
+  \"program\"                  tells how many bytes the image in force has, and their SHA-256
+  \"status\"                   tells how many scans there were, how many replicas are normal, and what
+                             the last scan was held or stopped by
+Where another client comes, it takes the console over once a command that waits is answered, and the
+first is told 'plc: taken over'. At a breakpoint all outputs stay as they are until the scan goes on.
 
 The report is one line of JSON, written before 'scans N':
   crashes                    how often a replica was crashed by --crash
@@ -246,10 +264,11 @@ The report is one line of JSON, written before 'scans N':
 );
 
 const ASKING: &str = with_source_faults!(
-    "COMMANDS is a JSON array of the commands of 'plc run', without scans, which are the driver's; - is
-standard input. Each is submitted to the group of 'plc serve --console PORT' once the one before it is
-answered, and its answer is a line, as 'plc run' prints it, which is printed when it comes. A scan is
-answered 'plc: commands'. Another client of the console gives way to this one.
+    "COMMANDS is a JSON array of the commands of 'plc run', without scans, which are the driver's, and of
+the questions of a console ('plc serve --help'); - is standard input. Each is submitted to the group
+of 'plc serve --console PORT' once the one before it is answered, and its answer is a line, as 'plc
+run' prints it, which is printed when it comes. A scan is answered 'plc: commands'. Another client of
+the console gives way to this one.
 
 With --change SOURCE one command is sent: the change to the program of a text. Where the answer is
 'done', the console looks names up in that program from then on.
@@ -258,13 +277,14 @@ The status is 0 where each command was done or told what it asked for, 4 where o
 'refused N', and 5 where one was answered 'plc: commands'. Where the console can't be asked:
   plc: commands              COMMANDS is no list of commands; nothing was sent
   plc: change of N bytes     the image of SOURCE has more than 32768 bytes; nothing was sent
-  plc: device                nobody serves a console at the port, or another client took it over, or
-                             it ended, or gave no answer for S seconds, before each was answered
+  plc: device port PORT      nobody serves a console at the port
+  plc: device                another client took it over, or it ended, or gave no answer for S
+                             seconds, before each was answered
 "
 );
 
 /// What the words ask for.
-#[derive(Clone, Copy, PartialEq, Eq)]
+#[derive(Drop, PartialEq, Eq)]
 pub enum Words<'a> {
     /// Writes the image of a program to a file.
     Asm {
@@ -297,10 +317,11 @@ pub enum Words<'a> {
         config: Config,
         budget: Budget,
     },
-    /// Serves the program of a file to Modbus clients, by a group of replicas with stores in a directory.
+    /// Serves the program of a file to Modbus clients, by a group of replicas with stores in directories.
     Serve {
         source: &'a str,
-        store: &'a str,
+        /// One directory for all replicas, or one for each, in their order.
+        stores: Vec<&'a str>,
         /// The file of the report, if one is wanted.
         report: Option<&'a str>,
         settings: Settings,
@@ -330,7 +351,7 @@ pub fn read_words<'a, S: AsStr>(alloc: Global, given: &'a [S]) -> Result<Words<'
         Ok(matches) => matches,
         Err(error) => return Err(WordsError::of(alloc, &error)),
     };
-    match form_of(&matches) {
+    match form_of(alloc, &matches)? {
         Some(form) => Ok(form),
         None => Err(WordsError::Bad(String::from_str(alloc, NO_FORM)?)),
     }
@@ -436,7 +457,10 @@ fn serve_command<'a>(alloc: Global) -> Result<Command<'a>, AllocError> {
             "Crashes a replica after every K scans, and restarts it",
         ))?
         .arg(report(alloc))?
-        .arg(console(alloc))
+        .arg(console(alloc))?
+        .arg(count(alloc, STALE, "MS").help(
+            "Milliseconds until outputs aren't shown any more; without it they always are",
+        ))
 }
 
 fn ask_command<'a>(alloc: Global) -> Result<Command<'a>, AllocError> {
@@ -509,14 +533,15 @@ fn every<'a>(alloc: Global, least: u16) -> Arg<'a> {
         .default_value("64")
 }
 
-/// The option is wanted, and refused where it is given twice or empty.
+/// The option is wanted, and refused where it is empty.
 fn directory<'a>(alloc: Global) -> Arg<'a> {
     Arg::new(alloc, STORE)
         .long(STORE)
         .value_name("DIR")
         .required(true)
+        .action(ArgAction::Append)
         .value_parser(ValueParser::NonEmptyString)
-        .help("The directory for the stores of the replicas")
+        .help("The directory for the stores of the replicas; once, or for each of them")
 }
 
 /// The option is refused where it is given twice, or no number of a port.
@@ -589,13 +614,65 @@ fn settings(inner: &ArgMatches) -> Option<Settings>
         crash: inner.get_one::<u32>(CRASH),
         lost_after: LOST_AFTER,
         console: inner.get_one::<u16>(CONSOLE),
+        stale: inner.get_one::<u32>(STALE),
     })
 }
 
-fn form_of<'a>(matches: &ArgMatches<'a>) -> Option<Words<'a>>
+/// The directories for the stores.
+fn directories<'a>(alloc: Global, inner: &ArgMatches<'a>) -> Result<Vec<&'a str>, AllocError> {
+    let mut stores = Vec::new(alloc);
+    if let Some(given) = inner.get_strs(STORE) {
+        for store in given {
+            stores.push(*store)?;
+        }
+    }
+    Ok(stores)
+}
+
+/// What is to be served, in one directory or in one for each replica.
+fn served<'a>(
+    alloc: Global,
+    inner: &ArgMatches<'a>,
+    settings: Settings,
+) -> Result<Option<Words<'a>>, WordsError>
+    requires { settings.lost_after ≡ 60 }
+    ensures { IfOk result (λ form. IfSome form IsLostAfterAMinute) }
+{
+    let stores = directories(alloc, inner)?;
+    if stores.len() != 1 && stores.len() != usize::from(settings.config.group_size()) {
+        return Err(WordsError::Bad(String::from_str(alloc, NO_STORES)?));
+    }
+    let Some(source) = inner.get_str("SOURCE") else {
+        return Ok(None);
+    };
+    Ok(Some(Words::Serve {
+        source,
+        stores,
+        report: inner.get_str(REPORT),
+        settings,
+    }))
+}
+
+fn form_of<'a>(alloc: Global, matches: &ArgMatches<'a>) -> Result<Option<Words<'a>>, WordsError>
+    ensures { IfOk result (λ form. IfSome form IsLostAfterAMinute) }
+{
+    let Some((name, inner)) = matches.subcommand() else {
+        return Ok(None);
+    };
+    match name {
+        "serve" => match settings(inner) {
+            Some(settings) => served(alloc, inner, settings),
+            None => Ok(None),
+        },
+        "ask" => Ok(asked(inner)),
+        _ => Ok(worked(name, inner)),
+    }
+}
+
+/// A call that works on files and ends.
+fn worked<'a>(name: &str, inner: &ArgMatches<'a>) -> Option<Words<'a>>
     ensures { IfSome result IsLostAfterAMinute }
 {
-    let (name, inner) = matches.subcommand()?;
     match name {
         "asm" => Some(Words::Asm {
             source: inner.get_str("SOURCE")?,
@@ -622,13 +699,6 @@ fn form_of<'a>(matches: &ArgMatches<'a>) -> Option<Words<'a>>
             config: group(inner)?,
             budget: Budget::new(inner.get_one::<u32>(BUDGET)?)?,
         }),
-        "serve" => Some(Words::Serve {
-            source: inner.get_str("SOURCE")?,
-            store: inner.get_str(STORE)?,
-            report: inner.get_str(REPORT),
-            settings: settings(inner)?,
-        }),
-        "ask" => asked(inner),
         _ => None,
     }
 }

@@ -395,6 +395,7 @@ fn settings(console: u16, links: Links, crash: Option<u32>) -> Option<Settings> 
         crash,
         lost_after: 60,
         console: Some(console),
+        stale: None,
     })
 }
 
@@ -444,7 +445,7 @@ fn an_operator_is_answered_the_same_over_a_crash(rt: HostRuntime) -> Result<(), 
             NewList::new(),
             Service {
                 source: SOURCE.to_vec(alloc)?,
-                directory: String::from_str(alloc, directory)?,
+                directories: vec![in alloc; String::from_str(alloc, directory)?]?,
                 stores,
                 settings,
                 status: StatusWriter::new(alloc)?,

@@ -185,6 +185,7 @@ fn settings() -> Result<Settings, Fail> {
         crash: Some(5),
         lost_after: 60,
         console: None,
+        stale: None,
     })
 }
 
@@ -285,7 +286,7 @@ fn sixteen_clients_see_one_history(rt: HostRuntime) -> Result<(), Fail> {
         NewList::new(),
         Service {
             source: text.into_bytes(),
-            directory: String::from_str(alloc, "failing")?,
+            directories: vec![in alloc; String::from_str(alloc, "failing")?]?,
             stores,
             settings,
             status,

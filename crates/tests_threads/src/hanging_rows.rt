@@ -124,6 +124,7 @@ fn settings() -> Result<Settings, Fail> {
         crash: None,
         lost_after: 60,
         console: None,
+        stale: None,
     })
 }
 
@@ -147,7 +148,7 @@ fn a_disk_that_hangs_stops_no_scan(rt: HostRuntime) -> Result<(), Fail> {
         NewList::new(),
         Service {
             source: Vec::from_slice(alloc, b"LD %IX0.0\nST %QX0.0\n")?,
-            directory: String::from_str(alloc, "hanging")?,
+            directories: vec![in alloc; String::from_str(alloc, "hanging")?]?,
             stores,
             settings,
             status,

@@ -11,6 +11,7 @@ use plc_settings::Settings;
 use plc_status::ReportFile;
 use plc_words::{Words, read_words};
 use std::alloc::Global;
+use std::fs::File;
 use std::io::Write;
 use std::marker::Brand;
 use std::net::{Net, TcpListener, TcpStream};
@@ -83,7 +84,8 @@ enum Before {
     Share,
     /// Another start has the directory, which is one's own again.
     Lock,
-    Unlock,
+    /// That start is killed: its file is left.
+    Kill,
 }
 
 /// Whether the port is in use, or any that is free.
@@ -202,6 +204,23 @@ const PACED: &[&str] = &[
 ];
 
 /// The first scan is due at once, whatever the period.
+/// A directory for each replica.
+const EACH: &[&str] = &[
+    "plc",
+    "serve",
+    "served.il",
+    "--store",
+    "served/first",
+    "--store",
+    "served/second",
+    "--store",
+    "served/third",
+    "--scans",
+    "1",
+    "--period",
+    "60000",
+];
+
 const FIRST: &[&str] = &[
     "plc",
     "serve",
@@ -351,7 +370,8 @@ const ROWS: &[Row] = &[
         ..REFUSED
     },
     Row {
-        before: Before::Unlock,
+        before: Before::Kill,
+        words: EACH,
         status: 0,
         seen: Some(0),
         out: b"scans 1\n",
@@ -366,7 +386,14 @@ fn allow<R: Files>(rt: &R, mode: u32) -> io::Result<()> {
     fs::set_permissions(rt, "served/first", fs::Permissions::from_mode(mode))
 }
 
-fn prepare<R: Files + Alloc<A = Global>>(rt: &R, before: Before) -> io::Result<()> {
+/// What another start has the first directory by, if it does.
+type Held = Option<File>;
+
+fn prepare<R: Files<File = File> + Alloc<A = Global>>(
+    rt: &R,
+    before: Before,
+    held: &mut Held,
+) -> io::Result<()> {
     match before {
         Before::Nothing => Ok(()),
         Before::Hinder => fs::create_dir_all(rt, "served/first/replica-1.new"),
@@ -374,20 +401,27 @@ fn prepare<R: Files + Alloc<A = Global>>(rt: &R, before: Before) -> io::Result<(
         Before::Share => allow(rt, 0o777),
         Before::Lock => {
             allow(rt, 0o755)?;
-            fs::write(rt, "served/first/lock", b"".as_slice())
+            let file = File::create_new(rt, "served/first/lock")?;
+            file.lock()?;
+            *held = Some(file);
+            Ok(())
         }
-        Before::Unlock => fs::remove_file(rt, "served/first/lock"),
+        Before::Kill => {
+            *held = None;
+            Ok(())
+        }
     }
 }
 
 /// What a row asks to serve, with its text in a file.
-fn prepared<R: Files + Alloc<A = Global> + Copy + Drop>(
+fn prepared<R: Files<File = File> + Alloc<A = Global> + Copy + Drop>(
     rt: R,
     row: &Row,
     in_use: u16,
     console: u16,
+    held: &mut Held,
 ) -> Result<Service<FileStore<R>>, Fail> {
-    prepare(&rt, row.before)?;
+    prepare(&rt, row.before, held)?;
     fs::write(&rt, "served.il", row.source)?;
     let port = match row.port {
         Port::InUse => in_use,
@@ -450,7 +484,7 @@ fn asked<R: Files + Alloc<A = Global> + Copy + Drop>(
     let Ok(
         Words::Serve {
             source,
-            store,
+            stores,
             report: None,
             settings,
         },
@@ -468,7 +502,7 @@ fn asked<R: Files + Alloc<A = Global> + Copy + Drop>(
         rt,
         alloc: rt.alloc(),
     };
-    match Service::new(host, source, store, settings) {
+    match Service::new(host, source, stores.as_slice(), settings) {
         Ok(service) => Ok(service),
         Err(_) => Err("no service")?,
     }
@@ -536,8 +570,9 @@ fn is_turn(turns: &mut [Turn], line: &str) -> bool {
     }
 }
 
-/// Whether a text has these lines, in order, and no other but that of a port and those of replicas that are down for a
-/// while or are started again: that a store failed, or a replica crashed, is told only where it's wanted.
+/// Whether a text has these lines, in order, and no other but that of a port, those of a console that comes and goes, and
+/// those of replicas that are down for a while or are started again: that a store failed, or a replica crashed, is told
+/// only where it's wanted.
 fn tells(text: &str, lines: &[&str]) -> bool {
     let mut count = 0usize;
     let mut turns = [Turn {
@@ -549,7 +584,7 @@ fn tells(text: &str, lines: &[&str]) -> bool {
         let may_be = is_turn(&mut turns, line);
         if lines.get(count) == Some(&line) {
             count = count.saturating_add(1);
-        } else if !may_be && !line.starts_with("serving on ") {
+        } else if !may_be && !line.starts_with("serving on ") && !line.starts_with("console ") {
             return false;
         }
     }
@@ -606,19 +641,21 @@ fn controllers_are_served(rt: HostRuntime) -> Result<(), Fail> {
     let _ = fs::remove_dir_all(&rt, "served");
     let taken = TcpListener::bind(&rt, ("127.0.0.1", 0))?;
     let in_use = taken.local_addr()?.port();
+    let mut held: Held = None;
     for (n, row) in ROWS.iter().enumerate() {
         let console = free_port(&rt)?;
         let Service {
             source,
-            directory,
+            directories,
             stores,
             settings,
             status,
-        } = prepared(rt, row, in_use, console)?;
+        } = prepared(rt, row, in_use, console, &mut held)?;
+        let directory = directories.first().ok_or("no directory")?;
         let file = format!(in alloc; "{directory}/replica-0")?;
         let service = Service {
             source,
-            directory,
+            directories,
             stores: with_falling(alloc, stores, row.falls, row.starts)?,
             settings,
             status,

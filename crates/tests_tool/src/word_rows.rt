@@ -49,17 +49,27 @@ fn settings() -> Result<Settings, Fail> {
         crash: None,
         lost_after: 60,
         console: None,
+        stale: None,
     })
 }
 
-/// `a.il` is served with stores in `d`.
-fn serve(report: Option<&'static str>, settings: Settings) -> Words<'static> {
-    Words::Serve {
+/// `a.il` is served with stores in these directories.
+fn serve(
+    alloc: Global,
+    directories: &[&'static str],
+    report: Option<&'static str>,
+    settings: Settings,
+) -> Result<Words<'static>, Fail> {
+    let mut stores = Vec::new(alloc);
+    for directory in directories {
+        stores.push(*directory)?;
+    }
+    Ok(Words::Serve {
         source: "a.il",
-        store: "d",
+        stores,
         report,
         settings,
-    }
+    })
 }
 
 /// Each number is the greatest that is taken.
@@ -72,6 +82,7 @@ fn greatest() -> Result<Settings, Fail> {
         idle: 4_294_967_295,
         crash: Some(4_294_967_295),
         console: Some(65_535),
+        stale: Some(4_294_967_295),
         ..settings()?
     })
 }
@@ -86,6 +97,7 @@ fn least() -> Result<Settings, Fail> {
         links: Links::Channels,
         crash: Some(1),
         console: Some(1),
+        stale: Some(1),
         ..settings()?
     })
 }
@@ -106,6 +118,13 @@ fn words_ask_to_serve(rt: HostRuntime) -> Result<(), Fail> {
         "--crash=4294967295",
         "--report=r",
         "--console=65535",
+        "--stale=4294967295",
+        "--store=e",
+        "--store=f",
+        "--store=g",
+        "--store=h",
+        "--store=i",
+        "--store=j",
         "a.il",
     ];
     let middle: &[&str] = &[
@@ -130,13 +149,17 @@ fn words_ask_to_serve(rt: HostRuntime) -> Result<(), Fail> {
         "r",
         "--console",
         "1",
+        "--stale",
+        "1",
     ];
+    let alloc = rt.alloc();
+    let each = ["d", "e", "f", "g", "h", "i", "j"];
     let rows: [(&[&str], Words); 3] = [
-        (first, serve(None, settings()?)),
-        (middle, serve(Some("r"), least()?)),
-        (last, serve(Some("r"), greatest()?)),
+        (first, serve(alloc, &["d"], None, settings()?)?),
+        (middle, serve(alloc, &["d"], Some("r"), least()?)?),
+        (last, serve(alloc, &each, Some("r"), greatest()?)?),
     ];
-    ask_for(&rt, rt.alloc(), &rows);
+    ask_for(&rt, alloc, &rows);
     Ok(())
 }
 
@@ -374,7 +397,19 @@ fn words_of_sim_out_of_range_are_bad(rt: HostRuntime) -> Result<(), Fail> {
 
 #[test]
 fn words_of_serve_out_of_range_are_bad(rt: HostRuntime) -> Result<(), Fail> {
-    let rows: [Row; 14] = [
+    let rows: [Row; 17] = [
+        (
+            &["--store", "d", "--stale", "0"],
+            "error: invalid value '0' for '--stale <MS>'",
+        ),
+        (
+            &["--store", "d", "--store", "e"],
+            "error: --store is given once, or once for each of the 2F+1 replicas",
+        ),
+        (
+            &["--store", "d", "--store", "e", "--store", "f", "--f", "2"],
+            "error: --store is given once, or once for each of the 2F+1 replicas",
+        ),
         (
             &["--store", "d", "--every", "0"],
             "error: invalid value '0' for '--every <E>'",
