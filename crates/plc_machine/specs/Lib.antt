@@ -1,0 +1,3 @@
+pub mod Making
+pub mod Leading
+pub mod Driving

@@ -1,0 +1,63 @@
+//! What the store of a machine begins with, and what a start asks of it.
+
+ghost use Rattle.std.specs.Prelude.{◌≡◌, ◌↔◌, ◌≤◌, ◌<◌, ◌^◌, Err, IfOk, vec_len};
+ghost use Rattle.net_hello.specs.Identity.{identity_of};
+ghost use Rattle.plc_store.specs.Spelling.{saying};
+ghost use Rattle.plc_machine.specs.Making.{new_saying, terms_of, wanted_by};
+ghost use Rattle.plc_machine.specs.declared.making.NotMade.TheVariants as why;
+
+use net_hello::group_identity;
+use plc_group::Group;
+use plc_store::{Header, Store, Wanted};
+use sha2::{Digest, Sha256};
+
+/// Why a machine gets no store.
+#[derive(Clone, Copy, Debug, PartialEq, Eq)]
+pub enum NotMade {
+    /// The group has no machine of this number.
+    NoMachine,
+    /// The image of the program has 4 GiB or more.
+    TooLong,
+}
+
+/// What the machines of a group agree on, as SHA-256.
+pub fn group_identity_of(group: &Group) -> [u8; 32]
+    ensures { result ≡ identity_of (terms_of group.now) }
+{
+    let name = group.name.as_str();
+    group_identity(name, group.config, group.budget, group.times.fresh)
+}
+
+/// The store of a machine, by its place in the group file: of the group's first epoch, which begins with this image,
+/// and never started.
+pub fn new_store(group: &Group, machine: u8, image: Vec<u8>) -> Result<Store, NotMade>
+    ensures made { IfOk result (λ store. saying store ≡ new_saying group.now machine image.items) }
+    ensures no_machine { (result ≡ Err why.NoMachine) ↔ (vec_len group.now.machines ≤ machine) }
+    ensures too_long { (result ≡ Err why.TooLong)
+        ↔ ((machine < vec_len group.now.machines) × (2 ^ 32 ≤ vec_len image)) }
+{
+    if usize::from(machine) >= group.machines.len() {
+        return Err(NotMade::NoMachine);
+    }
+    let header = Header {
+        identity: group_identity_of(group),
+        epoch: 1,
+        program: Sha256::digest(image.as_slice()),
+        machine,
+        is_started: false,
+    };
+    match Store::new(header, image) {
+        Some(store) => Ok(store),
+        None => Err(NotMade::TooLong),
+    }
+}
+
+/// What a start of a machine of this group asks of its store.
+pub fn wanted(group: &Group) -> Wanted
+    ensures { result ≡ wanted_by group.now }
+{
+    Wanted {
+        identity: group_identity_of(group),
+        machines: group.config.group_size(),
+    }
+}
