@@ -69,10 +69,19 @@ pub fn checked<R: Wait>(rt: &R, alloc: Global, name: &str, text: &str) -> io::Re
         rows: 0,
         otherwise: Vec::new(alloc),
     };
+    let file = file_of(name);
     for theme in text.split("\n== ") {
-        check_theme(rt, alloc, name, theme, &mut found)?;
+        check_theme(rt, alloc, file, theme, &mut found)?;
     }
     Ok(found)
+}
+
+/// A file's name without its folders.
+fn file_of(name: &str) -> &str {
+    match name.rsplit_once('/') {
+        Some((_, file)) => file,
+        None => name,
+    }
 }
 
 /// The rows of a theme, behind its heading.
