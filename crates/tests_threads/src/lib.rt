@@ -25,6 +25,8 @@ mod link_rows;
 #[cfg(test)]
 mod listener_rows;
 #[cfg(test)]
+mod peer_rows;
+#[cfg(test)]
 mod serve_rows;
 #[cfg(test)]
 mod serving_rows;

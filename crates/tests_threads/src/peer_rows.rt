@@ -1,0 +1,683 @@
+//! Links to other machines, over connections of this one: who is joined and who is refused, and what comes.
+
+ghost use Rattle.std.specs.Prelude.{◌≤◌, length};
+
+use il_model::{Command, ImageBytes, InImage};
+use net_ends::{Inbox, NonBlocking, Outbox};
+use net_hello::{Epoch, HELLO, Hello, Refusal};
+use net_peers::{Exchange, FIRST_CONSOLE, LinkNotice, Machine, PeerLink, machine_links};
+use net_records::Records;
+use std::alloc::Global;
+use std::io::{ErrorKind, Read, Write};
+use std::net::{Net, SocketAddr, TcpListener, TcpStream};
+use std::process::Abort;
+use std::sync::{Arc, Wait};
+use std::test::Fail;
+use std::time::{Clock, Duration, Instant};
+use vr_model::{Body, ClientNumber, Message, Party, Request};
+use vr_ports::{Cutter, Input, Link, Relink};
+
+const EPOCH: Epoch = Epoch {
+    number: 7,
+    image: [2; 32],
+};
+
+/// The replica of a machine, and what it shows.
+#[derive(Drop)]
+struct Seat<R: Wait + Drop> {
+    rt: R,
+    exchange: Arc<Exchange>,
+    link: PeerLink<R>,
+}
+
+/// What a party of the group says.
+fn hello_of(party: Party, starts: u64) -> Hello {
+    Hello {
+        identity: [1; 32],
+        epoch: EPOCH,
+        party,
+        starts,
+    }
+}
+
+/// A listener at a port of this machine, and its address.
+fn listening<R>(rt: &R) -> Result<(TcpListener, SocketAddr), Fail>
+where
+    R: Net<Listener = TcpListener, Stream = TcpStream>,
+{
+    let listener = TcpListener::bind(rt, ("127.0.0.1", 0))?;
+    let address = listener.local_addr()?;
+    Ok((listener, address))
+}
+
+/// A machine of three, started 3 times, which knows the replicas at these addresses.
+fn machine_of(alloc: Global, number: u8, at: &[SocketAddr]) -> Result<Machine, Fail> {
+    Ok(Machine {
+        identity: [1; 32],
+        epoch: EPOCH,
+        starts: 3,
+        number,
+        replicas: Vec::from_slice(alloc, at)?,
+        has_console: false,
+    })
+}
+
+/// The replica of a machine. Its receives wait for 1 ms.
+fn seat_of<R>(
+    rt: R,
+    alloc: Global,
+    machine: &Machine,
+    listener: TcpListener,
+) -> Result<Seat<R>, Fail>
+where
+    R: Wait + Clock + Net<Listener = TcpListener, Stream = TcpStream> + Copy + Drop,
+{
+    let (exchange, links) = machine_links(rt, alloc, machine, listener, Duration::from_millis(1))?;
+    let link = links.into_iter().next().ok_or("no link")?;
+    Ok(Seat { rt, exchange, link })
+}
+
+/// Replica 0, alone, and its address.
+fn alone<R>(rt: R, alloc: Global) -> Result<(Seat<R>, SocketAddr), Fail>
+where
+    R: Wait + Clock + Net<Listener = TcpListener, Stream = TcpStream> + Copy + Drop,
+{
+    let (listener, address) = listening(&rt)?;
+    let machine = machine_of(alloc, 0, &[address, address, address])?;
+    Ok((seat_of(rt, alloc, &machine, listener)?, address))
+}
+
+/// A COMMIT from a replica to another.
+fn commit(from: u8, to: u8, number: u64) -> Message {
+    Message {
+        from: Party::Replica(from),
+        to: Party::Replica(to),
+        body: Body::Commit {
+            view: 0,
+            commit_number: number,
+        },
+    }
+}
+
+/// A request of machine 1's console.
+fn request(number: u64, command: Command) -> Result<Message, Fail> {
+    let client = ClientNumber::new(FIRST_CONSOLE + 1).ok_or("no client")?;
+    let request = Request {
+        client,
+        number,
+        command,
+    };
+    Ok(Message {
+        from: Party::Client(client),
+        to: Party::Replica(0),
+        body: Body::Request(request),
+    })
+}
+
+/// The number of a COMMIT, a PREPARE or a request that came; 0 of anything else.
+fn number_of(input: Input) -> u64 {
+    let Input::Message(message) = input else {
+        return 0;
+    };
+    match message.body {
+        Body::Commit { commit_number, .. } => commit_number,
+        Body::Prepare { op_number, .. } => op_number,
+        Body::Request(request) => request.number,
+        _ => 0,
+    }
+}
+
+impl<R> Seat<R>
+where
+    R: Wait + Clock + Net<Listener = TcpListener, Stream = TcpStream> + Copy + Drop,
+{
+    /// It goes on for so long, in milliseconds, and for ten receives at least; the numbers that came are added up.
+    fn run(&mut self, milliseconds: u64) -> Result<u64, Fail> {
+        let begun = Instant::now(&self.rt)?;
+        let mut sum = 0u64;
+        for round in 1..u32::MAX {
+            sum = sum.saturating_add(number_of(self.link.recv()));
+            let now = Instant::now(&self.rt)?;
+            let took = now.saturating_duration_since(begun);
+            if round >= 10 && took >= Duration::from_millis(milliseconds) {
+                break;
+            }
+        }
+        Ok(sum)
+    }
+
+    /// What it noticed since it was asked last.
+    fn notices(&self, alloc: Global) -> Vec<LinkNotice> {
+        self.exchange.notices(&self.rt, alloc)
+    }
+}
+
+/// A connection of someone who sends these bytes, and gives up waiting after a second.
+fn stranger<R>(rt: &R, at: SocketAddr, bytes: &[u8]) -> Result<TcpStream, Fail>
+where
+    R: Net<Listener = TcpListener, Stream = TcpStream>,
+{
+    let mut stream = TcpStream::connect(rt, at)?;
+    stream.set_read_timeout(Some(Duration::from_millis(1000)))?;
+    stream.write_all(bytes)?;
+    Ok(stream)
+}
+
+/// Whether nothing comes any more but beats and a hello.
+fn is_over(stream: &mut TcpStream) -> bool {
+    let mut bytes = [0u8; 200];
+    for _ in 0..200u32 {
+        match stream.read(&mut bytes) {
+            Ok(0) => return true,
+            Ok(_) => {}
+            Err(error) => return error.kind() == ErrorKind::ConnectionReset,
+        }
+    }
+    false
+}
+
+/// Whether it answers with the hello of replica 0, and closes.
+fn is_answered(alloc: Global, stream: &mut TcpStream) -> Result<bool, Fail> {
+    let mut bytes = [0u8; HELLO];
+    stream.read_exact(&mut bytes)?;
+    let own = hello_of(Party::Replica(0), 3).spell(alloc)?;
+    Ok(bytes.as_slice() == own.as_slice() && is_over(stream))
+}
+
+/// Hellos that replica 0 refuses, and why.
+fn refused() -> [(Hello, Refusal); 6] {
+    let from = hello_of(Party::Replica(1), 3);
+    let later = Epoch {
+        number: 8,
+        image: [2; 32],
+    };
+    let changed = Epoch {
+        number: 7,
+        image: [3; 32],
+    };
+    [
+        (
+            Hello {
+                identity: [3; 32],
+                ..from
+            },
+            Refusal::OtherGroup,
+        ),
+        (
+            Hello {
+                epoch: later,
+                ..from
+            },
+            Refusal::OtherEpoch,
+        ),
+        (
+            Hello {
+                epoch: changed,
+                ..from
+            },
+            Refusal::OtherProgram,
+        ),
+        (hello_of(Party::Replica(0), 3), Refusal::OwnParty),
+        (hello_of(Party::Replica(3), 3), Refusal::NoMember),
+        (hello_of(Party::Replica(1), 4), Refusal::FewerStarts),
+    ]
+}
+
+/// Each is answered, closed and noticed once, though it comes twice. The last one of them is accepted, and refused
+/// where one with more starts was before it.
+#[test]
+fn each_refusal_is_answered_and_noticed_once(rt: HostRuntime) -> Result<(), Fail> {
+    let alloc = rt.alloc();
+    let (mut seat, at) = alone(rt, alloc)?;
+    let newer = hello_of(Party::Replica(1), 5).spell(alloc)?;
+    let _newer = stranger(&rt, at, newer.as_slice())?;
+    seat.run(20)?;
+    for (hello, refusal) in refused() {
+        for time in 0..2u32 {
+            let bytes = hello.spell(alloc)?;
+            let mut stream = stranger(&rt, at, bytes.as_slice())?;
+            seat.run(20)?;
+            assert!(rt; is_answered(alloc, &mut stream)?);
+            let notices = seat.notices(alloc);
+            let told = notices.as_slice()
+                == [LinkNotice::Refused(Some(hello.party), refusal)].as_slice();
+            assert_eq!(rt; (told, notices.is_empty()), (time == 0, time == 1));
+        }
+    }
+    Ok(())
+}
+
+#[test]
+fn another_version_is_answered_and_noticed_once(rt: HostRuntime) -> Result<(), Fail> {
+    let alloc = rt.alloc();
+    let (mut seat, at) = alone(rt, alloc)?;
+    for time in 0..2u32 {
+        let mut stream = stranger(&rt, at, b"PLC-VR\0\x02")?;
+        seat.run(20)?;
+        assert!(rt; is_answered(alloc, &mut stream)?);
+        let notices = seat.notices(alloc);
+        let told = notices.as_slice()
+            == [LinkNotice::Refused(None, Refusal::OtherVersion)].as_slice();
+        assert_eq!(rt; (told, notices.is_empty()), (time == 0, time == 1));
+    }
+    Ok(())
+}
+
+/// One that was started again replaces the older, which isn't taken back.
+#[test]
+fn a_higher_start_replaces_and_an_old_one_is_refused(rt: HostRuntime) -> Result<(), Fail> {
+    let alloc = rt.alloc();
+    let (mut seat, at) = alone(rt, alloc)?;
+    let older = hello_of(Party::Replica(1), 3).spell(alloc)?;
+    let mut newer = hello_of(Party::Replica(1), 4).spell(alloc)?;
+    newer.extend_from_slice(b"\0\0")?;
+    let mut first = stranger(&rt, at, older.as_slice())?;
+    seat.run(20)?;
+    assert_eq!(rt; seat.exchange.reached(), 0);
+    let _second = stranger(&rt, at, newer.as_slice())?;
+    seat.run(20)?;
+    assert_eq!(rt; seat.exchange.reached(), 2);
+    let mut third = stranger(&rt, at, older.as_slice())?;
+    seat.run(20)?;
+    assert!(rt; is_over(&mut first) && is_answered(alloc, &mut third)?);
+    Ok(())
+}
+
+/// Both ends of a connection between two groups are told, once, though it's dialled again and again.
+#[test]
+fn both_ends_are_told_of_a_refusal(rt: HostRuntime) -> Result<(), Fail> {
+    let alloc = rt.alloc();
+    let (mut seat, at) = alone(rt, alloc)?;
+    let (listener, beside) = listening(&rt)?;
+    let mut machine = machine_of(alloc, 1, &[at, beside, beside])?;
+    machine.identity = [3; 32];
+    let mut other = seat_of(rt, alloc, &machine, listener)?;
+    let (mut near, mut far) = (Vec::new(alloc), Vec::new(alloc));
+    for round in 0..1000u32 {
+        seat.run(5)?;
+        other.run(5)?;
+        near.append(&mut seat.notices(alloc))?;
+        far.append(&mut other.notices(alloc))?;
+        if round > 60 && !near.is_empty() && !far.is_empty() {
+            break;
+        }
+    }
+    let told = LinkNotice::Refused(Some(Party::Replica(1)), Refusal::OtherGroup);
+    assert!(rt; near.as_slice() == [told].as_slice());
+    let told = LinkNotice::Refused(Some(Party::Replica(0)), Refusal::OtherGroup);
+    assert!(rt; far.as_slice() == [told].as_slice());
+    Ok(())
+}
+
+/// Sends messages in records over a connection, which is given back.
+fn send_all(
+    alloc: Global,
+    stream: TcpStream,
+    messages: &[Message],
+) -> Result<Records<NonBlocking<TcpStream>>, Fail> {
+    let mut outbox = Outbox::new(alloc);
+    for message in messages {
+        outbox.put(alloc, message)?;
+    }
+    let mut records = Records::new(alloc, NonBlocking::new(stream))?;
+    if outbox.flush(&mut records) {
+        Ok(records)
+    } else {
+        Err("over")?
+    }
+}
+
+/// Of what comes over a connection neither what isn't from its party to this one is given, nor a scan.
+#[test]
+fn only_what_may_pass_is_given(rt: HostRuntime) -> Result<(), Fail> {
+    let alloc = rt.alloc();
+    let (mut seat, at) = alone(rt, alloc)?;
+    let replica = hello_of(Party::Replica(1), 3).spell(alloc)?;
+    let replica = stranger(&rt, at, replica.as_slice())?;
+    let messages = [commit(2, 0, 1000), commit(1, 2, 1000), commit(1, 0, 5)];
+    let _replica = send_all(alloc, replica, &messages)?;
+    assert_eq!(rt; seat.run(50)?, 5);
+    let scan = Command::Scan {
+        inputs: InImage::clear(),
+        moment: 0,
+    };
+    let messages = [request(1000, scan)?, request(7, Command::Step)?];
+    let console = hello_of(messages[1].from, 3).spell(alloc)?;
+    let console = stranger(&rt, at, console.as_slice())?;
+    let _console = send_all(alloc, console, &messages)?;
+    assert_eq!(rt; seat.run(50)?, 7);
+    Ok(())
+}
+
+/// What a machine's own parties send each other stays in it, scans among it. A link that is cut is closed until it's made
+/// anew.
+#[test]
+fn the_parties_of_a_machine_reach_each_other(rt: HostRuntime) -> Result<(), Fail> {
+    let alloc = rt.alloc();
+    let (listener, at) = listening(&rt)?;
+    let machine = machine_of(alloc, 0, &[at, at, at])?;
+    let (_, mut links) = machine_links(rt, alloc, &machine, listener, Duration::from_millis(1))?;
+    let (Some(mut driver), Some(mut replica)) = (links.pop(), links.pop()) else {
+        return Err("no links")?;
+    };
+    let scan = Command::Scan {
+        inputs: InImage::clear(),
+        moment: 0,
+    };
+    driver.send(request(4, scan)?);
+    assert_eq!(rt; number_of(replica.recv()), 4);
+    replica.cutter()?.cut();
+    driver.send(commit(1, 0, 5));
+    assert!(rt; matches!(replica.recv(), Input::Closed));
+    replica.renew()?;
+    driver.send(commit(1, 0, 6));
+    assert_eq!(rt; number_of(replica.recv()), 6);
+    Ok(())
+}
+
+/// No group has a machine 3 of three, nor nine machines.
+#[test]
+fn a_machine_is_one_of_its_group(rt: HostRuntime) -> Result<(), Fail> {
+    let alloc = rt.alloc();
+    for (number, count) in [(3u8, 3usize), (0, 9)] {
+        let (listener, at) = listening(&rt)?;
+        let addresses = [at; 9];
+        let machine = machine_of(alloc, number, &addresses[..count])?;
+        let links = machine_links(rt, alloc, &machine, listener, Duration::from_millis(1));
+        let kind = links.err().ok_or("no error")?.kind();
+        assert!(rt; kind == ErrorKind::InvalidInput);
+    }
+    Ok(())
+}
+
+/// A hello of replica 1, a beat, and a record with the COMMIT of number 2 from it.
+fn introduced(alloc: Global) -> Result<Vec<u8>, Fail> {
+    let mut bytes = hello_of(Party::Replica(1), 3).spell(alloc)?;
+    bytes.extend_from_slice(b"\0\0\0\x17\0\0\0\x13\x04\x01\0")?;
+    bytes.extend_from_slice(b"\0\0\0\0\0\0\0\0\0\0\0\0\0\0\0\x02")?;
+    Ok(bytes)
+}
+
+/// What comes of bytes that are cut there, and whose second part is sent later.
+fn given_of<R>(seat: &mut Seat<R>, at: SocketAddr, bytes: &[u8], cut: usize) -> Result<u64, Fail>
+where
+    R: Wait + Clock + Net<Listener = TcpListener, Stream = TcpStream> + Copy + Drop,
+    requires { cut ≤ length bytes.now }
+{
+    let (front, behind) = bytes.split_at(cut);
+    let mut stream = stranger(&seat.rt, at, front)?;
+    seat.run(1)?;
+    stream.write_all(behind)?;
+    seat.run(20)
+}
+
+/// Where this machine has so much else to do that a hello isn't whole in time, it's tried again.
+#[test]
+fn a_message_comes_however_hello_and_record_are_cut(rt: HostRuntime) -> Result<(), Fail> {
+    let alloc = rt.alloc();
+    let (mut seat, at) = alone(rt, alloc)?;
+    let bytes = introduced(alloc)?;
+    for cut in 1..bytes.len() {
+        let mut given = 0u64;
+        for _ in 0..10u32 {
+            if given == 0 {
+                given = given_of(&mut seat, at, bytes.as_slice(), cut)?;
+            }
+        }
+        assert_eq!(rt; (cut, given), (cut, 2));
+    }
+    Ok(())
+}
+
+#[test]
+fn strangers_are_let_go(rt: HostRuntime) -> Result<(), Fail> {
+    let alloc = rt.alloc();
+    let (mut seat, at) = alone(rt, alloc)?;
+    let mut silent = stranger(&rt, at, b"")?;
+    let mut half = stranger(&rt, at, b"PLC-VR\0\x01half a hello")?;
+    let mut garbage = stranger(&rt, at, b"GET / HTTP/1.1\r\n\r\n")?;
+    seat.run(20)?;
+    assert!(rt; is_over(&mut garbage));
+    let mut bytes = hello_of(Party::Replica(1), 3).spell(alloc)?;
+    bytes.extend_from_slice(b"\0\x04\0\0\0\0")?;
+    let mut broken = stranger(&rt, at, bytes.as_slice())?;
+    seat.run(20)?;
+    assert!(rt; is_over(&mut broken));
+    seat.run(450)?;
+    assert!(rt; is_over(&mut silent) && is_over(&mut half));
+    Ok(())
+}
+
+/// A way between two parties, which can be parted.
+#[derive(Drop)]
+struct Pipe {
+    listener: TcpListener,
+    to: SocketAddr,
+    pairs: Vec<(TcpStream, TcpStream)>,
+}
+
+/// Copies what is there. False where it's over.
+fn copy(from: &mut TcpStream, to: &mut TcpStream) -> bool {
+    let mut bytes = [0u8; 4096];
+    match from.read(&mut bytes) {
+        Ok(0) => false,
+        Ok(count) => to.write_all(&bytes[..count]).is_ok(),
+        Err(error) => error.kind() == ErrorKind::WouldBlock,
+    }
+}
+
+impl Pipe {
+    /// Hands on what is there, both ways.
+    fn pump<R>(&mut self, rt: &R) -> Result<(), Fail>
+    where
+        R: Net<Listener = TcpListener, Stream = TcpStream>,
+    {
+        if let Ok((near, _)) = self.listener.accept() {
+            let far = TcpStream::connect(rt, self.to)?;
+            near.set_nonblocking(true)?;
+            far.set_nonblocking(true)?;
+            self.pairs.push((near, far))?;
+        }
+        for (near, far) in self.pairs.iter_mut() {
+            let _ = copy(near, far);
+            let _ = copy(far, near);
+        }
+        Ok(())
+    }
+}
+
+/// Replica 0, and replica 1, which dials it by way of a pipe.
+fn piped<R>(rt: R, alloc: Global) -> Result<(Seat<R>, Seat<R>, Pipe), Fail>
+where
+    R: Wait + Clock + Net<Listener = TcpListener, Stream = TcpStream> + Copy + Drop,
+{
+    let (first, to) = listening(&rt)?;
+    let (second, beside) = listening(&rt)?;
+    let (listener, by) = listening(&rt)?;
+    listener.set_nonblocking(true)?;
+    let pipe = Pipe {
+        listener,
+        to,
+        pairs: Vec::new(alloc),
+    };
+    let machine = machine_of(alloc, 0, &[to, beside, beside])?;
+    let first = seat_of(rt, alloc, &machine, first)?;
+    let machine = machine_of(alloc, 1, &[by, beside, beside])?;
+    let second = seat_of(rt, alloc, &machine, second)?;
+    Ok((first, second, pipe))
+}
+
+/// How long something took, in milliseconds, and how long a round of it at most: a machine that has much else to do lets
+/// a test stand still.
+#[derive(Clone, Copy)]
+struct Taken {
+    all: u64,
+    longest: u64,
+}
+
+/// So many milliseconds are an end of waiting.
+const LONG: u64 = 15_000;
+
+/// How long it takes until these replicas are reached; longer than is waited where they aren't.
+fn until<R>(
+    seats: (&mut Seat<R>, &mut Seat<R>),
+    pipe: Option<&mut Pipe>,
+    reached: (u8, u8),
+) -> Result<Taken, Fail>
+where
+    R: Wait + Clock + Net<Listener = TcpListener, Stream = TcpStream> + Copy + Drop,
+{
+    let (first, second) = seats;
+    let mut pipe = pipe;
+    let begun = Instant::now(&first.rt)?;
+    let mut taken = Taken { all: 0, longest: 0 };
+    for _ in 0..u32::MAX {
+        let all = Instant::now(&first.rt)?.saturating_duration_since(begun);
+        let all = u64::try_from(all.as_millis()).unwrap_or(u64::MAX);
+        let longest = taken.longest.max(all.saturating_sub(taken.all));
+        taken = Taken { all, longest };
+        if (first.exchange.reached(), second.exchange.reached()) == reached || all > LONG {
+            return Ok(taken);
+        }
+        if let Some(pipe) = &mut pipe {
+            pipe.pump(&first.rt)?;
+        }
+        first.link.recv();
+        second.link.recv();
+    }
+    Err("no end")?
+}
+
+/// Nothing passes for three seconds: both notice it, and are joined within one and a half seconds of its end, unless
+/// this machine lets them stand still.
+#[test]
+fn a_partition_heals(rt: HostRuntime) -> Result<(), Fail> {
+    let alloc = rt.alloc();
+    let (mut first, mut second, mut pipe) = piped(rt, alloc)?;
+    let joined = until((&mut first, &mut second), Some(&mut pipe), (2, 1))?;
+    let parted = until((&mut first, &mut second), None, (0, 0))?;
+    assert!(rt; joined.all <= LONG && parted.all <= LONG);
+    for _ in 0..150u32 {
+        first.run(10)?;
+        second.run(10)?;
+    }
+    pipe.pairs.clear();
+    let healed = until((&mut first, &mut second), Some(&mut pipe), (2, 1))?;
+    assert!(rt;
+        healed.all <= 1500 || (healed.longest > 100 && healed.all <= LONG),
+        "{} {}",
+        healed.all,
+        healed.longest
+    );
+    second.link.send(commit(200, 0, 8));
+    second.link.send(commit(1, 0, 7));
+    for _ in 0..10u32 {
+        pipe.pump(&rt)?;
+        second.run(1)?;
+    }
+    assert_eq!(rt; (first.run(20)?, second.link.frameless()), (7, 1));
+    Ok(())
+}
+
+/// A PREPARE with 32,700 bytes of an image, from replica 0 to replica 1.
+fn long_prepare(alloc: Global, number: u64) -> Result<Message, Fail> {
+    let image = ImageBytes::new(Vec::from_elem(alloc, 0, 32_700)?).ok_or("no image")?;
+    Ok(Message {
+        from: Party::Replica(0),
+        to: Party::Replica(1),
+        body: Body::Prepare {
+            view: 0,
+            request: Request {
+                client: ClientNumber::new(0).ok_or("no client")?,
+                number,
+                command: Command::Change(image),
+            },
+            op_number: number,
+            commit_number: 0,
+        },
+    })
+}
+
+/// The other end of a connection, and what came over it.
+#[derive(Drop)]
+struct Reader {
+    records: Records<NonBlocking<TcpStream>>,
+    inbox: Inbox,
+    count: u64,
+    last: u64,
+    is_rising: bool,
+}
+
+impl Reader {
+    /// One that says this hello and has read the answer.
+    fn new<R>(alloc: Global, seat: &mut Seat<R>, at: SocketAddr, own: Hello) -> Result<Reader, Fail>
+    where
+        R: Wait + Clock + Net<Listener = TcpListener, Stream = TcpStream> + Copy + Drop,
+    {
+        let mut stream = stranger(&seat.rt, at, own.spell(alloc)?.as_slice())?;
+        seat.run(1)?;
+        stream.read_exact(&mut [0u8; HELLO])?;
+        stream.set_nonblocking(true)?;
+        Ok(Reader {
+            records: Records::new(alloc, NonBlocking::new(stream))?,
+            inbox: Inbox::new(alloc)?,
+            count: 0,
+            last: 0,
+            is_rising: true,
+        })
+    }
+
+    /// Says that it's there.
+    fn beat(&mut self) {
+        let _ = self.records.beat();
+    }
+
+    /// Reads once, and counts the messages that came.
+    fn read(&mut self, alloc: Global) {
+        let mut came = Vec::new(alloc);
+        let _ = self.inbox.read(alloc, &mut self.records, &mut came);
+        for message in came {
+            let number = number_of(Input::Message(message));
+            self.count = self.count.saturating_add(1);
+            self.is_rising = self.is_rising && number > self.last;
+            self.last = number;
+        }
+    }
+}
+
+/// Many more bytes are sent to one that stands still than its connection holds and may wait: 8 million. What is lost is
+/// lost whole, and another one gets its own meanwhile.
+#[test]
+fn one_that_stands_still_delays_no_other(rt: HostRuntime) -> Result<(), Fail> {
+    let alloc = rt.alloc();
+    let (mut seat, at) = alone(rt, alloc)?;
+    let mut still = Reader::new(alloc, &mut seat, at, hello_of(Party::Replica(1), 3))?;
+    let mut other = Reader::new(alloc, &mut seat, at, hello_of(Party::Replica(2), 3))?;
+    for number in 1..=250u64 {
+        if number % 10 == 0 {
+            still.beat();
+            other.beat();
+            seat.link.recv();
+        }
+        seat.link.send(long_prepare(alloc, number)?);
+    }
+    seat.link.send(commit(0, 2, 1));
+    for _ in 0..20u32 {
+        still.beat();
+        other.beat();
+        other.read(alloc);
+        seat.run(1)?;
+    }
+    assert_eq!(rt; (other.count, other.last), (1, 1));
+    for _ in 0..400u32 {
+        still.beat();
+        still.read(alloc);
+        seat.link.recv();
+    }
+    assert!(rt;
+        still.is_rising && still.count > 32 && still.count < 250,
+        "{}",
+        still.count
+    );
+    Ok(())
+}
