@@ -1,12 +1,13 @@
-//! Reads files of rows, checks that the blocks, the Modbus sessions and the frames between replicas come out as each
-//! row says, and prints those that come out otherwise and how many rows each file has. It ends with the status 1
-//! where one does. `data/README.md` tells how a row is written. No crate uses it.
+//! Reads files of rows, checks that the blocks, the Modbus sessions, the frames between replicas and the cycles of a
+//! field come out as each row says, and prints those that come out otherwise and how many rows each file has. It ends
+//! with the status 1 where one does. `data/README.md` tells how a row is written. No crate uses it.
 #![tactic(auto)]
 
 mod blocks;
 mod checkpoints;
 mod clients;
 mod controllers;
+mod fields;
 mod frames;
 mod groups;
 mod hellos;

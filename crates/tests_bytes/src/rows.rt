@@ -3,7 +3,7 @@
 
 use crate::notation::{bytes_of, lines_of, plain, spread, unreadable};
 use crate::sessions::Exchange;
-use crate::{blocks, controllers, frames, groups, hellos, replicas};
+use crate::{blocks, controllers, fields, frames, groups, hellos, replicas};
 use std::alloc::{AllocError, Global};
 use std::io;
 use std::sync::Wait;
@@ -33,13 +33,14 @@ impl Found {
     }
 }
 
-/// What a row hands in: the name of its file, and by sections an exchange of requests and replies, and the lines of a
-/// message.
+/// What a row hands in: the name of its file, and by sections an exchange of requests and replies, the lines of a
+/// message, and the text of a field.
 #[derive(Drop)]
 struct Given<'a> {
     file: &'a str,
     exchange: Exchange,
     message: &'a str,
+    field: &'a str,
 }
 
 impl<'a> Given<'a> {
@@ -48,6 +49,7 @@ impl<'a> Given<'a> {
             file,
             exchange: Exchange::new(alloc),
             message: "",
+            field: "",
         }
     }
 
@@ -55,6 +57,7 @@ impl<'a> Given<'a> {
     fn take(&mut self, title: &str, body: &'a str) -> io::Result<bool> {
         match title {
             "message" => self.message = body,
+            "field" => self.field = body,
             "released" => self.exchange.release(body.trim_end())?,
             "limit" => self.exchange.limit(body.trim_end())?,
             _ => return Ok(false),
@@ -179,6 +182,7 @@ fn comes_out<R: Wait>(
         "controllers.rows" => controllers::table(alloc, title, cell),
         "replicas.rows" => groups::table(alloc, title, cell),
         "hellos.rows" => hellos::table(alloc, title, cell),
+        "fields.rows" => fields::table(alloc, title, cell, given.field),
         _ => Err(unreadable()),
     }
 }
@@ -200,6 +204,7 @@ fn runs(alloc: Global, given: &Given<'_>, title: &str, body: &str) -> io::Result
         "frames.rows" => frames::frame(alloc, given.message),
         "controllers.rows" => controllers::run(alloc, of, body),
         "replicas.rows" => replicas::run(alloc, of, body),
+        "fields.rows" => fields::run(alloc, given.field, body),
         _ => Err(unreadable()),
     }
 }

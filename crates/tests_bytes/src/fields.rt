@@ -1,0 +1,163 @@
+//! Fields: texts with their faults, and cycles that are told what happens.
+
+use crate::notation::{bytes_of, lines_of, unreadable};
+use field_cycle::{Action, Change, Cycle, LinkFault, Moment, Who};
+use field_map::FieldMap;
+use modbus_wire::{Adu, Session};
+use std::alloc::{AllocError, Global};
+use std::io;
+
+/// Actions of one moment, at most.
+const ACTIONS: u32 = 1000;
+
+/// What comes out of a cell in a table of this title, for this text of a field.
+pub fn table(alloc: Global, title: &str, cell: &str, field: &str) -> io::Result<String> {
+    match title {
+        "change of the field" => changed(alloc, field, cell),
+        _ => Err(unreadable()),
+    }
+}
+
+/// What a text says: `good`, or its fault.
+fn judged(alloc: Global, text: &str) -> io::Result<String> {
+    match FieldMap::read(alloc, text) {
+        Ok(_) => Ok(String::from_str(alloc, "good")?),
+        Err(fault) => Ok(format!(in alloc; "{fault}")?),
+    }
+}
+
+/// The text in which `; ` is the end of a line.
+fn in_lines(alloc: Global, text: &str) -> Result<String, AllocError> {
+    text.trim().replace(alloc, "; ", "\n")
+}
+
+/// What a text says in which one part stands in place of another, which is in it once: `PART => OTHER`.
+fn changed(alloc: Global, text: &str, change: &str) -> io::Result<String> {
+    let (part, other) = change.split_once("=>").ok_or(unreadable())?;
+    let (part, other) = (in_lines(alloc, part)?, in_lines(alloc, other)?);
+    let (before, behind) = text.split_once(part.as_str()).ok_or(unreadable())?;
+    let text = format!(in alloc; "{before}{other}{behind}")?;
+    judged(alloc, text.as_str())
+}
+
+fn named(alloc: Global, who: Who) -> Result<String, AllocError> {
+    match who {
+        Who::Controller => String::from_str(alloc, "controller"),
+        Who::Device(number) => format!(in alloc; "{number}"),
+    }
+}
+
+fn who_of(word: &str) -> Option<Who> {
+    match word {
+        "controller" => Some(Who::Controller),
+        _ => Some(Who::Device(word.parse::<usize>().ok()?)),
+    }
+}
+
+fn hexadecimal(alloc: Global, unit: &Adu) -> io::Result<String> {
+    let mut bytes = Vec::new(alloc);
+    unit.write_to(&mut bytes)?;
+    Ok(hex::encode(alloc, bytes.as_slice())?)
+}
+
+fn told_change(alloc: Global, who: &String, change: Change) -> Result<String, AllocError> {
+    match change {
+        Change::Found => format!(in alloc; " {who} found"),
+        Change::Back => format!(in alloc; " {who} back"),
+        Change::Lost(fault) => format!(in alloc; " {who} lost {fault}"),
+    }
+}
+
+fn told_send(alloc: Global, who: &String, unit: &Adu) -> io::Result<String> {
+    let bytes = hexadecimal(alloc, unit)?;
+    Ok(format!(in alloc; " send {who} {bytes}")?)
+}
+
+fn told(alloc: Global, action: &Action) -> io::Result<String> {
+    let (Action::Connect(who, _)
+    | Action::Send(who, _)
+    | Action::Close(who)
+    | Action::Tell(who, _)) = action;
+    let who = named(alloc, *who)?;
+    match action {
+        Action::Connect(_, address) => Ok(format!(in alloc; " connect {who} {address}")?),
+        Action::Send(_, unit) => told_send(alloc, &who, unit),
+        Action::Close(_) => Ok(format!(in alloc; " close {who}")?),
+        Action::Tell(_, change) => Ok(told_change(alloc, &who, *change)?),
+    }
+}
+
+/// The units of bytes.
+fn units_of(alloc: Global, words: &str) -> io::Result<Vec<Adu>> {
+    let mut units = Vec::new(alloc);
+    match Session::new().feed(bytes_of(alloc, words)?.as_slice(), &mut units) {
+        Ok(()) => Ok(units),
+        Err(_) => Err(unreadable()),
+    }
+}
+
+/// Tells a cycle that units came. What is put where the connection is to be closed.
+fn came(
+    alloc: Global,
+    cycle: &mut Cycle,
+    who: Who,
+    bytes: &str,
+    now: Moment,
+) -> io::Result<&'static str> {
+    for unit in units_of(alloc, bytes)?.iter() {
+        if !cycle.came(who, unit, now) {
+            return Ok(" refused");
+        }
+    }
+    Ok("")
+}
+
+/// Tells a cycle what happened: `opened WHO`, `came WHO BYTES` or `closed WHO`; or nothing. What is put where a
+/// connection is to be closed.
+fn happens(alloc: Global, cycle: &mut Cycle, event: &str, now: Moment) -> io::Result<&'static str> {
+    if event.is_empty() {
+        return Ok("");
+    }
+    let (verb, rest) = event.split_once(' ').unwrap_or((event, ""));
+    let (name, bytes) = rest.split_once(' ').unwrap_or((rest, ""));
+    let who = who_of(name).ok_or(unreadable())?;
+    match verb {
+        "opened" => cycle.opened(who),
+        "closed" => cycle.failed(who, LinkFault::Closed, now),
+        _ => return came(alloc, cycle, who, bytes, now),
+    }
+    Ok("")
+}
+
+/// Puts what is to be done at a moment.
+fn put_actions(alloc: Global, cycle: &mut Cycle, now: Moment, out: &mut String) -> io::Result<()> {
+    for _ in 0..ACTIONS {
+        match cycle.act(now) {
+            Some(action) => out.push_str(told(alloc, &action)?.as_str())?,
+            None => return Ok(()),
+        }
+    }
+    Ok(())
+}
+
+/// Puts a line again, with what is to be done behind its colon.
+fn put_line(alloc: Global, cycle: &mut Cycle, line: &str, out: &mut String) -> io::Result<()> {
+    let (happened, _) = line.split_once(':').unwrap_or((line, ""));
+    let (moment, event) = happened.split_once(' ').unwrap_or((happened, ""));
+    let now = moment.parse::<Moment>().ok().ok_or(unreadable())?;
+    let ended = happens(alloc, cycle, event, now)?;
+    out.push_str(format!(in alloc; "{happened}:{ended}")?.as_str())?;
+    put_actions(alloc, cycle, now, out)?;
+    Ok(out.push('\n')?)
+}
+
+/// What a cycle of a field does: a line is a moment, what happened, and behind the colon what is to be done.
+pub fn run(alloc: Global, text: &str, body: &str) -> io::Result<String> {
+    let map = FieldMap::read(alloc, text).ok().ok_or(unreadable())?;
+    let mut cycle = Cycle::new(alloc, map)?;
+    let mut out = String::new(alloc);
+    for line in lines_of(alloc, body)? {
+        put_line(alloc, &mut cycle, line, &mut out)?;
+    }
+    Ok(out)
+}
