@@ -6,6 +6,7 @@
 # make picture [EXAMPLE=crossing]             what plc run prints for it, as a picture over time: build/crossing.svg; also IL=.. COMMANDS=.. (with build/plc)
 # make picture SCHEDULE=crash                 the messages of that schedule as a chart: build/motor_crash.svg; also SCHEDULE=own EVENTS=FILE.json [IL=..]
 # make failover [TO=build/failover.svg]        a tank and its pump on three replicas that crash in turn, played by examples/failover.py: half a minute, and its picture (with build/plc)
+# make field [TO=build/field.svg]             the motor at a Modbus coupler that is stopped and comes back, carried by plc field: ten seconds, and its picture (with build/plc)
 # make plc                                    proves the program and builds it: build/plc
 # make install [PREFIX=/usr/local] [DESTDIR=]  puts the proved program, its man page, the documents, number-lines, the examples and a systemd unit there
 # make uninstall [PREFIX=..] [DESTDIR=..]       takes away what install puts there
@@ -22,7 +23,7 @@ PICTURE := $(if $(SCHEDULE),schedule,run)
 SCHEDULE ?= crash
 EVENTS = examples/motor_$(SCHEDULE).json
 
-.PHONY: demo standby serve picture picture-run picture-schedule failover plc install uninstall test
+.PHONY: demo standby serve picture picture-run picture-schedule failover field plc install uninstall test
 
 # make plc leaves the sum of the sources that it proved, and that of the program: so it's known whether build/plc is these
 # sources' proved program. Where it isn't, the same sources are built and run, unproved.
@@ -80,12 +81,17 @@ picture-schedule:
 	picture=build/$(basename $(notdir $(EVENTS))).svg; \
 	tools/sequence $(EVENTS) $$report > $$picture && tools/sequence --text $(EVENTS) && echo "-- the messages of $(EVENTS), as a chart: $$picture"
 
-TO ?= build/failover.svg
+TO ?= build/$@.svg
 
 failover:
 	@$(BUILT)
 	@mkdir -p build
 	@python3 examples/failover.py build/plc $(TO) && echo "-- the same as a picture: $(TO)"
+
+field:
+	@$(BUILT)
+	@mkdir -p build
+	@python3 examples/field/play.py build/plc $(TO) && echo "-- the same as a picture: $(TO)"
 
 plc:
 	tools/make-libraries plc
@@ -100,7 +106,7 @@ UNITS = $(DESTDIR)$(PREFIX)/lib/systemd/system
 
 install:
 	@$(PROVED)
-	mkdir -p $(BIN) $(SHARE)/man/man1 $(SHARE)/plc/examples/console $(SHARE)/plc/docs/pictures $(SHARE)/plc/tools $(UNITS)
+	mkdir -p $(BIN) $(SHARE)/man/man1 $(SHARE)/plc/examples/console $(SHARE)/plc/examples/field $(SHARE)/plc/docs/pictures $(SHARE)/plc/tools $(UNITS)
 	install -m 755 build/plc $(BIN)/plc
 	tools/man-page build/plc > $(SHARE)/man/man1/plc.1
 	install -m 644 README.md $(SHARE)/plc
@@ -109,6 +115,7 @@ install:
 	install -m 755 tools/number-lines $(SHARE)/plc/tools
 	install -m 644 examples/*.* $(SHARE)/plc/examples
 	install -m 644 examples/console/*.* $(SHARE)/plc/examples/console
+	install -m 644 examples/field/*.* $(SHARE)/plc/examples/field
 	sed 's#/usr/local#$(PREFIX)#g' examples/plc.service > $(UNITS)/plc.service
 	chmod 644 $(UNITS)/plc.service
 

@@ -20,3 +20,5 @@ as_asked (words.Run source commands budget) (outcomes.Serve service path) minute
 as_asked (words.Sim source schedule config budget) (outcomes.Serve service path) minute serves = absurd serves
 as_asked (words.Ask port commands timeout) (outcomes.Serve service path) minute serves = absurd serves
 as_asked (words.Change port source timeout) (outcomes.Serve service path) minute serves = absurd serves
+as_asked (words.Field field check once) (outcomes.Serve service path) minute serves = absurd serves
+as_asked asked (outcomes.Carry text mode) minute serves = tt

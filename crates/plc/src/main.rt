@@ -2,14 +2,16 @@
 #![tactic(auto)]
 
 ghost use Rattle.std.specs.Prelude.{◌≡◌, IfOk};
-ghost use Rattle.plc.specs.Asked.{ServesAsAsked, IsLostAfterAMinute, status_of_reply};
+ghost use Rattle.plc.specs.Asked.{mode_of, ServesAsAsked, IsLostAfterAMinute, status_of_reply};
 
+use field_map::FieldFault;
 use il_model::Budget;
 use il_text::{Fault, image_bytes, put, put_numbered, tell};
 use io_file::NewFile;
 use io_image::NewList;
 use io_model::{Counted, CountedWrite};
 use plc_console::{Reply, send_commands, worst};
+use plc_field::{FieldError, Mode, run_field};
 use plc_host::{Failed, Host};
 use plc_json::command_texts;
 use plc_serve::{Service, fault_of as fault_of_failed, serve};
@@ -17,6 +19,7 @@ use plc_settings::Settings;
 use plc_status::ReportFile;
 use plc_tool::{Group, change_to, fault_of};
 use plc_words::{Words, WordsError, read_words, tell_words};
+use std::alloc::Global;
 use std::io::{BufWriter, Read, Write};
 use std::marker::Brand;
 use std::net::{Net, TcpListener, TcpStream};
@@ -46,6 +49,12 @@ enum Outcome {
         service: Service<FileStore<HostRuntime>>,
         /// The report's file, if one is wanted.
         report: Option<Report>,
+    },
+    /// The inputs and outputs of a field are to be carried.
+    Carry {
+        /// The text of the field.
+        text: String,
+        mode: Mode,
     },
 }
 
@@ -83,6 +92,11 @@ fn main(rt: HostRuntime) -> ExitCode {
                     &mut err,
                 );
                 settled(&rt, status, &report, &mut err)
+            }
+            Outcome::Carry { text, mode } => {
+                let mut counted = Counted::new(&mut out);
+                let done = run_field(host_of(&rt), text.as_str(), mode, &mut counted, &mut err);
+                carried(rt.alloc(), done, &mut out, &mut err)
             }
         },
         Err(error) => tell(Fault::from(error), &mut err),
@@ -174,6 +188,13 @@ fn perform<W: Write, E: CountedWrite>(
             config,
             budget,
         } => sim(rt, source, schedule, &Group { config, budget }, out, err),
+        Words::Field { field, check, once } => match fs::read_to_string(rt, field) {
+            Ok(text) => return Outcome::Carry {
+                text,
+                mode: mode_of(check, once),
+            },
+            Err(error) => tell_of(field, Fault::from(error), err),
+        },
         Words::Ask {
             port,
             commands,
@@ -289,6 +310,37 @@ fn is_misplaced(rt: &HostRuntime, source: &str, stores: &[&str], report: Option<
     match report {
         Some(path) => are_same(rt, source, path) || is_among(rt, path, stores),
         None => false,
+    }
+}
+
+fn mode_of(check: bool, once: bool) -> Mode
+    ensures { result ≡ mode_of check once }
+{
+    match (check, once) {
+        (true, _) => Mode::Check,
+        (false, true) => Mode::Once,
+        (false, false) => Mode::Forever,
+    }
+}
+
+/// How it ends that a field was carried.
+fn carried<W: Write, E: CountedWrite>(
+    alloc: Global,
+    done: Result<(), FieldError>,
+    out: &mut W,
+    err: &mut E,
+) -> u8 {
+    match done {
+        Ok(()) => flushed(0, out, err),
+        Err(FieldError::Failed(failed)) => tell(fault_of_failed(failed), err),
+        Err(FieldError::Text(FieldFault::Memory)) => tell(Fault::Memory, err),
+        Err(FieldError::Text(fault)) => match format!(in alloc; "plc: field {fault}\n") {
+            Ok(line) => {
+                let _ = put(err, line.as_str().as_bytes());
+                1
+            }
+            Err(_) => tell(Fault::Memory, err),
+        },
     }
 }
 

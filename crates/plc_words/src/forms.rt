@@ -66,6 +66,12 @@ const STALE: &str = "stale";
 /// In seconds: a served controller ends after so long without a majority of its replicas.
 const LOST_AFTER: u32 = 60;
 
+/// The word of the option `--check`.
+const CHECK: &str = "check";
+
+/// The word of the option `--once`.
+const ONCE: &str = "once";
+
 const NO_FORM: &str = "error: the words name no form of call\n";
 
 const NO_STORES: &str = "error: --store is given once, or once for each of the 2F+1 replicas\n";
@@ -283,6 +289,49 @@ The status is 0 where each command was done or told what it asked for, 4 where o
 "
 );
 
+const FIELD: &str = "FIELD is a text in TOML; times are in milliseconds, 1 to 60000:
+  controller = \"127.0.0.1:5020\"   where the controller serves Modbus; or a list, tried in turn
+  cycle = 20                      from cycle to cycle
+  fresh = 500                     its outputs count as known for so long after it answered
+  scan_count = \"%QW63\"           and while this word of %Q changes, if one is named
+  [[device]]
+  name = \"coupler\"
+  address = \"192.168.1.20:502\"
+  unit = 1                        0 to 255
+  timeout = 100                   a reply is late after so long
+  alive = \"%IX63.0\"              TRUE while the device answers; it may be left out
+  on_loss = \"zero\"               its inputs while it doesn't: \"zero\", or \"hold\"
+  exchange = false                whether registers are written and read by one request (23);
+                                  it may be left out
+  [[device.read]]                 its readings fill places side by side, bits or words
+  table = \"discrete_inputs\"      or coils, holding_registers, input_registers
+  from = 0                        the first cell of the device, counted from 0
+  count = 8
+  to = \"%IX0.0\"
+  [[device.write]]
+  table = \"coils\"                or holding_registers
+  from = \"%QX0.0\"
+  count = 4
+  to = 0
+  on_stop = \"zero\"               what is written once when the controller isn't fresh any more:
+                                  \"zero\", or \"hold\", which writes nothing
+
+Each cycle the outputs that the controller released are taken and written to the devices, and their
+inputs are read and handed over to it: those of a device whole, by one write, or not at all. While
+the controller is lost no device is asked, so one of these may run beside each of several
+controllers of which one serves at a time. What changes is told by a line on standard error:
+  NAME found                      it answers; 'controller' is the controller's name
+  NAME lost: WHY                  closed, timeout, bad protocol, bad length, another transaction,
+                                  another unit, another function, another length, or exception N
+  NAME back                       it answers again
+A connection that had a fault is made anew after 100 ms, then 200 ms, up to each 5 s.
+
+A fault of FIELD is one line, 'plc: field WHERE KEY: WHAT', and nothing was connected. Of files and
+the machine:
+  plc: device                     a file or a stream failed
+  plc: memory                     memory ran out
+";
+
 /// What the words ask for.
 #[derive(Drop, PartialEq, Eq)]
 pub enum Words<'a> {
@@ -333,6 +382,14 @@ pub enum Words<'a> {
         /// In seconds, from 1: so long an answer is waited for.
         timeout: u32,
     },
+    /// Carries inputs and outputs of the field of a file.
+    Field {
+        field: &'a str,
+        /// Whether what goes where is printed, and nothing is carried.
+        check: bool,
+        /// Whether it ends after one cycle, and what was read and written is printed.
+        once: bool,
+    },
     /// Sends the change to the program of a file to the console at a port, and prints what it answers.
     Change {
         port: u16,
@@ -372,7 +429,8 @@ fn program<'a>(alloc: Global) -> Result<Command<'a>, AllocError> {
         .subcommand(run_command(alloc)?)?
         .subcommand(sim_command(alloc)?)?
         .subcommand(serve_command(alloc)?)?
-        .subcommand(ask_command(alloc)?)
+        .subcommand(ask_command(alloc)?)?
+        .subcommand(field_command(alloc)?)
 }
 
 fn asm_command<'a>(alloc: Global) -> Result<Command<'a>, AllocError> {
@@ -479,6 +537,26 @@ fn ask_command<'a>(alloc: Global) -> Result<Command<'a>, AllocError> {
             count(alloc, TIMEOUT, "S")
                 .default_value("60")
                 .help("Seconds until an answer is given up"),
+        )
+}
+
+fn field_command<'a>(alloc: Global) -> Result<Command<'a>, AllocError> {
+    Command::new(alloc, "field")
+        .about("Carries inputs and outputs between Modbus devices and a served controller")
+        .after_help(FIELD)
+        .arg(file(alloc, "FIELD").help("The devices, and what goes where"))?
+        .arg(
+            Arg::new(alloc, CHECK)
+                .long(CHECK)
+                .action(ArgAction::SetTrue)
+                .help("Prints what goes where, and connects to nothing"),
+        )?
+        .arg(
+            Arg::new(alloc, ONCE)
+                .long(ONCE)
+                .action(ArgAction::SetTrue)
+                .conflicts_with(CHECK)?
+                .help("Ends after one cycle, and prints what was read and written"),
         )
 }
 
@@ -665,6 +743,7 @@ fn form_of<'a>(alloc: Global, matches: &ArgMatches<'a>) -> Result<Option<Words<'
             None => Ok(None),
         },
         "ask" => Ok(asked(inner)),
+        "field" => Ok(carried(inner)),
         _ => Ok(worked(name, inner)),
     }
 }
@@ -701,6 +780,17 @@ fn worked<'a>(name: &str, inner: &ArgMatches<'a>) -> Option<Words<'a>>
         }),
         _ => None,
     }
+}
+
+/// What is carried: the inputs and outputs of the field of a file.
+fn carried<'a>(inner: &ArgMatches<'a>) -> Option<Words<'a>>
+    ensures { IfSome result IsLostAfterAMinute }
+{
+    Some(Words::Field {
+        field: inner.get_str("FIELD")?,
+        check: inner.get_flag(CHECK),
+        once: inner.get_flag(ONCE),
+    })
 }
 
 /// What is sent to a console: the commands of a file, or a change of the program.

@@ -180,7 +180,12 @@ fn words_ask_for_a_form(rt: HostRuntime) -> Result<(), Fail> {
         source: "a.il",
         timeout,
     };
-    let rows: [(&[&str], Words); 14] = [
+    let field = |check, once| Words::Field {
+        field: "f.toml",
+        check,
+        once,
+    };
+    let rows: [(&[&str], Words); 17] = [
         (&["plc", "sim", "a.il", "b.json"], sim(1, 64, 10_000)?),
         (
             &["plc", "sim", "a.il", "b.json", "--every", "0"],
@@ -216,6 +221,9 @@ fn words_ask_for_a_form(rt: HostRuntime) -> Result<(), Fail> {
             ],
             change(4_294_967_295),
         ),
+        (&["plc", "field", "f.toml"], field(false, false)),
+        (&["plc", "field", "--check", "f.toml"], field(true, false)),
+        (&["plc", "field", "f.toml", "--once"], field(false, true)),
     ];
     ask_for(&rt, rt.alloc(), &rows);
     Ok(())
@@ -296,7 +304,7 @@ fn help_and_version_are_shown(rt: HostRuntime) -> Result<(), Fail> {
 
 #[test]
 fn other_words_are_bad(rt: HostRuntime) -> Result<(), Fail> {
-    let rows: [Row; 12] = [
+    let rows: [Row; 13] = [
         (&["ask", "0", "b"], "error: invalid value '0' for '<PORT>'"),
         (
             &["ask", "65536", "b"],
@@ -335,6 +343,10 @@ fn other_words_are_bad(rt: HostRuntime) -> Result<(), Fail> {
         (
             &["ask", "5021", "b", "--change", "a"],
             "error: the argument '[COMMANDS]' cannot be used with '--change <SOURCE>'\n",
+        ),
+        (
+            &["field", "--check", "--once", "f.toml"],
+            "error: the argument '--check' cannot be used with '--once'\n",
         ),
     ];
     are_bad(&rt, rt.alloc(), &["plc"], &rows)
