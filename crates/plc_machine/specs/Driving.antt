@@ -2,7 +2,7 @@
 use Rattle.std.specs.Prelude.{◌≡◌, ℕ, ◌+◌, ◌*◌, ◌≤◌, ◌<◌, List, Option, Some, None, nat_lt, is_some}
 use Rattle.std.specs.Prelude.{false, if◌then◌else◌}
 use Rattle.std.specs.Duration.{as_nanos}
-use Rattle.core.specs.declared.time.Duration.{Duration}
+use Rattle.std.specs.declared.time.Duration.{Duration}
 use Rattle.vr_model.specs.declared.message.Message.{Message}
 use Rattle.io_image.specs.Book.{Book}
 use Rattle.io_image.specs.declared.release.Release.{Release}

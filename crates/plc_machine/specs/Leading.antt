@@ -2,7 +2,7 @@
 use Rattle.std.specs.Prelude.{◌≡◌, ℕ, ◌+◌, ◌-◌, ◌/◌, ◌^◌, ◌==◌, Bool, not, ◌&&◌, min, max, MatchBool, nat_lt}
 use Rattle.std.specs.Prelude.{Option, Some, None, if◌then◌else◌}
 use Rattle.std.specs.Duration.{as_nanos, max_nanos}
-use Rattle.core.specs.declared.time.Duration.{Duration}
+use Rattle.std.specs.declared.time.Duration.{Duration}
 use Rattle.vr_model.specs.declared.standing.Standing.{Standing}
 use Rattle.plc_machine.specs.declared.leading.Course.{Course}
 use Rattle.plc_machine.specs.declared.leading.Course.TheVariants.{StandingBy, Leading}
