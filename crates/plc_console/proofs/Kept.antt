@@ -1,13 +1,18 @@
 -- What is kept of a line, and which command that is.
 use Rattle.std.proofs.Common.{◌≡◌, ◌<◌, ◌≤◌, inl, inr, ℕ, Bool, true, false, List, [], ◌∷◌, ◌++◌, length, Option, Some, None, refl, sym, ap, subst, ◌∙◌, length-append, arith}
-use Rattle.std.specs.Prelude.{nat_le, if◌then◌else◌, IfSome, IfNone}
+use Rattle.std.specs.Prelude.{nat_le, if◌then◌else◌}
 use Rattle.il_model.specs.declared.command.Command.{Command}
 use Rattle.std.proofs.lemmas.Bool.{cases_Bool, leb-true, leb-false, le-leb, lt-leb}
 use Rattle.il_model.specs.Program.{Program}
 use Rattle.plc_json.specs.declared.command.NamedCommand.{NamedCommand}
-use Rattle.plc_json.specs.Single.{HasCommand, HasNoCommand}
+use Rattle.plc_json.specs.declared.question.Asked.{Asked}
+use Rattle.plc_json.specs.declared.question.Asked.TheVariants as asked
+use Rattle.plc_json.specs.declared.question.Question.{Question}
+use Rattle.plc_json.specs.Asking.{HasAsked, HasNothing}
 use Rattle.plc_names.specs.Named.{meant}
-use Rattle.plc_console.specs.Lines.{longest_line, kept, IsScan, AsksFor, AsksForScan, AsksForNothing}
+use Rattle.plc_console.specs.declared.line.Wish.{Wish}
+use Rattle.plc_console.specs.declared.line.Wish.TheVariants as wishes
+use Rattle.plc_console.specs.Lines.{longest_line, kept, IsScan, IsWish, IsWishOf, AsksFor, AsksAbout, AsksForScan, AsksForNothing}
 
 kept_short : (line : List ℕ) → length line ≤ longest_line → kept line ≡ Some line
 kept_short line le = let test : nat_le (length line) longest_line ≡ true = le-leb (length line) longest_line le in rw test refl
@@ -62,18 +67,26 @@ filled false bytes byte le line is = fills line bytes byte is le
 
 -- ---- what the line asks for
 
-pub asks_for : (Q : Program) (line bytes : List ℕ) (named : NamedCommand) → Some bytes ≡ kept line → HasCommand bytes named → (IsScan named → ⊥) → AsksFor Q line (meant Q named)
+read_line : (line bytes : List ℕ) (a : Asked) → bytes ≡ line → HasAsked bytes a → HasAsked line a
+read_line line bytes a same read = subst (λ (l : List ℕ). HasAsked l a) same read
+
+pub asks_for : (Q : Program) (line bytes : List ℕ) (named : NamedCommand) → Some bytes ≡ kept line → HasAsked bytes (asked.Command named) → (IsScan named → ⊥) → AsksFor Q line (meant Q named)
 asks_for Q line bytes named is read no_scan =
     let kept_is = is_kept line bytes is in
-    record { named = named; short = kept_is.1; read = subst (λ (l : List ℕ). HasCommand l named) kept_is.0 read; no_scan = no_scan; is = refl }
+    record { named = named; short = kept_is.1; read = read_line line bytes (asked.Command named) kept_is.0 read; no_scan = no_scan; is = refl }
 
-pub asks_for_scan : (line bytes : List ℕ) (named : NamedCommand) → Some bytes ≡ kept line → HasCommand bytes named → IsScan named → AsksForNothing line
+pub asks_for_scan : (line bytes : List ℕ) (named : NamedCommand) → Some bytes ≡ kept line → HasAsked bytes (asked.Command named) → IsScan named → AsksForNothing line
 asks_for_scan line bytes named is read scan =
-    let scans : AsksForScan line = record { named = named; read = subst (λ (l : List ℕ). HasCommand l named) (is_kept line bytes is).0 read; is_scan = scan } in
+    let scans : AsksForScan line = record { named = named; read = read_line line bytes (asked.Command named) (is_kept line bytes is).0 read; is_scan = scan } in
     inr (inr scans)
 
-pub asks_for_none : (line bytes : List ℕ) → Some bytes ≡ kept line → HasNoCommand bytes → AsksForNothing line
-asks_for_none line bytes is none = inr (inl (subst (λ (l : List ℕ). HasNoCommand l) (is_kept line bytes is).0 none))
+pub asks_about : (line bytes : List ℕ) (question : Question) → Some bytes ≡ kept line → HasAsked bytes (asked.Question question) → AsksAbout line question
+asks_about line bytes question is read =
+    let kept_is = is_kept line bytes is in
+    record { short = kept_is.1; read = read_line line bytes (asked.Question question) kept_is.0 read }
+
+pub asks_for_none : (line bytes : List ℕ) → Some bytes ≡ kept line → HasNothing bytes → AsksForNothing line
+asks_for_none line bytes is none = inr (inl (subst (λ (l : List ℕ). HasNothing l) (is_kept line bytes is).0 none))
 
 pub asks_too_long : (line : List ℕ) → None ≡ kept line → AsksForNothing line
 asks_too_long line is = inl (is_long line is)
@@ -87,14 +100,14 @@ module _ (seen : Option (List ℕ)) (long : Bool) (bytes : List ℕ) (view : see
   pub long_asked : long ≡ true → (line : List ℕ) → seen ≡ kept line → AsksForNothing line
   long_asked too_long line is = asks_too_long line (sym (view ∙ ap (λ (b : Bool). marked b bytes) too_long) ∙ is)
 
-  pub nothing_asked : long ≡ false → HasNoCommand bytes → (line : List ℕ) → seen ≡ kept line → AsksForNothing line
+  pub nothing_asked : long ≡ false → HasNothing bytes → (line : List ℕ) → seen ≡ kept line → AsksForNothing line
   nothing_asked short none line is = asks_for_none line bytes (keeps line short is) none
 
-  pub none_asked : (o : Option Command) (named : NamedCommand) → long ≡ false → HasCommand bytes named → IfNone o (IsScan named) → IfNone o ((line : List ℕ) → seen ≡ kept line → AsksForNothing line)
-  none_asked None named short read scan = λ line is. asks_for_scan line bytes named (keeps line short is) read scan
-  none_asked (Some command) named short read scan = scan
+  pub question_asked : (question : Question) → long ≡ false → HasAsked bytes (asked.Question question) → (line : List ℕ) → seen ≡ kept line → AsksAbout line question
+  question_asked question short read line is = asks_about line bytes question (keeps line short is) read
 
-  pub some_asked : (Q : Program) (o : Option Command) (named : NamedCommand) → long ≡ false → HasCommand bytes named → IfSome o (λ command. (IsScan named → ⊥) × (command ≡ meant Q named)) → IfSome o (λ command. (line : List ℕ) → seen ≡ kept line → AsksFor Q line command)
-  some_asked Q None named short read found = found
-  some_asked Q (Some command) named short read found = λ line is.
+  pub wish_asked : (Q : Program) (wish : Wish) (named : NamedCommand) → long ≡ false → HasAsked bytes (asked.Command named) → IsWishOf Q named wish → (line : List ℕ) → seen ≡ kept line → IsWish Q line wish
+  wish_asked Q (wishes.Submit command) named short read found line is =
       subst (λ (c : Command). AsksFor Q line c) (sym found.1) (asks_for Q line bytes named (keeps line short is) read found.0)
+  wish_asked Q (wishes.Tell question) named short read found line is = absurd found
+  wish_asked Q wishes.Refuse named short read found line is = asks_for_scan line bytes named (keeps line short is) read found

@@ -2,3 +2,4 @@ mod Waiting
 mod Kept
 mod Sessions
 mod Passing
+mod Mirrors

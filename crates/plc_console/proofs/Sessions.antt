@@ -14,8 +14,11 @@ use Rattle.il_model.specs.Program.{Program}
 use Rattle.vr_ports.specs.Telling.{Grows}
 use Rattle.plc_console.specs.declared.session.SessionEnd.{SessionEnd}
 use Rattle.plc_console.specs.declared.session.SessionEnd.TheVariants as ends
+use Rattle.plc_json.specs.declared.question.Question.{Question}
+use Rattle.plc_console.specs.declared.line.Wish.{Wish}
+use Rattle.plc_console.specs.declared.line.Wish.TheVariants as wishes
 use Rattle.plc_console.specs.InForce.{brought_by, goes_on_with, in_force_after}
-use Rattle.plc_console.specs.Lines.{line_end, HasNoEnd, kept, AsksFor, AsksForNothing, Outcome, Submitted, Refused, IsOutcome, FitsCommand, text_of, submitted_by}
+use Rattle.plc_console.specs.Lines.{line_end, HasNoEnd, kept, IsWish, Outcome, Submitted, Told, Refused, IsOutcome, Fits, text_of, submitted_by}
 use Rattle.plc_console.specs.Sessions.{Turn, line_of, AreTurns, lines_of, texts_of, submitted_in, Scene, scene, Serves, Breaks, Stops, Ended, Talks, Takes, TakesShort, StopsAt, IsWhyUnwritten, Writes}
 use Rattle.plc_console.proofs.Waiting.{grows_none, grows_more, all_more}
 
@@ -180,16 +183,16 @@ goes_on rest byte s unended other = record {
   written = Appends-nil s.held;
 }
 
--- what is known of a line: its command, or that it asks for nothing
-abbrev pub IsKnown : Program → List ℕ → Option Command → Type 0
-IsKnown Q line (Some command) = AsksFor Q line command
-IsKnown Q line None = AsksForNothing line
-
-is_outcome : (Q : Program) (line : List ℕ) (command : Option Command) (outcome : Outcome) → IsKnown Q line command → FitsCommand command outcome → IsOutcome Q line outcome
-is_outcome Q line (Some asked) (Submitted command answer) known fits = subst (AsksFor Q line) (sym fits) known
-is_outcome Q line None Refused known fits = known
-is_outcome Q line (Some asked) Refused known fits = absurd fits
-is_outcome Q line None (Submitted command answer) known fits = absurd fits
+is_outcome : (Q : Program) (line : List ℕ) (wish : Wish) (outcome : Outcome) → IsWish Q line wish → Fits wish outcome → IsOutcome Q line outcome
+is_outcome Q line (wishes.Submit asked) (Submitted command answer) known fits = subst (λ (c : Command). IsWish Q line (wishes.Submit c)) (sym fits) known
+is_outcome Q line (wishes.Tell asked) (Told question text) known fits = subst (λ (q : Question). IsWish Q line (wishes.Tell q)) (sym fits) known
+is_outcome Q line wishes.Refuse Refused known fits = known
+is_outcome Q line (wishes.Submit asked) (Told question text) known fits = absurd fits
+is_outcome Q line (wishes.Submit asked) Refused known fits = absurd fits
+is_outcome Q line (wishes.Tell asked) (Submitted command answer) known fits = absurd fits
+is_outcome Q line (wishes.Tell asked) Refused known fits = absurd fits
+is_outcome Q line wishes.Refuse (Submitted command answer) known fits = absurd fits
+is_outcome Q line wishes.Refuse (Told question text) known fits = absurd fits
 
 abbrev turn_at : List ℕ → Outcome → Turn
 turn_at line outcome = record { line = line; outcome = outcome }
@@ -199,23 +202,23 @@ one_line rest outcome =
     sym (append-nil (lines_of (turn_at rest outcome ∷ [])) ∙ one_of line_of (turn_at rest outcome))
 
 -- it ends a line, which has its turn
-pub takes_turn : (rest : List ℕ) (command : Option Command) (s t : Scene) → HasNoEnd rest → IsKnown s.program rest command → Takes command s t → Serves rest (line_end ∷ []) [] s t
-takes_turn rest command s t unended known h = record {
+pub takes_turn : (rest : List ℕ) (wish : Wish) (s t : Scene) → HasNoEnd rest → IsWish s.program rest wish → Takes wish s t → Serves rest (line_end ∷ []) [] s t
+takes_turn rest wish s t unended known h = record {
   turns = turn_at rest h.outcome ∷ [];
   lines = one_line rest h.outcome;
   unended = tt;
-  each = ((unended, is_outcome s.program rest command h.outcome known h.fits), tt);
+  each = ((unended, is_outcome s.program rest wish h.outcome known h.fits), tt);
   submitted = subst (λ (l : List (Command × Answer)). Grows s.answered t.answered l) (sym (one_of (λ (x : Turn). submitted_by x.outcome) (turn_at rest h.outcome))) h.submitted;
   program = h.program ∙ ap (in_force_after s.program) (sym (one_of (λ (x : Turn). submitted_by x.outcome) (turn_at rest h.outcome)));
   written = subst (Appends s.held t.held) (sym (one_of (λ (x : Turn). text_of x.outcome) (turn_at rest h.outcome))) h.written;
 }
 
-takes_short : (rest : List ℕ) (command : Option Command) (s t : Scene) → HasNoEnd rest → IsKnown s.program rest command → TakesShort command s t → Breaks rest (line_end ∷ []) s t
-takes_short rest command s t unended known h = record {
+takes_short : (rest : List ℕ) (wish : Wish) (s t : Scene) → HasNoEnd rest → IsWish s.program rest wish → TakesShort wish s t → Breaks rest (line_end ∷ []) s t
+takes_short rest wish s t unended known h = record {
   turns = turn_at rest h.outcome ∷ [];
   more = [];
   lines = one_line rest h.outcome;
-  each = ((unended, is_outcome s.program rest command h.outcome known h.fits), tt);
+  each = ((unended, is_outcome s.program rest wish h.outcome known h.fits), tt);
   submitted = subst (λ (l : List (Command × Answer)). Grows s.answered t.answered l) (sym (one_of (λ (x : Turn). submitted_by x.outcome) (turn_at rest h.outcome))) h.submitted;
   program = h.program ∙ ap (in_force_after s.program) (sym (one_of (λ (x : Turn). submitted_by x.outcome) (turn_at rest h.outcome)));
   output = h.output;
@@ -224,17 +227,17 @@ takes_short rest command s t unended known h = record {
   written = h.written;
 }
 
-pub stops_at : (end : SessionEnd) (rest : List ℕ) (command : Option Command) (fails : Type 0) (s t : Scene) → HasNoEnd rest → IsKnown s.program rest command → StopsAt end command fails s t → Stops end rest (line_end ∷ []) fails s t
-stops_at ends.Closed rest command fails s t unended known k = absurd k
-stops_at ends.Device rest command fails s t unended known k = (k.0, takes_short rest command s t unended known k.1)
-stops_at ends.Memory rest command fails s t unended known k = elim k [
+pub stops_at : (end : SessionEnd) (rest : List ℕ) (wish : Wish) (fails : Type 0) (s t : Scene) → HasNoEnd rest → IsWish s.program rest wish → StopsAt end wish fails s t → Stops end rest (line_end ∷ []) fails s t
+stops_at ends.Closed rest wish fails s t unended known k = absurd k
+stops_at ends.Device rest wish fails s t unended known k = (k.0, takes_short rest wish s t unended known k.1)
+stops_at ends.Memory rest wish fails s t unended known k = elim k [
   | inl same ↦ subst (λ (x : Scene). Breaks rest (line_end ∷ []) s x) (sym same) (breaks_none rest (line_end ∷ []) s)
-  | inr some ↦ takes_short rest command s t unended known some
+  | inr some ↦ takes_short rest wish s t unended known some
 ]
-stops_at ends.Unanswered rest command fails s t unended known k = subst (λ (x : Scene). Breaks rest (line_end ∷ []) s x) (sym k) (breaks_none rest (line_end ∷ []) s)
+stops_at ends.Unanswered rest wish fails s t unended known k = subst (λ (x : Scene). Breaks rest (line_end ∷ []) s x) (sym k) (breaks_none rest (line_end ∷ []) s)
 
-short : (command : Option Command) (outcome : Outcome) (s t : Scene) (n : ℕ) → FitsCommand command outcome → Grows s.answered t.answered (submitted_by outcome) → t.program ≡ in_force_after s.program (submitted_by outcome) → Appends s.held t.held (take n (text_of outcome)) → TakesShort command s t
-short command outcome s t n fits submitted program written = record {
+short : (wish : Wish) (outcome : Outcome) (s t : Scene) (n : ℕ) → Fits wish outcome → Grows s.answered t.answered (submitted_by outcome) → t.program ≡ in_force_after s.program (submitted_by outcome) → Appends s.held t.held (take n (text_of outcome)) → TakesShort wish s t
+short wish outcome s t n fits submitted program written = record {
   outcome = outcome;
   fits = fits;
   submitted = submitted;
@@ -245,42 +248,51 @@ short command outcome s t n fits submitted program written = record {
   written = written;
 }
 
-took_short : (end : SessionEnd) (command : Option Command) (outcome : Outcome) (fails : Type 0) (s t : Scene) → FitsCommand command outcome → Grows s.answered t.answered (submitted_by outcome) → t.program ≡ in_force_after s.program (submitted_by outcome) → IsWhyUnwritten end fails → (n : ℕ) → Appends s.held t.held (take n (text_of outcome)) → StopsAt end command fails s t
-took_short ends.Closed command outcome fails s t fits submitted program why n written = absurd why
-took_short ends.Device command outcome fails s t fits submitted program why n written = (why, short command outcome s t n fits submitted program written)
-took_short ends.Memory command outcome fails s t fits submitted program why n written = inr (short command outcome s t n fits submitted program written)
-took_short ends.Unanswered command outcome fails s t fits submitted program why n written = absurd why
+took_short : (end : SessionEnd) (wish : Wish) (outcome : Outcome) (fails : Type 0) (s t : Scene) → Fits wish outcome → Grows s.answered t.answered (submitted_by outcome) → t.program ≡ in_force_after s.program (submitted_by outcome) → IsWhyUnwritten end fails → (n : ℕ) → Appends s.held t.held (take n (text_of outcome)) → StopsAt end wish fails s t
+took_short ends.Closed wish outcome fails s t fits submitted program why n written = absurd why
+took_short ends.Device wish outcome fails s t fits submitted program why n written = (why, short wish outcome s t n fits submitted program written)
+took_short ends.Memory wish outcome fails s t fits submitted program why n written = inr (short wish outcome s t n fits submitted program written)
+took_short ends.Unanswered wish outcome fails s t fits submitted program why n written = absurd why
 
 -- what one line came to, by how its answer was written
-pub took : (result : Result (Unit {0}) SessionEnd) (command : Option Command) (outcome : Outcome) (fails : Type 0) (s t : Scene) → FitsCommand command outcome → Grows s.answered t.answered (submitted_by outcome) → t.program ≡ in_force_after s.program (submitted_by outcome) → Writes result (text_of outcome) fails s.held t.held
-    → MatchResult result (λ done. Takes command s t) (λ end. StopsAt end command fails s t)
-took (Ok done) command outcome fails s t fits submitted program wrote = record { outcome = outcome; fits = fits; submitted = submitted; program = program; written = wrote }
-took (Err end) command outcome fails s t fits submitted program wrote = took_short end command outcome fails s t fits submitted program wrote.0 wrote.1 wrote.2
+pub took : (result : Result (Unit {0}) SessionEnd) (wish : Wish) (outcome : Outcome) (fails : Type 0) (s t : Scene) → Fits wish outcome → Grows s.answered t.answered (submitted_by outcome) → t.program ≡ in_force_after s.program (submitted_by outcome) → Writes result (text_of outcome) fails s.held t.held
+    → MatchResult result (λ done. Takes wish s t) (λ end. StopsAt end wish fails s t)
+took (Ok done) wish outcome fails s t fits submitted program wrote = record { outcome = outcome; fits = fits; submitted = submitted; program = program; written = wrote }
+took (Err end) wish outcome fails s t fits submitted program wrote = took_short end wish outcome fails s t fits submitted program wrote.0 wrote.1 wrote.2
 
-fits_none : (command : Option Command) → command ≡ None → FitsCommand command Refused
-fits_none command is = subst (λ (c : Option Command). FitsCommand c Refused) (sym is) tt
+fits_refused : (wish : Wish) → wish ≡ wishes.Refuse → Fits wish Refused
+fits_refused wish is = subst (λ (w : Wish). Fits w Refused) (sym is) tt
 
 -- a refused line
-pub refused : (result : Result (Unit {0}) SessionEnd) (command : Option Command) (fails : Type 0) (answered : Option (List (Command × Answer))) (held held' : Option (List ℕ)) (Q : Program) → command ≡ None → Writes result (text_of Refused) fails held held'
-    → MatchResult result (λ done. Takes command (scene answered held Q) (scene answered held' Q)) (λ end. StopsAt end command fails (scene answered held Q) (scene answered held' Q))
-refused result command fails answered held held' Q is wrote = took result command Refused fails (scene answered held Q) (scene answered held' Q) (fits_none command is) (grows_none answered) refl wrote
+pub refused : (result : Result (Unit {0}) SessionEnd) (wish : Wish) (fails : Type 0) (answered : Option (List (Command × Answer))) (held held' : Option (List ℕ)) (Q : Program) → wish ≡ wishes.Refuse → Writes result (text_of Refused) fails held held'
+    → MatchResult result (λ done. Takes wish (scene answered held Q) (scene answered held' Q)) (λ end. StopsAt end wish fails (scene answered held Q) (scene answered held' Q))
+refused result wish fails answered held held' Q is wrote = took result wish Refused fails (scene answered held Q) (scene answered held' Q) (fits_refused wish is) (grows_none answered) refl wrote
 
 -- a command that was answered
 pub answered_one : (result : Result (Unit {0}) SessionEnd) (fails : Type 0) (command : Command) (answer : Answer) (a b : Option (List (Command × Answer))) (held held' : Option (List ℕ)) (Q R : Program) → Grows a b ((command, answer) ∷ []) → R ≡ goes_on_with Q (brought_by command) answer → Writes result (text_of (Submitted command answer)) fails held held'
-    → MatchResult result (λ done. Takes (Some command) (scene a held Q) (scene b held' R)) (λ end. StopsAt end (Some command) fails (scene a held Q) (scene b held' R))
-answered_one result fails command answer a b held held' Q R submitted program wrote = took result (Some command) (Submitted command answer) fails (scene a held Q) (scene b held' R) refl submitted program wrote
+    → MatchResult result (λ done. Takes (wishes.Submit command) (scene a held Q) (scene b held' R)) (λ end. StopsAt end (wishes.Submit command) fails (scene a held Q) (scene b held' R))
+answered_one result fails command answer a b held held' Q R submitted program wrote = took result (wishes.Submit command) (Submitted command answer) fails (scene a held Q) (scene b held' R) refl submitted program wrote
+
+fits_told : (wish : Wish) (question : Question) (text : List ℕ) → wish ≡ wishes.Tell question → Fits wish (Told question text)
+fits_told wish question text is = subst (λ (w : Wish). Fits w (Told question text)) (sym is) refl
+
+-- a question that was answered
+pub told_one : (result : Result (Unit {0}) SessionEnd) (wish : Wish) (question : Question) (fails : Type 0) (a b : Option (List (Command × Answer))) (held held' : Option (List ℕ)) (Q : Program) → wish ≡ wishes.Tell question → b ≡ a → (text : List ℕ) × Writes result text fails held held'
+    → MatchResult result (λ done. Takes wish (scene a held Q) (scene b held' Q)) (λ end. StopsAt end wish fails (scene a held Q) (scene b held' Q))
+told_one result wish question fails a b held held' Q is same wrote =
+    took result wish (Told question wrote.0) fails (scene a held Q) (scene b held' Q) (fits_told wish question wrote.0 is)
+    (subst (λ (x : Option (List (Command × Answer))). Grows a x []) (sym same) (grows_none a)) refl wrote.1
+
+-- what wasn't told, since memory ran out
+pub untold : (fails : Type 0) (held : Option (List ℕ)) → (text : List ℕ) × Writes (Err ends.Memory) text fails held held
+untold fails held = ([], tt, 0, Appends-nil held)
 
 -- a line that was ended
-pub ended_line : (result : Result (Unit {0}) SessionEnd) (rest : List ℕ) (command : Option Command) (line : Option (List ℕ)) (fails : Type 0) (s t : Scene) → line ≡ kept [] → HasNoEnd rest → IsKnown s.program rest command
-    → MatchResult result (λ done. Takes command s t) (λ end. StopsAt end command fails s t)
+pub ended_line : (result : Result (Unit {0}) SessionEnd) (rest : List ℕ) (wish : Wish) (line : Option (List ℕ)) (fails : Type 0) (s t : Scene) → line ≡ kept [] → HasNoEnd rest → IsWish s.program rest wish
+    → MatchResult result (λ done. Takes wish s t) (λ end. StopsAt end wish fails s t)
     → MatchResult result (λ done. (line ≡ kept []) × Serves rest (line_end ∷ []) [] s t) (λ end. Stops end rest (line_end ∷ []) fails s t)
-ended_line (Ok done) rest command line fails s t is unended known h = (is, takes_turn rest command s t unended known h)
-ended_line (Err end) rest command line fails s t is unended known h = stops_at end rest command fails s t unended known h
-
--- what is known of a line whose command was looked for
-pub known : (Q : Program) (o : Option Command) (line : Option (List ℕ)) → IfSome o (λ command. (rest : List ℕ) → line ≡ kept rest → AsksFor Q rest command) → IfNone o ((rest : List ℕ) → line ≡ kept rest → AsksForNothing rest) → (rest : List ℕ) → line ≡ kept rest → IsKnown Q rest o
-known Q (Some command) line some none rest is = some rest is
-known Q None line some none rest is = none rest is
+ended_line (Ok done) rest wish line fails s t is unended known h = (is, takes_turn rest wish s t unended known h)
+ended_line (Err end) rest wish line fails s t is unended known h = stops_at end rest wish fails s t unended known h
 
 -- one byte more on the line, or memory ran out
 pub extended : (result : Result (Unit {0}) SessionEnd) (byte : ℕ) (line line' : Option (List ℕ)) (fails : Type 0) (s : Scene) → (byte ≡ line_end → ⊥)

@@ -1,5 +1,5 @@
 -- A client's wait for an answer, put together from what it hears and what it sends again.
-use Rattle.std.proofs.Common.{◌≡◌, ℕ, ◌==◌, ◌⊎◌, Bool, true, false, List, [], ◌∷◌, ◌++◌, Option, Some, None, refl, sym, ap, ap₂, subst, ◌∙◌, append_assoc, inl, inr}
+use Rattle.std.proofs.Common.{◌≡◌, ℕ, ◌==◌, ◌⊎◌, Bool, true, false, List, [], ◌∷◌, ◌++◌, Option, Some, None, Result, Ok, Err, OnErr, refl, sym, ap, ap₂, subst, ◌∙◌, append_assoc, inl, inr}
 use Rattle.std.specs.Prelude.{option_map, max, if◌then◌else◌}
 use Rattle.std.specs.List.{AllByRecursion}
 use Rattle.std.proofs.lemmas.Bool.{cases_Bool, eqb-true, eq-eqb}
@@ -20,7 +20,7 @@ use Rattle.vr_ports.specs.Telling.{Grows}
 use Rattle.vr_ports.specs.declared.link.Input.{Input}
 use Rattle.vr_ports.specs.declared.link.Input.TheVariants as input
 use Rattle.vr_client.specs.Client.{Client, SendsAt, SubmitsCommand, answer_by}
-use Rattle.plc_console.specs.Asking.{Way, reply_of, IsNoReplyTo, joined, Waits, IsAnswered, answer_in, IsAfter, Hears}
+use Rattle.plc_console.specs.Asking.{Way, reply_of, IsNoReplyTo, joined, Waits, IsAnswered, answer_in, IsAfter, Hears, FindsClosed, IsUnanswered}
 
 pub grows_none : {X : Type 0} (o : Option (List X)) → Grows o o []
 grows_none None = refl
@@ -262,3 +262,12 @@ answers_some c d e command a b b' answer w h =
 
 pub answers : (c d e : Client) (command : Command) (a b b' : Way) (o : Option Answer) (answer : Answer) → Waits c command a b d → Hears d b b' o e → o ≡ Some answer → IsAnswered c command a b' answer e
 answers c d e command a b b' o answer w h is = answers_some c d e command a b b' answer w (subst (λ (x : Option Answer). Hears d b b' x e) is h)
+
+-- ---- a link that is closed
+
+pub on_err : {A E : Type 0} (P : Type 0) (r : Result A E) → P → OnErr r P
+on_err P (Ok x) p = tt
+on_err P (Err e) p = p
+
+pub closes : (c d e : Client) (command : Command) (a b b' : Way) → Waits c command a b d → FindsClosed b b' × (e ≡ d) → IsUnanswered c command a b' e
+closes c d e command a b b' w h = inr (b, subst (λ (x : Client). Waits c command a b x) (sym h.1) w, h.0)

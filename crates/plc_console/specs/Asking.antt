@@ -1,5 +1,5 @@
 -- A command that a client submits over its link, until it's answered.
-use Rattle.std.specs.Prelude.{◌≡◌, ℕ, List, [], ◌∷◌, Option, Some, None, option_map}
+use Rattle.std.specs.Prelude.{◌≡◌, ◌⊎◌, ℕ, List, [], ◌∷◌, Option, Some, None, option_map}
 use Rattle.std.specs.List.{flat_map, AllByRecursion}
 use Rattle.il_model.specs.declared.command.Command.{Command}
 use Rattle.il_model.specs.declared.command.Answer.{Answer}
@@ -65,6 +65,17 @@ pub record IsAnswered (c : Client) (command : Command) (before after : Way) (ans
   pub quiet : after.sent ≡ between.sent
   pub answers : reply_of reply.body ≡ Some (next_number c.state, answer)
   pub free : c' ≡ record waiting { state = record waiting.state { view = c'.state.view; waits = None } }
+
+-- one receive found the link closed
+pub record FindsClosed (before after : Way) : Type 0 where
+  pub received : Grows before.inputs after.inputs (input.Closed ∷ [])
+  pub quiet : after.sent ≡ before.sent
+
+-- Why there is no answer: nothing was submitted, nor anything done; or the command was, and waited until the link was
+-- closed.
+abbrev pub IsUnanswered : Client → Command → Way → Way → Client → Type 0
+IsUnanswered c command before after c' = ((c' ≡ c) × (after ≡ before))
+    ⊎ ((between : Way) × Waits c command before between c' × FindsClosed between after)
 
 -- what one receive was to a client: the answer that it brings, if it does
 abbrev pub answer_in : Client → Input → Option Answer

@@ -7,11 +7,15 @@ use Rattle.il_model.specs.declared.command.Command.TheVariants.{Scan}
 use Rattle.il_model.specs.Program.{Program}
 use Rattle.plc_json.specs.declared.command.NamedCommand.{NamedCommand}
 use Rattle.plc_json.specs.declared.command.NamedCommand.TheVariants as named
-use Rattle.plc_json.specs.Single.{HasCommand, HasNoCommand}
+use Rattle.plc_json.specs.declared.question.Asked.TheVariants as asked
+use Rattle.plc_json.specs.declared.question.Question.{Question}
+use Rattle.plc_json.specs.Asking.{HasAsked, HasNothing}
 use Rattle.il_text.specs.Lines.{line_text}
 use Rattle.plc_names.specs.Named.{meant}
 use Rattle.il_text.specs.Telling.{fault_line}
 use Rattle.il_text.specs.declared.fault.Fault.TheVariants.{Commands}
+use Rattle.plc_console.specs.declared.line.Wish.{Wish}
+use Rattle.plc_console.specs.declared.line.Wish.TheVariants as wishes
 
 -- LF, which ends a line
 abbrev pub line_end : ℕ
@@ -38,42 +42,64 @@ IsScan _ = ⊥
 pub record AsksFor (Q : Program) (line : List ℕ) (command : Command) : Type 0 where
   pub named : NamedCommand
   pub short : length line ≤ longest_line
-  pub read : HasCommand line named
+  pub read : HasAsked line (asked.Command named)
   pub no_scan : IsScan named → ⊥
   pub is : command ≡ meant Q named
+
+-- the line is this question
+pub record AsksAbout (line : List ℕ) (question : Question) : Type 0 where
+  pub short : length line ≤ longest_line
+  pub read : HasAsked line (asked.Question question)
 
 -- the line is a scan
 pub record AsksForScan (line : List ℕ) : Type 0 where
   pub named : NamedCommand
-  pub read : HasCommand line named
+  pub read : HasAsked line (asked.Command named)
   pub is_scan : IsScan named
 
--- the line is too long, no command, or a scan
+-- the line is too long, neither a command nor a question, or a scan
 abbrev pub AsksForNothing : List ℕ → Type 0
-AsksForNothing line = (longest_line < length line) ⊎ (HasNoCommand line ⊎ AsksForScan line)
+AsksForNothing line = (longest_line < length line) ⊎ (HasNothing line ⊎ AsksForScan line)
 
--- what a line came to: its command was submitted and answered once, by this answer; or it was refused
+-- what a line came to: its command was submitted and answered once, by this answer; or its question, by this text; or
+-- it was refused
 pub data Outcome : Type 0 where
   Submitted : (command : Command) (answer : Answer) → Outcome
+  Told : (question : Question) (text : List ℕ) → Outcome
   Refused : Outcome
 
 abbrev pub IsOutcome : Program → List ℕ → Outcome → Type 0
 IsOutcome Q line (Submitted command answer) = AsksFor Q line command
+IsOutcome Q line (Told question text) = AsksAbout line question
 IsOutcome Q line Refused = AsksForNothing line
 
 -- what it writes
 abbrev pub text_of : Outcome → List ℕ
 text_of (Submitted command answer) = line_text answer
+text_of (Told question text) = text
 text_of Refused = fault_line Commands
 
 -- what was submitted for it, with the answer
 abbrev pub submitted_by : Outcome → List (Command × Answer)
 submitted_by (Submitted command answer) = (command, answer) ∷ []
+submitted_by (Told question text) = []
 submitted_by Refused = []
 
--- what is known of a line before it's answered: its command, if it has one
-abbrev pub FitsCommand : Option Command → Outcome → Type 0
-FitsCommand (Some asked) (Submitted command answer) = command ≡ asked
-FitsCommand None Refused = Unit {0}
-FitsCommand (Some asked) Refused = ⊥
-FitsCommand None (Submitted command answer) = ⊥
+-- what is known of a line before it's answered
+abbrev pub IsWish : Program → List ℕ → Wish → Type 0
+IsWish Q line (wishes.Submit command) = AsksFor Q line command
+IsWish Q line (wishes.Tell question) = AsksAbout line question
+IsWish Q line wishes.Refuse = AsksForNothing line
+
+-- what a named command is
+abbrev pub IsWishOf : Program → NamedCommand → Wish → Type 0
+IsWishOf Q named (wishes.Submit command) = (IsScan named → ⊥) × (command ≡ meant Q named)
+IsWishOf Q named (wishes.Tell question) = ⊥
+IsWishOf Q named wishes.Refuse = IsScan named
+
+-- it came to what was known of it
+abbrev pub Fits : Wish → Outcome → Type 0
+Fits (wishes.Submit asked) (Submitted command answer) = command ≡ asked
+Fits (wishes.Tell asked) (Told question text) = question ≡ asked
+Fits wishes.Refuse Refused = Unit {0}
+Fits _ _ = ⊥

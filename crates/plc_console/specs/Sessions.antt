@@ -9,8 +9,9 @@ use Rattle.il_model.specs.Program.{Program}
 use Rattle.vr_ports.specs.Telling.{Grows}
 use Rattle.plc_console.specs.declared.session.SessionEnd.{SessionEnd}
 use Rattle.plc_console.specs.declared.session.SessionEnd.TheVariants as ends
+use Rattle.plc_console.specs.declared.line.Wish.{Wish}
 use Rattle.plc_console.specs.InForce.{in_force_after}
-use Rattle.plc_console.specs.Lines.{line_end, HasNoEnd, Outcome, IsOutcome, FitsCommand, text_of, submitted_by}
+use Rattle.plc_console.specs.Lines.{line_end, HasNoEnd, Outcome, IsOutcome, Fits, text_of, submitted_by}
 
 -- a line, without its end, and what it came to
 pub record Turn : Type 0 where
@@ -106,18 +107,18 @@ Writes result text fails held held' =
     MatchResult result (λ done. Appends held held' text)
     (λ end. IsWhyUnwritten end fails × (n : ℕ) × Appends held held' (take n text))
 
--- One line had its turn, of which this command was known, if any.
-pub record Takes (command : Option Command) (before after : Scene) : Type 0 where
+-- One line had its turn, of which this was known.
+pub record Takes (wish : Wish) (before after : Scene) : Type 0 where
   pub outcome : Outcome
-  pub fits : FitsCommand command outcome
+  pub fits : Fits wish outcome
   pub submitted : Grows before.answered after.answered (submitted_by outcome)
   pub program : after.program ≡ in_force_after before.program (submitted_by outcome)
   pub written : Appends before.held after.held (text_of outcome)
 
--- One line had its turn, of which this command was known, if any, and a beginning of its answer went out.
-pub record TakesShort (command : Option Command) (before after : Scene) : Type 0 where
+-- One line had its turn, of which this was known, and a beginning of its answer went out.
+pub record TakesShort (wish : Wish) (before after : Scene) : Type 0 where
   pub outcome : Outcome
-  pub fits : FitsCommand command outcome
+  pub fits : Fits wish outcome
   pub submitted : Grows before.answered after.answered (submitted_by outcome)
   pub program : after.program ≡ in_force_after before.program (submitted_by outcome)
   pub output : List ℕ
@@ -125,9 +126,10 @@ pub record TakesShort (command : Option Command) (before after : Scene) : Type 0
   pub begins : text_of outcome ≡ output ++ unwritten
   pub written : Appends before.held after.held output
 
--- how a session ended at one line; where memory ran out for the program of a change, nothing was submitted
-abbrev pub StopsAt : SessionEnd → Option Command → Type 0 → Scene → Scene → Type 0
-StopsAt ends.Closed command fails before after = ⊥
-StopsAt ends.Device command fails before after = fails × TakesShort command before after
-StopsAt ends.Memory command fails before after = (after ≡ before) ⊎ TakesShort command before after
-StopsAt ends.Unanswered command fails before after = after ≡ before
+-- how a session ended at one line; where memory ran out for the program of a change, or for
+-- what there is to tell, nothing was submitted
+abbrev pub StopsAt : SessionEnd → Wish → Type 0 → Scene → Scene → Type 0
+StopsAt ends.Closed wish fails before after = ⊥
+StopsAt ends.Device wish fails before after = fails × TakesShort wish before after
+StopsAt ends.Memory wish fails before after = (after ≡ before) ⊎ TakesShort wish before after
+StopsAt ends.Unanswered wish fails before after = after ≡ before

@@ -1,12 +1,12 @@
 //! A command that is asked of a group, as one of its clients.
 
-ghost use Rattle.std.specs.Prelude.{◌≡◌, ◌⊎◌, IfOk, List};
+ghost use Rattle.std.specs.Prelude.{◌≡◌, ◌⊎◌, IfOk, OnErr, List};
 ghost use Rattle.std.specs.List.{AllByRecursion};
 ghost use Rattle.vr_model.specs.declared.message.Message.{Message as Sent};
 ghost use Rattle.vr_model.specs.Steps.{Retries};
 ghost use Rattle.vr_ports.specs.Telling.{Grows};
 ghost use Rattle.vr_client.specs.Client.{SendsAt};
-ghost use Rattle.plc_console.specs.Asking.{way, joined, Hears, IsAnswered};
+ghost use Rattle.plc_console.specs.Asking.{way, joined, FindsClosed, Hears, IsAnswered, IsUnanswered};
 
 use crate::session::Unanswered;
 use il_model::{Answer, Command};
@@ -18,8 +18,8 @@ use vr_ports::{Input, Link, send_all};
 
 /// Submits a command under the client's next number, and receives until it is answered: by the first REPLY with that
 /// number, whatever else comes meanwhile. After each period without it the same request is sent again, to all. It is
-/// unanswered where the link is closed; and where the client has a request that waits, its numbers are used up, or
-/// memory runs out, in which case nothing was submitted.
+/// unanswered where the link is closed meanwhile; or nothing was submitted, since the client has a request that waits, its
+/// numbers are used up, or memory runs out.
 pub fn ask<R: Wait + Clock, L: Link>(
     rt: &R,
     alloc: Global,
@@ -28,8 +28,10 @@ pub fn ask<R: Wait + Clock, L: Link>(
     link: &mut L,
     command: &Command,
 ) -> Result<Answer, Unanswered>
-    ensures { IfOk result (λ answer. IsAnswered client.old command.now
+    ensures answered { IfOk result (λ answer. IsAnswered client.old command.now
         (way (L.inputs link.old) (L.sent link.old)) (way (L.inputs link.new) (L.sent link.new)) answer client.new) }
+    ensures unanswered { OnErr result (IsUnanswered client.old command.now
+        (way (L.inputs link.old) (L.sent link.old)) (way (L.inputs link.new) (L.sent link.new)) client.new) }
 {
     let Ok(one) = command.copy(alloc) else {
         return Err(Unanswered);
@@ -55,6 +57,8 @@ pub fn ask<R: Wait + Clock, L: Link>(
 fn hear<L: Link>(client: &mut GroupClient, link: &mut L) -> Result<Option<Answer>, Unanswered>
     ensures heard { IfOk result (λ answer. Hears client.old
         (way (L.inputs link.old) (L.sent link.old)) (way (L.inputs link.new) (L.sent link.new)) answer client.new) }
+    ensures closed { OnErr result (FindsClosed (way (L.inputs link.old) (L.sent link.old))
+        (way (L.inputs link.new) (L.sent link.new)) × (client.new ≡ client.old)) }
 {
     match link.recv() {
         Input::Message(message) => match client.on_reply(&message) {

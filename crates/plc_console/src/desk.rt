@@ -1,12 +1,14 @@
-//! What submits the commands of a console.
+//! What submits the commands of a console, and has them told.
 
-ghost use Rattle.std.specs.Prelude.{◌≡◌, IfOk, None};
-ghost use Rattle.plc_console.specs.Asking.{way, IsAnswered};
+ghost use Rattle.std.specs.Prelude.{◌≡◌, IfOk, OnErr};
+ghost use Rattle.plc_console.specs.Asking.{way, IsAnswered, IsUnanswered};
+ghost use Rattle.plc_console.specs.Noting.{Notes, deed_done};
 
 use crate::asking::ask;
-use crate::session::{Submits, Unanswered};
+use crate::session::Unanswered;
 use il_model::{Answer, Command};
 use plc_host::Host;
+use plc_status::{Deed, Journal, Notice};
 use std::sync::Wait;
 use std::time::{Clock, Duration};
 use vr_client::GroupClient;
@@ -16,7 +18,7 @@ use vr_ports::Link;
 /// The console's number among the clients.
 const CONSOLE: ClientNumber = ClientNumber { number: 1 };
 
-/// Client 1 of a group, with its link: it submits what a console asks for.
+/// Client 1 of a group, with its link: it submits what a console asks for, and notes what that changed.
 #[derive(Drop)]
 pub struct Desk<R: Copy + Drop, L: Drop> {
     host: Host<R>,
@@ -24,17 +26,40 @@ pub struct Desk<R: Copy + Drop, L: Drop> {
     link: L,
     /// After so long without a reply a command is sent again.
     period: Duration,
+    /// So many replicas the group has.
+    replicas: u8,
+    /// What is done is told there.
+    journal: Journal,
 }
 
 impl<R: Wait + Clock + Copy + Drop, L: Link + Drop> Desk<R, L> {
-    /// Nothing was submitted yet. After each `period` without a reply a command is sent again.
-    pub fn new(host: Host<R>, config: Config, link: L, period: Duration) -> Desk<R, L> {
+    /// Nothing was submitted yet. After each `period` without a reply a command is sent again; what is done goes into
+    /// the journal.
+    pub fn new(
+        host: Host<R>,
+        config: Config,
+        link: L,
+        period: Duration,
+        journal: Journal,
+    ) -> Desk<R, L> {
         Desk {
             host,
             client: GroupClient::new(&config, CONSOLE, 0),
             link,
             period,
+            replicas: config.group_size(),
+            journal,
         }
+    }
+
+    /// How many replicas the group has.
+    pub(crate) fn replicas(&self) -> u8 {
+        self.replicas
+    }
+
+    /// Notes this.
+    pub(crate) fn note(&mut self, notice: Notice) {
+        self.journal.put(notice);
     }
 
     /// The link to the group.
@@ -42,26 +67,52 @@ impl<R: Wait + Clock + Copy + Drop, L: Link + Drop> Desk<R, L> {
         &self.link
     }
 
-    /// Submits a command under the client's next number. Its answer is that of the first REPLY with that number.
-    fn ask(&mut self, command: &Command) -> Result<Answer, Unanswered>
-        ensures { IfOk result (λ answer. IsAnswered self.old.client command.now
+    /// Submits a command, and notes what that changed. Its answer is that of the first REPLY with its number.
+    pub(crate) fn submit(&mut self, command: &Command) -> Result<Answer, Unanswered>
+        ensures answered { IfOk result (λ answer. IsAnswered self.old.client command.now
             (way (L.inputs self.old.link) (L.sent self.old.link))
             (way (L.inputs self.new.link) (L.sent self.new.link)) answer self.new.client) }
+        ensures unanswered { OnErr result (IsUnanswered self.old.client command.now
+            (way (L.inputs self.old.link) (L.sent self.old.link))
+            (way (L.inputs self.new.link) (L.sent self.new.link)) self.new.client) }
+        ensures noted { IfOk result
+            (λ answer. Notes (deed_done command.now answer) self.old.journal self.new.journal) }
+        ensures silent { OnErr result (self.new.journal ≡ self.old.journal) }
+    {
+        let answer = self.ask(command)?;
+        note(command, &answer, &mut self.journal);
+        Ok(answer)
+    }
+
+    /// Submits a command under the client's next number. Its answer is that of the first REPLY with that number.
+    fn ask(&mut self, command: &Command) -> Result<Answer, Unanswered>
+        ensures answered { IfOk result (λ answer. IsAnswered self.old.client command.now
+            (way (L.inputs self.old.link) (L.sent self.old.link))
+            (way (L.inputs self.new.link) (L.sent self.new.link)) answer self.new.client) }
+        ensures unanswered { OnErr result (IsUnanswered self.old.client command.now
+            (way (L.inputs self.old.link) (L.sent self.old.link))
+            (way (L.inputs self.new.link) (L.sent self.new.link)) self.new.client) }
+        ensures silent { self.new.journal ≡ self.old.journal }
     {
         let Desk {
             host,
             client,
             link,
             period,
+            ..
         } = self;
         ask(&host.rt, host.alloc, *period, client, link, command)
     }
 }
 
-impl<R: Wait + Clock + Copy + Drop, L: Link + Drop> Submits for Desk<R, L> {
-    ghost answered = { λ _. None };
-
-    fn submit(&mut self, command: &Command) -> Result<Answer, Unanswered> {
-        self.ask(command)
+/// Notes what a command changed that was answered so.
+fn note(command: &Command, answer: &Answer, journal: &mut Journal)
+    ensures { Notes (deed_done command.now answer.now) journal.old journal.new }
+{
+    if let Answer::Refused(_) = answer {
+        return;
+    }
+    if let Some(deed) = Deed::of(command) {
+        journal.put(Notice::Done(deed));
     }
 }

@@ -3,33 +3,43 @@
 //! command is asked for over any link; the service has both behind a port of this machine, one connection at a time.
 //!
 //! ```rust
-//! let desk = Desk::new(host, config, link, Duration::from_millis(100)); // client 1 of the group, over this link
-//! let console = Console::new(host, Door::open(&rt, 5021)?, desk, &image, Duration::from_secs(60))?;
+//! let period = Duration::from_millis(100);
+//! let desk = Desk::new(host, config, link, period, journals.console); // client 1 of the group, over this link
+//! let door = Door::open(&rt, 5021)?;
+//! let console = Console::new(host, door, desk, &image, status.reader()?, Duration::from_secs(60))?;
 //! let open = console.open()?; // lines are answered from now on
 //! open.close(); // ends the session, also one that waits for an answer
 //! ```
 //!
 //! Proved: `serve_console` gives each whole line its turn, in order. Its command is submitted and answered once, a name
 //! being that of the program in force, which a change that is done replaces, or it's refused, as a scan is; the line of
-//! the answer, or of the fault, is written. A session ends by Closed only at the reader's end, by Device only where the
-//! reader or the writer failed; where it ends otherwise, a beginning of the answers went out. `ask` submits one command
-//! as a client by the replication rules, sends nothing but that very request again, and answers by the first REPLY with
-//! its number. `send_commands` answers Ok only where each command went out as a line, and what came back up to the end
-//! of a line was printed before the next.
+//! the answer, or of the fault, is written. A question is answered by what the desk tells, and submits nothing. A session
+//! ends by Closed only at the reader's end, by Device only where the reader or the writer failed; where it ends
+//! otherwise, a beginning of the answers went out. `ask` submits one command as a client by the replication rules, sends
+//! nothing but that very request again, and answers by the first REPLY with its number. `send_commands` answers Ok only
+//! where each command went out as a line, and what came back up to the end of a line was printed before the next.
 //!
-//! Only tested: that a request is sent again when a period went by, and the service, with a group behind it that loses
-//! its primary (`console_rows` of `tests_threads`, `tools/try-serve`). Nothing says that an answer comes.
+//! What a command changed that wasn't refused is noted once in a journal, by a clause of what submits it
+//! (`specs/Noting`). What is told of forces, breakpoints and the program is that of a mirror: a controller that takes
+//! each command that was done. It stays alike, whatever scans the other one makes (`mirrors_stay`).
+//!
+//! Only tested: how answers to questions are spelled, that a request is sent again when a period went by, and the
+//! service, with a group behind it that loses its primary (`console_rows` of `tests_threads`, `tools/try-serve`).
+//! Nothing says that an answer comes.
 #![tactic(auto)]
 
 mod asking;
 mod desk;
 mod line;
+mod mirror;
 mod sending;
 mod service;
 mod session;
+mod telling;
 
 pub use asking::ask;
 pub use desk::Desk;
+pub use mirror::mirrors_stay;
 pub use sending::{Reply, send_commands, worst};
 pub use service::{Console, OpenConsole};
 pub use session::{SessionEnd, Submits, Unanswered, serve_console};

@@ -1,12 +1,11 @@
 //! The line that comes in.
 
-ghost use Rattle.std.specs.Prelude.{◌≡◌, ◌++◌, ◌∷◌, [], ◌↔◌, List, ℕ, true, IfOk, IfSome, IfNone, OnErr, OnOk};
-ghost use Rattle.plc_names.specs.Named.{meant};
-ghost use Rattle.plc_console.specs.Lines.{kept, AsksFor, AsksForNothing, IsScan};
+ghost use Rattle.std.specs.Prelude.{◌≡◌, ◌++◌, ◌∷◌, [], ◌↔◌, List, ℕ, true, IfOk, OnErr, OnOk};
+ghost use Rattle.plc_console.specs.Lines.{kept, IsScan, IsWish, IsWishOf};
 
 use il_loader::Image;
 use il_model::Command;
-use plc_json::{JsonFault, NamedCommand, one_command};
+use plc_json::{Asked, JsonFault, NamedCommand, Question, read_asked};
 use plc_names::meant;
 use std::alloc::{AllocError, Global};
 use std::marker::Model;
@@ -19,6 +18,17 @@ pub(crate) const LINE_END: u8 = b'\n';
 
 /// So many bytes of lines are read at once.
 pub(crate) const PIECE: usize = 4096;
+
+/// What a line asks for.
+#[derive(Drop)]
+pub(crate) enum Wish {
+    /// That this command is submitted.
+    Submit(Command),
+    /// That this is told.
+    Tell(Question),
+    /// Nothing: it's refused.
+    Refuse,
+}
 
 /// What came of a line whose end is still to come: its bytes, or that there are too many.
 #[derive(Drop)]
@@ -69,38 +79,32 @@ impl Line {
         self.is_too_long = false;
     }
 
-    /// The command that the line asks for, its names looked up in the program. `None` where the line is too long, no
-    /// command, or a scan.
-    #[tactic(auto, using(crate::proofs::Kept::long_asked, crate::proofs::Kept::nothing_asked, crate::proofs::Kept::none_asked, crate::proofs::Kept::some_asked))]
-    pub(crate) fn command(
-        &self,
-        alloc: Global,
-        image: &Image,
-    ) -> Result<Option<Command>, AllocError>
-        ensures some { IfOk result
-            (λ o. IfSome o (λ command. (line : List ℕ) → self.now ≡ kept line → AsksFor image.now line command)) }
-        ensures none { IfOk result (λ o. IfNone o ((line : List ℕ) → self.now ≡ kept line → AsksForNothing line)) }
+    /// What the line asks for, the names of a command looked up in the program. It's refused where the line is too long,
+    /// neither a command nor a question, or a scan.
+    #[tactic(auto, using(crate::proofs::Kept::long_asked, crate::proofs::Kept::nothing_asked, crate::proofs::Kept::question_asked, crate::proofs::Kept::wish_asked))]
+    pub(crate) fn wish(&self, alloc: Global, image: &Image) -> Result<Wish, AllocError>
+        ensures { IfOk result (λ wish. (line : List ℕ) → self.now ≡ kept line → IsWish image.now line wish) }
     {
         if self.is_too_long {
-            return Ok(None);
+            return Ok(Wish::Refuse);
         }
-        match one_command(alloc, self.bytes.as_slice()) {
-            Ok(named) => Ok(unless_scan(image, named)),
-            Err(JsonFault::Shape) => Ok(None),
+        match read_asked(alloc, self.bytes.as_slice()) {
+            Ok(Asked::Command(named)) => Ok(unless_scan(image, named)),
+            Ok(Asked::Question(question)) => Ok(Wish::Tell(question)),
+            Err(JsonFault::Shape) => Ok(Wish::Refuse),
             Err(JsonFault::Memory) => Err(AllocError),
         }
     }
 }
 
 /// What a named command is, unless it's a scan.
-fn unless_scan(image: &Image, named: NamedCommand) -> Option<Command>
-    ensures some { IfSome result (λ command. (IsScan named → ⊥) × (command ≡ meant image.now named)) }
-    ensures none { IfNone result (IsScan named) }
+fn unless_scan(image: &Image, named: NamedCommand) -> Wish
+    ensures { IsWishOf image.now named result }
 {
     if is_scan(&named) {
-        None
+        Wish::Refuse
     } else {
-        Some(meant(image, named))
+        Wish::Submit(meant(image, named))
     }
 }
 

@@ -1,20 +1,22 @@
 //! A session of a console: lines come in, and each is answered in order.
 
-ghost use Rattle.std.specs.Prelude.{◌≡◌, ◌≤◌, ◌++◌, ◌∷◌, [], List, ℕ, Some, IfOk, MatchResult};
+ghost use Rattle.std.specs.Prelude.{◌≡◌, ◌≤◌, ◌++◌, ◌∷◌, [], List, ℕ, IfOk, MatchResult};
 ghost use Rattle.io_model.specs.Counted.{Failed};
 ghost use Rattle.il_text.specs.Lines.{line_text};
 ghost use Rattle.il_text.specs.Telling.{fault_line};
 ghost use Rattle.il_text.specs.declared.fault.Fault.TheVariants.{Commands};
 ghost use Rattle.plc_console.specs.declared.session.SessionEnd.TheVariants as ends;
 ghost use Rattle.plc_console.specs.InForce.{brought_by, goes_on_with};
+ghost use Rattle.plc_console.specs.declared.line.Wish.TheVariants.{Submit};
 ghost use Rattle.plc_console.specs.Lines.{kept, line_end, HasNoEnd};
 ghost use Rattle.plc_console.specs.Sessions.{scene, Serves, Stops, StopsAt, Takes, Talks, Writes};
 
-use crate::line::{LINE_END, Line, PIECE};
+use crate::line::{LINE_END, Line, PIECE, Wish};
 use il_loader::{Image, LoadError, load};
 use il_model::{Answer, Command};
 use il_text::{Fault, put_line};
 use io_model::{CountedRead, CountedWrite, write_all};
+use plc_json::Question;
 use std::alloc::{AllocError, Global};
 use std::sync::Wait;
 use thiserror::Error;
@@ -24,14 +26,15 @@ use thiserror::Error;
 #[error("unanswered")]
 pub struct Unanswered;
 
-/// What submits the commands of a console. It tells which commands were answered, and how, or tells nothing.
+/// What submits the commands of a console, and tells what is asked. It shows which commands were answered, and how, or
+/// shows nothing.
 pub trait Submits {
     ghost use Rattle.std.specs.Prelude.{◌≡◌, [], ◌∷◌, List, Option, IfOk, OnErr};
     ghost use Rattle.il_model.specs.declared.command.Answer.{Answer};
     ghost use Rattle.il_model.specs.declared.command.Command.{Command};
     ghost use Rattle.vr_ports.specs.Telling.{Grows};
 
-    // The commands that were answered so far, each with its answer, if it tells.
+    // The commands that were answered so far, each with its answer, if it shows them.
     ghost answered: { Self → Option (List (Command × Answer)) };
 
     /// Submits a command, and waits for its answer.
@@ -39,6 +42,10 @@ pub trait Submits {
         ensures answered { IfOk result
             (λ answer. Grows (answered self.old) (answered self.new) ((command.now, answer) ∷ [])) }
         ensures unanswered { OnErr result (answered self.new ≡ answered self.old) };
+
+    /// The line that answers a question, with its end. It submits nothing.
+    fn tell(&mut self, question: Question) -> Result<Vec<u8>, AllocError>
+        ensures { answered self.new ≡ answered self.old };
 }
 
 /// How a session ended.
@@ -105,6 +112,35 @@ fn follow(brought: Option<Image>, answer: &Answer, image: &mut Image)
     }
 }
 
+/// Writes a line.
+fn put_text<W: CountedWrite>(text: &[u8], writer: &mut W) -> Result<(), SessionEnd>
+    ensures wrote { Writes result text.now (Failed (W.faults writer.old) (W.faults writer.new))
+        (W.held writer.old) (W.held writer.new) }
+    ensures counts { W.faults writer.old ≤ W.faults writer.new }
+{
+    match write_all(writer, text) {
+        Ok(()) => Ok(()),
+        Err(_) => Err(SessionEnd::Device),
+    }
+}
+
+/// Writes what there is to tell of a question.
+fn tell<W: CountedWrite, D: Submits>(
+    question: Question,
+    writer: &mut W,
+    desk: &mut D,
+) -> Result<(), SessionEnd>
+    ensures told { (text : List ℕ) × Writes result text (Failed (W.faults writer.old) (W.faults writer.new))
+        (W.held writer.old) (W.held writer.new) }
+    ensures same { D.answered desk.new ≡ D.answered desk.old }
+    ensures counts { W.faults writer.old ≤ W.faults writer.new }
+{
+    match desk.tell(question) {
+        Ok(line) => put_text(line.as_slice(), writer),
+        Err(_) => Err(SessionEnd::Memory),
+    }
+}
+
 /// Submits a command, and writes the line of its answer. Where memory runs out for the program that it brings, nothing
 /// was submitted.
 fn submit<W: CountedWrite, D: Submits>(
@@ -115,9 +151,9 @@ fn submit<W: CountedWrite, D: Submits>(
     desk: &mut D,
 ) -> Result<(), SessionEnd>
     ensures took { MatchResult result
-        (λ _. Takes (Some command.now) (scene (D.answered desk.old) (W.held writer.old) image.old)
+        (λ _. Takes (Submit command.now) (scene (D.answered desk.old) (W.held writer.old) image.old)
         (scene (D.answered desk.new) (W.held writer.new) image.new))
-        (λ end. StopsAt end (Some command.now) (Failed (W.faults writer.old) (W.faults writer.new))
+        (λ end. StopsAt end (Submit command.now) (Failed (W.faults writer.old) (W.faults writer.new))
         (scene (D.answered desk.old) (W.held writer.old) image.old)
         (scene (D.answered desk.new) (W.held writer.new) image.new)) }
     ensures counts { W.faults writer.old ≤ W.faults writer.new }
@@ -134,25 +170,26 @@ fn submit<W: CountedWrite, D: Submits>(
     }
 }
 
-/// Gives a line its turn: its command is submitted, if it has one, and answered by its line; or it is refused.
+/// Gives a line its turn: its command is submitted and answered by its line; or its question is; or it's refused.
 fn take_turn<W: CountedWrite, D: Submits>(
     alloc: Global,
-    command: Option<Command>,
+    wish: Wish,
     image: &mut Image,
     writer: &mut W,
     desk: &mut D,
 ) -> Result<(), SessionEnd>
     ensures took { MatchResult result
-        (λ _. Takes command (scene (D.answered desk.old) (W.held writer.old) image.old)
+        (λ _. Takes wish (scene (D.answered desk.old) (W.held writer.old) image.old)
         (scene (D.answered desk.new) (W.held writer.new) image.new))
-        (λ end. StopsAt end command (Failed (W.faults writer.old) (W.faults writer.new))
+        (λ end. StopsAt end wish (Failed (W.faults writer.old) (W.faults writer.new))
         (scene (D.answered desk.old) (W.held writer.old) image.old)
         (scene (D.answered desk.new) (W.held writer.new) image.new)) }
     ensures counts { W.faults writer.old ≤ W.faults writer.new }
 {
-    match command {
-        Some(command) => submit(alloc, &command, image, writer, desk),
-        None => refuse(writer),
+    match wish {
+        Wish::Submit(command) => submit(alloc, &command, image, writer, desk),
+        Wish::Tell(question) => tell(question, writer, desk),
+        Wish::Refuse => refuse(writer),
     }
 }
 
@@ -184,10 +221,10 @@ fn end_line<W: CountedWrite, D: Submits>(
         (scene (D.answered desk.new) (W.held writer.new) image.new)) }
     ensures counts { W.faults writer.old ≤ W.faults writer.new }
 {
-    match line.command(alloc, image) {
-        Ok(command) => {
+    match line.wish(alloc, image) {
+        Ok(wish) => {
             line.clear();
-            take_turn(alloc, command, image, writer, desk)
+            take_turn(alloc, wish, image, writer, desk)
         }
         Err(_) => Err(SessionEnd::Memory),
     }
@@ -245,8 +282,8 @@ fn serve_piece<W: CountedWrite, D: Submits>(
 }
 
 /// Serves a session to its end. Each line that is a command of those in files of commands, but for a scan, is submitted
-/// and answered once, its names looked up in the program in force, and the line of its answer is written; for each
-/// other line, as one over 131072 bytes, `plc: commands`. The program in force is that of the image, and after a change
+/// and answered once, its names looked up in the program in force, and the line of its answer is written; for a question
+/// what the desk tells is; for each other line, as one over 131072 bytes, `plc: commands`. The program in force is that of the image, and after a change
 /// that is done the one that it brought, whose image this is then. Lines have their turns in order, one behind the
 /// answer of the other. What the reader has behind its last whole line is no line. Where a session ends by `Device`, for
 /// want of memory or by a command without an answer, a beginning of the answers went out.

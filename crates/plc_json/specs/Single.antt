@@ -1,5 +1,5 @@
 -- A text that is one command.
-use Rattle.std.specs.Prelude.{◌≡◌, ◌≤◌, ℕ, List, Option, Some, None, option_and_then, codes, IsUtf8, Vec}
+use Rattle.std.specs.Prelude.{◌≡◌, ◌≤◌, ℕ, List, Option, Some, option_and_then, codes, IsUtf8, Vec}
 use Rattle.std.specs.Global.{Global}
 use Rattle.std.specs.List.{AllByRecursion}
 use Rattle.serde_json.specs.Data.{Data, depth, object, member, no_members, string}
@@ -7,7 +7,7 @@ use Rattle.serde_json.specs.Read.{read as read_text, max_depth}
 use Rattle.il_model.specs.declared.command.Command.TheVariants.{Change}
 use Rattle.plc_json.specs.declared.command.NamedCommand.{NamedCommand}
 use Rattle.plc_json.specs.declared.command.NamedCommand.TheVariants.{Plain}
-use Rattle.plc_json.specs.Commands.{Named, named, command_of, all_of, commands_in}
+use Rattle.plc_json.specs.Commands.{Named, named, command_of}
 
 -- the command of a text; an object's last member of a key is the one that counts
 abbrev pub command_in : List ℕ → Option Named
@@ -17,10 +17,6 @@ command_in text = option_and_then command_of (read_text text)
 abbrev pub HasCommand : List ℕ → NamedCommand → Type 0
 HasCommand text c = IsUtf8 text × (command_in text ≡ Some (named c))
 
--- the text isn't UTF-8, or it is no command
-abbrev pub HasNoCommand : List ℕ → Type 0
-HasNoCommand text = IsUtf8 text → command_in text ≡ None
-
 -- the text is the command that goes on with the program of this image
 abbrev pub IsChange : List ℕ → List ℕ → Type 0
 IsChange image text = HasCommand text (Plain (Change image))
@@ -28,19 +24,6 @@ IsChange image text = HasCommand text (Plain (Change image))
 -- a change as data, with these hex digits
 abbrev pub digits_data : List ℕ → Data
 digits_data digits = object (member (codes "change") (string digits) no_members)
-
--- the text says this value's command
-abbrev pub SaysCommand : Data → List ℕ → Type 0
-SaysCommand d text = (c : Named) × (command_of d ≡ Some c) × (command_in text ≡ Some c)
-
--- As commands alone, these texts say the commands of these values, in order.
-abbrev pub SayCommands : List Data → List (List ℕ) → Type 0
-SayCommands ds texts = (cs : List Named) × (all_of command_of ds ≡ Some cs) × (all_of command_in texts ≡ Some cs)
-
--- As commands alone, these texts say the commands of the text, in order.
-abbrev pub HasTexts : List ℕ → List (List ℕ) → Type 0
-HasTexts text texts = IsUtf8 text × (cs : List Named) × (commands_in text ≡ Some cs)
-    × (all_of command_in texts ≡ Some cs)
 
 abbrev pub bytes_of : Vec ℕ Global → List ℕ
 bytes_of v = v.items

@@ -1,11 +1,11 @@
 //! Commands by name, as an operator writes them: what they mean to the controller of a program, and what it answers.
 //!
 //! ```rust
-//! use plc_json::one_command;
+//! use plc_json::commands;
 //! use plc_names::meant;
 //!
 //! // The slot of `START`, if the program has it; else a slot that no program has, and the controller refuses it.
-//! let command = meant(&image, one_command(alloc, br#"{"read":"START"}"#)?);
+//! let command = meant(&image, commands(alloc, br#"[{"read":"START"}]"#)?.pop()?);
 //! ```
 //!
 //! Proved: a name is that of its slot in the program in force at the command's turn; where it's no slot's, the command

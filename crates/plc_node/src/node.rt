@@ -4,7 +4,7 @@ ghost use Rattle.std.specs.Prelude.{◌≡◌, IfOk, OnOk, Some, vec_len};
 ghost use Rattle.vr_model.specs.Groups.{group_size};
 ghost use Rattle.plc_status.specs.Notices.{IsAtMostServingTold, IsServingTold};
 
-use crate::opening::Ready;
+use crate::opening::{Kept, Ready};
 use il_loader::Image;
 use io_image::{Naming, NewList};
 use io_model::CountedWrite;
@@ -81,15 +81,19 @@ impl<S: Starts + Send + Drop + 'static> Node<'_, S> {
             status,
         } = self;
         let Host { rt, alloc } = host;
-        let traffic = status.traffic()?;
-        let (ready, writer) = Ready::<R, L, J>::new(
-            host, list, &settings, &image, &mut links, traffic,
-        )?;
         let Journals {
             driver: journal,
+            console,
             printer,
-            ..
         } = Journals::new(alloc)?;
+        let kept = Kept {
+            traffic: status.traffic()?,
+            console,
+            status: status.reader()?,
+        };
+        let (ready, writer) = Ready::<R, L, J>::new(
+            host, list, &settings, &image, &mut links, kept,
+        )?;
         let parts = Parts {
             links,
             stores,

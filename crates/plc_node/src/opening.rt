@@ -15,7 +15,7 @@ use plc_driver::{Directory, Driver, DriverCounts, Ended};
 use plc_host::{Failed, Host, ServiceRuntime, Traffic};
 use plc_listener::Door;
 use plc_settings::Settings;
-use plc_status::{Counts, Printer, tell_port};
+use plc_status::{Counts, Journal, Printer, StatusReader, tell_port};
 use std::net::{Net, TcpListener, TcpStream};
 use std::rt::Files;
 use std::sync::Arc;
@@ -24,6 +24,15 @@ use vr_ports::Relink;
 
 /// So many sessions are served at once.
 const SESSIONS: usize = 16;
+
+/// What is kept of clients and of an operator: what counts their requests, where commands are noted, and what shows of
+/// the controller.
+#[derive(Drop)]
+pub(crate) struct Kept {
+    pub(crate) traffic: Arc<Traffic>,
+    pub(crate) console: Journal,
+    pub(crate) status: StatusReader,
+}
 
 /// What outputs are released to: it marks when.
 pub(crate) type Releases<J, R> = ReleasedWriter<J, MarkingPen<SharedPen<J, R>, R>>;
@@ -50,19 +59,24 @@ where
     J: Naming + Send + Sync + 'static,
 {
     /// Listens at the ports that the settings name, with a place for each session. A console takes the last of these
-    /// links. `traffic` counts what clients do. Beside it what the outputs are released to.
+    /// links. `kept` has what is kept of clients and of an operator. Beside it what the outputs are released to.
     pub(crate) fn new(
         host: Host<R>,
         list: NewList,
         settings: &Settings,
         image: &Image,
         links: &mut Vec<L>,
-        traffic: Arc<Traffic>,
+        kept: Kept,
     ) -> Result<(Ready<R, L, J>, Releases<J, R>), Failed>
         requires { list ≡ J.book }
         ensures { IfOk result (λ r. r.1 ≡ []) }
     {
         let Host { rt, alloc } = host;
+        let Kept {
+            traffic,
+            console: journal,
+            status,
+        } = kept;
         let idle = Duration::from_secs(u64::from(settings.idle));
         let console = match settings.console {
             Some(port) => {
@@ -70,8 +84,9 @@ where
                     return Err(Failed::Device);
                 };
                 let period = Duration::from_millis(u64::from(settings.period));
-                let desk = Desk::new(host, settings.config, link, period);
-                Some(Console::new(host, Door::open(&rt, port)?, desk, image, idle)?)
+                let desk = Desk::new(host, settings.config, link, period, journal);
+                let door = Door::open(&rt, port)?;
+                Some(Console::new(host, door, desk, image, status, idle)?)
             }
             None => None,
         };

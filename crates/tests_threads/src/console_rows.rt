@@ -58,22 +58,24 @@ const MORE: usize = 1000;
 
 /// The plant stops, and is reset; a scan is held, goes one instruction on, and then to its end. The program is changed,
 /// and its names are looked up, also by an operator who comes later.
-const ROWS: [Row; 6] = [
+const ROWS: [Row; 7] = [
     Row {
         line: b"serving on",
         comes_again: false,
         asked: Asked::Commands(
-            b"[\"cr\", {\"read\": \"N\"}, {\"change\": \"00\"}, {\"force\": [\"%IW0\", 32767]}]",
+            b"[\"status\", \"forces\", \"cr\", {\"read\": \"N\"}, {\"change\": \"00\"}, {\"force\": [\"%IW0\", 32767]},
+              \"forces\"]",
         ),
-        printed: b"refused 1\nrefused 3\nrefused 6\ndone\n",
+        printed: b"status scans ? normal ? of 3\nforces\nrefused 1\nrefused 3\nrefused 6\ndone\nforces %IW0=32767\n",
     },
     Row {
         line: b"stopped overflow 1",
         comes_again: false,
         asked: Asked::Commands(
-            b"[\"cr\", {\"unforce\": \"%IW0\"}, {\"break\": 1}, {\"break\": 2}, \"reset\"]",
+            b"[\"cr\", {\"unforce\": \"%IW0\"}, \"forces\", {\"break\": 2}, {\"break\": 1}, {\"break\": 3}, \"breaks\",
+              \"reset\"]",
         ),
-        printed: b"value INT#32767\ndone\ndone\ndone\ndone\n",
+        printed: b"value INT#32767\ndone\nforces\ndone\ndone\nrefused 2\nbreaks 1 2\ndone\n",
     },
     Row {
         line: b"held 1",
@@ -94,8 +96,8 @@ const ROWS: [Row; 6] = [
     Row {
         line: b"",
         comes_again: false,
-        asked: Asked::Commands(b"[{\"read\": \"N\"}, {\"break\": 3}]"),
-        printed: b"value INT#10\ndone\n",
+        asked: Asked::Commands(b"[{\"read\": \"N\"}, \"breaks\", {\"break\": 3}]"),
+        printed: b"value INT#10\nbreaks\ndone\n",
     },
     Row {
         line: b"held 3",
@@ -104,6 +106,13 @@ const ROWS: [Row; 6] = [
             b"[{\"read\": \"N\"}, \"cr\", {\"clear\": 3}, \"continue\", {\"read\": \"%QW0\"}]",
         ),
         printed: b"value INT#10\nvalue INT#11\ndone\noutputs ? QW0=11\nvalue INT#11\n",
+    },
+    // what was done is told
+    Row {
+        line: b"console continue",
+        comes_again: false,
+        asked: Asked::Commands(b"[]"),
+        printed: b"",
     },
 ];
 

@@ -3,7 +3,7 @@ use Rattle.serde_json.specs.Find.{as_array}
 use Rattle.serde_json.specs.View.{view, items_view}
 use Rattle.plc_json.proofs.Nesting.{all_nest}
 use Rattle.plc_json.proofs.Texts.{has_texts, no_texts}
-use Rattle.plc_json.proofs.single.command_texts.Goals as goal
+use Rattle.plc_json.proofs.question.command_texts.Goals as goal
 
 pub each_text-requires : goal.each_text-requires
 each_text-requires c =
