@@ -22,3 +22,5 @@ as_asked (words.Ask port commands timeout) (outcomes.Serve service path) minute 
 as_asked (words.Change port source timeout) (outcomes.Serve service path) minute serves = absurd serves
 as_asked (words.Field field check once) (outcomes.Serve service path) minute serves = absurd serves
 as_asked asked (outcomes.Carry text mode) minute serves = tt
+as_asked (words.Format source group machine directory) (outcomes.Serve service path) minute serves = absurd serves
+as_asked (words.Show directory) (outcomes.Serve service path) minute serves = absurd serves

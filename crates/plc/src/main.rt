@@ -1,9 +1,12 @@
 //! The program `plc`: the words of its call, the files that they name, and the status it ends with.
 #![tactic(auto)]
 
+mod stores;
+
 ghost use Rattle.std.specs.Prelude.{◌≡◌, IfOk};
 ghost use Rattle.plc.specs.Asked.{mode_of, ServesAsAsked, IsLostAfterAMinute, status_of_reply};
 
+use crate::stores::Formatted;
 use field_map::FieldFault;
 use il_model::Budget;
 use il_text::{Fault, image_bytes, put, put_numbered, tell};
@@ -195,6 +198,21 @@ fn perform<W: Write, E: CountedWrite>(
             },
             Err(error) => tell_of(field, Fault::from(error), err),
         },
+        Words::Format {
+            source,
+            group,
+            machine,
+            directory,
+        } => {
+            let asked = Formatted {
+                source,
+                group,
+                machine,
+                directory,
+            };
+            stores::format(rt, &asked, err)
+        }
+        Words::Show { directory } => stores::show(rt, directory, out, err),
         Words::Ask {
             port,
             commands,
@@ -258,7 +276,7 @@ fn tell_unread<E: CountedWrite>(path: &str, err: &mut E) -> u8 {
 }
 
 /// Tells a fault that came where a file was read, and answers the status.
-fn tell_of<E: CountedWrite>(path: &str, fault: Fault, err: &mut E) -> u8 {
+pub(crate) fn tell_of<E: CountedWrite>(path: &str, fault: Fault, err: &mut E) -> u8 {
     match fault {
         Fault::Device => tell_unread(path, err),
         fault => tell(fault, err),
@@ -376,7 +394,7 @@ fn given_words(rt: &HostRuntime) -> Result<Vec<String>, WordsError> {
     Ok(env::args(rt)?.collect(rt.alloc())?)
 }
 
-fn file(rt: &HostRuntime, path: &str) -> Result<Vec<u8>, Fault> {
+pub(crate) fn file(rt: &HostRuntime, path: &str) -> Result<Vec<u8>, Fault> {
     Ok(fs::read(rt, path)?)
 }
 

@@ -63,6 +63,15 @@ const TIMEOUT: &str = "timeout";
 /// The word of the option `--stale`.
 const STALE: &str = "stale";
 
+/// The word of the option `--group`.
+const GROUP: &str = "group";
+
+/// The word of the option `--machine`.
+const MACHINE: &str = "machine";
+
+/// The word of a store's directory.
+const DIRECTORY: &str = "DIR";
+
 /// In seconds: a served controller ends after so long without a majority of its replicas.
 const LOST_AFTER: u32 = 60;
 
@@ -78,7 +87,7 @@ const NO_STORES: &str = "error: --store is given once, or once for each of the 2
 
 const STATUSES: &str = "Exit status:
   0  good
-  1  the source, the image, the commands, the schedule or the store were refused
+  1  the source, the image, the commands, the schedule, the group or the store were refused
   2  a device failed, or memory ran out
   3  these words are no call of the program
   4  of plc ask: a command was refused by the controller
@@ -332,6 +341,52 @@ the machine:
   plc: memory                     memory ran out
 ";
 
+const FORMATTING: &str = with_source_faults!(
+    "Makes the store with which a machine of a group begins: the group, the machine's number, and the
+image of the program. DIR is made where it isn't there; where it holds anything of a store nothing
+changes.
+
+GROUP is the same file on each machine, in TOML. Its keys, and what they are where they're left out:
+  name                       1 to 64 visible characters; never left out
+  period = 100               milliseconds from scan to scan, 1 to 3600000
+  budget = 10000             how many instructions a scan may perform, 1 to 1000000
+  every = 64                 commands from checkpoint to checkpoint, 1 to 65535
+  patience = 100             milliseconds without a word of the leading machine, 10 to 60000
+  resend = 25                milliseconds until what may be lost is sent again, 5 to 60000
+  fresh                      milliseconds that outputs are shown, 1 to 86400000: a period and 40
+  idle = 300                 seconds until a silent client is let go, 1 to 86400
+  cold_start = \"auto\"        or \"by hand\": where all have lost their memory together
+  [[machine]]                three, five or seven times, each with
+    replica, modbus          an address and a port, for the other machines and for Modbus clients
+    console, status          the same, if they're wanted
+
+A fault of GROUP or of DIR is one line on standard error. Machines are counted from 0:
+  plc: group at L:C          GROUP is no TOML, at line L and column C, counted from 1
+  plc: group KEY WHY         unknown: no group has KEY; missing: each has it; refused: its value is
+                             none that KEY takes
+  plc: group machine I KEY WHY  the same of machine I; twice: its address stands before it too
+  plc: group machine I missing  the group has no machine I
+  plc: store used            DIR holds something of a store
+  plc: store taken           another process has DIR
+  plc: store open to all     all may write to DIR
+  plc: store image too long  the image has 4 GiB or more
+An address that's no loopback is told, and is no fault:
+  ADDRESS: anybody on that network can write here
+"
+);
+
+const SHOWING: &str =
+    "Prints a line for each of these: its format; the identity of its group; its epoch, and the program
+with which that began; the machine's number; whether it was started; how many bytes its image has.
+Identity and program are SHA-256.
+
+A fault is one line on standard error:
+  plc: store missing         nothing was formatted in DIR
+  plc: store of another format  another version of plc has made it
+  plc: store torn            it was cut, or changed
+  plc: device                a file or a stream failed
+  plc: memory                memory ran out";
+
 /// What the words ask for.
 #[derive(Drop, PartialEq, Eq)]
 pub enum Words<'a> {
@@ -365,6 +420,19 @@ pub enum Words<'a> {
         schedule: &'a str,
         config: Config,
         budget: Budget,
+    },
+    /// Makes the store of a machine, which begins with the program of a file.
+    Format {
+        source: &'a str,
+        /// The file of its group.
+        group: &'a str,
+        /// Its place in that file, from 0.
+        machine: u8,
+        directory: &'a str,
+    },
+    /// Prints what the store of a machine has.
+    Show {
+        directory: &'a str,
     },
     /// Serves the program of a file to Modbus clients, by a group of replicas with stores in directories.
     Serve {
@@ -428,6 +496,8 @@ fn program<'a>(alloc: Global) -> Result<Command<'a>, AllocError> {
         .subcommand(diff_command(alloc)?)?
         .subcommand(run_command(alloc)?)?
         .subcommand(sim_command(alloc)?)?
+        .subcommand(format_command(alloc)?)?
+        .subcommand(show_command(alloc)?)?
         .subcommand(serve_command(alloc)?)?
         .subcommand(ask_command(alloc)?)?
         .subcommand(field_command(alloc)?)
@@ -483,6 +553,23 @@ fn sim_command<'a>(alloc: Global) -> Result<Command<'a>, AllocError> {
             "After how many commands a replica makes a checkpoint, 0 to 65535; 0 is never",
         ))?
         .arg(budget(alloc))
+}
+
+fn format_command<'a>(alloc: Global) -> Result<Command<'a>, AllocError> {
+    Command::new(alloc, "format")
+        .about("Makes the store of one machine of a group")
+        .after_help(FORMATTING)
+        .arg(file(alloc, "SOURCE").help("The program's text, in Instruction List"))?
+        .arg(group_file(alloc))?
+        .arg(machine(alloc))?
+        .arg(machine_store(alloc))
+}
+
+fn show_command<'a>(alloc: Global) -> Result<Command<'a>, AllocError> {
+    Command::new(alloc, "show")
+        .about("Prints what the store of a machine has")
+        .after_help(SHOWING)
+        .arg(file(alloc, DIRECTORY).help("The directory of the store"))
 }
 
 fn serve_command<'a>(alloc: Global) -> Result<Command<'a>, AllocError> {
@@ -620,6 +707,36 @@ fn directory<'a>(alloc: Global) -> Arg<'a> {
         .action(ArgAction::Append)
         .value_parser(ValueParser::NonEmptyString)
         .help("The directory for the stores of the replicas; once, or for each of them")
+}
+
+/// The option is wanted, and refused where it is given twice or empty.
+fn group_file<'a>(alloc: Global) -> Arg<'a> {
+    Arg::new(alloc, GROUP)
+        .long(GROUP)
+        .value_name("GROUP")
+        .required(true)
+        .value_parser(ValueParser::NonEmptyString)
+        .help("The file of the group")
+}
+
+/// The option is wanted, and refused where it is given twice, or is no number of a machine.
+fn machine<'a>(alloc: Global) -> Arg<'a> {
+    Arg::new(alloc, MACHINE)
+        .long(MACHINE)
+        .value_name("I")
+        .required(true)
+        .value_parser(value_parser!(u8).range(0..=6))
+        .help("The machine's place in GROUP, counted from 0")
+}
+
+/// The option is wanted, and refused where it is given twice or empty.
+fn machine_store<'a>(alloc: Global) -> Arg<'a> {
+    Arg::new(alloc, STORE)
+        .long(STORE)
+        .value_name("DIR")
+        .required(true)
+        .value_parser(ValueParser::NonEmptyString)
+        .help("The directory of the store")
 }
 
 /// The option is refused where it is given twice, or no number of a port.
@@ -771,6 +888,15 @@ fn worked<'a>(name: &str, inner: &ArgMatches<'a>) -> Option<Words<'a>>
             source: inner.get_str("SOURCE")?,
             commands: inner.get_str("COMMANDS")?,
             budget: Budget::new(inner.get_one::<u32>(BUDGET)?)?,
+        }),
+        "format" => Some(Words::Format {
+            source: inner.get_str("SOURCE")?,
+            group: inner.get_str(GROUP)?,
+            machine: inner.get_one::<u8>(MACHINE)?,
+            directory: inner.get_str(STORE)?,
+        }),
+        "show" => Some(Words::Show {
+            directory: inner.get_str(DIRECTORY)?,
         }),
         "sim" => Some(Words::Sim {
             source: inner.get_str("SOURCE")?,

@@ -483,6 +483,45 @@ fn words_of_serve_out_of_range_are_bad(rt: HostRuntime) -> Result<(), Fail> {
 }
 
 #[test]
+fn words_ask_for_the_store_of_a_machine(rt: HostRuntime) -> Result<(), Fail> {
+    let format: &[&str] = &[
+        "plc",
+        "format",
+        "a.il",
+        "--group",
+        "g",
+        "--machine",
+        "6",
+        "--store",
+        "d",
+    ];
+    let rows: [(&[&str], Words); 2] = [
+        (
+            format,
+            Words::Format {
+                source: "a.il",
+                group: "g",
+                machine: 6,
+                directory: "d",
+            },
+        ),
+        (&["plc", "show", "d"], Words::Show { directory: "d" }),
+    ];
+    ask_for(&rt, rt.alloc(), &rows);
+    let rows: [Row; 2] = [
+        (
+            &["--group", "g", "--store", "d", "--machine", "7"],
+            "error: invalid value '7' for '--machine <I>'",
+        ),
+        (
+            &["--group", "", "--store", "d", "--machine", "0"],
+            "error: a value is required for '--group <GROUP>' but none was supplied",
+        ),
+    ];
+    are_bad(&rt, rt.alloc(), &["plc", "format", "a.il"], &rows)
+}
+
+#[test]
 fn words_without_text_are_bad(rt: HostRuntime) {
     let mut out = Vec::new(rt.alloc());
     let mut err = Vec::new(rt.alloc());
