@@ -3,7 +3,10 @@
 
 use crate::notation::{bytes_of, lines_of, plain, spread, unreadable};
 use crate::sessions::Exchange;
-use crate::{blocks, controllers, fields, frames, groups, hellos, replicas};
+use crate::{
+    blocks, controllers, drivers, fields, frames, group_files, groups, hellos, machine_stores,
+    replicas,
+};
 use std::alloc::{AllocError, Global};
 use std::io;
 use std::sync::Wait;
@@ -56,7 +59,7 @@ impl<'a> Given<'a> {
     /// Takes what a section hands in; false where it hands in nothing.
     fn take(&mut self, title: &str, body: &'a str) -> io::Result<bool> {
         match title {
-            "message" => self.message = body,
+            "message" | "file" => self.message = body,
             "field" => self.field = body,
             "released" => self.exchange.release(body.trim_end())?,
             "limit" => self.exchange.limit(body.trim_end())?,
@@ -182,6 +185,9 @@ fn comes_out<R: Wait>(
         "controllers.rows" => controllers::table(alloc, title, cell),
         "replicas.rows" => groups::table(alloc, title, cell),
         "hellos.rows" => hellos::table(alloc, title, cell),
+        "group.rows" => group_files::table(alloc, given.message, title, cell),
+        "stores.rows" => machine_stores::table(alloc, title, cell),
+        "drivers.rows" => drivers::table(alloc, title, cell),
         "fields.rows" => fields::table(alloc, title, cell, given.field),
         _ => Err(unreadable()),
     }
@@ -204,6 +210,7 @@ fn runs(alloc: Global, given: &Given<'_>, title: &str, body: &str) -> io::Result
         "frames.rows" => frames::frame(alloc, given.message),
         "controllers.rows" => controllers::run(alloc, of, body),
         "replicas.rows" => replicas::run(alloc, of, body),
+        "drivers.rows" => drivers::run(alloc, of, body),
         "fields.rows" => fields::run(alloc, given.field, body),
         _ => Err(unreadable()),
     }

@@ -1,0 +1,132 @@
+//! Files of groups of machines: what they say, and their first faults.
+
+use crate::notation::{bytes_of, unreadable};
+use io_model::Counted;
+use plc_group::{
+    ColdStart, Group, GroupFault, Machine, exposed_lines, read_group, tell_group_fault,
+};
+use std::alloc::{AllocError, Global};
+use std::io;
+use std::net::SocketAddr;
+
+/// What comes out of a cell in a table of this title, with this file at hand.
+pub fn table(alloc: Global, file: &str, title: &str, cell: &str) -> io::Result<String> {
+    match title {
+        "change of the group file" => changed(alloc, file, cell),
+        "exposed address" => exposed(alloc, file, cell),
+        "group file of bytes" => of_bytes(alloc, cell),
+        _ => Err(unreadable()),
+    }
+}
+
+/// What a file says whose text has one place changed, as `OLD > NEW`, where `; ` ends a line of NEW; or its first fault
+/// as it's told.
+fn changed(alloc: Global, file: &str, change: &str) -> io::Result<String> {
+    let text = match change.split_once(" > ") {
+        Some((old, new)) => replaced(alloc, file, old, new)?,
+        None => String::from_str(alloc, file)?,
+    };
+    read(alloc, text.as_str().as_bytes())
+}
+
+/// What a file of these bytes says, in hexadecimal.
+fn of_bytes(alloc: Global, words: &str) -> io::Result<String> {
+    read(alloc, bytes_of(alloc, words)?.as_slice())
+}
+
+/// The lines of a file's addresses that others reach, with ` / ` between them, or `none`.
+fn exposed(alloc: Global, file: &str, change: &str) -> io::Result<String> {
+    let (old, new) = change.split_once(" > ").ok_or(unreadable())?;
+    let text = replaced(alloc, file, old, new)?;
+    let Ok(group) = read_group(alloc, text.as_str().as_bytes()) else {
+        return Err(unreadable());
+    };
+    let mut joined = String::new(alloc);
+    for line in exposed_lines(alloc, &group)?.as_str().lines() {
+        if !joined.is_empty() {
+            joined.push_str(" / ")?;
+        }
+        joined.push_str(line)?;
+    }
+    if joined.is_empty() {
+        joined.push_str("none")?;
+    }
+    Ok(joined)
+}
+
+fn replaced(alloc: Global, file: &str, old: &str, new: &str) -> io::Result<String> {
+    let (before, after) = file.split_once(old).ok_or(unreadable())?;
+    let mut text = String::from_str(alloc, before)?;
+    let mut lines = new.split("; ");
+    text.push_str(lines.next().unwrap_or(""))?;
+    for line in lines {
+        text.push('\n')?;
+        text.push_str(line)?;
+    }
+    text.push_str(after)?;
+    Ok(text)
+}
+
+fn read(alloc: Global, bytes: &[u8]) -> io::Result<String> {
+    match read_group(alloc, bytes) {
+        Ok(group) => Ok(said(alloc, &group)?),
+        Err(fault) => told(alloc, &fault),
+    }
+}
+
+/// The line of a fault, and its status.
+fn told(alloc: Global, fault: &GroupFault) -> io::Result<String> {
+    let mut bytes = Vec::new(alloc);
+    let status = tell_group_fault(fault, &mut Counted::new(&mut bytes));
+    let Ok(line) = std::str::from_utf8(bytes.as_slice()) else {
+        return Err(unreadable());
+    };
+    let line = line.trim_end();
+    Ok(format!(in alloc; "{line} ({status})")?)
+}
+
+fn said(alloc: Global, group: &Group) -> Result<String, AllocError> {
+    let mut said = settings(alloc, group)?;
+    said.push_str(times(alloc, group)?.as_str())?;
+    for machine in &group.machines {
+        said.push_str(addresses(alloc, machine)?.as_str())?;
+    }
+    Ok(said)
+}
+
+fn settings(alloc: Global, group: &Group) -> Result<String, AllocError> {
+    let name = group.name.as_str();
+    let (f, every) = (group.config.f, group.config.every);
+    let (budget, period) = (group.budget.instructions, group.period);
+    format!(in alloc; "{name} f={f} every={every} budget={budget} period={period}")
+}
+
+fn times(alloc: Global, group: &Group) -> Result<String, AllocError> {
+    let (patience, resend) = (group.times.patience, group.times.resend);
+    let (fresh, idle) = (group.times.fresh, group.times.idle);
+    let cold = match group.cold_start {
+        ColdStart::Auto => "auto",
+        ColdStart::ByHand => "by hand",
+    };
+    format!(in alloc; " patience={patience} resend={resend} fresh={fresh} idle={idle} {cold}")
+}
+
+fn addresses(alloc: Global, machine: &Machine) -> Result<String, AllocError> {
+    let (replica, modbus) = (machine.replica, machine.modbus);
+    let mut said = format!(in alloc; ", {replica} {modbus}")?;
+    put_address(alloc, &mut said, "console", machine.console)?;
+    put_address(alloc, &mut said, "status", machine.status)?;
+    Ok(said)
+}
+
+fn put_address(
+    alloc: Global,
+    said: &mut String,
+    key: &str,
+    address: Option<SocketAddr>,
+) -> Result<(), AllocError> {
+    if let Some(address) = address {
+        said.push_str(format!(in alloc; " {key}={address}")?.as_str())?;
+    }
+    Ok(())
+}
