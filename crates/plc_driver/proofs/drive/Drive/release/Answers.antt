@@ -22,3 +22,9 @@ loop-preserved g c =
       counted = first_of (search rules, grind (arith, common_steps));
       noted = both c.args.self.now.journal c.note_halt.new.self.journal c.show_scan.new.self.journal halted (none c.note_halt.new.self.journal c.show_scan.new.self.journal c.show_scan.ensures.same.1);
     }
+
+pub returns-in_err-scanned-clause-noted : goal.returns-in_err-scanned-clause-noted
+returns-in_err-scanned-clause-noted g c =
+    let rested = both c.args.self.now.journal c.loop.self.journal c.rest.new.self.journal c.loop.invariant.noted c.rest.ensures.noted in
+    let asked = both c.args.self.now.journal c.rest.new.self.journal c.submit.new.self.journal rested (none c.rest.new.self.journal c.submit.new.self.journal c.submit.ensures.same.1) in
+    both c.args.self.now.journal c.submit.new.self.journal c.await_reply.new.self.journal asked c.await_reply.ensures.noted
