@@ -43,7 +43,7 @@ impl Strangers {
     /// No connection came in yet. It fails only where memory runs out.
     pub(crate) fn new(alloc: Global) -> Result<Strangers, AllocError> {
         let mut places = Vec::new(alloc);
-        for _place in 0..STRANGERS {
+        for _ in 0..STRANGERS {
             places.push(None)?;
         }
         Ok(Strangers { places })
