@@ -18,7 +18,8 @@ use Rattle.ctl_model.specs.declared.forces.Forces.{Forces}
 use Rattle.ctl_model.specs.declared.phase.Phase.{Phase}
 use Rattle.ctl_model.specs.declared.phase.Phase.TheVariants as phases
 use Rattle.ctl_model.specs.Forces.{put_force, lift_force}
-use Rattle.ctl_model.specs.Scan.{Cycle, RunEnd, Done, Held, Stopped, scan_result, scan_start}
+use Rattle.ctl_model.specs.Scan.{Cycle, RunEnd, Done, Held, Stopped, one_step_run, run_from, run_from_break, scan_result, scan_start}
+use Rattle.ctl_model.specs.Slots.{places_of, slot_value}
 use Rattle.ctl_model.specs.Commands.{Control, refusal_answer, scan_answer, on_scan, if_held, on_break, force_answer, on_force, on_unforce, value_answer, result_read, forcible_at, command_outcome}
 use Rattle.ctl_debugger.specs.Owned.{Owned}
 use Rattle.ctl_debugger.specs.Outcome.{outcome, on_image, if_idle}
@@ -46,7 +47,7 @@ ran s t c (Held performed state) y e h = record { forces = h.forces ∙ sym e; b
 ran s t c (Stopped stop state) y e h = record { forces = h.forces ∙ sym e; breaks = h.breaks; idle = h.idle }
 
 scanned : (Q : Program) (budget : ℕ) (s t : Control) (inputs : InImage) (moment : ℕ) (p : Phase) (y : Answer × Control) → Alike s t → Follows t (on_scan Q budget s inputs moment p) y
-scanned Q budget s t inputs moment phases.Idle y h = ran s t (scan_start s.cycle inputs moment) _ y refl h
+scanned Q budget s t inputs moment phases.Idle y h = ran s t (scan_start s.cycle inputs moment) (run_from Q (scan_start s.cycle inputs moment).moment s.breaks budget (scan_start s.cycle inputs moment).performed (scan_start s.cycle inputs moment).state) y refl h
 scanned Q budget s t inputs moment phases.Held y h = h
 scanned Q budget s t inputs moment (phases.Stopped stop) y h = h
 
@@ -103,11 +104,11 @@ followed m n a given command done is = subst (λ (x : Answer). n ≡ mirrored m 
 lifted : (o m : Owned) (x y : Answer × Control) (command : Command) → (outcome m command).1 ≡ record m { control = y.1 } → m.program ≡ o.program → Follows m.control x y
     → IsMirror (record o { control = x.1 }) (mirrored m command x.0)
 lifted o m (answers.Done, s) y command is program h = subst (λ (w : Owned). IsMirror (record o { control = s }) w) (sym is) (mirrors o m s y.1 program h)
-lifted o m (answers.Outputs count image, s) y command is program h = mirrors o m s m.control program h
-lifted o m (answers.Held p, s) y command is program h = mirrors o m s m.control program h
-lifted o m (answers.Stopped stop p image, s) y command is program h = mirrors o m s m.control program h
-lifted o m (answers.Value v, s) y command is program h = mirrors o m s m.control program h
-lifted o m (answers.Refused why, s) y command is program h = mirrors o m s m.control program h
+lifted o m (answers.Outputs count image, s) y command is program h = record { program = program; forces = h.forces; breaks = h.breaks; idle = h.idle }
+lifted o m (answers.Held p, s) y command is program h = record { program = program; forces = h.forces; breaks = h.breaks; idle = h.idle }
+lifted o m (answers.Stopped stop p image, s) y command is program h = record { program = program; forces = h.forces; breaks = h.breaks; idle = h.idle }
+lifted o m (answers.Value v, s) y command is program h = record { program = program; forces = h.forces; breaks = h.breaks; idle = h.idle }
+lifted o m (answers.Refused why, s) y command is program h = record { program = program; forces = h.forces; breaks = h.breaks; idle = h.idle }
 
 -- a change, where the controller is idle
 loaded : (o m : Owned) (r : Result Program LoadFault) (command : Command) → (outcome m command).1 ≡ (on_image m r).1 → IsMirror o m
@@ -124,23 +125,25 @@ changed o m r (phases.Stopped stop) command is h = h
 pub stays : StaysMirror
 stays o m (commands.Scan inputs moment) h =
     lifted o m (on_scan o.program o.budget o.control inputs moment o.control.phase) (on_scan m.program m.budget m.control inputs moment m.control.phase) (commands.Scan inputs moment) refl h.program
-    (scanned o.program o.budget o.control m.control inputs moment o.control.phase _ (alike o m h))
+    (scanned o.program o.budget o.control m.control inputs moment o.control.phase (on_scan m.program m.budget m.control inputs moment m.control.phase) (alike o m h))
 stays o m (commands.SetBreak p) h =
     lifted o m (on_break o.program o.control p true) (on_break m.program m.control p true) (commands.SetBreak p) refl h.program (broke o.program m.program o.control m.control p true h.program (alike o m h))
 stays o m (commands.ClearBreak p) h =
     lifted o m (on_break o.program o.control p false) (on_break m.program m.control p false) (commands.ClearBreak p) refl h.program (broke o.program m.program o.control m.control p false h.program (alike o m h))
 stays o m commands.Step h =
-    lifted o m (command_outcome o.program o.budget o.control commands.Step) (command_outcome m.program m.budget m.control commands.Step) commands.Step refl h.program (went_on o.control m.control _ o.control.phase _ (alike o m h))
+    lifted o m (command_outcome o.program o.budget o.control commands.Step) (command_outcome m.program m.budget m.control commands.Step) commands.Step refl h.program
+    (went_on o.control m.control (one_step_run o.program o.control.cycle.moment o.budget o.control.cycle.performed o.control.cycle.state) o.control.phase (command_outcome m.program m.budget m.control commands.Step) (alike o m h))
 stays o m commands.Continue h =
-    lifted o m (command_outcome o.program o.budget o.control commands.Continue) (command_outcome m.program m.budget m.control commands.Continue) commands.Continue refl h.program (went_on o.control m.control _ o.control.phase _ (alike o m h))
+    lifted o m (command_outcome o.program o.budget o.control commands.Continue) (command_outcome m.program m.budget m.control commands.Continue) commands.Continue refl h.program
+    (went_on o.control m.control (run_from_break o.program o.control.cycle.moment o.control.breaks o.budget o.control.cycle.performed o.control.cycle.state) o.control.phase (command_outcome m.program m.budget m.control commands.Continue) (alike o m h))
 stays o m (commands.Force slot v) h =
     lifted o m (on_force o.control v (forcible_at slot.0)) (on_force m.control v (forcible_at slot.0)) (commands.Force slot v) refl h.program (forced o.control m.control v (forcible_at slot.0) (alike o m h))
 stays o m (commands.Unforce slot) h =
     lifted o m (on_unforce o.control (forcible_at slot.0)) (on_unforce m.control (forcible_at slot.0)) (commands.Unforce slot) refl h.program (unforced o.control m.control (forcible_at slot.0) (alike o m h))
 stays o m (commands.ReadVar slot) h =
-    lifted o m (command_outcome o.program o.budget o.control (commands.ReadVar slot)) (command_outcome m.program m.budget m.control (commands.ReadVar slot)) (commands.ReadVar slot) refl h.program (told o.control m.control _ refusals.BadSlot _ (alike o m h))
+    lifted o m (command_outcome o.program o.budget o.control (commands.ReadVar slot)) (command_outcome m.program m.budget m.control (commands.ReadVar slot)) (commands.ReadVar slot) refl h.program (told o.control m.control (slot_value (places_of o.program) o.control.cycle.state slot.0) refusals.BadSlot (command_outcome m.program m.budget m.control (commands.ReadVar slot)) (alike o m h))
 stays o m commands.ReadCr h =
-    lifted o m (command_outcome o.program o.budget o.control commands.ReadCr) (command_outcome m.program m.budget m.control commands.ReadCr) commands.ReadCr refl h.program (result_told o.control m.control o.control.phase _ (alike o m h))
+    lifted o m (command_outcome o.program o.budget o.control commands.ReadCr) (command_outcome m.program m.budget m.control commands.ReadCr) commands.ReadCr refl h.program (result_told o.control m.control o.control.phase (command_outcome m.program m.budget m.control commands.ReadCr) (alike o m h))
 stays o m commands.Reset h =
     lifted o m (command_outcome o.program o.budget o.control commands.Reset) (command_outcome m.program m.budget m.control commands.Reset) commands.Reset refl h.program (record { forces = h.forces; breaks = h.breaks; idle = refl })
 stays o m (commands.Change bytes) h =
