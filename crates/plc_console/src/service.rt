@@ -1,5 +1,7 @@
 //! The service: a port for an operator's console, one connection at a time, of which a later one takes over.
 
+ghost use Rattle.std.specs.Prelude.{None};
+
 use crate::desk::Desk;
 use crate::mirror::Mirror;
 use crate::session::{Submits, Unanswered, serve_console};
