@@ -12,6 +12,9 @@ use std::net::{Net, SocketAddr};
 /// So many bytes are read at once.
 const PIECE: usize = 4096;
 
+/// The most bytes of a unit behind its header (MODBUS Application Protocol V1.1b3, 4.1).
+const LONGEST: usize = 253;
+
 /// A connection that is made, or being made.
 #[derive(Drop)]
 pub(crate) struct Wire {
@@ -125,8 +128,11 @@ impl Wire {
         read_units(&mut self.stream, &mut self.session, units, is_ending)
     }
 
-    /// Sends a unit.
+    /// Sends a unit. One that is too long for a frame isn't sent: no request is.
     pub(crate) fn send(&mut self, unit: &Adu) -> Result<(), LinkFault> {
+        if unit.pdu.len() > LONGEST {
+            return Err(LinkFault::Length);
+        }
         if unit.write_to(&mut self.bytes).is_err() {
             return Err(LinkFault::Memory);
         }
