@@ -1,12 +1,14 @@
 //! Stores of machines: their bytes, how a machine starts from them, and what `format` and `open` leave.
 
+ghost use Rattle.std.specs.Prelude.{◌<◌, length};
+
 use crate::notation::{bytes_of, number_of, otherwise, unreadable};
 use io_model::Counted;
 use plc_store::{
     Header, NotWritten, Refusal, Start, Store, StoreDirectory, StoreFault, Wanted, format, open,
     read_store, show, spell, tell_refusal,
 };
-use std::alloc::Global;
+use std::alloc::{AllocError, Global};
 use std::io;
 
 /// A directory in memory, whose writes fail where that is asked for.
@@ -134,18 +136,37 @@ fn cut(alloc: Global, words: &str) -> io::Result<String> {
     Ok(format!(in alloc; "torn at {count}")?)
 }
 
+/// Bytes of which the one at a place is changed.
+fn changed_at(alloc: Global, bytes: &[u8], place: usize) -> Result<Vec<u8>, AllocError>
+    requires { place < length bytes.now }
+{
+    let mut changed = Vec::from_slice(alloc, bytes)?;
+    changed[place] = bytes[place] ^ 0x55;
+    Ok(changed)
+}
+
+/// The fault of the bytes of a store of which the one at a place is changed.
+fn fault_at(alloc: Global, bytes: &[u8], place: usize) -> io::Result<StoreFault>
+    requires { place < length bytes.now }
+{
+    let changed = changed_at(alloc, bytes, place)?;
+    match read_store(alloc, changed.as_slice()) {
+        Ok(_) => Err(otherwise()),
+        Err(fault) => Ok(fault),
+    }
+}
+
 /// Changes each byte of a store in turn: at how many it's torn, and at how many of another format.
 fn changed(alloc: Global, words: &str) -> io::Result<String> {
-    let mut bytes = spell(alloc, &store_of(alloc, words)?)?;
+    let bytes = spell(alloc, &store_of(alloc, words)?)?;
+    let bytes = bytes.as_slice();
     let (mut torn, mut other) = (0u32, 0u32);
     for place in 0..bytes.len() {
-        bytes[place] ^= 0x55;
-        match read_store(alloc, bytes.as_slice()) {
-            Err(StoreFault::Torn) => torn = torn.saturating_add(1),
-            Err(StoreFault::OtherFormat) => other = other.saturating_add(1),
-            _ => return Err(otherwise()),
+        match fault_at(alloc, bytes, place)? {
+            StoreFault::Torn => torn = torn.saturating_add(1),
+            StoreFault::OtherFormat => other = other.saturating_add(1),
+            StoreFault::Memory => return Err(otherwise()),
         }
-        bytes[place] ^= 0x55;
     }
     Ok(format!(in alloc; "torn {torn}, other format {other}")?)
 }
