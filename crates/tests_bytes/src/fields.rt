@@ -10,6 +10,9 @@ use std::io;
 /// Actions of one moment, at most.
 const ACTIONS: u32 = 1000;
 
+/// A PDU has at most so many bytes (V1.1b3, section 4.1).
+const MOST_BYTES: usize = 253;
+
 /// What comes out of a cell in a table of this title, for this text of a field.
 pub fn table(alloc: Global, title: &str, cell: &str, field: &str) -> io::Result<String> {
     match title {
@@ -56,6 +59,9 @@ fn who_of(word: &str) -> Option<Who> {
 
 fn hexadecimal(alloc: Global, unit: &Adu) -> io::Result<String> {
     let mut bytes = Vec::new(alloc);
+    if unit.pdu.len() > MOST_BYTES {
+        return Err(unreadable());
+    }
     unit.write_to(&mut bytes)?;
     Ok(hex::encode(alloc, bytes.as_slice())?)
 }
