@@ -285,7 +285,7 @@ told_one result wish question fails a b held held' Q is same wrote =
 
 -- what wasn't told, since memory ran out
 pub untold : (fails : Type 0) (held : Option (List ℕ)) → (text : List ℕ) × Writes (Err ends.Memory) text fails held held
-untold fails held = ([], (tt, (0, Appends-nil held)))
+untold fails held = ([], (tt, 0, Appends-nil held))
 
 -- a line that was ended
 pub ended_line : (result : Result (Unit {0}) SessionEnd) (rest : List ℕ) (wish : Wish) (line : Option (List ℕ)) (fails : Type 0) (s t : Scene) → line ≡ kept [] → HasNoEnd rest → IsWish s.program rest wish

@@ -12,8 +12,11 @@ use vr_model::Config;
 
 fn ask_for(rt: &impl Abort, alloc: Global, rows: &[(&[&str], Words)]) {
     for (given, wanted) in rows.iter() {
-        let words = read_words(alloc, given);
-        assert!(rt; matches!(words, Ok(words) if words == *wanted), "{given:?}");
+        let is_read = match read_words(alloc, given) {
+            Ok(words) => words == *wanted,
+            Err(_error) => false,
+        };
+        assert!(rt; is_read, "{given:?}");
     }
 }
 
