@@ -375,18 +375,25 @@ fn the_parties_of_a_machine_reach_each_other(rt: HostRuntime) -> Result<(), Fail
     Ok(())
 }
 
+/// Why this machine has no links.
+fn unlinked<R>(rt: R, alloc: Global, number: u8, at: &[SocketAddr]) -> Result<ErrorKind, Fail>
+where
+    R: Wait + Clock + Net<Listener = TcpListener, Stream = TcpStream> + Copy + Drop,
+{
+    let (listener, _) = listening(&rt)?;
+    let machine = machine_of(alloc, number, at)?;
+    let links = machine_links(rt, alloc, &machine, listener, Duration::from_millis(1));
+    Ok(links.err().ok_or("no error")?.kind())
+}
+
 /// No group has a machine 3 of three, nor nine machines.
 #[test]
 fn a_machine_is_one_of_its_group(rt: HostRuntime) -> Result<(), Fail> {
     let alloc = rt.alloc();
-    for (number, count) in [(3u8, 3usize), (0, 9)] {
-        let (listener, at) = listening(&rt)?;
-        let addresses = [at; 9];
-        let machine = machine_of(alloc, number, &addresses[..count])?;
-        let links = machine_links(rt, alloc, &machine, listener, Duration::from_millis(1));
-        let kind = links.err().ok_or("no error")?.kind();
-        assert!(rt; kind == ErrorKind::InvalidInput);
-    }
+    let (_, at) = listening(&rt)?;
+    let of_three = unlinked(rt, alloc, 3, &[at, at, at])?;
+    let of_nine = unlinked(rt, alloc, 0, &[at; 9])?;
+    assert!(rt; of_three == ErrorKind::InvalidInput && of_nine == ErrorKind::InvalidInput);
     Ok(())
 }
 
