@@ -525,17 +525,18 @@ struct Taken {
 /// So many milliseconds are an end of waiting.
 const LONG: u64 = 15_000;
 
-/// How long it takes until these replicas are reached; longer than is waited where they aren't.
+/// How long it takes until these replicas are reached, over a pipe that carries what it's given or drops it; longer than
+/// is waited where they aren't.
 fn until<R>(
     seats: (&mut Seat<R>, &mut Seat<R>),
-    pipe: Option<&mut Pipe>,
+    pipe: &mut Pipe,
+    carries: bool,
     reached: (u8, u8),
 ) -> Result<Taken, Fail>
 where
     R: Wait + Clock + Net<Listener = TcpListener, Stream = TcpStream> + Copy + Drop,
 {
     let (first, second) = seats;
-    let mut pipe = pipe;
     let begun = Instant::now(&first.rt)?;
     let mut taken = Taken { all: 0, longest: 0 };
     for _ in 0..u32::MAX {
@@ -546,7 +547,7 @@ where
         if (first.exchange.reached(), second.exchange.reached()) == reached || all > LONG {
             return Ok(taken);
         }
-        if let Some(pipe) = &mut pipe {
+        if carries {
             pipe.pump(&first.rt)?;
         }
         first.link.recv();
@@ -561,15 +562,15 @@ where
 fn a_partition_heals(rt: HostRuntime) -> Result<(), Fail> {
     let alloc = rt.alloc();
     let (mut first, mut second, mut pipe) = piped(rt, alloc)?;
-    let joined = until((&mut first, &mut second), Some(&mut pipe), (2, 1))?;
-    let parted = until((&mut first, &mut second), None, (0, 0))?;
+    let joined = until((&mut first, &mut second), &mut pipe, true, (2, 1))?;
+    let parted = until((&mut first, &mut second), &mut pipe, false, (0, 0))?;
     assert!(rt; joined.all <= LONG && parted.all <= LONG);
     for _ in 0..150u32 {
         first.run(10)?;
         second.run(10)?;
     }
     pipe.pairs.clear();
-    let healed = until((&mut first, &mut second), Some(&mut pipe), (2, 1))?;
+    let healed = until((&mut first, &mut second), &mut pipe, true, (2, 1))?;
     assert!(rt;
         healed.all <= 1500 || (healed.longest > 100 && healed.all <= LONG),
         "{} {}",
