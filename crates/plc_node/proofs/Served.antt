@@ -1,7 +1,9 @@
 -- What is told of a controller that was served, by what was put into its journal and printed of it.
-use Rattle.std.proofs.Common.{◌≡◌, List, [], ◌∷◌, ◌++◌, refl, subst, sym, ◌∙◌, append-nil}
+use Rattle.std.proofs.Common.{◌≡◌, ℕ, List, [], ◌∷◌, ◌++◌, subst, sym, ◌∙◌, Option, Some, Result, Ok, IfOk}
 use Rattle.io_model.specs.declared.counted.CountedWrite.{Ghosts as CountedWriter}
 use Rattle.rtrb.specs.Ring.{SameConsumer}
+use Rattle.plc_driver.specs.declared.driving.DriverCounts.{DriverCounts}
+use Rattle.plc_host.specs.declared.failed.Failed.{Failed}
 use Rattle.plc_status.specs.declared.feed.Feed.{Feed}
 use Rattle.plc_status.specs.declared.journal.Journal.{Journal}
 use Rattle.plc_status.specs.declared.notice.Notice.{Notice}
@@ -29,3 +31,9 @@ module _ {W : Type 0} (w : CountedWriter W) where
     port = port;
     notices = record { told = while_.notices ++ (out.notices ++ loss m.lost); lines = joined w while_.notices _ b c d while_.lines out.lines };
   }
+
+-- a driver that ended well made as many scans as were asked for
+pub made : (asked : Option ℕ) (done : Result ℕ Failed) (counts : Result DriverCounts Failed) (k : DriverCounts) → counts ≡ Ok k → IfOk done (λ scans. asked ≡ Some scans) → IfOk counts (λ x. done ≡ Ok x.scans) → asked ≡ Some k.scans
+made asked done counts k is ran ended =
+    let whole : done ≡ Ok k.scans = subst (λ (r : Result DriverCounts Failed). IfOk r (λ x. done ≡ Ok x.scans)) is ended in
+    subst (λ (r : Result ℕ Failed). IfOk r (λ scans. asked ≡ Some scans)) whole ran

@@ -11,7 +11,7 @@ use io_image::{
 use io_model::CountedWrite;
 use modbus_server::{OpenServer, Server, Shown};
 use plc_console::{Console, Desk, OpenConsole};
-use plc_driver::{Directory, Driver, DriverCounts, Ended};
+use plc_driver::{Directory, Driver, Ended};
 use plc_host::{Failed, Host, ServiceRuntime, Traffic};
 use plc_listener::Door;
 use plc_settings::Settings;
@@ -193,10 +193,10 @@ where
             counts,
         } = driven.end(rt);
         printer.finish(&mut journal, err);
-        let DriverCounts { scans, crashes } = counts?;
+        let counts = counts?;
         Ok(Counts {
-            crashes,
-            scans,
+            crashes: counts.crashes,
+            scans: counts.scans,
             sessions,
             writes,
         })
