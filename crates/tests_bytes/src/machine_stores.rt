@@ -233,6 +233,9 @@ fn mark_in(alloc: Global, directory: &MemoryDirectory) -> &'static str {
 fn formatted(alloc: Global, words: &str) -> io::Result<String> {
     let mut directory = directory_of(alloc, words)?;
     let store = store_of(alloc, "identity=11 epoch=1 program=22 machine=2 started=0")?;
+    if store.header.is_started {
+        return Err(unreadable());
+    }
     let came = match format(alloc, &mut directory, &store) {
         Ok(()) => "formatted",
         Err(refusal) => refusal_of(refusal),
