@@ -1,5 +1,7 @@
 //! Stores of the machines of a group: made once, and shown.
 
+ghost use Rattle.std.specs.Prelude.{◌≡◌, false};
+
 use crate::{file, tell_of};
 use il_text::{Fault, image_bytes, put, put_numbered, tell};
 use io_model::CountedWrite;
@@ -57,7 +59,10 @@ fn format_of<E: CountedWrite>(
     }
 }
 
-fn format_in(rt: &HostRuntime, directory: &str, store: &Store) -> Result<(), Refusal> {
+/// Makes this store, which was never started, in a directory.
+fn format_in(rt: &HostRuntime, directory: &str, store: &Store) -> Result<(), Refusal>
+    requires { store.now.header.is_started ≡ false }
+{
     let mut directory = FileDirectory::make(*rt, rt.alloc(), directory)?;
     plc_store::format(rt.alloc(), &mut directory, store)
 }
