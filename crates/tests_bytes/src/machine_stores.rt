@@ -84,7 +84,7 @@ fn byte(words: &str, name: &str) -> Option<u8> {
 
 /// The store of these words, with an image of three bytes.
 fn store_of(alloc: Global, words: &str) -> io::Result<Store> {
-    let image = Vec::from_slice(alloc, b"LIP".as_slice())?;
+    let image = Vec::from_slice(alloc, b"ILP".as_slice())?;
     match header_of(words) {
         Some(header) => Store::new(header, image).ok_or(unreadable()),
         None => Err(unreadable()),
