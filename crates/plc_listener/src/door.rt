@@ -34,7 +34,7 @@ impl Door {
     }
 
     /// Its number.
-    pub(crate) fn port(&self) -> io::Result<u16> {
+    pub fn port(&self) -> io::Result<u16> {
         Ok(self.listener.local_addr()?.port())
     }
 
