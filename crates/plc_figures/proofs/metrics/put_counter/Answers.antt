@@ -1,0 +1,5 @@
+use Rattle.plc_figures.proofs.Chains.{then}
+use Rattle.plc_figures.proofs.metrics.put_counter.Goals as goal
+
+pub returns : goal.returns
+returns c = then c.in_ok-put_family.ensures c.in_ok-put_sample.ensures

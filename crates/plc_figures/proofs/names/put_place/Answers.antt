@@ -1,0 +1,7 @@
+use Rattle.plc_figures.proofs.names.put_place.Goals as goal
+
+pub returns-in-Bit : goal.returns-in-Bit
+returns-in-Bit c = rw c.in-Bit.is c.put_bit.ensures
+
+pub returns-in-Word : goal.returns-in-Word
+returns-in-Word c = rw c.in-Word.is c.put_word.ensures

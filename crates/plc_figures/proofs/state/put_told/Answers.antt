@@ -1,0 +1,7 @@
+use Rattle.std.proofs.Common.{ap}
+use Rattle.plc_figures.specs.Json.{string_json}
+use Rattle.plc_figures.proofs.Chains.{equally, then}
+use Rattle.plc_figures.proofs.state.put_told.Goals as goal
+
+pub returns : goal.returns
+returns c = then c.in_ok-put_comma.ensures (then c.in_ok-put.ensures (then c.in_ok-put_seconds.ensures (then c.in_ok-put-2.ensures (then (equally (ap string_json c.as_slice.ensures.value) c.in_ok-put_string.ensures) c.in_ok-put-3.ensures))))

@@ -1,0 +1,5 @@
+pub mod Json
+pub mod Metrics
+pub mod Readings
+pub mod State
+pub mod Texts

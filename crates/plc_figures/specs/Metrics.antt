@@ -1,0 +1,152 @@
+-- Figures for Prometheus, as its text format has them.
+use Rattle.std.specs.Prelude.{ℕ, ◌+◌, List, [], ◌++◌, take, Option, Some, None, codes, decimal}
+use Rattle.std.specs.List.{enumerate_from, flat_map}
+use Rattle.plc_figures.specs.declared.reading.Clients.{Clients}
+use Rattle.plc_figures.specs.declared.reading.Halt.{Halt}
+use Rattle.plc_figures.specs.declared.reading.Halt.TheVariants as halts
+use Rattle.plc_figures.specs.declared.reading.Process.{Process}
+use Rattle.plc_figures.specs.declared.reading.Reading.{Reading}
+use Rattle.plc_figures.specs.declared.reading.Replica.{Replica}
+use Rattle.plc_figures.specs.declared.reading.Scans.{Scans}
+use Rattle.plc_figures.specs.Readings.{bounds, flag_number, greatest_view, shows_normal, sum_of}
+use Rattle.plc_figures.specs.Texts.{seconds_text}
+
+-- what figures of this name are, and of which type
+abbrev pub family_text : List ℕ → List ℕ → List ℕ → List ℕ
+family_text name kind help =
+    codes "# HELP "
+    ++ (name ++ (codes " " ++ (help ++ (codes "\n# TYPE " ++ (name ++ (codes " " ++ (kind ++ codes "\n")))))))
+
+abbrev pub sample : List ℕ → ℕ → List ℕ
+sample name value = name ++ (codes " " ++ (decimal value ++ codes "\n"))
+
+-- a time, in seconds
+abbrev pub seconds_sample : List ℕ → ℕ → List ℕ
+seconds_sample name microseconds = name ++ (codes " " ++ (seconds_text microseconds ++ codes "\n"))
+
+-- a figure of a replica: name{replica="2"} 1
+abbrev pub replica_sample : List ℕ → ℕ → ℕ → List ℕ
+replica_sample name number value =
+    name ++ (codes "{replica=\"" ++ (decimal number ++ (codes "\"} " ++ (decimal value ++ codes "\n"))))
+
+abbrev pub counter_text : List ℕ → List ℕ → ℕ → List ℕ
+counter_text name help value = family_text name (codes "counter") help ++ sample name value
+
+abbrev pub gauge_text : List ℕ → List ℕ → ℕ → List ℕ
+gauge_text name help value = family_text name (codes "gauge") help ++ sample name value
+
+-- how long ago the scan began that released outputs last
+abbrev pub known_age : ℕ → List ℕ
+known_age age =
+    family_text (codes "plc_release_age_seconds") (codes "gauge")
+    (codes "Time since the beginning of the scan that released outputs last.")
+    ++ seconds_sample (codes "plc_release_age_seconds") age
+
+abbrev pub age_metrics : Option ℕ → List ℕ
+age_metrics None = []
+age_metrics (Some age) = known_age age
+
+abbrev pub held_number : Option Halt → ℕ
+held_number (Some (halts.Held position)) = 1
+held_number _ = 0
+
+abbrev pub stopped_number : Option Halt → ℕ
+stopped_number (Some (halts.Stopped stop position)) = 1
+stopped_number _ = 0
+
+abbrev pub bucket_line : ℕ → ℕ → List ℕ
+bucket_line bound count =
+    codes "plc_scan_interval_seconds_bucket{le=\""
+    ++ (seconds_text bound ++ (codes "\"} " ++ (decimal count ++ codes "\n")))
+
+-- the line of a bucket, with all that are counted up to it
+abbrev pub bucket_text : List ℕ → ℕ × ℕ → List ℕ
+bucket_text counts it = bucket_line it.1 (sum_of (take (it.0 + 1) counts))
+
+-- a line for each bucket with a bound
+abbrev pub bucket_lines : List ℕ → List ℕ
+bucket_lines counts = flat_map (bucket_text counts) (enumerate_from 0 bounds)
+
+-- all intervals together, and how many there were
+abbrev pub totals_text : ℕ → ℕ → List ℕ
+totals_text together count =
+    codes "plc_scan_interval_seconds_bucket{le=\"+Inf\"} "
+    ++ (decimal count
+    ++ (codes "\n"
+    ++ (seconds_sample (codes "plc_scan_interval_seconds_sum") together
+    ++ sample (codes "plc_scan_interval_seconds_count") count)))
+
+abbrev pub interval_metrics : Scans → List ℕ
+interval_metrics scans =
+    family_text (codes "plc_scan_interval_seconds") (codes "histogram")
+    (codes "Time from the beginning of one scan to that of the next.")
+    ++ (bucket_lines scans.interval_counts ++ totals_text scans.interval_sum (sum_of scans.interval_counts))
+
+abbrev pub scan_counts : Scans → List ℕ
+scan_counts scans =
+    counter_text (codes "plc_scans_total") (codes "Scans that were answered.") scans.scans
+    ++ (counter_text (codes "plc_scan_late_total") (codes "Scans that began a period late or more.") scans.late
+    ++ counter_text (codes "plc_releases_total") (codes "Scans that released outputs.") scans.releases)
+
+abbrev pub scan_metrics : Scans → List ℕ
+scan_metrics scans =
+    scan_counts scans
+    ++ (interval_metrics scans
+    ++ (age_metrics scans.age
+    ++ (gauge_text (codes "plc_held") (codes "Whether the last scan was held at a breakpoint.") (held_number scans.halt)
+    ++ gauge_text (codes "plc_stopped") (codes "Whether the last scan stopped at a fault.")
+    (stopped_number scans.halt))))
+
+-- whether a replica is normal, with its number
+abbrev pub normal_line : ℕ × Replica → List ℕ
+normal_line it = replica_sample (codes "plc_replica_normal") it.0 (flag_number (shows_normal it.1))
+
+abbrev pub normal_lines : List Replica → List ℕ
+normal_lines replicas = flat_map normal_line (enumerate_from 0 replicas)
+
+-- how often a replica was started, with its number
+abbrev pub starts_line : ℕ × Replica → List ℕ
+starts_line it = replica_sample (codes "plc_replica_starts_total") it.0 it.1.starts
+
+abbrev pub starts_lines : List Replica → List ℕ
+starts_lines replicas = flat_map starts_line (enumerate_from 0 replicas)
+
+-- each replica by its number, from 0
+abbrev pub group_metrics : List Replica → List ℕ
+group_metrics replicas =
+    family_text (codes "plc_replica_normal") (codes "gauge") (codes "Whether the replica is normal.")
+    ++ (normal_lines replicas
+    ++ (family_text (codes "plc_replica_starts_total") (codes "counter") (codes "Starts of the replica from its store.")
+    ++ (starts_lines replicas
+    ++ gauge_text (codes "plc_view") (codes "The greatest view of a replica.") (greatest_view replicas))))
+
+abbrev pub client_metrics : Clients → List ℕ
+client_metrics clients =
+    counter_text (codes "plc_sessions_total") (codes "Connections of Modbus clients that were given a session.")
+    clients.sessions
+    ++ counter_text (codes "plc_modbus_requests_total") (codes "Requests of Modbus clients that were answered.")
+    clients.requests
+
+abbrev pub known_process : Process → List ℕ
+known_process process =
+    gauge_text (codes "process_resident_memory_bytes") (codes "Memory of the process.") process.resident
+    ++ (family_text (codes "process_cpu_seconds_total") (codes "counter") (codes "Processor time of the process.")
+    ++ seconds_sample (codes "process_cpu_seconds_total") process.processor)
+
+abbrev pub process_metrics : Option Process → List ℕ
+process_metrics None = []
+process_metrics (Some process) = known_process process
+
+abbrev pub build_metrics : List ℕ → List ℕ
+build_metrics version =
+    family_text (codes "plc_build_info") (codes "gauge") (codes "The version of the program.")
+    ++ (codes "plc_build_info{version=\"" ++ (version ++ codes "\"} 1\n"))
+
+-- all figures, by the version of the program and what shows; one that isn't known is left out
+abbrev pub metrics_text : List ℕ → Reading → List ℕ
+metrics_text version reading =
+    build_metrics version
+    ++ (scan_metrics reading.scans
+    ++ (group_metrics reading.replicas.items
+    ++ (client_metrics reading.clients
+    ++ process_metrics reading.process)))

@@ -1,0 +1,127 @@
+-- What shows of a controller, as one JSON object. Times are seconds.
+use Rattle.std.specs.Prelude.{ℕ, List, ◌++◌, Option, Some, None, codes, decimal}
+use Rattle.std.specs.Fmt.{signed_decimal}
+use Rattle.std.specs.List.{enumerate_from, flat_map}
+use Rattle.il_lister.specs.Listing.{location_text}
+use Rattle.il_text.specs.Lines.{stop_name}
+use Rattle.vr_model.specs.declared.standing.Status.{Status}
+use Rattle.vr_model.specs.declared.standing.Status.TheVariants as statuses
+use Rattle.plc_figures.specs.declared.reading.Clients.{Clients}
+use Rattle.plc_figures.specs.declared.reading.Halt.{Halt}
+use Rattle.plc_figures.specs.declared.reading.Halt.TheVariants as halts
+use Rattle.plc_figures.specs.declared.reading.Point.{Point}
+use Rattle.plc_figures.specs.declared.reading.Process.{Process}
+use Rattle.plc_figures.specs.declared.reading.Reading.{Reading}
+use Rattle.plc_figures.specs.declared.reading.Replica.{Replica}
+use Rattle.plc_figures.specs.declared.reading.Scans.{Scans}
+use Rattle.plc_figures.specs.declared.reading.Told.{Told}
+use Rattle.plc_figures.specs.Json.{comma, flag_json, string_json}
+use Rattle.plc_figures.specs.Readings.{greatest_view}
+use Rattle.plc_figures.specs.Texts.{seconds_text}
+
+abbrev pub phase_name : Status → List ℕ
+phase_name statuses.Normal = codes "normal"
+phase_name statuses.ViewChange = codes "view change"
+phase_name statuses.Recovering = codes "recovering"
+phase_name statuses.Down = codes "down"
+
+-- a replica, with its number
+abbrev pub replica_json : ℕ × Replica → List ℕ
+replica_json it = comma it.0
+    ++ (codes "{\"replica\":"
+    ++ (decimal it.0
+    ++ (codes ",\"status\":\""
+    ++ (phase_name it.1.standing.status
+    ++ (codes "\",\"view\":"
+    ++ (decimal it.1.standing.view
+    ++ (codes ",\"primary\":"
+    ++ (flag_json it.1.standing.is_primary
+    ++ (codes ",\"starts\":"
+    ++ (decimal it.1.starts ++ (codes ",\"failed\":" ++ (flag_json it.1.has_failed ++ codes "}"))))))))))))
+
+abbrev pub replicas_json : List Replica → List ℕ
+replicas_json replicas = flat_map replica_json (enumerate_from 0 replicas)
+
+-- why a scan was held or stopped, and before or at which instruction, from 0
+abbrev pub why_json : List ℕ → ℕ → List ℕ
+why_json why position =
+    codes "{\"why\":\"" ++ (why ++ (codes "\",\"position\":" ++ (decimal position ++ codes "}")))
+
+abbrev pub halt_json : Option Halt → List ℕ
+halt_json None = codes "null"
+halt_json (Some (halts.Held position)) = why_json (codes "held") position
+halt_json (Some (halts.Stopped stop position)) = why_json (stop_name stop) position
+
+abbrev pub age_json : Option ℕ → List ℕ
+age_json None = codes "null"
+age_json (Some age) = seconds_text age
+
+abbrev pub scans_json : Scans → List ℕ
+scans_json scans = codes "{\"count\":"
+    ++ (decimal scans.scans
+    ++ (codes ",\"late\":"
+    ++ (decimal scans.late
+    ++ (codes ",\"releases\":"
+    ++ (decimal scans.releases
+    ++ (codes ",\"interval\":"
+    ++ (seconds_text scans.interval
+    ++ (codes ",\"age\":"
+    ++ (age_json scans.age
+    ++ (codes ",\"fresh\":"
+    ++ (flag_json scans.is_fresh ++ (codes ",\"halt\":" ++ (halt_json scans.halt ++ codes "}")))))))))))))
+
+abbrev pub clients_json : Clients → List ℕ
+clients_json clients =
+    codes "{\"sessions\":"
+    ++ (decimal clients.sessions ++ (codes ",\"requests\":" ++ (decimal clients.requests ++ codes "}")))
+
+abbrev pub known_process : Process → List ℕ
+known_process process =
+    codes "{\"memory\":"
+    ++ (decimal process.resident ++ (codes ",\"processor\":" ++ (seconds_text process.processor ++ codes "}")))
+
+abbrev pub process_json : Option Process → List ℕ
+process_json None = codes "null"
+process_json (Some process) = known_process process
+
+-- an input or an output, with its name, its place and its value
+abbrev pub point_json : ℕ × Point → List ℕ
+point_json it = comma it.0
+    ++ (codes "{\"name\":"
+    ++ (string_json it.1.name.items
+    ++ (codes ",\"place\":\""
+    ++ (location_text it.1.place ++ (codes "\",\"value\":" ++ (signed_decimal it.1.value ++ codes "}"))))))
+
+abbrev pub points_json : List Point → List ℕ
+points_json points = flat_map point_json (enumerate_from 0 points)
+
+-- a line that was printed, and when, since 1970
+abbrev pub told_json : ℕ × Told → List ℕ
+told_json it = comma it.0
+    ++ (codes "{\"at\":"
+    ++ (seconds_text it.1.at ++ (codes ",\"line\":" ++ (string_json it.1.line.items ++ codes "}"))))
+
+abbrev pub notices_json : List Told → List ℕ
+notices_json notices = flat_map told_json (enumerate_from 0 notices)
+
+-- the inputs, the outputs and the notices
+abbrev pub lists_text : Reading → List ℕ
+lists_text reading = codes ",\"inputs\":["
+    ++ (points_json reading.inputs.items
+    ++ (codes "],\"outputs\":["
+    ++ (points_json reading.outputs.items
+    ++ (codes "],\"notices\":[" ++ (notices_json reading.notices.items ++ codes "]}\n")))))
+
+-- what shows, by the version of the program
+abbrev pub state_text : List ℕ → Reading → List ℕ
+state_text version reading = codes "{\"version\":"
+    ++ (string_json version
+    ++ (codes ",\"view\":"
+    ++ (decimal (greatest_view reading.replicas.items)
+    ++ (codes ",\"replicas\":["
+    ++ (replicas_json reading.replicas.items
+    ++ (codes "],\"scans\":"
+    ++ (scans_json reading.scans
+    ++ (codes ",\"clients\":"
+    ++ (clients_json reading.clients
+    ++ (codes ",\"process\":" ++ (process_json reading.process ++ lists_text reading)))))))))))

@@ -1,0 +1,27 @@
+//! What shows of a controller while it runs, as texts: figures for Prometheus, and one JSON object. All are values: it
+//! opens no port and reads no clock.
+//!
+//! ```rust
+//! let mut out = Vec::new(alloc);
+//! put_metrics(&mut out, b"1.0.0", &reading)?; // "plc_scans_total 12\n", and what it is, a line each
+//! put_state(&mut out, b"1.0.0", &reading)?; // {"version":"1.0.0","view":4, ..}
+//! ```
+//!
+//! Proved: each text is the definition's of what shows, each replica under its own number and each point's value beside
+//! its own name, and nothing else (`specs/Metrics`, `specs/State`).
+//!
+//! No program uses it yet: the page that shows it, and its rows, are to come.
+#![tactic(auto)]
+
+mod json;
+mod metrics;
+mod names;
+mod reading;
+mod state;
+mod text;
+
+pub use metrics::put_metrics;
+pub use names::{phase_name, put_place, stop_name};
+pub use reading::{BOUNDS, BUCKETS, Clients, Halt, Point, Process, Reading, Replica, Scans, Told};
+pub use state::put_state;
+pub use text::{put, put_number, put_seconds, put_signed};

@@ -1,0 +1,68 @@
+//! Texts that grow: each call adds to the end, and fails only where memory runs out.
+
+ghost use Rattle.std.specs.Prelude.{◌≡◌, ◌<◌, ◌+◌, ◌/◌, ◌%◌, decimal, OnOk};
+ghost use Rattle.std.specs.Fmt.{signed_decimal};
+ghost use Rattle.plc_figures.specs.Texts.{digits_six, seconds_text, IsAdded};
+
+use itoa::Buffer;
+use std::alloc::AllocError;
+
+/// Adds these bytes.
+pub fn put(out: &mut Vec<u8>, text: &[u8]) -> Result<(), AllocError>
+    ensures { OnOk result (IsAdded out.old.items text.now out.new.items) }
+{
+    out.extend_from_slice(text)?;
+    Ok(())
+}
+
+/// Adds a number in decimal digits.
+pub fn put_number(out: &mut Vec<u8>, number: u64) -> Result<(), AllocError>
+    ensures { OnOk result (IsAdded out.old.items (decimal number) out.new.items) }
+{
+    let mut buffer = Buffer::new();
+    put(out, buffer.format(number).as_bytes())?;
+    Ok(())
+}
+
+/// Adds a number in decimal digits, with its sign where it is below 0.
+pub fn put_signed(out: &mut Vec<u8>, number: i64) -> Result<(), AllocError>
+    ensures { OnOk result (IsAdded out.old.items (signed_decimal number) out.new.items) }
+{
+    let mut buffer = Buffer::new();
+    put(out, buffer.format(number).as_bytes())?;
+    Ok(())
+}
+
+/// A digit of a number: that of so many ones.
+fn digit(number: u64, ones: u64) -> u8
+    requires { 0 < ones }
+    ensures { result ≡ 48 + number / ones % 10 }
+{
+    b'0' + (number / ones % 10) as u8
+}
+
+/// Adds the six last digits of a number.
+fn put_six(out: &mut Vec<u8>, number: u64) -> Result<(), AllocError>
+    ensures { OnOk result (IsAdded out.old.items (digits_six number) out.new.items) }
+{
+    let digits = [
+        digit(number, 100_000),
+        digit(number, 10_000),
+        digit(number, 1_000),
+        digit(number, 100),
+        digit(number, 10),
+        digit(number, 1),
+    ];
+    put(out, &digits)?;
+    Ok(())
+}
+
+/// Adds so many microseconds as seconds, with six digits behind the point.
+pub fn put_seconds(out: &mut Vec<u8>, microseconds: u64) -> Result<(), AllocError>
+    ensures { OnOk result (IsAdded out.old.items (seconds_text microseconds) out.new.items) }
+{
+    put_number(out, microseconds / 1_000_000)?;
+    put(out, b".")?;
+    put_six(out, microseconds % 1_000_000)?;
+    Ok(())
+}
