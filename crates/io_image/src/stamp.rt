@@ -62,6 +62,13 @@ impl<R: Clock + Drop> Stamp<R> {
             self.marked.store(now.saturating_add(1), Ordering::SeqCst);
         }
     }
+
+    /// What was released last counts from then on, as where its scan was submitted then.
+    pub fn mark_from(&self, then: Instant) {
+        let then = then.saturating_duration_since(self.begun).as_millis();
+        let then = u64::try_from(then).unwrap_or(u64::MAX);
+        self.marked.store(then.saturating_add(1), Ordering::SeqCst);
+    }
 }
 
 impl<R: Clock + Drop> Ages for Arc<Stamp<R>> {
