@@ -14,7 +14,8 @@
 //! saved in the store and nothing else, and what is sent are the rule's messages; or it is lost for want of memory and
 //! nothing changed; or its store failed, and it's down and sends nothing. `Down` is answered exactly where it's down
 //! and the event is no restart, `Store` only where the store failed in this call. `standing`, `commit`, `op_number`,
-//! `entry` and `last_scan` tell what is so of each such record.
+//! `entry` and `last_scan` tell what is so of each such record; `snapshot` is that of the controller that has executed its
+//! committed entries.
 //!
 //! Tests (nothing rests on them alone): `replicas.rows` of `tests_bytes` has runs of events with the exact messages or
 //! the fault. Which of two effects within one call comes first no clause can say: that the save does is that `step`

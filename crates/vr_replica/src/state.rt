@@ -3,6 +3,7 @@
 ghost use Rattle.std.specs.Prelude.{◌≡◌, ◌↔◌, ◌⊎◌, ◌<◌, ◌&&◌, length, IfOk, IfSome, IsTrue, None, Some, MatchOption};
 ghost use Rattle.std.specs.Prelude.{if◌then◌else◌};
 ghost use Rattle.std.specs.List.{slice_get};
+ghost use Rattle.ctl_model.specs.Snapshots.{snapshot_of};
 ghost use Rattle.il_model.specs.declared.command.Command.{Command};
 ghost use Rattle.vr_model.specs.Membership.{Membership};
 ghost use Rattle.vr_model.specs.Replicas as model;
@@ -16,7 +17,7 @@ ghost use Rattle.vr_replica.specs.Scans.{last_scan_of};
 
 use crate::scans::{ScanInputs, last_scan};
 use il_loader::Image;
-use il_model::Budget;
+use il_model::{Budget, Snapshot};
 use std::alloc::{AllocError, Global};
 use vr_core::Core;
 use vr_model::{Config, Request, Standing, Status};
@@ -136,6 +137,14 @@ impl Replica {
             → IfSome result (λ scan. last_scan_of r.log ≡ Some scan) }
     {
         last_scan(self.core.log.entries())
+    }
+
+    /// A snapshot of its controller, which has executed its committed entries. It fails only where memory runs out.
+    pub fn snapshot(&self, alloc: Global) -> Result<Snapshot, AllocError>
+        ensures { IfOk result
+            (λ s. s ≡ snapshot_of self.now.core.controller.program self.now.core.controller.control) }
+    {
+        self.core.controller.save(alloc)
     }
 
     /// The entry of its log at this place, from 0. Of those that it has executed it may keep only the last ones.
