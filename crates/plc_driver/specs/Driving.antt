@@ -1,11 +1,8 @@
 -- What the driver of a group asks for and publishes, and why a group doesn't start.
 use Rattle.std.specs.Prelude.{◌≡◌, ℕ, ◌+◌, length, Result, IfOk, Bool, List, [], ◌∷◌, ◌++◌, Option, Some, None, is_some}
 use Rattle.il_model.specs.declared.command.Command.{Command}
-use Rattle.il_model.specs.declared.command.Answer.{Answer}
-use Rattle.il_model.specs.declared.command.Answer.TheVariants as answers
 use Rattle.vr_model.specs.declared.message.Message.{Message}
 use Rattle.vr_model.specs.Logs.{Request}
-use Rattle.vr_model.specs.Messages.{Body, Reply}
 use Rattle.vr_model.specs.StandsFor.{body_with}
 use Rattle.vr_model.specs.World.{ClientState}
 use Rattle.vr_client.specs.Client.{Client}
@@ -20,8 +17,7 @@ use Rattle.vr_threads.specs.declared.cluster.ClusterError.{ClusterError}
 use Rattle.vr_threads.specs.declared.cluster.ClusterError.TheVariants as starts
 use Rattle.plc_driver.specs.declared.drive.Scanned.{Scanned}
 use Rattle.plc_driver.specs.declared.pace.Came.{Came}
-use Rattle.plc_status.specs.declared.scans.Halt.{Halt}
-use Rattle.plc_status.specs.declared.scans.Halt.TheVariants as halts
+use Rattle.plc_status.specs.Halting.{halt_by}
 use Rattle.plc_status.specs.declared.scans.Scan.{Scan}
 
 -- the releases that there are of a message: one or none
@@ -32,19 +28,6 @@ releases None = []
 -- what a message releases was published, and nothing else, and whether there was something is told
 abbrev pub Publishes : Option Release → Bool → List Release → List Release → Type 0
 Publishes release is_released old new = (new ≡ old ++ releases release) × (is_released ≡ is_some release)
-
--- what a scan was held or stopped by, if it was: with its place
-abbrev pub halt_of : Answer → Option Halt
-halt_of (answers.Held position) = Some (halts.Held position)
-halt_of (answers.Stopped stop position image) = Some (halts.Stopped stop position)
-halt_of (answers.Outputs count image) = None
-halt_of (answers.Value value) = None
-halt_of answers.Done = None
-halt_of (answers.Refused refusal) = None
-
-abbrev pub halt_by : Body Command Answer → Option Halt
-halt_by (Reply view number answer) = halt_of answer
-halt_by _ = None
 
 -- There is a message whose release was published, if it has one, and by which the scan was held or stopped, if it was;
 -- whatever log is meant by what it carries.

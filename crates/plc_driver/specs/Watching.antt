@@ -3,9 +3,7 @@ use Rattle.std.specs.Prelude.{◌≡◌, ℕ, ◌-◌, nat_eq, nat_le, not, Bool
 use Rattle.plc_status.specs.declared.journal.Journal.{Journal}
 use Rattle.plc_status.specs.declared.notice.Notice.{Notice}
 use Rattle.plc_status.specs.declared.notice.Notice.TheVariants as notices
-use Rattle.plc_status.specs.declared.scans.Halt.{Halt}
 use Rattle.plc_status.specs.Journal.{IsPut}
-use Rattle.plc_status.specs.Scans.{halt_notice}
 
 -- for so long, in nanoseconds, a replica may not be normal before that is told
 abbrev pub patience : ℕ
@@ -60,13 +58,3 @@ IsFailureNoted number true old new = IsPut (notices.Store number) old new
 abbrev pub AreFramesNoted : ℕ → Bool → Journal → Journal → Type 0
 AreFramesNoted number false old new = new ≡ old
 AreFramesNoted number true old new = IsPut (notices.NoFrame number) old new
-
--- what is told of a scan, by what it was held or stopped by, if it was
-abbrev pub halted : Option Halt → Notice
-halted None = notices.GoesOn
-halted (Some halt) = halt_notice halt
-
--- What is to be told of a scan that was held or stopped or goes on, by what was of the scan before it: it was noted where
--- that's another, and else nothing was.
-abbrev pub IsHaltNoted : Option Halt → Option Halt → Journal → Journal → Type 0
-IsHaltNoted before halt old new = (before ≡ halt → new ≡ old) × ((before ≡ halt → ⊥) → IsPut (halted halt) old new)

@@ -10,51 +10,23 @@ ghost use Rattle.vr_model.specs.StandsFor.{body_with};
 ghost use Rattle.io_driver.specs.Driver.{release_by};
 ghost use Rattle.plc_status.specs.Journal.{AreNoted};
 ghost use Rattle.plc_status.specs.Scans.{after_scan};
-ghost use Rattle.plc_driver.specs.Driving.{AsksForScan, HasRun, Publishes, Scans, halt_by, scan_of};
-ghost use Rattle.plc_driver.specs.Watching.{IsHaltNoted, halted};
+ghost use Rattle.plc_driver.specs.Driving.{AsksForScan, HasRun, Publishes, Scans, scan_of};
+ghost use Rattle.plc_status.specs.Halting.{IsHaltNoted};
 
 use crate::crashes::Crashes;
 use crate::group::Group;
 use crate::pace::{Came, Pace};
 use il_loader::Image;
-use il_model::Answer;
 use io_driver::ScanDriver;
 use io_image::{Naming, Pen, ReleasedWriter, Staging};
 use plc_host::{Failed, Host, ServiceRuntime};
 use plc_settings::Settings;
-use plc_status::{Halt, Journal, Notice, Scan, StatusWriter};
+use plc_status::{Halt, Journal, Notice, Scan, StatusWriter, halt_in, note_halt};
 use std::sync::Wait;
 use std::time::{Clock, Duration, Instant};
-use vr_model::{Body, Message};
+use vr_model::Message;
 use vr_ports::{Input, Relink, send_all};
 use vr_threads::{ClusterThreads, Starts};
-
-/// By what the scan was held or stopped whose answer the message brings, if it was.
-fn halt_in(message: &Message) -> Option<Halt>
-    ensures { (log : List (Entry Asked)) → result ≡ halt_by (body_with log message.now.body) }
-{
-    match message.body {
-        Body::Reply {
-            answer: Answer::Held(position),
-            ..
-        } => Some(Halt::Held(position)),
-        Body::Reply {
-            answer: Answer::Stopped { stop, position, .. },
-            ..
-        } => Some(Halt::Stopped(stop, position)),
-        _ => None,
-    }
-}
-
-/// What is noted of a scan that was held or stopped by this, or goes on.
-fn halted(halt: Option<Halt>) -> Notice
-    ensures { result ≡ halted halt }
-{
-    match halt {
-        Some(halt) => halt.notice(),
-        None => Notice::GoesOn,
-    }
-}
 
 /// What came of a scan.
 #[derive(Clone, Copy)]
@@ -377,9 +349,7 @@ where
         ensures halt { self.new.halt ≡ halt }
         ensures same { self.new.writer ≡ self.old.writer }
     {
-        if self.halt != halt {
-            self.journal.put(halted(halt));
-        }
+        note_halt(self.halt, halt, &mut self.journal);
         self.halt = halt;
     }
 

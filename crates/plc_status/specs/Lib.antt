@@ -1,3 +1,4 @@
+pub mod Halting
 pub mod Journal
 pub mod Notices
 pub mod Published

@@ -20,6 +20,7 @@
 
 mod deed;
 mod feed;
+mod halting;
 mod journal;
 mod notice;
 mod printer;
@@ -28,6 +29,7 @@ mod scans;
 mod status;
 
 pub use deed::Deed;
+pub use halting::{halt_in, note_halt};
 pub use journal::{Journal, Journals};
 pub use notice::{Notice, tell_port};
 pub use printer::Printer;
