@@ -8,3 +8,8 @@ use Rattle.plc_host.specs.declared.failed.Failed.TheVariants.{Device, Memory}
 abbrev pub failed_by : ErrorKind → Failed
 failed_by OutOfMemory = Memory
 failed_by kind = Device
+
+-- the same, but this of a device of which nothing was known
+abbrev pub known_as : Failed → Failed → Failed
+known_as known Device = known
+known_as known failed = failed

@@ -2,7 +2,7 @@
 
 ghost use Rattle.std.specs.Prelude.{◌≡◌};
 ghost use Rattle.std.specs.IoError.{error_kind};
-ghost use Rattle.plc_host.specs.Failing.{failed_by};
+ghost use Rattle.plc_host.specs.Failing.{failed_by, known_as};
 ghost use Rattle.plc_host.specs.declared.failed.Failed.TheVariants.{Device, Memory};
 
 use io_model::DeviceFault;
@@ -13,11 +13,44 @@ use thiserror::Error;
 /// What was wanting.
 #[derive(Clone, Copy, Debug, PartialEq, Eq, Error)]
 pub enum Failed {
-    /// A file, a socket or a stream failed, a thread isn't to be had, or a group of replicas is lost.
+    /// A file, a socket or a stream failed, and nothing more is known of it.
     #[error("device failed")]
     Device,
+    /// No thread is to be had.
+    #[error("no thread")]
+    Thread,
+    /// A connection between replicas isn't to be had, or has ended.
+    #[error("no connection")]
+    Connection,
+    /// Fewer than f+1 replicas were normal for too long.
+    #[error("no majority")]
+    Majority,
+    /// This port isn't to be had.
+    #[error("port {0}")]
+    Port(u16),
+    /// The store of this replica isn't to be had: its directory, or its file there.
+    #[error("store {0}")]
+    Store(u8),
+    /// The report's file can't be written.
+    #[error("report")]
+    Report,
+    /// Standard output is closed, or can't be written.
+    #[error("output")]
+    Output,
     #[error("out of memory")]
     Memory,
+}
+
+impl Failed {
+    /// The same, but this of a device of which nothing was known.
+    pub fn known_as(self, known: Failed) -> Failed
+        ensures { result ≡ known_as known self }
+    {
+        match self {
+            Failed::Device => known,
+            failed => failed,
+        }
+    }
 }
 
 impl From<AllocError> for Failed {

@@ -5,7 +5,10 @@
 //! ```rust
 //! let host = Host { rt, alloc: rt.alloc() };
 //! let traffic = Arc::new(host.alloc, Traffic::new())?; // Failed::Memory, where memory is wanting
-//! let socket = TcpListener::bind(&host.rt, ("127.0.0.1", 502))?; // Failed::Device, where the port is taken
+//! let socket = match TcpListener::bind(&host.rt, ("127.0.0.1", 502)) {
+//!     Ok(socket) => socket,
+//!     Err(error) => return Err(Failed::from(error).known_as(Failed::Port(502))), // or Memory
+//! };
 //! ```
 //!
 //! Proved: an error of std, as a service meets it, becomes the one of `Failed` that `specs/Failing` says.

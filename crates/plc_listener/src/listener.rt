@@ -124,7 +124,7 @@ impl<R: ServiceRuntime, S: Session<R> + Send + Drop + 'static> Listener<R, S> {
         });
     }
 
-    /// Gives connections their sessions from now on.
+    /// Gives connections their sessions from now on, by a thread of its own.
     pub fn open(self) -> Result<OpenListener<R, S>, Failed> {
         let port = self.door.port()?;
         let alloc = self.host.alloc;
@@ -136,7 +136,7 @@ impl<R: ServiceRuntime, S: Session<R> + Send + Drop + 'static> Listener<R, S> {
                 port,
                 acceptor,
             }),
-            Err(_) => Err(Failed::Device),
+            Err(_) => Err(Failed::Thread),
         }
     }
 }

@@ -27,5 +27,5 @@ pub record IsToldAtLast {W : Type 0} (w : CountedWriter W) (status : ℕ) (old n
 
 -- the fault that tells why a service failed
 abbrev pub fault_of : Failed → Fault
-fault_of failures.Device = faults.Device
 fault_of failures.Memory = faults.Memory
+fault_of failed = faults.Device

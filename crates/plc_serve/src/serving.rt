@@ -67,8 +67,8 @@ pub fn fault_of(failed: Failed) -> Fault
     ensures status { status_of result ≡ 2 }
 {
     match failed {
-        Failed::Device => Fault::Device,
         Failed::Memory => Fault::Memory,
+        _ => Fault::Device,
     }
 }
 
