@@ -1,6 +1,6 @@
 //! The port at which connections come in.
 
-use std::net::{Net, Shutdown, TcpListener, TcpStream};
+use std::net::{Net, Shutdown, SocketAddr, TcpListener, TcpStream};
 use std::os::fd::OwnedFd;
 use std::sync::atomic::{AtomicBool, Ordering};
 use std::time::{Clock, Duration};
@@ -9,7 +9,7 @@ use std::{io, thread};
 /// In milliseconds, after a connection that could not be taken, as where no file descriptor is left.
 const PAUSE: u64 = 10;
 
-/// A port of this machine whose accept another thread can end.
+/// An address of this machine at which connections come in; another thread can end its accept.
 #[derive(Drop)]
 pub struct Door {
     listener: TcpListener,
@@ -24,7 +24,15 @@ impl Door {
         rt: &R,
         port: u16,
     ) -> io::Result<Door> {
-        let listener = TcpListener::bind(rt, ("127.0.0.1", port))?;
+        Door::at(rt, SocketAddr::from(([127, 0, 0, 1], port)))
+    }
+
+    /// Connections to this address are kept from now on, until they are taken. Port 0 is any that is free.
+    pub fn at<R: Net<Listener = TcpListener, Stream = TcpStream>>(
+        rt: &R,
+        address: SocketAddr,
+    ) -> io::Result<Door> {
+        let listener = TcpListener::bind(rt, address)?;
         let socket = TcpStream::from(OwnedFd::from(listener.try_clone()?));
         Ok(Door {
             listener,
@@ -33,7 +41,7 @@ impl Door {
         })
     }
 
-    /// Its number.
+    /// The port's number.
     pub fn port(&self) -> io::Result<u16> {
         Ok(self.listener.local_addr()?.port())
     }

@@ -1,13 +1,13 @@
 //! A port of this machine, and sessions with those that connect to it, so many at once as there is something to serve
 //! them with: a `Door` takes connections, each place has a `Session`, and a `Listener` brings them together in threads
-//! of its own. It knows no protocol.
+//! of its own. Once it's closed the sessions may serve at another door. It knows no protocol.
 //!
 //! ```rust
-//! let door = Door::open(&rt, 0)?; // any port that is free
+//! let door = Door::open(&rt, 0)?; // any port of 127.0.0.1 that is free; `Door::at` takes an address
 //! let idle = Duration::from_secs(60);
 //! let listener = Listener::new(host, door, sessions, idle, WhenFull::Closes)?; // `sessions`: one for each place
 //! let open = listener.open()?; // connections are served from now on, at `open.port()`
-//! open.close(); // none is served any more
+//! let sessions = open.close(); // none is served any more
 //! ```
 //!
 //! Proved: each call is safe, and returns but for the waits that its bound allows; what fails is a device or memory.
@@ -15,7 +15,7 @@
 //! By its code alone, and tested through what is served (`serve_rows`, `failing_rows` and `console_rows` of
 //! `tests_threads`): that a connection gets a place that is free, or is closed unanswered or takes over the first one,
 //! that a session ends whose client is idle, sends a request too slowly or doesn't take its replies, and that `close`
-//! ends each session and each thread.
+//! ends each session and each thread, and gives back each of the sessions.
 #![tactic(auto)]
 
 mod connection;

@@ -128,6 +128,7 @@ impl<R: ServiceRuntime, S: Session<R> + Send + Drop + 'static> Listener<R, S> {
     pub fn open(self) -> Result<OpenListener<R, S>, Failed> {
         let port = self.door.port()?;
         let alloc = self.host.alloc;
+        let room = Vec::with_capacity(alloc, self.places.count())?;
         let listener = Arc::new(alloc, self)?;
         let shared = Arc::try_clone(&listener)?;
         match thread::spawn(&listener.host.rt, move || shared.accept_all()) {
@@ -135,6 +136,7 @@ impl<R: ServiceRuntime, S: Session<R> + Send + Drop + 'static> Listener<R, S> {
                 listener,
                 port,
                 acceptor,
+                room,
             }),
             Err(_) => Err(Failed::Thread),
         }
@@ -146,10 +148,12 @@ pub struct OpenListener<R: ServiceRuntime, S: Drop> {
     listener: Arc<Listener<R, S>>,
     port: u16,
     acceptor: JoinHandle<()>,
+    /// Empty, for what serves connections at each place, once none is served.
+    room: Vec<S>,
 }
 
 impl<R: ServiceRuntime, S: Drop> OpenListener<R, S> {
-    /// The port, of 127.0.0.1.
+    /// The port's number.
     pub fn port(&self) -> u16 {
         self.port
     }
@@ -160,14 +164,18 @@ impl<R: ServiceRuntime, S: Drop> OpenListener<R, S> {
         self.listener.places.close(&self.listener.host.rt);
     }
 
-    /// Takes no connection any more, and ends each session and the thread.
-    pub fn close(self) {
+    /// Takes no connection any more, ends each session and the thread, and gives back what served them.
+    pub fn close(self) -> Vec<S> {
         self.shut();
         let OpenListener {
             listener,
             port: _port,
             acceptor,
+            mut room,
         } = self;
-        acceptor.join(&listener.host.rt);
+        let rt = &listener.host.rt;
+        acceptor.join(rt);
+        listener.places.clear_into(rt, &mut room);
+        room
     }
 }

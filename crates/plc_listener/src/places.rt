@@ -115,4 +115,20 @@ impl<S: Drop> Places<S> {
             }
         }
     }
+
+    /// How many there are.
+    pub(crate) fn count(&self) -> usize {
+        self.places.len()
+    }
+
+    /// Adds what serves connections at each place, and leaves nothing there. These have room for so many as there are
+    /// places.
+    pub(crate) fn clear_into<R: Wait>(&self, rt: &R, sessions: &mut Vec<S>) {
+        for place in &self.places {
+            let session = place.lock(rt).session.take();
+            if let Some(session) = session {
+                let _ = sessions.push(session);
+            }
+        }
+    }
 }
