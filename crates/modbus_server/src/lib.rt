@@ -10,6 +10,14 @@
 //! let (sessions, writes) = open.close(); // how many clients there were, and how many writes got a ticket
 //! ```
 //!
+//! Where a port is open at times only, what serves its clients is kept meanwhile, with the inputs that they staged:
+//!
+//! ```rust
+//! let seats = Seats::new(host, shown, Duration::from_secs(60), traffic)?;
+//! let open = seats.open(Door::at(&rt, address)?)?; // clients are served from now on
+//! let seats = open.suspend(); // none is any more
+//! ```
+//!
 //! Proved: `reply` is the table of functions, with its order of checks, cells and reply, by the bytes of a request and by
 //! its values (`values_are_served`). `serve_session` writes the replies in order, each by what its reader shows, behind
 //! all that it saw before, or with exception 4 in place of outputs that were released longer ago than the limit, if
@@ -24,12 +32,14 @@
 mod outputs;
 mod replies;
 mod request;
+mod seats;
 mod serve;
 mod service;
 mod values;
 
 pub use outputs::Outputs;
 pub use replies::{reply, timely_reply};
+pub use seats::{Seats, Shown};
 pub use serve::{SessionEnd, serve_session};
-pub use service::{OpenServer, Server, Shown};
+pub use service::{OpenServer, Server};
 pub use values::values_are_served;
