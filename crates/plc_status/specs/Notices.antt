@@ -10,6 +10,8 @@ use Rattle.plc_status.specs.declared.deed.Deed.{Deed}
 use Rattle.plc_status.specs.declared.deed.Deed.TheVariants as deeds
 use Rattle.plc_status.specs.declared.notice.Notice.{Notice}
 use Rattle.plc_status.specs.declared.notice.Notice.TheVariants as notices
+use Rattle.plc_status.specs.declared.notice.Why.{Why}
+use Rattle.plc_status.specs.declared.notice.Why.TheVariants as causes
 
 -- a number between two texts
 abbrev pub numbered_line : List ℕ → ℕ → List ℕ → List ℕ
@@ -17,6 +19,35 @@ numbered_line before number after = numbered before number ++ after
 
 abbrev pub replica_line : ℕ → List ℕ → List ℕ
 replica_line number what = numbered_line (codes "replica ") number what
+
+abbrev pub machine_line : ℕ → List ℕ → List ℕ
+machine_line number what = numbered_line (codes "machine ") number what
+
+-- of this machine in a view
+abbrev pub view_line : List ℕ → ℕ → List ℕ
+view_line what view = what ++ numbered_line (codes " view ") view (codes "\n")
+
+abbrev pub why_name : Why → List ℕ
+why_name causes.OtherVersion = codes "another version"
+why_name causes.OtherGroup = codes "another group"
+why_name causes.OtherEpoch = codes "another epoch"
+why_name causes.OtherProgram = codes "another program"
+why_name causes.OwnParty = codes "own party"
+why_name causes.NoMember = codes "no member"
+why_name causes.FewerStarts = codes "fewer starts"
+
+-- who was refused: the machine of this number, or one that told none
+abbrev pub refused_party : Option ℕ → List ℕ
+refused_party (Some number) = machine_line number (codes " refused: ")
+refused_party None = codes "machine refused: "
+
+abbrev pub refused_line : Option ℕ → Why → List ℕ
+refused_line number why = refused_party number ++ (why_name why ++ codes "\n")
+
+-- of a replica that wasn't normal for a minute: why it may never be again
+abbrev pub long_line : List ℕ
+long_line = codes "replica not normal for a minute: "
+    ++ codes "if most machines have lost their memory, a new epoch is due\n"
 
 -- the line that tells the port at which clients are served
 abbrev pub port_line : ℕ → List ℕ
@@ -59,6 +90,16 @@ notice_line (notices.Store number) = replica_line number (codes " store\n")
 notice_line (notices.Crashed number) = replica_line number (codes " crashed\n")
 notice_line (notices.NoFrame number) = replica_line number (codes " no frame\n")
 notice_line (notices.Hangs number) = replica_line number (codes " hangs\n")
+notice_line (notices.MachineJoined number) = machine_line number (codes " joined\n")
+notice_line (notices.MachineLost number) = machine_line number (codes " lost\n")
+notice_line (notices.MachineRefused number why) = refused_line number why
+notice_line (notices.ReplicaNormalIn view) = view_line (codes "replica normal") view
+notice_line notices.ReplicaNotNormal = codes "replica not normal\n"
+notice_line notices.NotNormalLong = long_line
+notice_line (notices.Driving view) = view_line (codes "driving") view
+notice_line (notices.StandingBy view) = view_line (codes "standing by") view
+notice_line (notices.Stale view) = view_line (codes "stale") view
+notice_line (notices.NoPort view) = view_line (codes "no port") view
 notice_line (notices.Held position) = numbered_line (codes "held ") position (codes "\n")
 notice_line (notices.Stopped stop position) = stopped_line stop position
 notice_line notices.GoesOn = codes "goes on\n"

@@ -31,7 +31,7 @@ mod status;
 pub use deed::Deed;
 pub use halting::{halt_in, note_halt};
 pub use journal::{Journal, Journals};
-pub use notice::{Notice, tell_port};
+pub use notice::{Notice, Why, tell_port};
 pub use printer::Printer;
 pub use report::{Counts, ReportFile, open_report, put_report};
 pub use scans::{BOUNDS, BUCKETS, Halt, Scan, ScanStatus};

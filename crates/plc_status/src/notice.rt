@@ -3,12 +3,27 @@
 ghost use Rattle.std.specs.Prelude.{◌≡◌};
 ghost use Rattle.il_text.specs.Telling.{Sends};
 ghost use Rattle.il_text.specs.Lines.{stop_name};
-ghost use Rattle.plc_status.specs.Notices.{notice_line, numbered_line, replica_line, stopped_line, IsPortTold};
+ghost use Rattle.plc_status.specs.Notices.{long_line, machine_line, notice_line, numbered_line, refused_line, replica_line, view_line, why_name};
+ghost use Rattle.plc_status.specs.Notices.{stopped_line, IsPortTold};
 
 use crate::deed::{Deed, put_deed};
 use il_model::Stop;
 use il_text::{put, put_numbered};
 use io_model::{CountedWrite, DeviceFault};
+
+/// Why a connection with another machine was refused.
+#[derive(Clone, Copy, Debug, PartialEq, Eq)]
+pub enum Why {
+    OtherVersion,
+    OtherGroup,
+    OtherEpoch,
+    OtherProgram,
+    /// The other end says that it's this machine.
+    OwnParty,
+    NoMember,
+    /// It was started before the one that was seen last.
+    FewerStarts,
+}
 
 /// A change, as it is told by a line of its own.
 #[derive(Clone, Copy, PartialEq, Eq)]
@@ -27,6 +42,26 @@ pub enum Notice {
     NoFrame(u8),
     /// Its thread isn't at its end, a while after the end of all.
     Hangs(u8),
+    /// The machine of this number is connected.
+    MachineJoined(u8),
+    /// It isn't any more.
+    MachineLost(u8),
+    /// A connection was refused: that of this machine, if it told its number.
+    MachineRefused(Option<u8>, Why),
+    /// The replica of this machine is normal in this view.
+    ReplicaNormalIn(u64),
+    /// It isn't any more.
+    ReplicaNotNormal,
+    /// It wasn't for a minute.
+    NotNormalLong,
+    /// This machine drives the plant in this view: its port is open.
+    Driving(u64),
+    /// Another one drives it.
+    StandingBy(u64),
+    /// This one drives, and released nothing for so long that its port is closed.
+    Stale(u64),
+    /// It drives, and its port can't be opened.
+    NoPort(u64),
     /// A scan was held there, after one that wasn't.
     Held(u16),
     /// A scan stopped there, after one that didn't stop so.
@@ -76,6 +111,63 @@ fn put_replica<E: CountedWrite>(err: &mut E, number: u8, what: &[u8]) -> Result<
     put_line_of(err, b"replica ", usize::from(number), what)
 }
 
+/// What is told of another machine.
+fn put_machine<E: CountedWrite>(err: &mut E, number: u8, what: &[u8]) -> Result<(), DeviceFault>
+    ensures { Sends E.CountedWrite (machine_line number what.now) err.old err.new result }
+{
+    put_line_of(err, b"machine ", usize::from(number), what)
+}
+
+/// What is told of this machine in a view.
+fn put_view<E: CountedWrite>(err: &mut E, what: &[u8], view: u64) -> Result<(), DeviceFault>
+    ensures { Sends E.CountedWrite (view_line what.now view) err.old err.new result }
+{
+    put(err, what)?;
+    put_line_of(err, b" view ", view as usize, b"\n")
+}
+
+/// The words for why a connection was refused.
+fn name_of_why(why: Why) -> &'static str
+    ensures { result.now ≡ why_name why }
+{
+    match why {
+        Why::OtherVersion => "another version",
+        Why::OtherGroup => "another group",
+        Why::OtherEpoch => "another epoch",
+        Why::OtherProgram => "another program",
+        Why::OwnParty => "own party",
+        Why::NoMember => "no member",
+        Why::FewerStarts => "fewer starts",
+    }
+}
+
+/// What is told of a connection that was refused.
+fn put_refused<E: CountedWrite>(
+    err: &mut E,
+    number: Option<u8>,
+    why: Why,
+) -> Result<(), DeviceFault>
+    ensures { Sends E.CountedWrite (refused_line number why) err.old err.new result }
+{
+    match number {
+        Some(number) => put_machine(err, number, b" refused: ")?,
+        None => put(err, b"machine refused: ")?,
+    }
+    put(err, name_of_why(why).as_bytes())?;
+    put(err, b"\n")
+}
+
+/// What is told of a replica that wasn't normal for a minute: why it may never be again.
+fn put_not_normal_long<E: CountedWrite>(err: &mut E) -> Result<(), DeviceFault>
+    ensures { Sends E.CountedWrite long_line err.old err.new result }
+{
+    put(err, b"replica not normal for a minute: ")?;
+    put(
+        err,
+        b"if most machines have lost their memory, a new epoch is due\n",
+    )
+}
+
 /// Writes the line that tells it. It takes no memory.
 pub(crate) fn put_line<E: CountedWrite>(err: &mut E, notice: Notice) -> Result<(), DeviceFault>
     ensures { Sends E.CountedWrite (notice_line notice) err.old err.new result }
@@ -88,6 +180,16 @@ pub(crate) fn put_line<E: CountedWrite>(err: &mut E, notice: Notice) -> Result<(
         Notice::Crashed(number) => put_replica(err, number, b" crashed\n"),
         Notice::NoFrame(number) => put_replica(err, number, b" no frame\n"),
         Notice::Hangs(number) => put_replica(err, number, b" hangs\n"),
+        Notice::MachineJoined(number) => put_machine(err, number, b" joined\n"),
+        Notice::MachineLost(number) => put_machine(err, number, b" lost\n"),
+        Notice::MachineRefused(number, why) => put_refused(err, number, why),
+        Notice::ReplicaNormalIn(view) => put_view(err, b"replica normal", view),
+        Notice::ReplicaNotNormal => put(err, b"replica not normal\n"),
+        Notice::NotNormalLong => put_not_normal_long(err),
+        Notice::Driving(view) => put_view(err, b"driving", view),
+        Notice::StandingBy(view) => put_view(err, b"standing by", view),
+        Notice::Stale(view) => put_view(err, b"stale", view),
+        Notice::NoPort(view) => put_view(err, b"no port", view),
         Notice::Held(position) => put_line_of(err, b"held ", usize::from(position), b"\n"),
         Notice::Stopped(stop, position) => put_stopped(err, stop, position),
         Notice::GoesOn => put(err, b"goes on\n"),
