@@ -17,7 +17,9 @@ use vr_model::{Body, ClientNumber, Config, Message, Party, Request, Standing, St
 use vr_ports::{Gate, Input, Link, OpenGate, Relink, Tick, Timer};
 use vr_replica::{StoreFault, ViewStore};
 use vr_shown::Shown;
-use vr_threads::{ChannelLink, Cluster, ClusterConfig, MachineTimer, Seat, Starts, Switchboard};
+use vr_threads::{
+    ChannelLink, Cluster, ClusterConfig, MachineTimer, Observer, Seat, Starts, Switchboard,
+};
 
 fn wire(alloc: Global) -> Result<Image, Fail> {
     match load(alloc, WIRE) {
@@ -56,6 +58,8 @@ struct MeetingGate<R: time::Clock + Drop> {
     other: Arc<AtomicBool>,
     met: Arc<AtomicU64>,
 }
+
+impl<R: time::Clock + Drop> Observer for MeetingGate<R> {}
 
 impl<R: time::Clock + Drop> Gate for MeetingGate<R> {
     fn before(&mut self, call: u64) {
@@ -196,6 +200,8 @@ struct HoldingGate<R: time::Clock + Drop> {
     rt: R,
     goes: Arc<AtomicBool>,
 }
+
+impl<R: time::Clock + Drop> Observer for HoldingGate<R> {}
 
 impl<R: time::Clock + Drop> Gate for HoldingGate<R> {
     fn before(&mut self, _call: u64) {

@@ -9,7 +9,7 @@ use vr_model::{Body, ClientNumber, Message, Party, Request, Standing, Status};
 use vr_ports::{Gate, Input, Link, Tick, Timer};
 use vr_replica::Replica;
 use vr_shown::{Shown, ShownWriter};
-use vr_threads::{Seat, serve};
+use vr_threads::{Observer, Seat, serve};
 
 /// What a receive gives: the request of this number, from client 0.
 #[derive(Clone, Copy)]
@@ -130,6 +130,8 @@ impl CountingGate {
         if self.in_turn { self.ended } else { 0 }
     }
 }
+
+impl Observer for CountingGate {}
 
 impl Gate for CountingGate {
     fn before(&mut self, call: u64) {

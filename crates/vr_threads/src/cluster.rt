@@ -4,6 +4,7 @@ ghost use Rattle.std.specs.Prelude.{◌≡◌, IfOk, vec_len};
 ghost use Rattle.vr_model.specs.Groups.{group_size};
 ghost use Rattle.vr_threads.specs.Working.{IsPlannedFor};
 
+use crate::observer::Observer;
 use crate::seat::Seat;
 use crate::starting::Starts;
 use crate::working::{Plan, Work, spawned};
@@ -15,7 +16,7 @@ use std::sync::Wait;
 use std::thread::{JoinHandle, Threads};
 use thiserror::Error;
 use vr_model::Config;
-use vr_ports::{Cutter, Gate, Relink, Timer};
+use vr_ports::{Cutter, Relink, Timer};
 use vr_shown::{Shown, ShownReader, ShownWriter};
 
 /// Why no replica is served.
@@ -60,8 +61,8 @@ pub struct ClusterConfig {
 
 /// A replica, as others see it: what cuts its link, the way to give its thread orders to start it, and what shows of it.
 #[derive(Drop)]
-struct Member<L: Relink + Drop> {
-    cutter: L::Cutter,
+pub(crate) struct Member<L: Relink + Drop> {
+    pub(crate) cutter: L::Cutter,
     shown: ShownReader,
     orders: Sender<()>,
     /// So many orders it was given.
@@ -70,7 +71,7 @@ struct Member<L: Relink + Drop> {
 
 impl<L: Relink + Drop> Member<L> {
     /// What shows of it now: it is down from an order on until that came to its end.
-    fn look(&mut self) -> Shown {
+    pub(crate) fn look(&mut self) -> Shown {
         let shown = self.shown.read();
         if shown.tries == self.ordered {
             shown
@@ -84,8 +85,13 @@ impl<L: Relink + Drop> Member<L> {
         self.shown.read().tries != self.ordered
     }
 
+    /// Whether nothing is done for it: it is not served, and no order has yet to come to its end.
+    pub(crate) fn is_idle(&mut self) -> bool {
+        !self.is_starting() && !self.look().is_served
+    }
+
     /// Has its thread start it, unless an order has not come to its end: whether that is ordered.
-    fn order<R: Wait>(&mut self, rt: &R) -> bool {
+    pub(crate) fn order<R: Wait>(&mut self, rt: &R) -> bool {
         if self.is_starting() || self.orders.try_send(rt, ()).is_err() {
             return false;
         }
@@ -132,7 +138,7 @@ impl<L: Relink + Send + Drop + 'static> Cluster<L> {
         R: Threads + Wait + Copy + Send + 'static,
         S: Starts + Send + Drop + 'static,
         T: Timer + Send + Drop + 'static,
-        G: Gate + Send + Drop + 'static,
+        G: Observer + Send + Drop + 'static,
         requires { vec_len seats ≡ group_size config.group.f }
         ensures { IfOk result (λ r. r.0.config ≡ config) }
     {
@@ -170,41 +176,15 @@ impl<L: Relink + Send + Drop + 'static> Cluster<L> {
         R: Threads + Wait + Copy + Send + 'static,
         S: Starts + Send + Drop + 'static,
         T: Timer + Send + Drop + 'static,
-        G: Gate + Send + Drop + 'static,
+        G: Observer + Send + Drop + 'static,
         ensures { self.new.config ≡ self.old.config }
     {
         for work in works {
-            threads.push(self.enrol(rt, work)?)?;
+            let (member, thread) = enrolled(rt, self.alloc, work)?;
+            threads.push(thread)?;
+            self.members.push(member)?;
         }
         Ok(())
-    }
-
-    /// A member more, whose thread has this work and waits for an order: the thread.
-    fn enrol<R, S, T, G>(
-        &mut self,
-        rt: &R,
-        work: Work<L, S, T, G>,
-    ) -> Result<JoinHandle<()>, ClusterError>
-    where
-        R: Threads + Wait + Copy + Send + 'static,
-        S: Starts + Send + Drop + 'static,
-        T: Timer + Send + Drop + 'static,
-        G: Gate + Send + Drop + 'static,
-        ensures { self.new.config ≡ self.old.config }
-    {
-        let cutter = work.seat.link.cutter()?;
-        let shown = work.shown.reader()?;
-        let (orders, inbox) = bounded(self.alloc, 1)?;
-        self.members.push(Member {
-            cutter,
-            shown,
-            orders,
-            ordered: 0,
-        })?;
-        match spawned(rt, self.alloc, inbox, work) {
-            Some(thread) => Ok(thread),
-            None => Err(ClusterError::Thread),
-        }
     }
 
     /// Has each replica started.
@@ -257,7 +237,10 @@ impl<L: Relink + Send + Drop + 'static> Cluster<L> {
 
     /// Whether nothing is done for a replica: it is not served, and no order has yet to come to its end.
     pub fn is_idle(&mut self, number: u8) -> bool {
-        !self.is_starting(number) && !self.shown(number).is_served
+        match self.members.get_mut(usize::from(number)) {
+            Some(member) => member.is_idle(),
+            None => true,
+        }
     }
 
     /// Closes the link of each replica, which ends its serving.
@@ -266,6 +249,36 @@ impl<L: Relink + Send + Drop + 'static> Cluster<L> {
             member.cutter.cut();
         }
     }
+}
+
+/// A replica whose thread has this work and waits for an order, and that thread.
+pub(crate) fn enrolled<R, L, S, T, G>(
+    rt: &R,
+    alloc: Global,
+    work: Work<L, S, T, G>,
+) -> Result<(Member<L>, JoinHandle<()>), ClusterError>
+where
+    R: Threads + Wait + Copy + Send + 'static,
+    L: Relink + Send + Drop + 'static,
+    S: Starts + Send + Drop + 'static,
+    T: Timer + Send + Drop + 'static,
+    G: Observer + Send + Drop + 'static,
+{
+    let cutter = work.seat.link.cutter()?;
+    let shown = work.shown.reader()?;
+    let (orders, inbox) = bounded(alloc, 1)?;
+    let Some(thread) = spawned(rt, alloc, inbox, work) else {
+        return Err(ClusterError::Thread);
+    };
+    Ok((
+        Member {
+            cutter,
+            shown,
+            orders,
+            ordered: 0,
+        },
+        thread,
+    ))
 }
 
 /// The work of each replica of a group, by its number.
@@ -283,7 +296,7 @@ fn works<L: Drop, S: Drop, T: Drop, G: Drop>(
 }
 
 /// The work of the replica of this number, with these parts.
-fn work<L: Drop, S: Drop, T: Drop, G: Drop>(
+pub(crate) fn work<L: Drop, S: Drop, T: Drop, G: Drop>(
     alloc: Global,
     config: ClusterConfig,
     number: u8,

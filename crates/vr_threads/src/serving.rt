@@ -6,17 +6,18 @@ ghost use Rattle.vr_replica.specs.Stepped.{StepResult};
 ghost use Rattle.vr_threads.specs.Serving.{StepsTo, Served, Turned, sends_in, scene};
 ghost use Rattle.vr_threads.specs.Showing.{ShowsStep, KeepsShowing, IsStandingOf, is_store_fault};
 
+use crate::observer::Observer;
 use crate::seat::Seat;
 use std::alloc::Global;
 use vr_model::{Event, Standing};
-use vr_ports::{Gate, Input, Link, Tick, Timer, send_all};
+use vr_ports::{Input, Link, Tick, Timer, send_all};
 use vr_replica::{Replica, StepFault, ViewStore};
 use vr_shown::ShownWriter;
 
 /// Serves a replica for so many turns, or fewer where a receive gives Closed. Each turn takes one event at most, the
 /// timer's first, hands on what `Replica::step` makes of it, and shows what the replica is then, to its timer as well.
-/// The gate counts the steps from 1.
-pub fn serve<L: Link, S: ViewStore, T: Timer, G: Gate>(
+/// The gate counts the steps from 1, and looks at the replica behind each of them.
+pub fn serve<L: Link, S: ViewStore, T: Timer, G: Observer>(
     alloc: Global,
     replica: &mut Replica,
     seat: &mut Seat<L, S, T, G>,
@@ -32,7 +33,7 @@ pub fn serve<L: Link, S: ViewStore, T: Timer, G: Gate>(
 }
 
 /// Serves a replica as `serve` does, where the gate counts from this call.
-pub(crate) fn serve_from<L: Link, S: ViewStore, T: Timer, G: Gate>(
+pub(crate) fn serve_from<L: Link, S: ViewStore, T: Timer, G: Observer>(
     first: u64,
     alloc: Global,
     replica: &mut Replica,
@@ -54,7 +55,7 @@ pub(crate) fn serve_from<L: Link, S: ViewStore, T: Timer, G: Gate>(
 }
 
 /// One turn. False where the link is closed.
-fn turn<L: Link, S: ViewStore, T: Timer, G: Gate>(
+fn turn<L: Link, S: ViewStore, T: Timer, G: Observer>(
     alloc: Global,
     replica: &mut Replica,
     seat: &mut Seat<L, S, T, G>,
@@ -82,7 +83,7 @@ fn turn<L: Link, S: ViewStore, T: Timer, G: Gate>(
 }
 
 /// One step of the replica, inside the gate, and then its sends.
-pub(crate) fn act<L: Link, S: ViewStore, T: Timer, G: Gate>(
+pub(crate) fn act<L: Link, S: ViewStore, T: Timer, G: Observer>(
     alloc: Global,
     replica: &mut Replica,
     seat: &mut Seat<L, S, T, G>,
@@ -102,6 +103,7 @@ pub(crate) fn act<L: Link, S: ViewStore, T: Timer, G: Gate>(
     let standing = standing_of(replica);
     shown.show_step(standing, is_store_fault(&stepped), seat.link.frameless());
     seat.timer.stepped(standing);
+    seat.gate.observe(replica);
     seat.gate.after(*call, standing);
     *call = call.saturating_add(1);
     if let Ok(sends) = stepped {

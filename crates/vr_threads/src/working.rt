@@ -6,6 +6,7 @@ ghost use Rattle.vr_shown.specs.Showing.{down_standing};
 ghost use Rattle.vr_threads.specs.Starting.{HasStarted};
 ghost use Rattle.vr_threads.specs.Working.{ComesUp, Worked, planned};
 
+use crate::observer::Observer;
 use crate::seat::Seat;
 use crate::serving::{act, serve_from};
 use crate::starting::{Started, Starts, start_from};
@@ -17,7 +18,7 @@ use std::sync::Wait;
 use std::thread;
 use std::thread::{JoinHandle, Threads};
 use vr_model::{Config, Event};
-use vr_ports::{Gate, Relink, Timer};
+use vr_ports::{Relink, Timer};
 use vr_replica::Replica;
 use vr_shown::ShownWriter;
 
@@ -43,7 +44,7 @@ pub(crate) struct Work<L, S, T, G> {
     pub(crate) is_used: bool,
 }
 
-impl<L: Relink, S: Starts, T: Timer, G: Gate> Work<L, S, T, G> {
+impl<L: Relink, S: Starts, T: Timer, G: Observer> Work<L, S, T, G> {
     /// Does what an order to start asks for, and returns once the replica is served no more.
     fn obey(&mut self, alloc: Global) {
         if !self.is_linked() || self.run(alloc).is_err() {
@@ -85,8 +86,8 @@ impl<L: Relink, S: Starts, T: Timer, G: Gate> Work<L, S, T, G> {
         Ok(())
     }
 
-    /// The replica from its store, which counts a start more: that shows from now on. It fails only where memory runs
-    /// out.
+    /// The replica from its store, which counts a start more: that shows from now on, and the gate has looked at it. It
+    /// fails only where memory runs out.
     fn start(&mut self, alloc: Global) -> Result<Started, AllocError>
         ensures started { IfOk result (λ start. HasStarted S.begin_gives (planned self.old.plan) self.old.seat.store
             self.new.seat.store start.replica start.nonce start.starts) }
@@ -103,6 +104,7 @@ impl<L: Relink, S: Starts, T: Timer, G: Gate> Work<L, S, T, G> {
         let started = start_from(alloc, config, number, image, budget, &mut self.seat.store)?;
         self.shown
             .show_start(started.replica.standing(), started.starts);
+        self.seat.gate.observe(&started.replica);
         Ok(started)
     }
 
@@ -133,7 +135,7 @@ impl<L: Relink, S: Starts, T: Timer, G: Gate> Work<L, S, T, G> {
 
 /// The thread of a replica: for each order it starts the replica and serves it, until nobody is left who gives any. So
 /// the replica has no other thread, and each start finds the store that the one before left.
-fn attend<R: Wait, L: Relink + Drop, S: Starts + Drop, T: Timer + Drop, G: Gate + Drop>(
+fn attend<R: Wait, L: Relink + Drop, S: Starts + Drop, T: Timer + Drop, G: Observer + Drop>(
     rt: &R,
     alloc: Global,
     orders: &Receiver<()>,
@@ -159,7 +161,7 @@ where
     L: Relink + Send + Drop + 'static,
     S: Starts + Send + Drop + 'static,
     T: Timer + Send + Drop + 'static,
-    G: Gate + Send + Drop + 'static,
+    G: Observer + Send + Drop + 'static,
 {
     let theirs = *rt;
     thread::spawn(rt, move || attend(&theirs, alloc, &orders, work)).ok()
