@@ -10,14 +10,29 @@ use std::process::Abort;
 use std::test::Fail;
 use vr_model::Config;
 
-fn ask_for(rt: &impl Abort, alloc: Global, rows: &[(&[&str], Words)]) {
-    for (given, wanted) in rows.iter() {
-        let is_read = match read_words(alloc, given) {
-            Ok(words) => words == *wanted,
-            Err(_error) => false,
-        };
-        assert!(rt; is_read, "{given:?}");
+/// The words of a line, as a shell has them; `''` is the empty word.
+fn words_of(alloc: Global, line: &str) -> Result<Vec<&str>, AllocError> {
+    let mut words = Vec::new(alloc);
+    for word in line.split_whitespace() {
+        words.push(if word == "''" { "" } else { word })?;
     }
+    Ok(words)
+}
+
+/// Whether the words of a line ask for this.
+fn asks_for(alloc: Global, line: &str, wanted: &Words) -> Result<bool, AllocError> {
+    Ok(match read_words(alloc, words_of(alloc, line)?.as_slice()) {
+        Ok(words) => words == *wanted,
+        Err(_error) => false,
+    })
+}
+
+/// Wants the words of each line to ask for what stands beside them.
+fn ask_for(rt: &impl Abort, alloc: Global, rows: &[(&str, Words)]) -> Result<(), AllocError> {
+    for (line, wanted) in rows.iter() {
+        assert!(rt; asks_for(alloc, line, wanted)?, "{line}");
+    }
+    Ok(())
 }
 
 /// A run of `a.il` over `b.json`.
@@ -107,63 +122,65 @@ fn least() -> Result<Settings, Fail> {
 
 #[test]
 fn words_ask_to_serve(rt: HostRuntime) -> Result<(), Fail> {
-    let first: &[&str] = &["plc", "serve", "a.il", "--store", "d"];
-    let last: &[&str] = &[
-        "plc",
-        "serve",
-        "--scans=4294967295",
-        "--store=d",
-        "--f=3",
-        "--every=65535",
-        "--port=65535",
-        "--period=4294967295",
-        "--idle=4294967295",
-        "--crash=4294967295",
-        "--report=r",
-        "--console=65535",
-        "--stale=4294967295",
-        "--store=e",
-        "--store=f",
-        "--store=g",
-        "--store=h",
-        "--store=i",
-        "--store=j",
-        "a.il",
-    ];
-    let middle: &[&str] = &[
-        "plc",
-        "serve",
-        "a.il",
-        "--store",
-        "d",
-        "--links",
-        "channel",
-        "--scans",
-        "1",
-        "--port",
-        "1",
-        "--period",
-        "1",
-        "--idle",
-        "1",
-        "--crash",
-        "1",
-        "--report",
-        "r",
-        "--console",
-        "1",
-        "--stale",
-        "1",
-    ];
+    let middle =
+        "plc serve a.il --store d --links channel --scans 1 --port 1 --period 1 --idle 1 --crash 1 \
+                  --report r --console 1 --stale 1";
+    let last =
+        "plc serve --scans=4294967295 --store=d --f=3 --every=65535 --port=65535 --period=4294967295 \
+                --idle=4294967295 --crash=4294967295 --report=r --console=65535 --stale=4294967295 --store=e \
+                --store=f --store=g --store=h --store=i --store=j a.il";
     let alloc = rt.alloc();
     let each = ["d", "e", "f", "g", "h", "i", "j"];
-    let rows: [(&[&str], Words); 3] = [
-        (first, serve(alloc, &["d"], None, settings()?)?),
+    let first = serve(alloc, &["d"], None, settings()?)?;
+    let rows: [(&str, Words); 3] = [
+        ("plc serve a.il --store d", first),
         (middle, serve(alloc, &["d"], Some("r"), least()?)?),
         (last, serve(alloc, &each, Some("r"), greatest()?)?),
     ];
-    ask_for(&rt, alloc, &rows);
-    Ok(())
+    Ok(ask_for(&rt, alloc, &rows)?)
+}
+
+#[test]
+fn words_ask_for_a_run(rt: HostRuntime) -> Result<(), Fail> {
+    let rows: [(&str, Words); 8] = [
+        ("plc sim a.il b.json", sim(1, 64, 10_000)?),
+        ("plc sim a.il b.json --every 0", sim(1, 0, 10_000)?),
+        (
+            "plc sim --every=65535 --f 2 a.il b.json",
+            sim(2, 65_535, 10_000)?,
+        ),
+        ("plc sim a.il --budget 7 b.json", sim(1, 64, 7)?),
+        ("plc run a.il b.json", run(10_000)?),
+        ("plc run a.il b.json --budget 5", run(5)?),
+        ("plc run a.il --budget=1 b.json", run(1)?),
+        ("plc run --budget 1000000 a.il b.json", run(1_000_000)?),
+    ];
+    Ok(ask_for(&rt, rt.alloc(), &rows)?)
+}
+
+fn ask(commands: &str, timeout: u32) -> Words {
+    Words::Ask {
+        port: 5021,
+        commands,
+        timeout,
+    }
+}
+
+/// To change to `a.il` what is served.
+fn change(timeout: u32) -> Words<'static> {
+    Words::Change {
+        port: 5021,
+        source: "a.il",
+        timeout,
+    }
+}
+
+fn field(check: bool, once: bool) -> Words<'static> {
+    Words::Field {
+        field: "f.toml",
+        check,
+        once,
+    }
 }
 
 #[test]
@@ -173,73 +190,31 @@ fn words_ask_for_a_form(rt: HostRuntime) -> Result<(), Fail> {
         image: "a.image",
     };
     let list = Words::List { image: "a.image" };
-    let ask = |commands, timeout| Words::Ask {
-        port: 5021,
-        commands,
-        timeout,
-    };
-    let change = |timeout| Words::Change {
-        port: 5021,
-        source: "a.il",
-        timeout,
-    };
-    let field = |check, once| Words::Field {
-        field: "f.toml",
-        check,
-        once,
-    };
-    let rows: [(&[&str], Words); 17] = [
-        (&["plc", "sim", "a.il", "b.json"], sim(1, 64, 10_000)?),
+    let rows: [(&str, Words); 9] = [
+        ("plc asm a.il a.image", asm),
+        ("plc list a.image", list),
+        ("plc ask 5021 b.json", ask("b.json", 60)),
+        ("plc ask --timeout 1 5021 -", ask("-", 1)),
+        ("plc ask 5021 --change a.il", change(60)),
         (
-            &["plc", "sim", "a.il", "b.json", "--every", "0"],
-            sim(1, 0, 10_000)?,
-        ),
-        (
-            &["plc", "sim", "--every=65535", "--f", "2", "a.il", "b.json"],
-            sim(2, 65_535, 10_000)?,
-        ),
-        (
-            &["plc", "sim", "a.il", "--budget", "7", "b.json"],
-            sim(1, 64, 7)?,
-        ),
-        (&["plc", "run", "a.il", "b.json"], run(10_000)?),
-        (&["plc", "run", "a.il", "b.json", "--budget", "5"], run(5)?),
-        (&["plc", "run", "a.il", "--budget=1", "b.json"], run(1)?),
-        (
-            &["plc", "run", "--budget", "1000000", "a.il", "b.json"],
-            run(1_000_000)?,
-        ),
-        (&["plc", "asm", "a.il", "a.image"], asm),
-        (&["plc", "list", "a.image"], list),
-        (&["plc", "ask", "5021", "b.json"], ask("b.json", 60)),
-        (&["plc", "ask", "--timeout", "1", "5021", "-"], ask("-", 1)),
-        (&["plc", "ask", "5021", "--change", "a.il"], change(60)),
-        (
-            &[
-                "plc",
-                "ask",
-                "5021",
-                "--change=a.il",
-                "--timeout=4294967295",
-            ],
+            "plc ask 5021 --change=a.il --timeout=4294967295",
             change(4_294_967_295),
         ),
-        (&["plc", "field", "f.toml"], field(false, false)),
-        (&["plc", "field", "--check", "f.toml"], field(true, false)),
-        (&["plc", "field", "f.toml", "--once"], field(false, true)),
+        ("plc field f.toml", field(false, false)),
+        ("plc field --check f.toml", field(true, false)),
+        ("plc field f.toml --once", field(false, true)),
     ];
-    ask_for(&rt, rt.alloc(), &rows);
-    Ok(())
+    Ok(ask_for(&rt, rt.alloc(), &rows)?)
 }
 
-/// Words that ask for no work, and a part of what is printed.
-type Row<'a> = (&'a [&'a str], &'a str);
+/// A line of words that ask for no work, and a part of what is printed.
+type Row<'a> = (&'a str, &'a str);
 
 /// The status of words that ask for no work, and what stands on both streams.
-fn told(alloc: Global, given: &[&str]) -> Result<(u8, String, String), Fail> {
+fn told(alloc: Global, line: &str) -> Result<(u8, String, String), Fail> {
     let mut out = Vec::new(alloc);
     let mut err = Vec::new(alloc);
-    let status = match read_words(alloc, given) {
+    let status = match read_words(alloc, words_of(alloc, line)?.as_slice()) {
         Ok(_) => return Err(Fail::from("they ask for work")),
         Err(error) => tell_words(&error, &mut out, &mut Counted::new(&mut err)),
     };
@@ -248,27 +223,30 @@ fn told(alloc: Global, given: &[&str]) -> Result<(u8, String, String), Fail> {
 
 /// Wants words to be answered on the output, with the status 0.
 fn are_shown(rt: &impl Abort, alloc: Global, rows: &[Row]) -> Result<(), Fail> {
-    for (given, part) in rows.iter() {
-        let (status, out, err) = told(alloc, given)?;
-        assert_eq!(rt; status, 0, "{given:?}");
-        assert!(rt; out.as_str().contains(part) && err.is_empty(), "{given:?}");
+    for (line, part) in rows.iter() {
+        let (status, out, err) = told(alloc, line)?;
+        assert_eq!(rt; status, 0, "{line}");
+        assert!(rt; out.as_str().contains(part) && err.is_empty(), "{line}");
     }
     Ok(())
 }
 
 /// Wants words to be refused on the other stream, with the status 3; those of each row stand behind these.
-fn are_bad<'a>(
-    rt: &impl Abort,
-    alloc: Global,
-    first: &[&'a str],
-    rows: &[Row<'a>],
-) -> Result<(), Fail> {
-    for (given, part) in rows.iter() {
-        let mut words = Vec::from_slice(alloc, first)?;
-        words.extend_from_slice(given)?;
-        let (status, out, err) = told(alloc, words.as_slice())?;
-        assert_eq!(rt; status, 3, "{given:?}");
-        assert!(rt; err.as_str().contains(part) && out.is_empty(), "{given:?}");
+fn are_bad(rt: &impl Abort, alloc: Global, first: &str, rows: &[Row]) -> Result<(), Fail> {
+    for (line, part) in rows.iter() {
+        let whole = format!(in alloc; "{first} {line}")?;
+        let (status, out, err) = told(alloc, whole.as_str())?;
+        assert_eq!(rt; status, 3, "{line}");
+        assert!(rt; err.as_str().contains(part) && out.is_empty(), "{line}");
+    }
+    Ok(())
+}
+
+/// Wants a value of each row to be refused behind these words: the value, and whose it is.
+fn are_out_of_range(rt: &impl Abort, alloc: Global, first: &str, rows: &[Row]) -> Result<(), Fail> {
+    for (line, value) in rows.iter() {
+        let part = format!(in alloc; "error: invalid value {value}")?;
+        are_bad(rt, alloc, first, &[(line, part.as_str())])?;
     }
     Ok(())
 }
@@ -277,30 +255,27 @@ fn are_bad<'a>(
 fn help_and_version_are_shown(rt: HostRuntime) -> Result<(), Fail> {
     let rows: [Row; 10] = [
         (
-            &["plc", "run", "-h"],
+            "plc run -h",
             "\n  refused N                  1 no scan is held, 2 no such instruction, 3 no such name or it can't be\n",
         ),
         (
-            &["plc", "run", "-h"],
+            "plc run -h",
             "                             6 no image, 7 a scan is held or stopped: no change\n",
         ),
         (
-            &["plc", "ask", "-h"],
+            "plc ask -h",
             "'refused N', and 5 where one was answered 'plc: commands'.",
         ),
-        (&["./plc.bin", "--help"], "Usage: plc <COMMAND>\n"),
-        (&["plc", "help"], "Usage: plc <COMMAND>\n"),
+        ("./plc.bin --help", "Usage: plc <COMMAND>\n"),
+        ("plc help", "Usage: plc <COMMAND>\n"),
         (
-            &["plc", "run", "-h"],
+            "plc run -h",
             "Usage: plc run [OPTIONS] <SOURCE> <COMMANDS>\n",
         ),
-        (
-            &["plc", "asm", "--help"],
-            "Usage: plc asm <SOURCE> <IMAGE>\n",
-        ),
-        (&["plc", "list", "-h"], "Usage: plc list <IMAGE>\n"),
-        (&["plc", "sim", "-h"], "\n  plc: read N at L:C "),
-        (&["plc", "--version"], "plc 0.1.0\n"),
+        ("plc asm --help", "Usage: plc asm <SOURCE> <IMAGE>\n"),
+        ("plc list -h", "Usage: plc list <IMAGE>\n"),
+        ("plc sim -h", "\n  plc: read N at L:C "),
+        ("plc --version", "plc 0.1.0\n"),
     ];
     are_shown(&rt, rt.alloc(), &rows)
 }
@@ -308,220 +283,163 @@ fn help_and_version_are_shown(rt: HostRuntime) -> Result<(), Fail> {
 #[test]
 fn other_words_are_bad(rt: HostRuntime) -> Result<(), Fail> {
     let rows: [Row; 13] = [
-        (&["ask", "0", "b"], "error: invalid value '0' for '<PORT>'"),
+        ("ask 0 b", "error: invalid value '0' for '<PORT>'"),
+        ("ask 65536 b", "error: invalid value '65536' for '<PORT>'"),
         (
-            &["ask", "65536", "b"],
-            "error: invalid value '65536' for '<PORT>'",
-        ),
-        (
-            &["ask", "5021", "b", "--timeout", "0"],
+            "ask 5021 b --timeout 0",
             "error: invalid value '0' for '--timeout <S>'",
         ),
-        (&[], "Usage: plc <COMMAND>\n"),
-        (&["walk"], "error: unrecognized subcommand 'walk'\n"),
+        ("", "Usage: plc <COMMAND>\n"),
+        ("walk", "error: unrecognized subcommand 'walk'\n"),
         (
-            &["run", "a"],
+            "run a",
             "error: the following required arguments were not provided:\n  <COMMANDS>\n",
         ),
+        ("run a b c", "error: unexpected argument 'c' found\n"),
         (
-            &["run", "a", "b", "c"],
-            "error: unexpected argument 'c' found\n",
-        ),
-        (
-            &["asm", "a"],
+            "asm a",
             "error: the following required arguments were not provided:\n  <IMAGE>\n",
         ),
+        ("list a b", "error: unexpected argument 'b' found\n"),
         (
-            &["list", "a", "b"],
-            "error: unexpected argument 'b' found\n",
-        ),
-        (
-            &["run", "a", "b", "--loud"],
+            "run a b --loud",
             "error: unexpected argument '--loud' found\n",
         ),
         (
-            &["ask", "5021"],
+            "ask 5021",
             "error: the following required arguments were not provided:\n  <COMMANDS>\n",
         ),
         (
-            &["ask", "5021", "b", "--change", "a"],
+            "ask 5021 b --change a",
             "error: the argument '[COMMANDS]' cannot be used with '--change <SOURCE>'\n",
         ),
         (
-            &["field", "--check", "--once", "f.toml"],
+            "field --check --once f.toml",
             "error: the argument '--check' cannot be used with '--once'\n",
         ),
     ];
-    are_bad(&rt, rt.alloc(), &["plc"], &rows)
+    are_bad(&rt, rt.alloc(), "plc", &rows)
 }
 
 #[test]
 fn budgets_out_of_range_are_bad(rt: HostRuntime) -> Result<(), Fail> {
     let rows: [Row; 7] = [
+        ("--budget 0", "error: invalid value '0' for '--budget <B>'"),
         (
-            &["--budget", "0"],
-            "error: invalid value '0' for '--budget <B>'",
-        ),
-        (
-            &["--budget=1000001"],
+            "--budget=1000001",
             "error: invalid value '1000001' for '--budget <B>'",
         ),
         (
-            &["--budget=-1"],
+            "--budget=-1",
             "error: invalid value '-1' for '--budget <B>'",
         ),
         (
-            &["--budget=4294967297"],
+            "--budget=4294967297",
             "error: invalid value '4294967297' for '--budget <B>'",
         ),
         (
-            &["--budget", "five"],
+            "--budget five",
             "error: invalid value 'five' for '--budget <B>'",
         ),
         (
-            &["--budget", "5", "--budget=5"],
+            "--budget 5 --budget=5",
             "error: the argument '--budget <B>' cannot be used multiple times",
         ),
         (
-            &["--budget"],
+            "--budget",
             "error: a value is required for '--budget <B>' but none was supplied",
         ),
     ];
-    are_bad(&rt, rt.alloc(), &["plc", "run", "a", "b"], &rows)
+    are_bad(&rt, rt.alloc(), "plc run a b", &rows)
 }
 
 #[test]
 fn words_of_sim_out_of_range_are_bad(rt: HostRuntime) -> Result<(), Fail> {
     let rows: [Row; 4] = [
         (
-            &["--every", "65536"],
+            "--every 65536",
             "error: invalid value '65536' for '--every <E>'",
         ),
+        ("--every=-1", "error: invalid value '-1' for '--every <E>'"),
         (
-            &["--every=-1"],
-            "error: invalid value '-1' for '--every <E>'",
-        ),
-        (
-            &["--every", "1", "--every=1"],
+            "--every 1 --every=1",
             "error: the argument '--every <E>' cannot be used multiple times",
         ),
-        (&["--f", "0"], "error: invalid value '0' for '--f <F>'"),
+        ("--f 0", "error: invalid value '0' for '--f <F>'"),
     ];
-    are_bad(&rt, rt.alloc(), &["plc", "sim", "a", "b"], &rows)
+    are_bad(&rt, rt.alloc(), "plc sim a b", &rows)
 }
 
 #[test]
 fn words_of_serve_out_of_range_are_bad(rt: HostRuntime) -> Result<(), Fail> {
-    let rows: [Row; 17] = [
+    let rows: [Row; 12] = [
+        ("--stale 0", "'0' for '--stale <MS>'"),
+        ("--every 0", "'0' for '--every <E>'"),
+        ("--links wire", "'wire' for '--links <KIND>'"),
+        ("--console 0", "'0' for '--console <P>'"),
+        ("--scans 0", "'0' for '--scans <N>'"),
+        ("--scans=4294967296", "'4294967296' for '--scans <N>'"),
+        ("--port 0", "'0' for '--port <P>'"),
+        ("--port=65536", "'65536' for '--port <P>'"),
+        ("--period 0", "'0' for '--period <MS>'"),
+        ("--period=4294967296", "'4294967296' for '--period <MS>'"),
+        ("--f 4", "'4' for '--f <F>'"),
+        ("--crash 0", "'0' for '--crash <K>'"),
+    ];
+    are_out_of_range(&rt, rt.alloc(), "plc serve a.il --store d", &rows)
+}
+
+#[test]
+fn missing_words_of_serve_are_bad(rt: HostRuntime) -> Result<(), Fail> {
+    let rows: [Row; 5] = [
         (
-            &["--store", "d", "--stale", "0"],
-            "error: invalid value '0' for '--stale <MS>'",
-        ),
-        (
-            &["--store", "d", "--store", "e"],
+            "--store d --store e",
             "error: --store is given once, or once for each of the 2F+1 replicas",
         ),
         (
-            &["--store", "d", "--store", "e", "--store", "f", "--f", "2"],
+            "--store d --store e --store f --f 2",
             "error: --store is given once, or once for each of the 2F+1 replicas",
         ),
         (
-            &["--store", "d", "--every", "0"],
-            "error: invalid value '0' for '--every <E>'",
-        ),
-        (
-            &["--store", "d", "--links", "wire"],
-            "error: invalid value 'wire' for '--links <KIND>'",
-        ),
-        (
-            &["--store", "d", "--console", "0"],
-            "error: invalid value '0' for '--console <P>'",
-        ),
-        (
-            &["--scans", "1"],
+            "--scans 1",
             "error: the following required arguments were not provided:\n  --store <DIR>\n",
         ),
         (
-            &["--store", "", "--scans", "1"],
+            "--store '' --scans 1",
             "error: a value is required for '--store <DIR>' but none was supplied",
         ),
         (
-            &["--store", "d", "--scans", "0"],
-            "error: invalid value '0' for '--scans <N>'",
-        ),
-        (
-            &["--store", "d", "--scans=4294967296"],
-            "error: invalid value '4294967296' for '--scans <N>'",
-        ),
-        (
-            &["--store", "d", "--scans", "1", "--port", "0"],
-            "error: invalid value '0' for '--port <P>'",
-        ),
-        (
-            &["--store", "d", "--scans", "1", "--port=65536"],
-            "error: invalid value '65536' for '--port <P>'",
-        ),
-        (
-            &["--store", "d", "--scans", "1", "--period", "0"],
-            "error: invalid value '0' for '--period <MS>'",
-        ),
-        (
-            &["--store", "d", "--scans", "1", "--period=4294967296"],
-            "error: invalid value '4294967296' for '--period <MS>'",
-        ),
-        (
-            &["--store", "d", "--scans", "1", "--f", "4"],
-            "error: invalid value '4' for '--f <F>'",
-        ),
-        (
-            &["--store", "d", "--scans", "1", "--crash", "0"],
-            "error: invalid value '0' for '--crash <K>'",
-        ),
-        (
-            &["--store", "d", "--scans", "1", "--report", ""],
+            "--store d --scans 1 --report ''",
             "error: a value is required for '--report <FILE>' but none was supplied",
         ),
     ];
-    are_bad(&rt, rt.alloc(), &["plc", "serve", "a.il"], &rows)
+    are_bad(&rt, rt.alloc(), "plc serve a.il", &rows)
 }
 
 #[test]
 fn words_ask_for_the_store_of_a_machine(rt: HostRuntime) -> Result<(), Fail> {
-    let format: &[&str] = &[
-        "plc",
-        "format",
-        "a.il",
-        "--group",
-        "g",
-        "--machine",
-        "6",
-        "--store",
-        "d",
+    let format = Words::Format {
+        source: "a.il",
+        group: "g",
+        machine: 6,
+        directory: "d",
+    };
+    let rows: [(&str, Words); 2] = [
+        ("plc format a.il --group g --machine 6 --store d", format),
+        ("plc show d", Words::Show { directory: "d" }),
     ];
-    let rows: [(&[&str], Words); 2] = [
-        (
-            format,
-            Words::Format {
-                source: "a.il",
-                group: "g",
-                machine: 6,
-                directory: "d",
-            },
-        ),
-        (&["plc", "show", "d"], Words::Show { directory: "d" }),
-    ];
-    ask_for(&rt, rt.alloc(), &rows);
+    ask_for(&rt, rt.alloc(), &rows)?;
     let rows: [Row; 2] = [
         (
-            &["--group", "g", "--store", "d", "--machine", "7"],
+            "--group g --store d --machine 7",
             "error: invalid value '7' for '--machine <I>'",
         ),
         (
-            &["--group", "", "--store", "d", "--machine", "0"],
+            "--group '' --store d --machine 0",
             "error: a value is required for '--group <GROUP>' but none was supplied",
         ),
     ];
-    are_bad(&rt, rt.alloc(), &["plc", "format", "a.il"], &rows)
+    are_bad(&rt, rt.alloc(), "plc format a.il", &rows)
 }
 
 #[test]
