@@ -15,10 +15,15 @@ use vr_client::GroupClient;
 use vr_model::{ClientNumber, Config};
 use vr_ports::Link;
 
-/// The console's number among the clients.
-const CONSOLE: ClientNumber = ClientNumber { number: 1 };
+/// Which client of its group a desk is, and how often it started before: numbers of its requests are above all that
+/// were given then.
+#[derive(Clone, Copy)]
+pub struct DeskClient {
+    pub number: ClientNumber,
+    pub starts: u32,
+}
 
-/// Client 1 of a group, with its link: it submits what a console asks for, and notes what that changed.
+/// A client of a group, with its link: it submits what a console asks for, and notes what that changed.
 #[derive(Drop)]
 pub struct Desk<R: Copy + Drop, L: Drop> {
     host: Host<R>,
@@ -38,13 +43,14 @@ impl<R: Wait + Clock + Copy + Drop, L: Link + Drop> Desk<R, L> {
     pub fn new(
         host: Host<R>,
         config: Config,
+        client: DeskClient,
         link: L,
         period: Duration,
         journal: Journal,
     ) -> Desk<R, L> {
         Desk {
             host,
-            client: GroupClient::new(&config, CONSOLE, 0),
+            client: GroupClient::new(&config, client.number, client.starts),
             link,
             period,
             replicas: config.group_size(),

@@ -4,7 +4,8 @@
 //!
 //! ```rust
 //! let period = Duration::from_millis(100);
-//! let desk = Desk::new(host, config, link, period, journals.console); // client 1 of the group, over this link
+//! let client = DeskClient { number: ClientNumber { number: 1 }, starts: 0 }; // one that never started before
+//! let desk = Desk::new(host, config, client, link, period, journals.console); // over this link to the group
 //! let door = Door::open(&rt, 5021)?;
 //! let console = Console::new(host, door, desk, &image, status.reader()?, Duration::from_secs(60))?;
 //! let open = console.open()?; // lines are answered from now on
@@ -38,7 +39,7 @@ mod session;
 mod telling;
 
 pub use asking::ask;
-pub use desk::Desk;
+pub use desk::{Desk, DeskClient};
 pub use mirror::mirrors_stay;
 pub use sending::{Reply, send_commands, worst};
 pub use service::{Console, OpenConsole};

@@ -137,7 +137,7 @@ pub struct OpenConsole<R: ServiceRuntime, L: Relink + Drop> {
 }
 
 impl<R: ServiceRuntime, L: Relink + Drop> OpenConsole<R, L> {
-    /// The port, of 127.0.0.1.
+    /// The port's number.
     pub fn port(&self) -> u16 {
         self.listener.port()
     }

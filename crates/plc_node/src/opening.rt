@@ -10,7 +10,7 @@ use io_image::{
 };
 use io_model::CountedWrite;
 use modbus_server::{OpenServer, Server, Shown};
-use plc_console::{Console, Desk, OpenConsole};
+use plc_console::{Console, Desk, DeskClient, OpenConsole};
 use plc_driver::{Directory, Driver, Ended};
 use plc_host::{Failed, Host, ServiceRuntime, Traffic};
 use plc_listener::Door;
@@ -20,10 +20,17 @@ use std::net::{Net, TcpListener, TcpStream};
 use std::rt::Files;
 use std::sync::Arc;
 use std::time::Duration;
+use vr_model::ClientNumber;
 use vr_ports::Relink;
 
 /// So many sessions are served at once.
 const SESSIONS: usize = 16;
+
+/// The console's number among the clients of the group. The stores are new, so it never started before.
+const CONSOLE: DeskClient = DeskClient {
+    number: ClientNumber { number: 1 },
+    starts: 0,
+};
 
 /// What is kept of clients and of an operator: what counts their requests, where commands are noted, and what shows of
 /// the controller.
@@ -84,7 +91,7 @@ where
                     return Err(Failed::Device);
                 };
                 let period = Duration::from_millis(u64::from(settings.period));
-                let desk = Desk::new(host, settings.config, link, period, journal);
+                let desk = Desk::new(host, settings.config, CONSOLE, link, period, journal);
                 let door = Door::open(&rt, port)?;
                 Some(Console::new(host, door, desk, image, status, idle)?)
             }
