@@ -6,9 +6,10 @@
 # make picture [EXAMPLE=crossing]             what plc run prints for it, as a picture over time: build/crossing.svg; also IL=.. COMMANDS=.. (with build/plc)
 # make picture SCHEDULE=crash                 the messages of that schedule as a chart: build/motor_crash.svg; also SCHEDULE=own EVENTS=FILE.json [IL=..]
 # make failover [TO=build/failover.svg]        a tank and its pump on three replicas that crash in turn, played by examples/failover.py: half a minute, and its picture (with build/plc)
+# make failover-machines [TO=..]              the same tank on three machines, each a process, of which the one that drives is killed again and again: half a minute, and its picture (with build/plc)
 # make field [TO=build/field.svg]             the motor at a Modbus coupler that is stopped and comes back, carried by plc field: ten seconds, and its picture (with build/plc)
 # make plc                                    proves the program and builds it: build/plc
-# make install [PREFIX=/usr/local] [DESTDIR=]  puts the proved program, its man page, the documents, number-lines, the examples and a systemd unit there
+# make install [PREFIX=/usr/local] [DESTDIR=]  puts the proved program, its man page, the documents, number-lines, the examples and systemd units there
 # make uninstall [PREFIX=..] [DESTDIR=..]       takes away what install puts there
 # make test                                   the whole gate: that the rows of the examples are those of examples/, the table of crates is that of crates.txt, AUDIT names what is there and the pictures are those of examples/, and then rt ci
 
@@ -23,7 +24,7 @@ PICTURE := $(if $(SCHEDULE),schedule,run)
 SCHEDULE ?= crash
 EVENTS = examples/motor_$(SCHEDULE).json
 
-.PHONY: demo standby serve picture picture-run picture-schedule failover field plc install uninstall test
+.PHONY: demo standby serve picture picture-run picture-schedule failover failover-machines field plc install uninstall test
 
 # make plc leaves the sum of the sources that it proved, and that of the program: so it's known whether build/plc is these
 # sources' proved program. Where it isn't, the same sources are built and run, unproved.
@@ -88,6 +89,11 @@ failover:
 	@mkdir -p build
 	@python3 examples/failover.py build/plc $(TO) && echo "-- the same as a picture: $(TO)"
 
+failover-machines:
+	@$(BUILT)
+	@mkdir -p build
+	@python3 examples/machines/play.py build/plc $(TO) && echo "-- the same as a picture: $(TO)"
+
 field:
 	@$(BUILT)
 	@mkdir -p build
@@ -103,10 +109,11 @@ PREFIX ?= /usr/local
 BIN = $(DESTDIR)$(PREFIX)/bin
 SHARE = $(DESTDIR)$(PREFIX)/share
 UNITS = $(DESTDIR)$(PREFIX)/lib/systemd/system
+USERS = $(DESTDIR)$(PREFIX)/lib/sysusers.d
 
 install:
 	@$(PROVED)
-	mkdir -p $(BIN) $(SHARE)/man/man1 $(SHARE)/plc/examples/console $(SHARE)/plc/examples/field $(SHARE)/plc/docs/pictures $(SHARE)/plc/tools $(UNITS)
+	mkdir -p $(BIN) $(SHARE)/man/man1 $(SHARE)/plc/examples/console $(SHARE)/plc/examples/field $(SHARE)/plc/examples/machines $(SHARE)/plc/docs/pictures $(SHARE)/plc/tools $(UNITS) $(USERS)
 	install -m 755 build/plc $(BIN)/plc
 	tools/man-page build/plc > $(SHARE)/man/man1/plc.1
 	install -m 644 README.md $(SHARE)/plc
@@ -116,11 +123,12 @@ install:
 	install -m 644 examples/*.* $(SHARE)/plc/examples
 	install -m 644 examples/console/*.* $(SHARE)/plc/examples/console
 	install -m 644 examples/field/*.* $(SHARE)/plc/examples/field
-	sed 's#/usr/local#$(PREFIX)#g' examples/plc.service > $(UNITS)/plc.service
-	chmod 644 $(UNITS)/plc.service
+	install -m 644 examples/machines/*.* $(SHARE)/plc/examples/machines
+	for unit in plc.service plc@.service; do sed 's#/usr/local#$(PREFIX)#g' examples/$$unit > $(UNITS)/$$unit && chmod 644 $(UNITS)/$$unit || exit 1; done
+	install -m 644 examples/plc.sysusers $(USERS)/plc.conf
 
 uninstall:
-	rm -f $(BIN)/plc $(SHARE)/man/man1/plc.1 $(UNITS)/plc.service
+	rm -f $(BIN)/plc $(SHARE)/man/man1/plc.1 $(UNITS)/plc.service $(UNITS)/plc@.service $(USERS)/plc.conf
 	rm -rf $(SHARE)/plc
 
 test:
