@@ -1,6 +1,7 @@
 #!/usr/bin/env python3
 """client.py [PORT]: a client of Modbus TCP for `plc serve`, by Python's standard library alone. As a program it starts and stops the
-motor of motor.il at 127.0.0.1 and prints what it sees; `from client import Plc` has it for your own (tools/try-readme runs both)."""
+motor of motor.il at 127.0.0.1 and prints what it sees; `from client import Plc` has it for your own (tools/try-readme runs both), and
+`Machines` for a group of several machines."""
 import socket
 import struct
 import sys
@@ -75,6 +76,50 @@ class Plc:
                 raise ConnectionError('the controller closed the connection')
             taken += more
         return taken
+
+
+class Machines(Plc):
+    """A group of machines, each at a host and a port: a connection with the one that drives. Where that ends it comes anew, with another
+    one, and writes again what was written last at each place, since a machine that died may not have told its last inputs to the others."""
+
+    def __init__(self, addresses, timeout=0.3, patience=10):
+        self.addresses, self.timeout, self.patience, self.written, self.socket = list(addresses), timeout, patience, {}, None
+        self._come()
+
+    def _come(self):
+        """A connection with the first machine that answers. To connect isn't enough: one that stands still has a port too."""
+        end = time.monotonic() + self.patience
+        while time.monotonic() < end:
+            for host, port in self.addresses:
+                try:
+                    Plc.__init__(self, host, port, self.timeout)
+                    for request in [*self.written.values(), struct.pack('>BHH', 2, 0, 1)]:
+                        Plc._ask(self, request)
+                    return
+                except (OSError, Refused):
+                    self._leave()
+            time.sleep(0.005)
+        raise ConnectionError('no machine drives')
+
+    def _leave(self):
+        if self.socket:
+            self.socket.close()
+        self.socket = None
+
+    def _ask(self, request):
+        if request[0] in (15, 16):
+            self.written[request[:5]] = request
+        while True:
+            try:
+                if self.socket:
+                    return Plc._ask(self, request)
+            except OSError:
+                self._leave()
+            except Refused as refused:
+                if refused.args != (4,):
+                    raise
+                self._leave()  # what it released last is too old: it drives no more
+            self._come()
 
 
 def main():

@@ -72,7 +72,7 @@ def gaps(seen):
 
 # ---- the picture
 
-def picture(seconds, seen, crashes, gap, title):
+def picture(seconds, seen, crashes, gap, title, note='Red: a replica crashes, and comes back from its file. Its number stands above.'):
     def x(at):
         return LEFT + WIDE * at / seconds
 
@@ -111,7 +111,7 @@ def picture(seconds, seen, crashes, gap, title):
     put.append(f'<line x1="{LEFT}" y1="370" x2="{LEFT + WIDE}" y2="370" stroke="#888888"/><text x="{LEFT + 4}" y="292" fill="#6d4c41">from scan to scan</text>')
     for second in range(0, int(seconds) + 1, 5):
         put.append(f'<text x="{x(second):.1f}" y="388" text-anchor="middle">{second} s</text>')
-    put.append(f'<text x="{LEFT}" y="408" font-size="12">Red: a replica crashes, and comes back from its file. Its number stands above.</text></svg>')
+    put.append(f'<text x="{LEFT}" y="408" font-size="12">{note}</text></svg>')
     return '\n'.join(put) + '\n'
 
 
