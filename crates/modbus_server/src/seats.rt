@@ -71,8 +71,8 @@ fn seats_of<R: Clock + Drop, J: Naming>(
     Ok(seats)
 }
 
-/// What clients are served with, at a port that opens and closes: a seat for each that is served at once, and the inputs
-/// that they stage, which stay while no port is open.
+/// What clients are served with, at a port that opens and closes: a seat for each that is served at once, and the
+/// inputs that they stage, which stay while no port is open.
 #[derive(Drop)]
 pub struct Seats<R: ServiceRuntime, J: Naming> {
     pub(crate) host: Host<R>,

@@ -3,8 +3,8 @@
 ghost use Rattle.std.specs.Prelude.{◌≡◌};
 ghost use Rattle.il_text.specs.Telling.{Sends};
 ghost use Rattle.il_text.specs.Lines.{stop_name};
-ghost use Rattle.plc_status.specs.Notices.{long_line, machine_line, notice_line, numbered_line, refused_line, replica_line, view_line, why_name};
-ghost use Rattle.plc_status.specs.Notices.{stopped_line, IsPortTold};
+ghost use Rattle.plc_status.specs.Notices.{long_line, machine_line, notice_line, numbered_line, refused_line};
+ghost use Rattle.plc_status.specs.Notices.{replica_line, stopped_line, view_line, why_name, IsPortTold};
 
 use crate::deed::{Deed, put_deed};
 use il_model::Stop;
