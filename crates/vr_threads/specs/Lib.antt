@@ -1,3 +1,4 @@
+pub mod GroupPatience
 pub mod Keeping
 pub mod Observed
 pub mod Patience

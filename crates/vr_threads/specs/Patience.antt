@@ -20,11 +20,15 @@ abbrev pub is_over : ℕ → Option ℕ → ℕ → Bool
 is_over time None now = false
 is_over time (Some since) now = nat_le time (now - since)
 
+-- where nothing is late: by how long and since when nothing was sent again
+abbrev pub resend_at : ℕ → Option ℕ → ℕ → Tick
+resend_at pause resent now = if is_over pause resent now then tick.Resend else tick.None
+
 -- what is said now, by whether the primary is lost, how long and since when nothing showed that the view goes on, and
 -- how long and since when nothing was sent again
 abbrev pub tick_at : Bool → ℕ → Option ℕ → ℕ → Option ℕ → ℕ → Tick
 tick_at is_lost wait silent pause resent now =
-    if is_lost || is_over wait silent now then tick.Timeout else if is_over pause resent now then tick.Resend else tick.None
+    if is_lost || is_over wait silent now then tick.Timeout else resend_at pause resent now
 
 -- how long is waited in the view behind one that did not begin: twice as long, up to the longest
 abbrev pub wait_behind : ℕ → ℕ → ℕ

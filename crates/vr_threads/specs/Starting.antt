@@ -1,5 +1,5 @@
 -- How a replica starts from its store.
-use Rattle.std.specs.Prelude.{◌≡◌, ℕ, ◌⊎◌, ◌==◌, Option, Some, None, MatchBool}
+use Rattle.std.specs.Prelude.{◌≡◌, ℕ, ◌⊎◌, ◌==◌, Bool, not, Option, Some, None, MatchBool}
 use Rattle.il_model.specs.declared.command.Command.{Command}
 use Rattle.vr_model.specs.declared.event.Stored.{Stored}
 use Rattle.vr_model.specs.Membership.{Membership}
@@ -26,3 +26,12 @@ HasStarted begin_gives m s t replica nonce starts =
     ((stored : Stored) × begin_gives s (Some stored) t × (starts ≡ Some stored.starts)
     × StartsWith m stored replica nonce)
     ⊎ (begin_gives s None t × (starts ≡ None) × (nonce ≡ None) × StandsDown replica m)
+
+-- A start of a judged store is the first one just where that was judged. It failed where the store failed, or where the
+-- store counted another start than was judged.
+abbrev pub BeginsAsJudged : {S : Type 0} → (S → Option Stored → S → Type 0) → Bool → S → Option Stored → S → Type 0
+BeginsAsJudged begin_gives is_first s (Some stored) t =
+    begin_gives s (Some stored) t × ((stored.starts == 1) ≡ is_first)
+BeginsAsJudged begin_gives is_first s None t =
+    begin_gives s None t
+    ⊎ ((stored : Stored) × begin_gives s (Some stored) t × ((stored.starts == 1) ≡ not is_first))
