@@ -100,10 +100,11 @@ pub(crate) fn act<L: Link, S: ViewStore, T: Timer, G: Observer>(
 {
     seat.gate.before(*call);
     let stepped = replica.step(alloc, event, &mut seat.store);
+    // Before it shows what it is: whoever reads that finds what the gate saw by then.
+    seat.gate.observe(replica);
     let standing = standing_of(replica);
     shown.show_step(standing, is_store_fault(&stepped), seat.link.frameless());
     seat.timer.stepped(standing);
-    seat.gate.observe(replica);
     seat.gate.after(*call, standing);
     *call = call.saturating_add(1);
     if let Ok(sends) = stepped {

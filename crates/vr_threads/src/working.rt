@@ -86,7 +86,7 @@ impl<L: Relink, S: Starts, T: Timer, G: Observer> Work<L, S, T, G> {
         Ok(())
     }
 
-    /// The replica from its store, which counts a start more: that shows from now on, and the gate has looked at it. It
+    /// The replica from its store, which counts a start more: the gate has looked at it, and it shows from now on. It
     /// fails only where memory runs out.
     fn start(&mut self, alloc: Global) -> Result<Started, AllocError>
         ensures started { IfOk result (λ start. HasStarted S.begin_gives (planned self.old.plan) self.old.seat.store
@@ -102,9 +102,10 @@ impl<L: Relink, S: Starts, T: Timer, G: Observer> Work<L, S, T, G> {
         } = self.plan;
         let image = self.plan.image.copy(alloc)?;
         let started = start_from(alloc, config, number, image, budget, &mut self.seat.store)?;
+        // Before it shows, as behind each step.
+        self.seat.gate.observe(&started.replica);
         self.shown
             .show_start(started.replica.standing(), started.starts);
-        self.seat.gate.observe(&started.replica);
         Ok(started)
     }
 
