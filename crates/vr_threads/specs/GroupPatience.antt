@@ -1,7 +1,7 @@
 -- When a replica of a group of machines is late, by what its timer knows and by which others are there. Times are in
 -- nanoseconds since a beginning; bit k of those that are near, or reached, stands for replica k.
-use Rattle.std.specs.Prelude.{◌≡◌, ℕ, ◌-◌, ◌*◌, ◌/◌, ◌%◌, ◌^◌, ◌==◌, ◌||◌, ◌&&◌, Bool, false, not, if◌then◌else◌, nat_le}
-use Rattle.std.specs.Prelude.{nat_lt, min, count_ones, option_map, Option, Some, None}
+use Rattle.std.specs.Prelude.{◌≡◌, ℕ, ◌-◌, ◌*◌, ◌/◌, ◌%◌, ◌^◌, ◌==◌, ◌||◌, ◌&&◌, Bool, false, not, if◌then◌else◌}
+use Rattle.std.specs.Prelude.{nat_le, nat_lt, min, count_ones, option_map, Option, Some, None}
 use Rattle.std.specs.Option.{unwrap_or}
 use Rattle.std.specs.Duration.{as_nanos, max_nanos}
 use Rattle.std.specs.declared.time.Duration.{Duration}
@@ -38,8 +38,8 @@ has_bit mask k = nat_lt k 8 && (mask / 2 ^ k % 2 == 1)
 abbrev pub has_stood : GroupPatience → Duration → Duration → Bool
 has_stood p time now = is_over (as_nanos time) (option_map as_nanos p.asked_at) (as_nanos now)
 
--- A change of its view could come to something: enough others are near. And a primary that nobody answers takes the next
--- view for begun, since that is what the others do.
+-- A change of its view could come to something: enough others are near. And a primary that nobody answers takes the
+-- next view for begun, since that is what the others do.
 abbrev pub may_change : GroupPatience → ℕ → Bool
 may_change p near = nat_le p.patience.f (count_ones near) || p.patience.standing.is_primary
 

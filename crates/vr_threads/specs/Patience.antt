@@ -1,6 +1,6 @@
 -- When a replica is late, in nanoseconds since a beginning, by what its timer knows.
-use Rattle.std.specs.Prelude.{ℕ, ◌+◌, ◌*◌, ◌-◌, min, nat_le, ◌==◌, ◌||◌, ◌&&◌, Bool, true, false, if◌then◌else◌, Option, Some}
-use Rattle.std.specs.Prelude.{None}
+use Rattle.std.specs.Prelude.{ℕ, ◌+◌, ◌*◌, ◌-◌, min, nat_le, ◌==◌, ◌||◌, ◌&&◌, Bool, true, false, if◌then◌else◌}
+use Rattle.std.specs.Prelude.{Option, Some, None}
 use Rattle.vr_model.specs.declared.message.Body.{Body}
 use Rattle.vr_model.specs.declared.message.Body.TheVariants as body
 use Rattle.vr_model.specs.declared.message.Message.{Message}
@@ -38,8 +38,9 @@ wait_behind longest wait = min (wait * 2) longest
 abbrev pub goes_on : Standing → ℕ → Sign
 goes_on standing view = if nat_le standing.view view then sign.GoesOn else sign.None
 
--- What a message of a replica says in a group for f failures, by what the one that hears it is: that its view goes on, or a later one; where it
--- is the primary, that the sender follows it; or that the primary of its view came up again, which has lost the view.
+-- What a message of a replica says in a group for f failures, by what the one that hears it is: that its view goes on,
+-- or a later one; where it is the primary, that the sender follows it; or that the primary of its view came up again,
+-- which has lost the view.
 abbrev pub sign_from : ℕ → Standing → ℕ → Body → Sign
 sign_from f standing sender (body.Prepare view request op_number commit_number) = goes_on standing view
 sign_from f standing sender (body.Commit view commit_number) = goes_on standing view

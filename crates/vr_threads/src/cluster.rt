@@ -59,7 +59,8 @@ pub struct ClusterConfig {
     pub turns: u64,
 }
 
-/// A replica, as others see it: what cuts its link, the way to give its thread orders to start it, and what shows of it.
+/// A replica, as others see it: what cuts its link, the way to give its thread orders to start it, and what shows of
+/// it.
 #[derive(Drop)]
 pub(crate) struct Member<L: Relink + Drop> {
     pub(crate) cutter: L::Cutter,
@@ -226,8 +227,8 @@ impl<L: Relink + Send + Drop + 'static> Cluster<L> {
         }
     }
 
-    /// What shows of a replica now; from an order to start it until that came to its end it is down. Of a number that no
-    /// replica has it is what shows before any start.
+    /// What shows of a replica now; from an order to start it until that came to its end it is down. Of a number that
+    /// no replica has it is what shows before any start.
     pub fn shown(&mut self, number: u8) -> Shown {
         match self.members.get_mut(usize::from(number)) {
             Some(member) => member.look(),

@@ -1,6 +1,6 @@
 //! How long a replica of a group of machines waits for its primary.
 
-ghost use Rattle.std.specs.Prelude.{◌≡◌, ◌<◌, ◌∷◌, Some, None, false, true, count_ones, option_map};
+ghost use Rattle.std.specs.Prelude.{◌≡◌, ◌<◌, Some, None, false, true, count_ones, option_map};
 ghost use Rattle.std.specs.Duration.{as_nanos};
 ghost use Rattle.vr_ports.specs.declared.timer.Tick.TheVariants as tick;
 ghost use Rattle.vr_threads.specs.declared.patience.Sign.TheVariants as sign;

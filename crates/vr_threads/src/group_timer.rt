@@ -20,8 +20,8 @@ pub trait Neighbours {
 /// or where the primary of its view was away for two fifths of that; and, as a `MachineTimer` has it, at once where
 /// that primary has lost the view, and later where views don't begin. While fewer than f others are near it doesn't,
 /// unless it leads; nor for four times its patience behind that, unless it hears by then that its view goes on; nor
-/// behind a pause of the process itself. It sends again after each pause. It tells nothing. It's to be asked a few times
-/// within half its patience. Where the machine's time cannot be read, no time passes.
+/// behind a pause of the process itself. It sends again after each pause. It tells nothing. It's to be asked a few
+/// times within half its patience. Where the machine's time cannot be read, no time passes.
 #[derive(Drop)]
 pub struct GroupTimer<R: Clock + Drop, N: Neighbours + Drop> {
     rt: R,

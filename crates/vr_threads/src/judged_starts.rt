@@ -18,6 +18,7 @@ pub struct JudgedStarts<S> {
 }
 
 impl<S> JudgedStarts<S> {
+    /// `is_first`: whether its next start was judged to be its first.
     pub fn new(store: S, is_first: bool) -> JudgedStarts<S>
         ensures judged { (result.store ≡ store) × (result.is_first ≡ is_first) }
     {

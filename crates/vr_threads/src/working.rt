@@ -59,8 +59,9 @@ impl<L: Relink, S: Starts, T: Timer, G: Observer> Work<L, S, T, G> {
         !was_used || self.seat.link.renew().is_ok()
     }
 
-    /// Starts the replica from its store. Then it comes up, where it is to, and is served: the gate is called round each
-    /// of these steps. At the end it shows as down. It fails only where memory runs out, before the replica is served.
+    /// Starts the replica from its store. Then it comes up, where it is to, and is served: the gate is called round
+    /// each of these steps. At the end it shows as down. It fails only where memory runs out, before the replica is
+    /// served.
     fn run(&mut self, alloc: Global) -> Result<(), AllocError>
         ensures worked { OnOk result (Worked S.load_gives S.save_gives S.faults S.begin_gives (planned self.old.plan)
             self.old.plan.turns
