@@ -10,3 +10,6 @@ pub mod Along
 pub mod FileKept
 pub mod Ordering
 pub mod Serving
+pub mod Machines
+pub mod Counting
+pub mod JudgedKept

@@ -3,3 +3,4 @@ pub mod KeptViews
 pub mod ObservedSteps
 pub mod CodeMoves
 pub mod OwnMoves
+pub mod MachineMoves

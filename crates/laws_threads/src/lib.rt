@@ -16,35 +16,46 @@
 //! - Such moves are one run of the group as `laws_history` has it, with one history: each replica that runs stands for
 //!   the record that its list leads to, and the messages stand for those of that run (`threads_are_one_run`). What a
 //!   step presupposes of a message, the run so far gives (`next_moves_may_presuppose`, `step_is_observed`).
+//! - The processes of machines, each by itself, are one such run: from stores that were formatted once, judged before
+//!   each start, with starts that rise (`machines_are_one_run`). What a file counts rises with each start and never
+//!   falls, and a store that was opened anew goes on from it (`counts_rise`).
 //!
 //! Premises that are left to the links, to disks and to people: there is one order in which a link hands out only what
 //! was handed out before, to that party; a replica's first start comes once, and finds a store that holds no view; each
 //! later one finds what the one before was left with, and has a nonce that no other start of that replica had; all
-//! start with one program and one budget. None of it speaks of one process: each replica may run in its own.
+//! start with one program and one budget. None of it speaks of one process: each replica may run in its own. Of a
+//! machine it's enough that nobody copies its store or brings an old one back: `plc format` makes it once,
+//! `a_start_is_new_once` of plc_store judges no later start as the first one, a `JudgedStarts` lets none be that, and a
+//! `FileStore` counts on.
 //!
 //! Only tested: nothing.
 #![tactic(auto)]
 
-ghost use Rattle.std.specs.Prelude.{ℕ, Bool, List, Option, ◌++◌};
+ghost use Rattle.std.specs.Prelude.{◌≡◌, ◌<◌, ℕ, Bool, List, Option, Some, None, ◌++◌};
 ghost use Rattle.il_model.specs.declared.command.Command.{Command};
 ghost use Rattle.il_model.specs.declared.command.Answer.{Answer};
 ghost use Rattle.vr_model.specs.declared.event.Event.{Event};
+ghost use Rattle.vr_model.specs.declared.event.Stored.{Stored};
 ghost use Rattle.vr_model.specs.Membership.{Membership};
 ghost use Rattle.vr_model.specs.Steps.{Input};
 ghost use Rattle.vr_model.specs.Stores.{KnownState};
 ghost use Rattle.vr_replica.specs.declared.state.Replica.{Replica};
 ghost use Rattle.vr_replica.specs.Standing.{StandsFor};
 ghost use Rattle.vr_replica.specs.Stepped.{StepResult, KeepsExecuted};
+ghost use Rattle.vr_threads.specs.declared.file_store.Held.{Held};
+ghost use Rattle.vr_threads.specs.declared.file_store.Held.TheVariants.{Unknown};
+ghost use Rattle.vr_threads.specs.Keeping.{CountsStart, Loads, MayHold, Saves, started};
 ghost use Rattle.vr_threads.specs.Serving.{StepsTo, Scene, Turn, Did, sends_in};
 ghost use Rattle.laws_threads.specs.ObservedMoves.{ObservedMove, AreFromTheFirst, IsOneRun, MayPresuppose};
 ghost use Rattle.laws_threads.specs.CodeMoves.{CodeMove, Seat, AreFromTheStart, AreOneRun};
 ghost use Rattle.laws_threads.specs.OwnMoves.{OwnMove, AreOwnMoves, EachInOneOrder, IsServed, seat_after, given_after};
+ghost use Rattle.laws_threads.specs.MachineMoves.{MachinesInOneOrder, HoldsAtLeast};
 ghost use Rattle.laws_threads.specs.ObservedSteps.{Means, FitsIn, observation_of, IsShownAs};
 
 use il_model::{Answer, Command};
 use std::rt::Files;
 use vr_replica::ViewStore;
-use vr_threads::{FileStore, Starts};
+use vr_threads::{FileStore, JudgedStarts, Starts};
 
 /// A store of which it is said what views it may hold.
 pub trait Kept: Starts {
@@ -65,6 +76,33 @@ impl<R: Files + Drop> Kept for FileStore<R> {
     ghost holds = { λ s k. HoldsNoOther s.held k };
 
     fn know_kept() {}
+}
+
+impl<S: Kept> Kept for JudgedStarts<S> {
+    ghost holds = { λ s k. S.holds s.store k };
+
+    fn know_kept() {
+        S::know_kept();
+    }
+}
+
+/// A store of which is known, before it counts a start, whether that is the first.
+pub trait Judged: Kept {
+    ghost use Rattle.std.specs.Prelude.{Bool};
+    ghost use Rattle.laws_threads.specs.MachineMoves.{CountsAsJudged};
+
+    // Whether its next start was judged to be its first.
+    ghost is_first: { Self → Bool };
+
+    /// The law of what it counts. There is nothing to do.
+    fn know_judged()
+        ensures { CountsAsJudged Self.begin_gives is_first };
+}
+
+impl<S: Kept> Judged for JudgedStarts<S> {
+    ghost is_first = { λ s. s.is_first };
+
+    fn know_judged() {}
 }
 
 /// Moves as the threads of a group see them, each right from what is known of its replica by then, and each message
@@ -133,4 +171,33 @@ pub fn lists_are_moves<S: Kept>()
     ensures { (group : Membership) (moves : List (CodeMove S))
         → EachInOneOrder S.load_gives S.save_gives S.faults S.begin_gives S.holds group moves
         → AreFromTheStart S.load_gives S.save_gives S.faults S.begin_gives S.holds group moves }
+{}
+
+/// The processes of a group's machines, each by itself, are one run of the group, with one history: where each
+/// machine's first start finds a store that holds no view, each later one was judged to be a later one, finds what the
+/// one before left and counts more starts than any before it; and each message that is taken was handed out before, to
+/// its taker.
+pub fn machines_are_one_run<S: Judged>()
+    ensures { (group : Membership) (early late : List (CodeMove S))
+        → MachinesInOneOrder S.load_gives S.save_gives S.faults S.begin_gives S.holds S.is_first group (early ++ late)
+        → AreOneRun group early late }
+{
+    S::know_judged();
+    lists_are_moves::<S>();
+    threads_are_one_run::<S>();
+}
+
+/// What the file of a store holds counts no fewer starts behind a load, a save or a start that failed, and more behind
+/// each start. And a store that was opened anew starts as the one before would, where it finds what that may hold.
+pub fn counts_rise()
+    ensures loads { (h t : Held) (counted : ℕ) (found : Option Stored) → HoldsAtLeast h counted → Loads h found t
+        → HoldsAtLeast t counted }
+    ensures saves { (h t : Held) (counted view : ℕ) (made : Bool) → HoldsAtLeast h counted → Saves h view made t
+        → HoldsAtLeast t counted }
+    ensures starts { (h t : Held) (counted : ℕ) (stored : Stored) → HoldsAtLeast h counted
+        → CountsStart h (Some stored) t → (counted < stored.starts) × HoldsAtLeast t stored.starts }
+    ensures fails { (h t : Held) (counted : ℕ) → HoldsAtLeast h counted → CountsStart h None t
+        → HoldsAtLeast t counted }
+    ensures reopens { (left after : Held) (found stored : Stored) → MayHold left found
+        → CountsStart Unknown (Some stored) after → stored ≡ started found → CountsStart left (Some stored) after }
 {}
