@@ -1,0 +1,18 @@
+-- What an operator is told of a machine.
+use Rattle.std.specs.Prelude.{◌≡◌, ℕ, ◌==◌, Bool, if◌then◌else◌, Option, Some, None}
+use Rattle.plc_status.specs.declared.journal.Journal.{Journal}
+use Rattle.plc_status.specs.declared.notice.Notice.{Notice}
+use Rattle.plc_status.specs.declared.notice.Notice.TheVariants as notices
+use Rattle.plc_status.specs.Journal.{IsPut}
+
+-- what is told of a replica by the view in which it was normal before, if in any, and by that in which it is now
+abbrev pub turn_of : Option ℕ → Option ℕ → Option Notice
+turn_of (Some before) None = Some notices.ReplicaNotNormal
+turn_of (Some before) (Some view) = if before == view then None else Some (notices.ReplicaNormalIn view)
+turn_of None (Some view) = Some (notices.ReplicaNormalIn view)
+turn_of None None = None
+
+-- it was put into the journal, where there is something to be told, and else nothing was
+abbrev pub IsNoted : Option Notice → Journal → Journal → Type 0
+IsNoted None old new = new ≡ old
+IsNoted (Some notice) old new = IsPut notice old new

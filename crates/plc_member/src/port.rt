@@ -1,0 +1,98 @@
+//! The port of a machine for Modbus clients, which is open only while the machine shows outputs.
+
+use io_image::Naming;
+use modbus_server::{OpenServer, Seats};
+use plc_host::{Failed, ServiceRuntime};
+use plc_listener::Door;
+use std::net::{Net, SocketAddr, TcpListener, TcpStream};
+
+/// What serves clients, at an open port or at none.
+enum Serving<R: ServiceRuntime, J: Naming> {
+    Closed(Seats<R, J>),
+    Open(OpenServer<R, J>),
+}
+
+/// What became of a port by a look at it.
+#[derive(Clone, Copy, Debug, PartialEq, Eq)]
+pub(crate) enum Turn {
+    Same,
+    Opened,
+    Closed,
+    /// It's to be open, and its address isn't to be had.
+    Refused,
+}
+
+/// The port of a machine. It can't be let go of but by `close`, which joins its threads.
+pub(crate) struct Port<R: ServiceRuntime, J: Naming> {
+    rt: R,
+    address: SocketAddr,
+    serving: Serving<R, J>,
+}
+
+impl<R, J> Port<R, J>
+where
+    R: ServiceRuntime + Net<Listener = TcpListener, Stream = TcpStream>,
+    J: Naming + Send + Sync + 'static,
+{
+    /// It's closed. Clients are served by these seats while it's open.
+    pub(crate) fn new(rt: R, address: SocketAddr, seats: Seats<R, J>) -> Port<R, J> {
+        Port {
+            rt,
+            address,
+            serving: Serving::Closed(seats),
+        }
+    }
+
+    /// Opens it, or closes it with each of its sessions, by whether it's to be open. Where it fails it's closed.
+    pub(crate) fn tended(self, is_wanted: bool) -> Result<(Port<R, J>, Turn), Failed> {
+        let Port {
+            rt,
+            address,
+            serving,
+        } = self;
+        let (serving, turn) = match serving {
+            Serving::Closed(seats) if is_wanted => opened(&rt, address, seats)?,
+            Serving::Open(server) if !is_wanted => {
+                (Serving::Closed(server.suspend()), Turn::Closed)
+            }
+            serving => (serving, Turn::Same),
+        };
+        let port = Port {
+            rt,
+            address,
+            serving,
+        };
+        Ok((port, turn))
+    }
+
+    /// Closes it, with each of its sessions.
+    pub(crate) fn close(self) {
+        let Port {
+            rt: _rt,
+            address: _address,
+            serving,
+        } = self;
+        match serving {
+            Serving::Closed(seats) => drop(seats),
+            Serving::Open(server) => {
+                server.close();
+            }
+        }
+    }
+}
+
+/// Lets clients in at this address, if it's to be had.
+fn opened<R, J>(
+    rt: &R,
+    address: SocketAddr,
+    seats: Seats<R, J>,
+) -> Result<(Serving<R, J>, Turn), Failed>
+where
+    R: ServiceRuntime + Net<Listener = TcpListener, Stream = TcpStream>,
+    J: Naming + Send + Sync + 'static,
+{
+    match Door::at(rt, address) {
+        Ok(door) => Ok((Serving::Open(seats.open(door)?), Turn::Opened)),
+        Err(_) => Ok((Serving::Closed(seats), Turn::Refused)),
+    }
+}

@@ -1,0 +1,155 @@
+//! The last scan of a replica's log, which its thread leaves for the driver of its machine.
+
+ghost use Rattle.std.specs.Prelude.{◌≡◌, IfSome, Some};
+ghost use Rattle.il_model.specs.declared.command.Command.{Command as Asked};
+ghost use Rattle.vr_model.specs.Membership.{Membership};
+ghost use Rattle.vr_model.specs.Replicas as model;
+ghost use Rattle.vr_replica.specs.Scans.{last_scan_of};
+ghost use Rattle.vr_replica.specs.Standing.{StandsFor};
+
+use il_model::{Command, InImage};
+use plc_host::Host;
+use plc_machine::LastScan;
+use std::sync::{Arc, Mutex, Wait};
+use std::time::{Clock, Duration, Instant};
+use vr_model::{Request, Standing};
+use vr_ports::Gate;
+use vr_replica::{Replica, ScanInputs};
+use vr_threads::Observer;
+
+/// The last scan of a log: its inputs, its moment, and when it came in.
+#[derive(Clone, Copy)]
+pub(crate) struct SeenScan {
+    pub(crate) last: LastScan,
+    pub(crate) inputs: InImage,
+}
+
+/// Where the thread of a replica leaves the last scan of its log. Whoever holds it holds it for a moment.
+#[derive(Drop)]
+pub(crate) struct ScanBoard {
+    seen: Mutex<Option<SeenScan>>,
+}
+
+impl ScanBoard {
+    /// No scan was seen.
+    pub(crate) fn new() -> ScanBoard {
+        ScanBoard {
+            seen: Mutex::new(None),
+        }
+    }
+
+    /// The last scan, if there is one.
+    pub(crate) fn read<R: Wait>(&self, rt: &R) -> Option<SeenScan> {
+        *self.seen.lock(rt)
+    }
+
+    /// This is the last scan from now on.
+    fn put<R: Wait>(&self, rt: &R, seen: SeenScan) {
+        *self.seen.lock(rt) = Some(seen);
+    }
+}
+
+/// What a gate knows of the last scan.
+#[derive(Clone, Copy, PartialEq, Eq)]
+enum Known {
+    Nothing,
+    /// That of the checkpoint, with its forces laid over the inputs.
+    Checkpoint,
+    /// This one, at this place of the log, from 0.
+    At(u64, ScanInputs),
+}
+
+/// Leaves the last scan of its replica's log on a board, behind each step that brings another one.
+#[derive(Drop)]
+pub(crate) struct ScanGate<R: Wait + Clock + Copy + Drop> {
+    host: Host<R>,
+    begun: Instant,
+    board: Arc<ScanBoard>,
+    known: Known,
+}
+
+/// The place of the last scan among the entries that a replica keeps, from 0.
+fn place_of_last(replica: &Replica) -> Option<u64> {
+    let count = replica.op_number();
+    for behind in 0..count {
+        let place = count - 1 - behind;
+        match replica.entry(place) {
+            None => return None,
+            Some(Request {
+                command: Command::Scan { .. },
+                ..
+            }) => return Some(place),
+            Some(_) => {}
+        }
+    }
+    None
+}
+
+/// The last scan of a replica's log, where it's among the entries that it keeps.
+fn last_of(replica: &Replica) -> Option<ScanInputs>
+    ensures { (m : Membership) (r : model.ReplicaState Asked) → StandsFor replica.now m r
+        → IfSome result (λ scan. last_scan_of r.log ≡ Some scan) }
+{
+    replica.last_scan()
+}
+
+impl<R: Wait + Clock + Copy + Drop> ScanGate<R> {
+    /// Of a replica that was not started. Times are told since `begun`.
+    pub(crate) fn new(host: Host<R>, begun: Instant, board: Arc<ScanBoard>) -> ScanGate<R> {
+        ScanGate {
+            host,
+            begun,
+            board,
+            known: Known::Nothing,
+        }
+    }
+
+    /// A scan of these inputs and this moment came in just now. Where the time can't be read it's left out.
+    fn leave(&self, inputs: InImage, moment: u64) {
+        if let Ok(now) = Instant::now(&self.host.rt) {
+            let came = now.saturating_duration_since(self.begun);
+            let last = LastScan { moment, came };
+            self.board.put(&self.host.rt, SeenScan { last, inputs });
+        }
+    }
+
+    /// The last scan is at this place.
+    fn see(&mut self, place: u64, scan: ScanInputs) {
+        let known = Known::At(place, scan);
+        if self.known != known {
+            self.known = known;
+            self.leave(scan.inputs, scan.moment);
+        }
+    }
+
+    /// No entry that the replica keeps is a scan: where nothing else is known of it, the last one is known by what the
+    /// controller has, which is what the checkpoint brought.
+    fn see_checkpoint(&mut self, replica: &Replica) {
+        if self.known != Known::Nothing || !replica.is_normal() || replica.commit() == 0 {
+            return;
+        }
+        // Where memory runs out, it's tried behind the next step.
+        if let Ok(snapshot) = replica.snapshot(self.host.alloc) {
+            self.known = Known::Checkpoint;
+            let inputs = InImage {
+                cells: snapshot.input,
+            };
+            self.leave(inputs, snapshot.moment);
+        }
+    }
+}
+
+impl<R: Wait + Clock + Copy + Drop> Gate for ScanGate<R> {
+    fn before(&mut self, _call: u64) {}
+
+    fn after(&mut self, _call: u64, _standing: Standing) {}
+}
+
+impl<R: Wait + Clock + Copy + Drop> Observer for ScanGate<R> {
+    fn observe(&mut self, replica: &Replica) {
+        match (place_of_last(replica), last_of(replica)) {
+            (Some(place), Some(scan)) => self.see(place, scan),
+            _ => self.see_checkpoint(replica),
+        }
+    }
+}

@@ -1,0 +1,355 @@
+//! A machine from the start of its replica to its end.
+
+use crate::drive::{Drive, LONGEST_WAIT, Submitted};
+use crate::opening::Member;
+use crate::port::Port;
+use crate::scans::{ScanBoard, ScanGate};
+use crate::watch::Watch;
+use io_image::{Naming, NewList, Pen, ReleasedWriter, SharedPen, Stamp, released};
+use io_model::CountedWrite;
+use modbus_server::{Seats, Shown};
+use net_hello::Epoch;
+use net_peers::{Exchange, Machine, PeerLink, machine_links};
+use plc_group::{Group, Machine as Place};
+use plc_host::{Failed, Host, ServiceRuntime};
+use plc_machine::{MachineDriver, Pace, client_starts};
+use plc_status::{Journal, Journals, Printer, StatusWriter};
+use std::alloc::{AllocError, Global};
+use std::net::{Net, SocketAddr, TcpListener, TcpStream};
+use std::sync::Arc;
+use std::thread;
+use std::time::{Duration, Instant};
+use vr_model::ClientNumber;
+use vr_threads::{ClusterConfig, ClusterError, MachineTimer, Seat, Solo, Starts};
+
+/// So many sessions of Modbus clients are served at once.
+const SESSIONS: usize = 16;
+
+/// A runtime that the process of a machine runs on.
+pub trait MachineRuntime:
+    ServiceRuntime + Net<Listener = TcpListener, Stream = TcpStream>
+{
+}
+
+impl<R: ServiceRuntime + Net<Listener = TcpListener, Stream = TcpStream>> MachineRuntime for R {}
+
+/// The links of a machine's own parties, and what they share.
+#[derive(Drop)]
+struct Linked<R: MachineRuntime> {
+    exchange: Arc<Exchange>,
+    replica: PeerLink<R>,
+    driver: PeerLink<R>,
+}
+
+/// The replica of a machine, which runs, and what its driver needs of it.
+#[derive(Drop)]
+struct Running<R: MachineRuntime> {
+    number: u8,
+    /// How often the machine was started, with this time.
+    starts: u64,
+    exchange: Arc<Exchange>,
+    driver: PeerLink<R>,
+    solo: Solo<PeerLink<R>>,
+    board: Arc<ScanBoard>,
+}
+
+/// What the outputs are released to, and what clients are shown them by.
+#[derive(Drop)]
+struct Outputs<R: MachineRuntime, J: Naming, P: Pen<J> + Drop> {
+    writer: ReleasedWriter<J, P>,
+    stamp: Arc<Stamp<R>>,
+    seats: Seats<R, J>,
+}
+
+/// Where the replica of each machine listens.
+fn addresses(alloc: Global, machines: &[Place]) -> Result<Vec<SocketAddr>, AllocError> {
+    let mut addresses = Vec::with_capacity(alloc, machines.len())?;
+    for machine in machines {
+        addresses.push(machine.replica)?;
+    }
+    Ok(addresses)
+}
+
+/// A time of so many milliseconds.
+fn millis(time: u32) -> Duration {
+    Duration::from_millis(u64::from(time))
+}
+
+/// Why no replica runs.
+fn failed_by(error: ClusterError) -> Failed {
+    match error {
+        ClusterError::Memory => Failed::Memory,
+        ClusterError::Thread => Failed::Thread,
+    }
+}
+
+/// What a machine knows of its group.
+fn machine_of<S: Drop>(
+    alloc: Global,
+    group: &Group,
+    member: &Member<S>,
+) -> Result<Machine, AllocError> {
+    let header = member.header;
+    Ok(Machine {
+        identity: header.identity,
+        epoch: Epoch {
+            number: header.epoch,
+            image: header.program,
+        },
+        starts: member.starts,
+        number: header.machine,
+        replicas: addresses(alloc, group.machines.as_slice())?,
+        has_console: false,
+    })
+}
+
+/// The links of a machine, whose replica listens here.
+fn links_of<R: MachineRuntime>(
+    host: Host<R>,
+    machine: &Machine,
+    listener: TcpListener,
+) -> Result<Linked<R>, Failed> {
+    let wait = Duration::from_millis(LONGEST_WAIT);
+    let (exchange, mut links) = machine_links(host.rt, host.alloc, machine, listener, wait)?;
+    let (Some(driver), Some(replica)) = (links.pop(), links.pop()) else {
+        return Err(Failed::Connection);
+    };
+    Ok(Linked {
+        exchange,
+        replica,
+        driver,
+    })
+}
+
+/// Starts the replica of a machine that is ready, in a thread of its own.
+fn started<R: MachineRuntime, S: Starts + Send + Drop + 'static>(
+    host: Host<R>,
+    group: &Group,
+    member: Member<S>,
+    begun: Instant,
+) -> Result<Running<R>, Failed> {
+    let Host { rt, alloc } = host;
+    let machine = machine_of(alloc, group, &member)?;
+    let Member {
+        image,
+        store,
+        starts,
+        listener,
+        ..
+    } = member;
+    let Linked {
+        exchange,
+        replica: link,
+        driver,
+    } = links_of(host, &machine, listener)?;
+    let board = Arc::new(alloc, ScanBoard::new())?;
+    let times = group.times;
+    let seat = Seat {
+        link,
+        store,
+        timer: MachineTimer::new(
+            rt,
+            group.config,
+            millis(times.patience),
+            millis(times.resend),
+        ),
+        gate: ScanGate::new(host, begun, Arc::try_clone(&board)?),
+    };
+    let config = ClusterConfig {
+        group: group.config,
+        budget: group.budget,
+        turns: u64::MAX,
+    };
+    // Its thread ends with the process.
+    let (solo, _thread) = match Solo::start(&rt, alloc, config, machine.number, &image, seat) {
+        Ok(started) => started,
+        Err(error) => return Err(failed_by(error)),
+    };
+    Ok(Running {
+        number: machine.number,
+        starts,
+        exchange,
+        driver,
+        solo,
+        board,
+    })
+}
+
+/// What the outputs of a machine are released to. Clients are shown them for as long as they are fresh.
+fn outputs_of<J, R>(
+    host: Host<R>,
+    list: NewList,
+    group: &Group,
+    status: &StatusWriter,
+) -> Result<Outputs<R, J, SharedPen<J, R>>, Failed>
+where
+    J: Naming + Send + Sync + 'static,
+    R: MachineRuntime,
+    requires { list ≡ J.book }
+{
+    let Host { rt, alloc } = host;
+    let Ok((writer, readers)) = released::<J, R>(list, alloc, rt, SESSIONS) else {
+        return Err(Failed::Memory);
+    };
+    let stamp = Arc::new(alloc, Stamp::new(rt)?)?;
+    let shown = Shown {
+        readers,
+        stamp: Arc::try_clone(&stamp)?,
+        limit: Some(group.times.fresh),
+    };
+    let idle = Duration::from_secs(u64::from(group.times.idle));
+    Ok(Outputs {
+        writer,
+        stamp,
+        seats: Seats::new(host, shown, idle, status.traffic()?)?,
+    })
+}
+
+/// The driver of a machine that was started so often, which stands by.
+fn driver_of(group: &Group, number: u8, starts: u64) -> Result<MachineDriver, Failed> {
+    let (Some(client), Some(starts)) = (ClientNumber::new(number), client_starts(starts)) else {
+        return Err(Failed::Store(number));
+    };
+    let pace = Pace {
+        period: millis(group.period),
+        fresh: millis(group.times.fresh),
+    };
+    Ok(MachineDriver::new(&group.config, client, starts, pace))
+}
+
+impl<S: Starts + Send + Drop + 'static> Member<S> {
+    /// Serves the machine until something fails: what. `err` has a line for each change. It fails at once where something
+    /// isn't to be had.
+    pub fn serve<J, R, E: CountedWrite>(
+        self,
+        host: Host<R>,
+        list: NewList,
+        group: &Group,
+        err: &mut E,
+    ) -> Failed
+    where
+        J: Naming + Send + Sync + 'static,
+        R: MachineRuntime,
+        requires { list ≡ J.book }
+    {
+        match self.run::<J, R, E>(host, list, group, err) {
+            Ok(failed) | Err(failed) => failed,
+        }
+    }
+
+    /// Runs it until something fails: what. An error is something that isn't to be had at its start.
+    fn run<J, R, E: CountedWrite>(
+        self,
+        host: Host<R>,
+        list: NewList,
+        group: &Group,
+        err: &mut E,
+    ) -> Result<Failed, Failed>
+    where
+        J: Naming + Send + Sync + 'static,
+        R: MachineRuntime,
+        requires { list ≡ J.book }
+    {
+        let begun = Instant::now(&host.rt)?;
+        let status = StatusWriter::new(host.alloc)?;
+        let Journals {
+            driver: journal,
+            mut printer,
+            ..
+        } = Journals::new(host.alloc)?;
+        let outputs = outputs_of::<J, R>(host, list, group, &status)?;
+        let running = started(host, group, self, begun)?;
+        let Some(place) = group.machines.get(usize::from(running.number)) else {
+            return Err(Failed::Connection);
+        };
+        let parts = Parts { outputs, running, journal, status };
+        let (drive, seats) = parts.into_drive(host, group, begun)?;
+        driven(host.rt, drive, place.modbus, seats, &mut printer, err)
+    }
+}
+
+/// What the driver of a machine is made of.
+#[derive(Drop)]
+struct Parts<R: MachineRuntime, J: Naming, P: Pen<J> + Drop> {
+    outputs: Outputs<R, J, P>,
+    running: Running<R>,
+    journal: Journal,
+    status: StatusWriter,
+}
+
+impl<R: MachineRuntime, J: Naming, P: Pen<J> + Drop> Parts<R, J, P> {
+    /// The driver, which stands by, and what clients are served with beside it.
+    fn into_drive(
+        self,
+        host: Host<R>,
+        group: &Group,
+        begun: Instant,
+    ) -> Result<(Drive<R, J, P>, Seats<R, J>), Failed> {
+        let Parts {
+            outputs:
+                Outputs {
+                    writer,
+                    stamp,
+                    seats,
+                },
+            running:
+                Running {
+                    number,
+                    starts,
+                    exchange,
+                    driver: link,
+                    solo,
+                    board,
+                },
+            journal,
+            status,
+        } = self;
+        let drive = Drive {
+            host,
+            begun,
+            number,
+            period: millis(group.period),
+            driver: driver_of(group, number, starts)?,
+            link,
+            solo,
+            board,
+            stage: seats.shared_stage()?,
+            writer,
+            stamp,
+            exchange,
+            watch: Watch::new(),
+            journal,
+            status,
+            halt: None,
+            submitted: Submitted {
+                at: begun,
+                since: millis(0),
+                is_late: false,
+            },
+            asked: millis(0),
+            refused_in: None,
+        };
+        Ok((drive, seats))
+    }
+}
+
+/// Has a machine driven in a thread of its own, and prints what is noted meanwhile, until something fails: what.
+fn driven<J, R, P, E: CountedWrite>(
+    rt: R,
+    drive: Drive<R, J, P>,
+    address: SocketAddr,
+    seats: Seats<R, J>,
+    printer: &mut Printer,
+    err: &mut E,
+) -> Result<Failed, Failed>
+where
+    J: Naming + Send + Sync + 'static,
+    R: MachineRuntime,
+    P: Pen<J> + Send + Drop + 'static,
+{
+    let Ok(thread) = thread::spawn(&rt, move || drive.run(Port::new(rt, address, seats))) else {
+        return Err(Failed::Thread);
+    };
+    printer.attend(&rt, err);
+    Ok(thread.join(&rt))
+}
