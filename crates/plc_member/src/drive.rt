@@ -87,7 +87,9 @@ fn view_of(course: Course) -> Option<u64> {
 
 /// Whether one of these messages goes to this replica.
 fn goes_to(sends: &Sends, number: u8) -> bool {
-    sends.iter().any(|message| message.to == Party::Replica(number))
+    sends
+        .iter()
+        .any(|message| message.to == Party::Replica(number))
 }
 
 /// The shorter one.
@@ -301,7 +303,9 @@ where
     fn ask_again(&mut self, now: Duration)
         ensures same { (self.new.writer ≡ self.old.writer) × (self.new.driver ≡ self.old.driver) }
     {
-        if now.saturating_sub(self.asked) < shorter(self.period, Duration::from_millis(LONGEST_SILENCE)) {
+        if now.saturating_sub(self.asked)
+            < shorter(self.period, Duration::from_millis(LONGEST_SILENCE))
+        {
             return;
         }
         self.asked = now;

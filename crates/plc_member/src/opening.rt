@@ -7,7 +7,9 @@ use il_loader::{Image, load};
 use plc_group::Group;
 use plc_host::{Failed, Host};
 use plc_machine::wanted;
-use plc_store::{FileDirectory, Header, Opened, Refusal, Start, Store, StoreDirectory, open, read_store};
+use plc_store::{
+    FileDirectory, Header, Opened, Refusal, Start, Store, StoreDirectory, open, read_store,
+};
 use std::alloc::Global;
 use std::fs::File;
 use std::net::{Net, SocketAddr, TcpListener, TcpStream};
@@ -29,11 +31,18 @@ pub struct Member<S: Drop> {
 }
 
 /// The number of the machine whose store a directory has.
-fn number_in<D: StoreDirectory>(alloc: Global, directory: &D, group: &Group) -> Result<u8, Unserved> {
+fn number_in<D: StoreDirectory>(
+    alloc: Global,
+    directory: &D,
+    group: &Group,
+) -> Result<u8, Unserved> {
     let Some(bytes) = directory.group() else {
         return Err(Unserved::Refused(Refusal::NoStore));
     };
-    let number = read_store(alloc, bytes).map_err(Refusal::from)?.header.machine;
+    let number = read_store(alloc, bytes)
+        .map_err(Refusal::from)?
+        .header
+        .machine;
     if usize::from(number) >= group.machines.len() {
         return Err(Unserved::Refused(Refusal::OtherMachine));
     }

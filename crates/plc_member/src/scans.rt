@@ -75,10 +75,12 @@ fn place_of_last(replica: &Replica) -> Option<u64> {
         let place = count - 1 - behind;
         match replica.entry(place) {
             None => return None,
-            Some(Request {
-                command: Command::Scan { .. },
-                ..
-            }) => return Some(place),
+            Some(
+                Request {
+                    command: Command::Scan { .. },
+                    ..
+                },
+            ) => return Some(place),
             Some(_) => {}
         }
     }

@@ -26,10 +26,7 @@ use vr_threads::{ClusterConfig, ClusterError, MachineTimer, Seat, Solo, Starts};
 const SESSIONS: usize = 16;
 
 /// A runtime that the process of a machine runs on.
-pub trait MachineRuntime:
-    ServiceRuntime + Net<Listener = TcpListener, Stream = TcpStream>
-{
-}
+pub trait MachineRuntime: ServiceRuntime + Net<Listener = TcpListener, Stream = TcpStream> {}
 
 impl<R: ServiceRuntime + Net<Listener = TcpListener, Stream = TcpStream>> MachineRuntime for R {}
 
@@ -262,7 +259,12 @@ impl<S: Starts + Send + Drop + 'static> Member<S> {
         let Some(place) = group.machines.get(usize::from(running.number)) else {
             return Err(Failed::Connection);
         };
-        let parts = Parts { outputs, running, journal, status };
+        let parts = Parts {
+            outputs,
+            running,
+            journal,
+            status,
+        };
         let (drive, seats) = parts.into_drive(host, group, begun)?;
         driven(host.rt, drive, place.modbus, seats, &mut printer, err)
     }
@@ -286,21 +288,19 @@ impl<R: MachineRuntime, J: Naming, P: Pen<J> + Drop> Parts<R, J, P> {
         begun: Instant,
     ) -> Result<(Drive<R, J, P>, Seats<R, J>), Failed> {
         let Parts {
-            outputs:
-                Outputs {
-                    writer,
-                    stamp,
-                    seats,
-                },
-            running:
-                Running {
-                    number,
-                    starts,
-                    exchange,
-                    driver: link,
-                    solo,
-                    board,
-                },
+            outputs: Outputs {
+                writer,
+                stamp,
+                seats,
+            },
+            running: Running {
+                number,
+                starts,
+                exchange,
+                driver: link,
+                solo,
+                board,
+            },
             journal,
             status,
         } = self;
