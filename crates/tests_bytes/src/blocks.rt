@@ -1,6 +1,6 @@
 //! Function blocks: what calls come to, which words are a state, and the tables of kinds and fields.
 
-use crate::notation::{hexadecimal, lines_of, otherwise, unreadable};
+use crate::notation::{cut, hexadecimal, lines_of, otherwise, put_made, told, unreadable};
 use ctl_blocks::Block;
 use il_model::{BlockKind, Field, Ty, Value};
 use std::alloc::{AllocError, Global};
@@ -74,16 +74,23 @@ fn call_all(alloc: Global, block: &mut Block, calls: &str) -> io::Result<()> {
 
 /// Performs the calls of a line, as many times as it says.
 fn perform(alloc: Global, block: &mut Block, line: &str) -> io::Result<()> {
-    let (times, calls) = line.split_once(" times ").unwrap_or(("1", line));
-    let times = times.parse::<u16>().ok().ok_or(unreadable())?;
+    let (times, calls) = repeated(line).ok_or(unreadable())?;
     for _ in 0..times {
         call_all(alloc, block, calls)?;
     }
     Ok(())
 }
 
+/// How often calls are performed, as `3 times`, or once; and the calls.
+fn repeated(line: &str) -> Option<(u16, &str)> {
+    match line.split_once(" times ") {
+        Some((times, calls)) => Some((times.parse::<u16>().ok()?, calls)),
+        None => Some((1, line)),
+    }
+}
+
 fn put_number(alloc: Global, came: &mut String, number: i64) -> Result<(), AllocError> {
-    came.push_str(format!(in alloc; " {number}")?.as_str())
+    put_made(came, format!(in alloc; " {number}"))
 }
 
 /// The calls of a line, and what the block shows after them.
@@ -117,20 +124,24 @@ fn words(alloc: Global, block: &Block) -> io::Result<String> {
 }
 
 /// What comes of a line: its words, or its calls with what the block shows after them.
-fn told(alloc: Global, block: &mut Block, line: &str) -> io::Result<String> {
+fn tell(alloc: Global, block: &mut Block, line: &str) -> io::Result<String> {
     if line.starts_with("words ") {
         return words(alloc, block);
     }
-    let calls = line.split_once(':').ok_or(unreadable())?.0;
+    let calls = cut(line, ":")?.0;
     perform(alloc, block, calls)?;
     shown(alloc, block, calls)
+}
+
+fn put_line(alloc: Global, block: &mut Block, line: &str, came: &mut String) -> io::Result<()> {
+    let told = tell(alloc, block, line)?;
+    Ok(put_made(came, format!(in alloc; "{told}\n"))?)
 }
 
 fn tell_all(alloc: Global, block: &mut Block, body: &str) -> io::Result<String> {
     let mut came = String::new(alloc);
     for line in lines_of(alloc, body)? {
-        came.push_str(told(alloc, block, line)?.as_str())?;
-        came.push('\n')?;
+        put_line(alloc, block, line, &mut came)?;
     }
     Ok(came)
 }
@@ -203,7 +214,7 @@ fn field_at(alloc: Global, kind: BlockKind, number: u8) -> io::Result<String> {
     match kind.field(number) {
         Some(field) if is_found(kind, number, field) => field_line(alloc, field),
         Some(_) => Err(otherwise()),
-        None => Ok(String::from_str(alloc, "none")?),
+        None => told(alloc, "none"),
     }
 }
 
@@ -219,20 +230,28 @@ fn kind_of_code(code: u8) -> io::Result<&'static str> {
 fn kind_line(alloc: Global, kind: BlockKind) -> io::Result<String> {
     let mut came = format!(in alloc; "{}", kind.code())?;
     for number in (0u8..).take(kind.fields().len()) {
-        came.push_str(", ")?;
-        came.push_str(field_at(alloc, kind, number)?.as_str())?;
+        put_field(alloc, &mut came, kind, number)?;
     }
     Ok(came)
 }
 
+fn put_field(alloc: Global, came: &mut String, kind: BlockKind, number: u8) -> io::Result<()> {
+    let field = field_at(alloc, kind, number)?;
+    Ok(put_made(came, format!(in alloc; ", {field}"))?)
+}
+
 /// A kind's code and fields, by a name; by a code, the kind's name.
 fn kind(alloc: Global, row: &str) -> io::Result<String> {
-    if let Some(code) = row.parse::<u8>().ok() {
-        return Ok(String::from_str(alloc, kind_of_code(code)?)?);
+    match row.parse::<u8>().ok() {
+        Some(code) => told(alloc, kind_of_code(code)?),
+        None => kind_by_name(alloc, row),
     }
-    match BlockKind::of_name(row.as_bytes()) {
+}
+
+fn kind_by_name(alloc: Global, name: &str) -> io::Result<String> {
+    match BlockKind::of_name(name.as_bytes()) {
         Some(kind) => kind_line(alloc, kind),
-        None => Ok(String::from_str(alloc, "none")?),
+        None => told(alloc, "none"),
     }
 }
 
@@ -244,10 +263,15 @@ fn number_line(alloc: Global, kind: BlockKind, name: &str) -> Result<String, All
     }
 }
 
+/// A kind by its name, and what stands behind it.
+fn kind_and(row: &str) -> io::Result<(BlockKind, &str)> {
+    let (kind, rest) = cut(row, " ")?;
+    Ok((kind_named(kind)?, rest))
+}
+
 /// A field of a kind, as `KIND NUMBER`; its number, as `KIND NAME`.
 fn field(alloc: Global, row: &str) -> io::Result<String> {
-    let (kind, field) = row.split_once(' ').ok_or(unreadable())?;
-    let kind = kind_named(kind)?;
+    let (kind, field) = kind_and(row)?;
     match field.parse::<u8>().ok() {
         Some(number) => field_at(alloc, kind, number),
         None => Ok(number_line(alloc, kind, field)?),
@@ -257,7 +281,7 @@ fn field(alloc: Global, row: &str) -> io::Result<String> {
 /// What comes out of a cell in a table of this title.
 pub fn table(alloc: Global, title: &str, cell: &str) -> io::Result<String> {
     match title {
-        "state" => Ok(String::from_str(alloc, judged(cell)?)?),
+        "state" => told(alloc, judged(cell)?),
         "kind" => kind(alloc, cell),
         "field" => field(alloc, cell),
         _ => Err(unreadable()),

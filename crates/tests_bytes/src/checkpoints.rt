@@ -2,10 +2,10 @@
 //! the lines of the log.
 
 use crate::blocks::four_words;
-use crate::messages::{answer, client, slot, value};
-use crate::notation::{behind, bytes_of, cells_of, number_of, unreadable};
+use crate::messages::{answer, client, slot, stop, value};
+use crate::notation::{behind, bytes_of, cells_of, front, number_of, unreadable};
 use il_model::{
-    BlockKind, Cells, Deferred, ForcedSlot, SavedInstance, SavedPhase, Snapshot, Stop, Value, op_of,
+    BlockKind, Cells, Deferred, ForcedSlot, SavedInstance, SavedPhase, Snapshot, Value, op_of,
 };
 use std::alloc::{AllocError, Global};
 use std::io;
@@ -19,24 +19,26 @@ fn code(text: &str, name: &str) -> Option<u8> {
     u8::try_from(number_of(text, name)?).ok()
 }
 
-/// Puts an item behind those of a list.
-fn put<T: Drop>(list: &mut Vec<T>, item: Option<T>) -> io::Result<()> {
-    Ok(list.push(item.ok_or(unreadable())?)?)
+/// Puts an item behind those of a list, of which a line speaks then.
+fn put<T: Drop>(list: &mut Vec<T>, item: Option<T>) -> io::Result<bool> {
+    list.push(item.ok_or(unreadable())?)?;
+    Ok(true)
 }
 
 /// `idle`, `held=3` after so many instructions, or `stopped=` with the name of the stop.
 fn phase(text: &str) -> Option<SavedPhase> {
-    if let Some(performed) = number_of(text, "held=") {
-        let performed = u32::try_from(performed).ok()?;
-        return Some(SavedPhase::Held { performed });
+    match number_of(text, "held=") {
+        Some(performed) => held(performed),
+        None => match behind(text, "stopped=") {
+            None => Some(SavedPhase::Idle),
+            Some(name) => Some(SavedPhase::Stopped(stop(name)?)),
+        },
     }
-    match behind(text, "stopped=") {
-        None => Some(SavedPhase::Idle),
-        Some("overflow") => Some(SavedPhase::Stopped(Stop::Overflow)),
-        Some("zerodivisor") => Some(SavedPhase::Stopped(Stop::ZeroDivisor)),
-        Some("budget") => Some(SavedPhase::Stopped(Stop::Budget)),
-        Some(_) => None,
-    }
+}
+
+fn held(performed: u64) -> Option<SavedPhase> {
+    let performed = u32::try_from(performed).ok()?;
+    Some(SavedPhase::Held { performed })
 }
 
 /// What a controller is before its first scan that has nothing.
@@ -122,7 +124,7 @@ fn inputs(alloc: Global, texts: &str) -> io::Result<Vec<Value>> {
 }
 
 /// The kind of an instance, its words, and what stands behind them.
-fn front(rest: &str) -> Option<(BlockKind, [u64; 4], &str)> {
+fn kind_and_words(rest: &str) -> Option<(BlockKind, [u64; 4], &str)> {
     let (front, texts) = rest.split_once(" inputs")?;
     let kind = BlockKind::of_code(code(front, "kind=")?)?;
     Some((kind, words(front)?, texts))
@@ -130,7 +132,7 @@ fn front(rest: &str) -> Option<(BlockKind, [u64; 4], &str)> {
 
 /// `instance kind=9 second=5 inputs TRUE T#5ms`.
 fn instance(alloc: Global, rest: &str) -> io::Result<SavedInstance> {
-    let (kind, words, texts) = front(rest).ok_or(unreadable())?;
+    let (kind, words, texts) = kind_and_words(rest).ok_or(unreadable())?;
     Ok(SavedInstance {
         kind,
         inputs: inputs(alloc, texts)?,
@@ -205,38 +207,48 @@ fn put_area(snapshot: &mut Snapshot, area: &str, rest: &str) -> Option<()> {
 /// Puts an item behind those of a snapshot's tables; whether the name is that of an item.
 fn put_item(alloc: Global, snapshot: &mut Snapshot, name: &str, rest: &str) -> io::Result<bool> {
     match name {
-        "deferred" => put(&mut snapshot.deferred, deferred(rest))?,
-        "variable" => put(&mut snapshot.variables, value(rest))?,
-        "instance" => snapshot.instances.push(instance(alloc, rest)?)?,
-        "break" => put(&mut snapshot.breaks, rest.parse::<u16>().ok())?,
-        "force" => put(&mut snapshot.forces, forced(rest))?,
-        _ => return Ok(false),
+        "deferred" => put(&mut snapshot.deferred, deferred(rest)),
+        "variable" => put(&mut snapshot.variables, value(rest)),
+        "instance" => put(&mut snapshot.instances, Some(instance(alloc, rest)?)),
+        _ => put_debug(snapshot, name, rest),
     }
-    Ok(true)
+}
+
+/// Puts a breakpoint or a force; whether the name is that of one.
+fn put_debug(snapshot: &mut Snapshot, name: &str, rest: &str) -> io::Result<bool> {
+    match name {
+        "break" => put(&mut snapshot.breaks, rest.parse::<u16>().ok()),
+        "force" => put(&mut snapshot.forces, forced(rest)),
+        _ => Ok(false),
+    }
 }
 
 /// Puts what a line says; whether it speaks of a snapshot.
 pub fn put_part(alloc: Global, snapshot: &mut Snapshot, line: &str) -> io::Result<bool> {
-    let (name, rest) = line.split_once(' ').unwrap_or((line, ""));
-    let done = match name {
-        "no" => empty(alloc, snapshot, rest),
-        "scan" => put_scan(snapshot, rest),
-        "input" | "output" | "memory" => put_area(snapshot, name, rest),
-        "image" => put_image(alloc, snapshot, rest),
-        _ => return put_item(alloc, snapshot, name, rest),
-    };
-    done.ok_or(unreadable())?;
-    Ok(true)
+    let (name, rest) = front(line, " ");
+    match name {
+        "no" => done(empty(alloc, snapshot, rest)),
+        "scan" => done(put_scan(snapshot, rest)),
+        "input" | "output" | "memory" => done(put_area(snapshot, name, rest)),
+        "image" => done(put_image(alloc, snapshot, rest)),
+        _ => put_item(alloc, snapshot, name, rest),
+    }
+}
+
+/// A line speaks of what was put, which has to be readable.
+fn done(put: Option<()>) -> io::Result<bool> {
+    match put {
+        Some(()) => Ok(true),
+        None => Err(unreadable()),
+    }
 }
 
 /// Puts what a line says; whether it speaks of a checkpoint.
 pub fn put_line(alloc: Global, checkpoint: &mut Checkpoint, line: &str) -> io::Result<bool> {
-    let (name, rest) = line.split_once(' ').unwrap_or((line, ""));
-    let done = match name {
-        "checkpoint" => put_base(checkpoint, rest),
-        "client" => put_executed(checkpoint, rest),
-        _ => return put_part(alloc, &mut checkpoint.snapshot, line),
-    };
-    done.ok_or(unreadable())?;
-    Ok(true)
+    let (name, rest) = front(line, " ");
+    match name {
+        "checkpoint" => done(put_base(checkpoint, rest)),
+        "client" => done(put_executed(checkpoint, rest)),
+        _ => put_part(alloc, &mut checkpoint.snapshot, line),
+    }
 }

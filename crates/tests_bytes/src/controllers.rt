@@ -2,7 +2,7 @@
 
 use crate::checkpoints;
 use crate::messages::{answer, command, snapshot_frame};
-use crate::notation::{bytes_of, lines_of, otherwise, unreadable};
+use crate::notation::{bytes_of, cut, front, lines_of, otherwise, told, unreadable};
 use ctl_debugger::{Controller, SnapError, prepare};
 use il_loader::{Image, load};
 use il_model::{Budget, Command, Snapshot};
@@ -214,22 +214,24 @@ impl Bench {
         match verb {
             "save" => self.save(alloc),
             "has" => self.is_saved(alloc, rest),
-            "put" => {
-                put_all(alloc, &mut self.saved, rest)?;
-                Ok("put")
-            }
+            "put" => self.put(alloc, rest),
             "with" => self.judge(alloc, text, rest),
-            "restore" if rest.is_empty() => self.restore(alloc, text),
-            "restore" => self.restore(alloc, rest),
+            "restore" => self.restore(alloc, if rest.is_empty() { text } else { rest }),
             _ => Err(unreadable()),
         }
+    }
+
+    /// Changes what was saved.
+    fn put(&mut self, alloc: Global, parts: &str) -> io::Result<&'static str> {
+        put_all(alloc, &mut self.saved, parts)?;
+        Ok("put")
     }
 
     /// What the controller answers to a command, as the line says it, or written out.
     fn answer(&mut self, alloc: Global, command: &Command, said: &str) -> io::Result<String> {
         let given = self.controller.apply_ready(prepare(alloc, command)?);
         if answer(said) == Some(given) {
-            Ok(String::from_str(alloc, said)?)
+            told(alloc, said)
         } else {
             Ok(format!(in alloc; "{given:?}")?)
         }
@@ -240,13 +242,13 @@ impl Bench {
         if let Some(command) = command(alloc, asked) {
             return self.answer(alloc, &command, said);
         }
-        let (verb, rest) = asked.split_once(' ').unwrap_or((asked, ""));
-        Ok(String::from_str(alloc, self.ask(alloc, text, verb, rest)?)?)
+        let (verb, rest) = front(asked, " ");
+        told(alloc, self.ask(alloc, text, verb, rest)?)
     }
 
     /// A line with what comes of it.
     fn tell(&mut self, alloc: Global, text: &str, line: &str) -> io::Result<String> {
-        let (asked, said) = line.split_once(": ").ok_or(unreadable())?;
+        let (asked, said) = cut(line, ": ")?;
         let came = self.come(alloc, text, asked, said)?;
         Ok(format!(in alloc; "{asked}: {came}\n")?)
     }
@@ -262,7 +264,7 @@ impl Bench {
 
 /// Whether a controller's image has the bytes that the row has.
 fn has_image(alloc: Global, controller: &Controller, text: &str) -> io::Result<bool> {
-    let (_, hexadecimal) = text.split_once(' ').ok_or(unreadable())?;
+    let (_, hexadecimal) = cut(text, " ")?;
     let bytes = bytes_of(alloc, hexadecimal)?;
     Ok(controller.image().bytes() == bytes.as_slice())
 }
@@ -282,7 +284,7 @@ pub fn run(alloc: Global, text: &str, body: &str) -> io::Result<String> {
 fn slot(alloc: Global, hexadecimal: &str, name: &str) -> io::Result<String> {
     match ctl_debugger::slot(&image(alloc, hexadecimal)?, name.as_bytes()) {
         Some(slot) => Ok(format!(in alloc; "{:04x}", slot.0)?),
-        None => Ok(String::from_str(alloc, "none")?),
+        None => told(alloc, "none"),
     }
 }
 

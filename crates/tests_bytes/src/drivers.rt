@@ -1,13 +1,13 @@
 //! Drivers of machines: what they do by looks at their replicas, by scans and replies, at times in milliseconds.
 
-use crate::notation::{lines_of, number_of, unreadable};
+use crate::notation::{front, lines_of, number_of, put_made, unreadable};
 use il_model::{Answer, Command, OutImage};
 use io_image::StageBook;
 use plc_machine::{Course, LastScan, MachineDriver, Pace, client_starts, led_view};
 use std::alloc::{AllocError, Global};
 use std::io;
 use std::time::Duration;
-use vr_model::{Body, ClientNumber, Config, Message, Party, Standing, Status};
+use vr_model::{Body, ClientNumber, Config, Message, Party, Request, Standing, Status};
 
 /// The client that each driver is.
 const CLIENT: ClientNumber = ClientNumber { number: 1 };
@@ -22,11 +22,12 @@ struct Driven {
 
 /// What comes out of a cell in a table of this title.
 pub fn table(alloc: Global, title: &str, cell: &str) -> io::Result<String> {
-    match title {
-        "led view" => Ok(optional(alloc, led(cell).ok_or(unreadable())?)?),
-        "start of a machine" => Ok(optional(alloc, starts(cell).ok_or(unreadable())?)?),
-        _ => Err(unreadable()),
-    }
+    let found = match title {
+        "led view" => led(cell),
+        "start of a machine" => starts(cell),
+        _ => None,
+    };
+    Ok(optional(alloc, found.ok_or(unreadable())?)?)
 }
 
 /// A number, or `none`.
@@ -61,21 +62,25 @@ fn starts(cell: &str) -> Option<Option<u64>> {
 /// The events of a driver, as `50 look view=1 moment=1000 came=20`, `50 look`, `120 submit`, `140 reply`, `160 shows`,
 /// `250 retry`, each with what comes of it behind a colon.
 pub fn run(alloc: Global, pace: &str, body: &str) -> io::Result<String> {
-    let mut run = begun(alloc, pace).ok_or(unreadable())?;
+    tell_all(alloc, &mut begun(alloc, pace).ok_or(unreadable())?, body)
+}
+
+fn tell_all(alloc: Global, run: &mut Driven, body: &str) -> io::Result<String> {
     let mut said = String::new(alloc);
     for line in lines_of(alloc, body)? {
-        let event = line.split_once(": ").unwrap_or((line, "")).0;
-        let came = comes(alloc, &mut run, event)?;
-        said.push_str(format!(in alloc; "{event}: {came}\n")?.as_str())?;
+        put_event(alloc, run, front(line, ": ").0, &mut said)?;
     }
     Ok(said)
 }
 
+/// Puts an event with what comes of it.
+fn put_event(alloc: Global, run: &mut Driven, event: &str, said: &mut String) -> io::Result<()> {
+    let came = comes(alloc, run, event)?;
+    Ok(put_made(said, format!(in alloc; "{event}: {came}\n"))?)
+}
+
 fn begun(alloc: Global, pace: &str) -> Option<Driven> {
-    let pace = Pace {
-        period: Duration::from_millis(number_of(pace, "period=")?),
-        fresh: Duration::from_millis(number_of(pace, "fresh=")?),
-    };
+    let pace = pace_of(pace)?;
     Some(Driven {
         driver: MachineDriver::new(&Config::new(1, 64)?, CLIENT, 0, pace),
         staging: StageBook::new(alloc),
@@ -83,17 +88,39 @@ fn begun(alloc: Global, pace: &str) -> Option<Driven> {
     })
 }
 
-fn comes(alloc: Global, run: &mut Driven, event: &str) -> io::Result<String> {
-    let Some((now, words)) = timed(event) else {
-        return Err(unreadable());
-    };
-    Ok(match words {
-        "submit" => submit(alloc, run, now)?,
-        "reply" => optional(alloc, reply(run))?,
-        "shows" => optional(alloc, Some(u64::from(run.driver.shows(now))))?,
-        "retry" => optional(alloc, Some(run.driver.retry(alloc)?.len() as u64))?,
-        _ => look(alloc, run, words, now)?,
+fn pace_of(text: &str) -> Option<Pace> {
+    Some(Pace {
+        period: Duration::from_millis(number_of(text, "period=")?),
+        fresh: Duration::from_millis(number_of(text, "fresh=")?),
     })
+}
+
+fn comes(alloc: Global, run: &mut Driven, event: &str) -> io::Result<String> {
+    match timed(event) {
+        Some((now, words)) => Ok(comes_at(alloc, run, words, now)?),
+        None => Err(unreadable()),
+    }
+}
+
+fn comes_at(
+    alloc: Global,
+    run: &mut Driven,
+    words: &str,
+    now: Duration,
+) -> Result<String, AllocError> {
+    match words {
+        "submit" => submit(alloc, run, now),
+        "reply" => optional(alloc, reply(run)),
+        "shows" => optional(alloc, Some(u64::from(run.driver.shows(now)))),
+        "retry" => retry(alloc, run),
+        _ => look(alloc, run, words, now),
+    }
+}
+
+/// How many messages are sent again.
+fn retry(alloc: Global, run: &mut Driven) -> Result<String, AllocError> {
+    let sends = run.driver.retry(alloc)?;
+    format!(in alloc; "{}", sends.len())
 }
 
 /// An event, and when it comes.
@@ -103,13 +130,17 @@ fn timed(event: &str) -> Option<(Duration, &str)> {
 }
 
 fn look(alloc: Global, run: &mut Driven, words: &str, now: Duration) -> Result<String, AllocError> {
-    if run
+    let looked = run
         .driver
-        .look(number_of(words, "view="), last_in(words), now)
-        .is_err()
-    {
-        return String::from_str(alloc, "used up");
+        .look(number_of(words, "view="), last_in(words), now);
+    match looked {
+        Ok(()) => standing(alloc, run),
+        Err(_) => String::from_str(alloc, "used up"),
     }
+}
+
+/// What its driver does now.
+fn standing(alloc: Global, run: &Driven) -> Result<String, AllocError> {
     match run.driver.course() {
         Course::StandingBy => String::from_str(alloc, "stands by"),
         Course::Leading(lead) => {
@@ -134,13 +165,18 @@ fn submit(alloc: Global, run: &mut Driven, now: Duration) -> Result<String, Allo
     match sends.first().map(|message| &message.body) {
         Some(Body::Request(request)) => {
             run.number = request.number;
-            let number = request.number;
-            match request.command {
-                Command::Scan { moment, .. } => format!(in alloc; "scan {number} at {moment}"),
-                _ => String::from_str(alloc, "no scan"),
-            }
+            scan_of(alloc, request)
         }
         _ => String::from_str(alloc, "no request"),
+    }
+}
+
+/// The number and the moment of a scan.
+fn scan_of(alloc: Global, request: &Request) -> Result<String, AllocError> {
+    let number = request.number;
+    match request.command {
+        Command::Scan { moment, .. } => format!(in alloc; "scan {number} at {moment}"),
+        _ => String::from_str(alloc, "no scan"),
     }
 }
 

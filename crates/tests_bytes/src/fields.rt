@@ -1,6 +1,6 @@
 //! Fields: texts with their faults, and cycles that are told what happens.
 
-use crate::notation::{bytes_of, lines_of, unreadable};
+use crate::notation::{bytes_of, cut, front, lines_of, put_made, told, told_bytes, unreadable};
 use field_cycle::{Action, Change, Cycle, LinkFault, Moment, Who};
 use field_map::FieldMap;
 use modbus_wire::{Adu, Session};
@@ -24,7 +24,7 @@ pub fn table(alloc: Global, title: &str, cell: &str, field: &str) -> io::Result<
 /// What a text says: `good`, or its fault.
 fn judged(alloc: Global, text: &str) -> io::Result<String> {
     match FieldMap::read(alloc, text) {
-        Ok(_) => Ok(String::from_str(alloc, "good")?),
+        Ok(_) => told(alloc, "good"),
         Err(fault) => Ok(format!(in alloc; "{fault}")?),
     }
 }
@@ -36,11 +36,15 @@ fn in_lines(alloc: Global, text: &str) -> Result<String, AllocError> {
 
 /// What a text says in which one part stands in place of another, which is in it once: `PART => OTHER`.
 fn changed(alloc: Global, text: &str, change: &str) -> io::Result<String> {
-    let (part, other) = change.split_once("=>").ok_or(unreadable())?;
-    let (part, other) = (in_lines(alloc, part)?, in_lines(alloc, other)?);
-    let (before, behind) = text.split_once(part.as_str()).ok_or(unreadable())?;
-    let text = format!(in alloc; "{before}{other}{behind}")?;
+    let (part, other) = cut(change, "=>")?;
+    let text = replaced(alloc, text, in_lines(alloc, part)?.as_str(), other)?;
     judged(alloc, text.as_str())
+}
+
+fn replaced(alloc: Global, text: &str, part: &str, other: &str) -> io::Result<String> {
+    let (before, behind) = cut(text, part)?;
+    let other = in_lines(alloc, other)?;
+    Ok(format!(in alloc; "{before}{other}{behind}")?)
 }
 
 fn named(alloc: Global, who: Who) -> Result<String, AllocError> {
@@ -63,7 +67,7 @@ fn hexadecimal(alloc: Global, unit: &Adu) -> io::Result<String> {
         return Err(unreadable());
     }
     unit.write_to(&mut bytes)?;
-    Ok(hex::encode(alloc, bytes.as_slice())?)
+    told_bytes(alloc, bytes.as_slice())
 }
 
 fn told_change(alloc: Global, who: &String, change: Change) -> Result<String, AllocError> {
@@ -79,17 +83,21 @@ fn told_send(alloc: Global, who: &String, unit: &Adu) -> io::Result<String> {
     Ok(format!(in alloc; " send {who} {bytes}")?)
 }
 
-fn told(alloc: Global, action: &Action) -> io::Result<String> {
+fn told_action(alloc: Global, action: &Action) -> io::Result<String> {
     let (Action::Connect(who, _)
     | Action::Send(who, _)
     | Action::Close(who)
     | Action::Tell(who, _)) = action;
-    let who = named(alloc, *who)?;
+    told_of(alloc, &named(alloc, *who)?, action)
+}
+
+/// What is done to whoever is named so.
+fn told_of(alloc: Global, who: &String, action: &Action) -> io::Result<String> {
     match action {
         Action::Connect(_, address) => Ok(format!(in alloc; " connect {who} {address}")?),
-        Action::Send(_, unit) => told_send(alloc, &who, unit),
+        Action::Send(_, unit) => told_send(alloc, who, unit),
         Action::Close(_) => Ok(format!(in alloc; " close {who}")?),
-        Action::Tell(_, change) => Ok(told_change(alloc, &who, *change)?),
+        Action::Tell(_, change) => Ok(told_change(alloc, who, *change)?),
     }
 }
 
@@ -124,22 +132,34 @@ fn happens(alloc: Global, cycle: &mut Cycle, event: &str, now: Moment) -> io::Re
     if event.is_empty() {
         return Ok("");
     }
-    let (verb, rest) = event.split_once(' ').unwrap_or((event, ""));
-    let (name, bytes) = rest.split_once(' ').unwrap_or((rest, ""));
+    let (verb, rest) = front(event, " ");
+    let (name, bytes) = front(rest, " ");
     let who = who_of(name).ok_or(unreadable())?;
+    if verb == "came" {
+        return came(alloc, cycle, who, bytes, now);
+    }
+    tell_link(cycle, verb, who, now)
+}
+
+/// Tells a cycle that a connection was made or lost.
+fn tell_link(cycle: &mut Cycle, verb: &str, who: Who, now: Moment) -> io::Result<&'static str> {
     match verb {
         "opened" => cycle.opened(who),
         "closed" => cycle.failed(who, LinkFault::Closed, now),
-        _ => return came(alloc, cycle, who, bytes, now),
+        _ => return Err(unreadable()),
     }
     Ok("")
+}
+
+fn put_action(alloc: Global, action: &Action, out: &mut String) -> io::Result<()> {
+    Ok(out.push_str(told_action(alloc, action)?.as_str())?)
 }
 
 /// Puts what is to be done at a moment.
 fn put_actions(alloc: Global, cycle: &mut Cycle, now: Moment, out: &mut String) -> io::Result<()> {
     for _ in 0..ACTIONS {
         match cycle.act(now) {
-            Some(action) => out.push_str(told(alloc, &action)?.as_str())?,
+            Some(action) => put_action(alloc, &action, out)?,
             None => return Ok(()),
         }
     }
@@ -148,22 +168,30 @@ fn put_actions(alloc: Global, cycle: &mut Cycle, now: Moment, out: &mut String) 
 
 /// Puts a line again, with what is to be done behind its colon.
 fn put_line(alloc: Global, cycle: &mut Cycle, line: &str, out: &mut String) -> io::Result<()> {
-    let (happened, _) = line.split_once(':').unwrap_or((line, ""));
-    let (moment, event) = happened.split_once(' ').unwrap_or((happened, ""));
-    let now = moment.parse::<Moment>().ok().ok_or(unreadable())?;
+    let happened = front(line, ":").0;
+    let (now, event) = timed(happened)?;
     let ended = happens(alloc, cycle, event, now)?;
-    out.push_str(format!(in alloc; "{happened}:{ended}")?.as_str())?;
+    put_made(out, format!(in alloc; "{happened}:{ended}"))?;
     put_actions(alloc, cycle, now, out)?;
     Ok(out.push('\n')?)
+}
+
+/// A moment, and what happened then.
+fn timed(happened: &str) -> io::Result<(Moment, &str)> {
+    let (moment, event) = front(happened, " ");
+    Ok((moment.parse::<Moment>().ok().ok_or(unreadable())?, event))
 }
 
 /// What a cycle of a field does: a line is a moment, what happened, and behind the colon what is to be done.
 pub fn run(alloc: Global, text: &str, body: &str) -> io::Result<String> {
     let map = FieldMap::read(alloc, text).ok().ok_or(unreadable())?;
-    let mut cycle = Cycle::new(alloc, map)?;
+    tell_all(alloc, &mut Cycle::new(alloc, map)?, body)
+}
+
+fn tell_all(alloc: Global, cycle: &mut Cycle, body: &str) -> io::Result<String> {
     let mut out = String::new(alloc);
     for line in lines_of(alloc, body)? {
-        put_line(alloc, &mut cycle, line, &mut out)?;
+        put_line(alloc, cycle, line, &mut out)?;
     }
     Ok(out)
 }

@@ -2,7 +2,7 @@
 ghost use Rattle.std.specs.Prelude.{◌≤◌, ◌<◌, length};
 
 use crate::messages::message;
-use crate::notation::{bytes_of, lines_of, otherwise, unreadable};
+use crate::notation::{bytes_of, lines_of, otherwise, told, told_bytes, unreadable};
 use std::alloc::{AllocError, Global};
 use std::io;
 use vr_model::Message;
@@ -108,7 +108,7 @@ fn is_read_when_spoilt(alloc: Global, stream: &[u8]) -> Result<bool, AllocError>
     Ok(true)
 }
 
-fn told(alloc: Global, seen: Seen) -> Result<String, AllocError> {
+fn told_seen(alloc: Global, seen: Seen) -> Result<String, AllocError> {
     let (count, fault) = seen;
     match fault {
         None => format!(in alloc; "{count}"),
@@ -131,11 +131,19 @@ fn seen_at_each_cut(alloc: Global, stream: &[u8]) -> Result<Option<Seen>, AllocE
 /// How many messages a stream has, and the fault behind them.
 fn stream(alloc: Global, text: &str) -> io::Result<String> {
     let stream = bytes_of(alloc, text)?;
-    let seen = seen_at_each_cut(alloc, stream.as_slice())?;
-    if !is_read_when_spoilt(alloc, stream.as_slice())? {
-        return Err(otherwise());
+    match soundly_seen(alloc, stream.as_slice())? {
+        Some(seen) => Ok(told_seen(alloc, seen)?),
+        None => Err(otherwise()),
     }
-    Ok(told(alloc, seen.ok_or(otherwise())?)?)
+}
+
+/// What is seen of a stream that is read as it should be, wherever it's cut or spoilt.
+fn soundly_seen(alloc: Global, stream: &[u8]) -> Result<Option<Seen>, AllocError> {
+    if is_read_when_spoilt(alloc, stream)? {
+        seen_at_each_cut(alloc, stream)
+    } else {
+        Ok(None)
+    }
 }
 
 /// `m` a message, `.` none yet, `B` a bad frame, `L` too large.
@@ -194,7 +202,7 @@ fn is_sound(alloc: Global, frame: &[u8]) -> Result<bool, AllocError> {
 /// A sound frame in hexadecimal.
 fn shown(alloc: Global, frame: &[u8]) -> io::Result<String> {
     if is_sound(alloc, frame)? {
-        Ok(hex::encode(alloc, frame)?)
+        told_bytes(alloc, frame)
     } else {
         Err(otherwise())
     }
@@ -204,9 +212,13 @@ fn shown(alloc: Global, frame: &[u8]) -> io::Result<String> {
 pub fn frame(alloc: Global, text: &str) -> io::Result<String> {
     let lines = lines_of(alloc, text)?;
     let message = message(alloc, lines.as_slice())?;
-    match write(alloc, &message) {
+    frame_of(alloc, &message)
+}
+
+fn frame_of(alloc: Global, message: &Message) -> io::Result<String> {
+    match write(alloc, message) {
         Ok(frame) => shown(alloc, frame.as_slice()),
-        Err(WireError::Fault(WireFault::BadFrame)) => Ok(String::from_str(alloc, "none")?),
+        Err(WireError::Fault(WireFault::BadFrame)) => told(alloc, "none"),
         Err(_) => Err(unreadable()),
     }
 }

@@ -1,6 +1,6 @@
 //! Files of groups of machines: what they say, and their first faults.
 
-use crate::notation::{bytes_of, unreadable};
+use crate::notation::{bytes_of, cut, put_made, told, unreadable, with_status};
 use io_model::Counted;
 use plc_group::{
     ColdStart, Group, GroupFault, Machine, exposed_lines, read_group, tell_group_fault,
@@ -22,11 +22,14 @@ pub fn table(alloc: Global, file: &str, title: &str, cell: &str) -> io::Result<S
 /// What a file says whose text has one place changed, as `OLD > NEW`, where `; ` ends a line of NEW; or its first fault
 /// as it's told.
 fn changed(alloc: Global, file: &str, change: &str) -> io::Result<String> {
-    let text = match change.split_once(" > ") {
-        Some((old, new)) => replaced(alloc, file, old, new)?,
-        None => String::from_str(alloc, file)?,
-    };
-    read(alloc, text.as_str().as_bytes())
+    match change.split_once(" > ") {
+        Some((old, new)) => read_replaced(alloc, file, old, new),
+        None => read(alloc, file.as_bytes()),
+    }
+}
+
+fn read_replaced(alloc: Global, file: &str, old: &str, new: &str) -> io::Result<String> {
+    read(alloc, replaced(alloc, file, old, new)?.as_str().as_bytes())
 }
 
 /// What a file of these bytes says, in hexadecimal.
@@ -36,60 +39,48 @@ fn of_bytes(alloc: Global, words: &str) -> io::Result<String> {
 
 /// The lines of a file's addresses that others reach, with ` / ` between them, or `none`.
 fn exposed(alloc: Global, file: &str, change: &str) -> io::Result<String> {
-    let (old, new) = change.split_once(" > ").ok_or(unreadable())?;
+    let (old, new) = cut(change, " > ")?;
     let text = replaced(alloc, file, old, new)?;
-    let Ok(group) = read_group(alloc, text.as_str().as_bytes()) else {
-        return Err(unreadable());
-    };
-    let mut joined = String::new(alloc);
-    for line in exposed_lines(alloc, &group)?.as_str().lines() {
-        if !joined.is_empty() {
-            joined.push_str(" / ")?;
-        }
-        joined.push_str(line)?;
+    match read_group(alloc, text.as_str().as_bytes()) {
+        Ok(group) => exposed_of(alloc, &group),
+        Err(_) => Err(unreadable()),
     }
-    if joined.is_empty() {
-        joined.push_str("none")?;
-    }
-    Ok(joined)
 }
 
-fn replaced(alloc: Global, file: &str, old: &str, new: &str) -> io::Result<String> {
-    let (before, after) = file.split_once(old).ok_or(unreadable())?;
-    let mut text = String::from_str(alloc, before)?;
-    let mut lines = new.split("; ");
-    text.push_str(lines.next().unwrap_or(""))?;
-    for line in lines {
-        text.push('\n')?;
-        text.push_str(line)?;
+fn exposed_of(alloc: Global, group: &Group) -> io::Result<String> {
+    let lines = exposed_lines(alloc, group)?;
+    match lines.as_str().trim_end() {
+        "" => told(alloc, "none"),
+        lines => Ok(lines.replace(alloc, "\n", " / ")?),
     }
-    text.push_str(after)?;
-    Ok(text)
+}
+
+/// A text of which the first of a part is replaced.
+fn replaced(alloc: Global, file: &str, old: &str, new: &str) -> io::Result<String> {
+    let (before, after) = cut(file, old)?;
+    let new = new.replace(alloc, "; ", "\n")?;
+    Ok(format!(in alloc; "{before}{new}{after}")?)
 }
 
 fn read(alloc: Global, bytes: &[u8]) -> io::Result<String> {
     match read_group(alloc, bytes) {
         Ok(group) => Ok(said(alloc, &group)?),
-        Err(fault) => told(alloc, &fault),
+        Err(fault) => told_fault(alloc, &fault),
     }
 }
 
 /// The line of a fault, and its status.
-fn told(alloc: Global, fault: &GroupFault) -> io::Result<String> {
+fn told_fault(alloc: Global, fault: &GroupFault) -> io::Result<String> {
     let mut bytes = Vec::new(alloc);
     let status = tell_group_fault(fault, &mut Counted::new(&mut bytes));
-    let Ok(line) = std::str::from_utf8(bytes.as_slice()) else {
-        return Err(unreadable());
-    };
-    let line = line.trim_end();
-    Ok(format!(in alloc; "{line} ({status})")?)
+    with_status(alloc, bytes.as_slice(), status)
 }
 
 fn said(alloc: Global, group: &Group) -> Result<String, AllocError> {
     let mut said = settings(alloc, group)?;
-    said.push_str(times(alloc, group)?.as_str())?;
+    put_made(&mut said, times(alloc, group))?;
     for machine in &group.machines {
-        said.push_str(addresses(alloc, machine)?.as_str())?;
+        put_made(&mut said, addresses(alloc, machine))?;
     }
     Ok(said)
 }
@@ -125,8 +116,8 @@ fn put_address(
     key: &str,
     address: Option<SocketAddr>,
 ) -> Result<(), AllocError> {
-    if let Some(address) = address {
-        said.push_str(format!(in alloc; " {key}={address}")?.as_str())?;
+    match address {
+        Some(address) => put_made(said, format!(in alloc; " {key}={address}")),
+        None => Ok(()),
     }
-    Ok(())
 }

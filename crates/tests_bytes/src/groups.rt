@@ -1,8 +1,8 @@
 //! Groups: their sizes, the primaries of views, and which log a view begins with.
 
-use crate::notation::{number_of, unreadable};
+use crate::notation::{number_of, told, unreadable};
 use il_model::Command;
-use std::alloc::Global;
+use std::alloc::{AllocError, Global};
 use std::io;
 use vr_log_choice::choose;
 use vr_model::{ClientNumber, Config, DoViewChange, Log, Request};
@@ -12,12 +12,14 @@ use vr_model::{ClientNumber, Config, DoViewChange, Log, Request};
 fn group(alloc: Global, text: &str) -> io::Result<String> {
     let (f, view) = numbers(text).ok_or(unreadable())?;
     match Config::new(f, 64) {
-        Some(config) => {
-            let (size, primary) = (config.group_size(), config.primary(view));
-            Ok(format!(in alloc; "{size} R{primary}")?)
-        }
-        None => Ok(String::from_str(alloc, "none")?),
+        Some(config) => Ok(size_and_primary(alloc, &config, view)?),
+        None => told(alloc, "none"),
     }
+}
+
+fn size_and_primary(alloc: Global, config: &Config, view: u64) -> Result<String, AllocError> {
+    let (size, primary) = (config.group_size(), config.primary(view));
+    format!(in alloc; "{size} R{primary}")
 }
 
 /// `f` and a view.
@@ -42,13 +44,19 @@ fn log(alloc: Global, length: u64) -> io::Result<Log> {
 
 /// The number of a replica, its last normal view, and the length of its log, as `R1 normal=2 log=3`.
 fn member(text: &str) -> Option<(u8, u64, u64)> {
-    let (number, rest) = text.strip_prefix('R')?.split_once(' ')?;
-    let (normal, length) = (number_of(rest, "normal=")?, number_of(rest, "log=")?);
-    Some((number.parse::<u8>().ok()?, normal, length))
+    let (name, rest) = text.split_once(' ')?;
+    let normal = number_of(rest, "normal=")?;
+    let length = number_of(rest, "log=")?;
+    Some((replica(name)?, normal, length))
+}
+
+/// The number of a replica, as `R1`.
+fn replica(name: &str) -> Option<u8> {
+    name.strip_prefix('R')?.parse::<u8>().ok()
 }
 
 /// What a replica tells of its log.
-fn told(alloc: Global, text: &str) -> io::Result<DoViewChange> {
+fn told_log(alloc: Global, text: &str) -> io::Result<DoViewChange> {
     let (replica, last_normal_view, length) = member(text).ok_or(unreadable())?;
     Ok(DoViewChange {
         replica,
@@ -62,7 +70,7 @@ fn told(alloc: Global, text: &str) -> io::Result<DoViewChange> {
 fn members(alloc: Global, text: &str) -> io::Result<Vec<DoViewChange>> {
     let mut members = Vec::new(alloc);
     for member in text.split(", ") {
-        members.push(told(alloc, member)?)?;
+        members.push(told_log(alloc, member)?)?;
     }
     Ok(members)
 }

@@ -2,11 +2,11 @@
 
 ghost use Rattle.std.specs.Prelude.{◌≤◌, length};
 
-use crate::notation::{bytes_of, otherwise, unreadable};
+use crate::notation::{bytes_of, otherwise, told, told_bytes, unreadable};
 use net_ends::{NonBlocking, NonBlockingRead, Stop};
 use net_hello::{Epoch, Hello, HelloFault, Refusal, judge};
 use net_records::Records;
-use std::alloc::Global;
+use std::alloc::{AllocError, Global};
 use std::io;
 use std::io::Read;
 use vr_model::Party;
@@ -21,19 +21,22 @@ pub fn table(alloc: Global, title: &str, cell: &str) -> io::Result<String> {
     }
 }
 
-/// What is told of a hello.
-fn told(alloc: Global, read: Result<Option<Hello>, HelloFault>) -> io::Result<String> {
-    let hello = match read {
-        Ok(None) => return Ok(String::from_str(alloc, "not whole")?),
-        Err(fault) => return Ok(format!(in alloc; "{fault}")?),
-        Ok(Some(hello)) => hello,
-    };
+/// What is told of what is read as a hello.
+fn told_hello(alloc: Global, read: Result<Option<Hello>, HelloFault>) -> io::Result<String> {
+    match read {
+        Ok(None) => told(alloc, "not whole"),
+        Err(fault) => Ok(format!(in alloc; "{fault}")?),
+        Ok(Some(hello)) => Ok(told_whole(alloc, &hello)?),
+    }
+}
+
+fn told_whole(alloc: Global, hello: &Hello) -> Result<String, AllocError> {
     let (kind, number) = match hello.party {
         Party::Replica(number) => ("replica", number),
         Party::Client(client) => ("client", client.number),
     };
     let (epoch, starts) = (hello.epoch.number, hello.starts);
-    Ok(format!(in alloc; "{kind} {number} epoch {epoch} starts {starts}")?)
+    format!(in alloc; "{kind} {number} epoch {epoch} starts {starts}")
 }
 
 /// Whether each front of these bytes waits for more, or has the fault of all of them.
@@ -50,27 +53,39 @@ fn waits_until_whole(bytes: &[u8], whole: Result<Option<Hello>, HelloFault>) -> 
 /// What a hello says, of which each front waits, and which is spelled as these bytes.
 fn hello(alloc: Global, text: &str) -> io::Result<String> {
     let bytes = bytes_of(alloc, text)?;
-    let read = Hello::read(bytes.as_slice());
-    if let Ok(Some(hello)) = read {
-        if hello.spell(alloc)?.as_slice() != bytes.as_slice() {
-            return Err(otherwise());
-        }
-    }
-    if waits_until_whole(bytes.as_slice(), read) {
-        told(alloc, read)
+    let bytes = bytes.as_slice();
+    let read = Hello::read(bytes);
+    if is_spelt(alloc, read, bytes)? && waits_until_whole(bytes, read) {
+        told_hello(alloc, read)
     } else {
         Err(otherwise())
+    }
+}
+
+/// Whether a hello, if it's one, is spelt as these bytes.
+fn is_spelt(
+    alloc: Global,
+    read: Result<Option<Hello>, HelloFault>,
+    bytes: &[u8],
+) -> Result<bool, AllocError> {
+    match read {
+        Ok(Some(hello)) => Ok(hello.spell(alloc)?.as_slice() == bytes),
+        _ => Ok(true),
     }
 }
 
 /// How replica 0 judges a hello.
 fn judged(alloc: Global, text: &str) -> io::Result<String> {
     let bytes = bytes_of(alloc, text)?;
-    let Ok(Some(hello)) = Hello::read(bytes.as_slice()) else {
-        return Err(otherwise());
-    };
-    match judge_as_replica(&hello) {
-        Ok(()) => Ok(String::from_str(alloc, "accepted")?),
+    match Hello::read(bytes.as_slice()) {
+        Ok(Some(hello)) => told_judgement(alloc, judge_as_replica(&hello)),
+        _ => Err(otherwise()),
+    }
+}
+
+fn told_judgement(alloc: Global, judgement: Result<(), Refusal>) -> io::Result<String> {
+    match judgement {
+        Ok(()) => told(alloc, "accepted"),
         Err(refusal) => Ok(format!(in alloc; "{refusal}")?),
     }
 }
@@ -117,10 +132,18 @@ fn given(alloc: Global, stream: &[u8], cut: usize) -> io::Result<Vec<u8>>
 fn records(alloc: Global, text: &str) -> io::Result<String> {
     let stream = bytes_of(alloc, text)?;
     let whole = given(alloc, stream.as_slice(), stream.len())?;
+    if is_given_at_each_cut(alloc, stream.as_slice(), whole.as_slice())? {
+        told_bytes(alloc, whole.as_slice())
+    } else {
+        Err(otherwise())
+    }
+}
+
+fn is_given_at_each_cut(alloc: Global, stream: &[u8], whole: &[u8]) -> io::Result<bool> {
     for cut in 0..stream.len() {
-        if given(alloc, stream.as_slice(), cut)?.as_slice() != whole.as_slice() {
-            return Err(otherwise());
+        if given(alloc, stream, cut)?.as_slice() != whole {
+            return Ok(false);
         }
     }
-    Ok(hex::encode(alloc, whole.as_slice())?)
+    Ok(true)
 }

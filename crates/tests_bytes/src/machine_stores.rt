@@ -2,7 +2,9 @@
 
 ghost use Rattle.std.specs.Prelude.{◌<◌, length};
 
-use crate::notation::{bytes_of, number_of, otherwise, unreadable};
+use crate::notation::{
+    bytes_of, front, number_of, otherwise, told, told_bytes, unreadable, with_status,
+};
 use io_model::Counted;
 use plc_store::{
     Header, NotWritten, Refusal, Start, Store, StoreDirectory, StoreFault, Wanted, format, open,
@@ -53,7 +55,7 @@ pub fn table(alloc: Global, title: &str, cell: &str) -> io::Result<String> {
         "read store" => read(alloc, cell),
         "cut store" => cut(alloc, cell),
         "changed store" => changed(alloc, cell),
-        "told refusal" => told(alloc, cell),
+        "told refusal" => told_refusal(alloc, cell),
         _ => of_directory(alloc, title, cell),
     }
 }
@@ -84,24 +86,27 @@ fn byte(words: &str, name: &str) -> Option<u8> {
 
 /// The store of these words, with an image of three bytes.
 fn store_of(alloc: Global, words: &str) -> io::Result<Store> {
+    let header = header_of(words).ok_or(unreadable())?;
     let image = Vec::from_slice(alloc, b"ILP".as_slice())?;
-    match header_of(words) {
-        Some(header) => Store::new(header, image).ok_or(unreadable()),
-        None => Err(unreadable()),
-    }
+    Store::new(header, image).ok_or(unreadable())
+}
+
+/// The bytes of the store of these words.
+fn store_bytes(alloc: Global, words: &str) -> io::Result<Vec<u8>> {
+    Ok(spell(alloc, &store_of(alloc, words)?)?)
 }
 
 /// The bytes of a store, in hexadecimal.
 fn spelt(alloc: Global, words: &str) -> io::Result<String> {
-    let bytes = spell(alloc, &store_of(alloc, words)?)?;
-    Ok(hex::encode(alloc, bytes.as_slice())?)
+    told_bytes(alloc, store_bytes(alloc, words)?.as_slice())
 }
 
 /// What bytes are read as: the lines of a store, with `, ` between them, or why they are none.
 fn read(alloc: Global, words: &str) -> io::Result<String> {
-    match read_store(alloc, bytes_of(alloc, words)?.as_slice()) {
-        Ok(store) => lines(alloc, show(alloc, &store)?.as_str()),
-        Err(fault) => Ok(String::from_str(alloc, fault_of(fault))?),
+    let bytes = bytes_of(alloc, words)?;
+    match read_store(alloc, bytes.as_slice()) {
+        Ok(store) => lines(alloc, &store),
+        Err(fault) => told(alloc, fault_of(fault)),
     }
 }
 
@@ -113,27 +118,29 @@ fn fault_of(fault: StoreFault) -> &'static str {
     }
 }
 
-fn lines(alloc: Global, text: &str) -> io::Result<String> {
-    let mut joined = String::new(alloc);
-    for line in text.lines() {
-        if !joined.is_empty() {
-            joined.push_str(", ")?;
+fn lines(alloc: Global, store: &Store) -> io::Result<String> {
+    let lines = show(alloc, store)?;
+    Ok(lines.as_str().trim_end().replace(alloc, "\n", ", ")?)
+}
+
+/// Whether a store is torn wherever its bytes are cut.
+fn is_torn_at_each_cut(alloc: Global, bytes: &[u8]) -> bool {
+    for end in 0..bytes.len() {
+        if read_store(alloc, &bytes[..end]).err() != Some(StoreFault::Torn) {
+            return false;
         }
-        joined.push_str(line)?;
     }
-    Ok(joined)
+    true
 }
 
 /// Cuts the bytes of a store at each place: at how many it's torn.
 fn cut(alloc: Global, words: &str) -> io::Result<String> {
-    let bytes = spell(alloc, &store_of(alloc, words)?)?;
-    for end in 0..bytes.len() {
-        if read_store(alloc, &bytes[..end]).err() != Some(StoreFault::Torn) {
-            return Err(otherwise());
-        }
+    let bytes = store_bytes(alloc, words)?;
+    if is_torn_at_each_cut(alloc, bytes.as_slice()) {
+        Ok(format!(in alloc; "torn at {}", bytes.len())?)
+    } else {
+        Err(otherwise())
     }
-    let count = bytes.len();
-    Ok(format!(in alloc; "torn at {count}")?)
 }
 
 /// Bytes of which the one at a place is changed.
@@ -156,18 +163,22 @@ fn fault_at(alloc: Global, bytes: &[u8], place: usize) -> io::Result<StoreFault>
     }
 }
 
-/// Changes each byte of a store in turn: at how many it's torn, and at how many of another format.
-fn changed(alloc: Global, words: &str) -> io::Result<String> {
-    let bytes = spell(alloc, &store_of(alloc, words)?)?;
-    let bytes = bytes.as_slice();
-    let (mut torn, mut other) = (0u32, 0u32);
+/// How many places have this fault where the byte there is changed.
+fn count_faults(alloc: Global, bytes: &[u8], fault: StoreFault) -> io::Result<u32> {
+    let mut count = 0u32;
     for place in 0..bytes.len() {
-        match fault_at(alloc, bytes, place)? {
-            StoreFault::Torn => torn = torn.saturating_add(1),
-            StoreFault::OtherFormat => other = other.saturating_add(1),
-            StoreFault::Memory => return Err(otherwise()),
+        if fault_at(alloc, bytes, place)? == fault {
+            count = count.saturating_add(1);
         }
     }
+    Ok(count)
+}
+
+/// Changes each byte of a store in turn: at how many it's torn, and at how many of another format.
+fn changed(alloc: Global, words: &str) -> io::Result<String> {
+    let bytes = store_bytes(alloc, words)?;
+    let torn = count_faults(alloc, bytes.as_slice(), StoreFault::Torn)?;
+    let other = count_faults(alloc, bytes.as_slice(), StoreFault::OtherFormat)?;
     Ok(format!(in alloc; "torn {torn}, other format {other}")?)
 }
 
@@ -189,10 +200,15 @@ fn group_of(alloc: Global, words: &str) -> io::Result<Option<Vec<u8>>> {
     if words.starts_with("nothing") {
         return Ok(None);
     }
-    Ok(Some(match words.strip_prefix("bytes ") {
-        Some(bytes) => bytes_of(alloc, bytes.split_once(' ').unwrap_or((bytes, "")).0)?,
-        None => spell(alloc, &store_of(alloc, words)?)?,
-    }))
+    Ok(Some(kept_bytes(alloc, words)?))
+}
+
+/// The bytes of `bytes ..`, or of a store's words.
+fn kept_bytes(alloc: Global, words: &str) -> io::Result<Vec<u8>> {
+    match words.strip_prefix("bytes ") {
+        Some(bytes) => bytes_of(alloc, front(bytes, " ").0),
+        None => store_bytes(alloc, words),
+    }
 }
 
 /// How a machine of a group of three with the identity 11 starts from a directory, and what its store says then.
@@ -206,8 +222,12 @@ fn started(alloc: Global, words: &str) -> io::Result<String> {
         Ok(opened) => start_of(opened.start),
         Err(refusal) => refusal_of(refusal),
     };
-    let after = mark_in(alloc, &directory);
-    Ok(format!(in alloc; "{came}, {after}")?)
+    both(alloc, came, mark_in(alloc, &directory))
+}
+
+/// Two words with `, ` between them.
+fn both(alloc: Global, one: &str, other: &str) -> io::Result<String> {
+    Ok(format!(in alloc; "{one}, {other}")?)
 }
 
 fn start_of(start: Start) -> &'static str {
@@ -233,72 +253,73 @@ fn mark_in(alloc: Global, directory: &MemoryDirectory) -> &'static str {
 fn formatted(alloc: Global, words: &str) -> io::Result<String> {
     let mut directory = directory_of(alloc, words)?;
     let store = store_of(alloc, "identity=11 epoch=1 program=22 machine=2 started=0")?;
+    let came = formats(alloc, &mut directory, &store)?;
+    let bytes = spell(alloc, &store)?;
+    both(alloc, came, store_in(&directory, bytes.as_slice()))
+}
+
+fn formats(
+    alloc: Global,
+    directory: &mut MemoryDirectory,
+    store: &Store,
+) -> io::Result<&'static str> {
     if store.header.is_started {
         return Err(unreadable());
     }
-    let came = match format(alloc, &mut directory, &store) {
-        Ok(()) => "formatted",
-        Err(refusal) => refusal_of(refusal),
-    };
-    let bytes = spell(alloc, &store)?;
-    let has = match &directory.group {
-        Some(found) if found.as_slice() == bytes.as_slice() => "the new store",
-        Some(_) => "another store",
-        None => "nothing",
-    };
-    Ok(format!(in alloc; "{came}, {has}")?)
+    match format(alloc, directory, store) {
+        Ok(()) => Ok("formatted"),
+        Err(refusal) => Ok(refusal_of(refusal)),
+    }
 }
 
-fn refusal_of(refusal: Refusal) -> &'static str {
-    match refusal {
-        Refusal::NoStore => "no store",
-        Refusal::OtherFormat => "other format",
-        Refusal::Torn => "torn",
-        Refusal::OtherGroup => "other group",
-        Refusal::OtherMachine => "other machine",
-        Refusal::ViewGone => "view gone",
-        Refusal::ViewUnstarted => "view unstarted",
-        Refusal::Used => "used",
-        Refusal::TooLong => "too long",
-        Refusal::Taken => "taken",
-        Refusal::Open => "open",
-        Refusal::Device => "device",
-        Refusal::Memory => "memory",
+/// Whether a directory has the new store of these bytes.
+fn store_in(directory: &MemoryDirectory, bytes: &[u8]) -> &'static str {
+    match &directory.group {
+        Some(found) if found.as_slice() == bytes => "the new store",
+        Some(_) => "another store",
+        None => "nothing",
     }
+}
+
+/// The name that a row gives a refusal.
+fn refusal_of(refusal: Refusal) -> &'static str {
+    for (named, name) in REFUSALS.iter() {
+        if *named == refusal {
+            return name;
+        }
+    }
+    "no name"
 }
 
 /// The line of a refusal, by the name that a row gives it, and its status.
-fn told(alloc: Global, name: &str) -> io::Result<String> {
-    match REFUSALS
-        .iter()
-        .find(|refusal| refusal_of(**refusal) == name)
-    {
-        Some(refusal) => line_of(alloc, *refusal),
-        None => Err(unreadable()),
+fn told_refusal(alloc: Global, name: &str) -> io::Result<String> {
+    for (refusal, named) in REFUSALS.iter() {
+        if *named == name {
+            return line_of(alloc, *refusal);
+        }
     }
+    Err(unreadable())
 }
 
 fn line_of(alloc: Global, refusal: Refusal) -> io::Result<String> {
     let mut bytes = Vec::new(alloc);
     let status = tell_refusal(refusal, &mut Counted::new(&mut bytes));
-    match std::str::from_utf8(bytes.as_slice()) {
-        Ok(line) => Ok(format!(in alloc; "{} ({status})", line.trim_end())?),
-        Err(_) => Err(unreadable()),
-    }
+    with_status(alloc, bytes.as_slice(), status)
 }
 
-const REFUSALS: [Refusal; 13] = [
-    Refusal::NoStore,
-    Refusal::OtherFormat,
-    Refusal::Torn,
-    Refusal::OtherGroup,
-    Refusal::OtherMachine,
-    Refusal::ViewGone,
-    Refusal::ViewUnstarted,
-    Refusal::Used,
-    Refusal::TooLong,
-    Refusal::Taken,
-    Refusal::Open,
-    Refusal::Device,
-    Refusal::Memory,
+/// The refusals, with the names that rows give them.
+const REFUSALS: [(Refusal, &str); 13] = [
+    (Refusal::NoStore, "no store"),
+    (Refusal::OtherFormat, "other format"),
+    (Refusal::Torn, "torn"),
+    (Refusal::OtherGroup, "other group"),
+    (Refusal::OtherMachine, "other machine"),
+    (Refusal::ViewGone, "view gone"),
+    (Refusal::ViewUnstarted, "view unstarted"),
+    (Refusal::Used, "used"),
+    (Refusal::TooLong, "too long"),
+    (Refusal::Taken, "taken"),
+    (Refusal::Open, "open"),
+    (Refusal::Device, "device"),
+    (Refusal::Memory, "memory"),
 ];

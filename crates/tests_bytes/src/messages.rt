@@ -2,7 +2,7 @@
 //! request of its log, or for its answer; before the requests the lines of a checkpoint, if it has one.
 
 use crate::checkpoints;
-use crate::notation::{behind, bytes_of, cells_of, hexadecimal, number_of, unreadable};
+use crate::notation::{behind, bytes_of, cells_of, front, hexadecimal, number_of, unreadable};
 use il_model::{
     Answer, Command, ImageBytes, InImage, Literal, OutImage, Refusal, Slot, Snapshot, Stop, Value,
     literal_from,
@@ -54,13 +54,9 @@ fn change(alloc: Global, hexadecimal: &str) -> Option<Command> {
     Some(Command::Change(ImageBytes::new(bytes)?))
 }
 
-/// A command of one word, or with a position in decimals or a slot in hexadecimal.
-fn short_command(name: &str, rest: &str) -> Option<Command> {
+/// A command of one word.
+fn word_command(name: &str) -> Option<Command> {
     match name {
-        "break" => Some(Command::SetBreak(rest.parse::<u16>().ok()?)),
-        "clear" => Some(Command::ClearBreak(rest.parse::<u16>().ok()?)),
-        "unforce" => Some(Command::Unforce(slot(rest)?)),
-        "read" => Some(Command::ReadVar(slot(rest)?)),
         "step" => Some(Command::Step),
         "continue" => Some(Command::Continue),
         "cr" => Some(Command::ReadCr),
@@ -69,30 +65,55 @@ fn short_command(name: &str, rest: &str) -> Option<Command> {
     }
 }
 
+/// A command with a position in decimals.
+fn break_command(name: &str, rest: &str) -> Option<Command> {
+    let position = rest.parse::<u16>().ok()?;
+    Some(match name {
+        "break" => Command::SetBreak(position),
+        _ => Command::ClearBreak(position),
+    })
+}
+
+/// A command with a slot in hexadecimal.
+fn slot_command(name: &str, rest: &str) -> Option<Command> {
+    let slot = slot(rest)?;
+    Some(match name {
+        "unforce" => Command::Unforce(slot),
+        _ => Command::ReadVar(slot),
+    })
+}
+
 /// A command: its name, and what it takes behind it.
 pub fn command(alloc: Global, text: &str) -> Option<Command> {
-    let (name, rest) = text.split_once(' ').unwrap_or((text, ""));
+    let (name, rest) = front(text, " ");
     match name {
         "scan" => scan(rest),
         "force" => force(rest),
         "change" => change(alloc, rest),
-        _ => short_command(name, rest),
+        "break" | "clear" => break_command(name, rest),
+        "unforce" | "read" => slot_command(name, rest),
+        _ => word_command(name),
     }
 }
 
 /// A request, as `C3 1 step`.
 pub fn request(alloc: Global, text: &str) -> Option<Request> {
     let (who, rest) = text.split_once(' ')?;
-    let (number, asked) = rest.split_once(' ')?;
-    let (client, number) = (client(who)?, number.parse::<u64>().ok()?);
+    let (number, asked) = numbered(rest)?;
     Some(Request {
-        client,
+        client: client(who)?,
         number,
         command: command(alloc, asked)?,
     })
 }
 
-fn stop(text: &str) -> Option<Stop> {
+/// A number, and what stands behind it.
+fn numbered(text: &str) -> Option<(u64, &str)> {
+    let (number, rest) = text.split_once(' ')?;
+    Some((number.parse::<u64>().ok()?, rest))
+}
+
+pub fn stop(text: &str) -> Option<Stop> {
     match text {
         "overflow" => Some(Stop::Overflow),
         "zerodivisor" => Some(Stop::ZeroDivisor),
@@ -101,17 +122,20 @@ fn stop(text: &str) -> Option<Stop> {
     }
 }
 
-fn refusal(text: &str) -> Option<Refusal> {
-    match text {
-        "1" => Some(Refusal::NotHeld),
-        "2" => Some(Refusal::BadPosition),
-        "3" => Some(Refusal::BadSlot),
-        "4" => Some(Refusal::BadType),
-        "5" => Some(Refusal::NoResult),
-        "6" => Some(Refusal::BadImage),
-        "7" => Some(Refusal::NotIdle),
-        _ => None,
-    }
+/// The refusals, by their numbers from 1.
+const REFUSALS: [Refusal; 7] = [
+    Refusal::NotHeld,
+    Refusal::BadPosition,
+    Refusal::BadSlot,
+    Refusal::BadType,
+    Refusal::NoResult,
+    Refusal::BadImage,
+    Refusal::NotIdle,
+];
+
+fn refusal(number: &str) -> Option<Refusal> {
+    let place = number.parse::<usize>().ok()?.checked_sub(1)?;
+    REFUSALS.get(place).copied()
 }
 
 fn image(text: &str) -> Option<OutImage> {
@@ -132,20 +156,31 @@ fn stopped(rest: &str) -> Option<Answer> {
     let (name, others) = rest.split_once(' ')?;
     Some(Answer::Stopped {
         stop: stop(name)?,
-        position: u16::try_from(number_of(others, "position=")?).ok()?,
+        position: position(others)?,
         image: image(others)?,
     })
 }
 
+fn position(text: &str) -> Option<u16> {
+    u16::try_from(number_of(text, "position=")?).ok()
+}
+
 /// An answer, as `plc` prints it; the cells of an image have a `%`, and a stop may have some.
 pub fn answer(text: &str) -> Option<Answer> {
-    let (name, rest) = text.split_once(' ').unwrap_or((text, ""));
+    let (name, rest) = front(text, " ");
     match name {
         "outputs" => outputs(rest),
-        "held" => Some(Answer::Held(rest.parse::<u16>().ok()?)),
         "stopped" => stopped(rest),
-        "value" => Some(Answer::Value(value(rest)?)),
         "done" => Some(Answer::Done),
+        _ => short_answer(name, rest),
+    }
+}
+
+/// An answer of a position, a value or a refusal's number.
+fn short_answer(name: &str, rest: &str) -> Option<Answer> {
+    match name {
+        "held" => Some(Answer::Held(rest.parse::<u16>().ok()?)),
+        "value" => Some(Answer::Value(value(rest)?)),
         "refused" => Some(Answer::Refused(refusal(rest)?)),
         _ => None,
     }
@@ -181,9 +216,14 @@ fn log(alloc: Global, lines: &[&str]) -> io::Result<Log> {
     let mut checkpoint = checkpoints::nothing(alloc)?;
     let count = checkpoint_lines(alloc, &mut checkpoint, lines)?;
     let entries = entries(alloc, lines.get(count..).unwrap_or(&[]))?;
-    if count == 0 {
-        return Ok(Log::of(entries));
+    match count {
+        0 => Ok(Log::of(entries)),
+        _ => past(alloc, checkpoint, entries),
     }
+}
+
+/// The log of these requests behind a checkpoint.
+fn past(alloc: Global, checkpoint: Checkpoint, entries: Vec<Request>) -> io::Result<Log> {
     Log::past(Box::new(alloc, checkpoint)?, entries).ok_or(unreadable())
 }
 
@@ -207,37 +247,50 @@ fn reply(head: &str, line: &str) -> Option<Body> {
     })
 }
 
-/// A message of two numbers: the names of both stand behind its own.
-fn two_numbers(head: &str, first: &str, second: &str) -> Option<(u64, u64)> {
-    Some((number_of(head, first)?, number_of(head, second)?))
+/// What a message of a view and another number says.
+fn two_numbers(name: &str, head: &str) -> Option<Body> {
+    let view = number_of(head, "view=")?;
+    match name {
+        "COMMIT" => commit(view, head),
+        "PREPAREOK" => prepare_ok(view, head),
+        "GETSTATE" => get_state(view, head),
+        _ => None,
+    }
+}
+
+fn commit(view: u64, head: &str) -> Option<Body> {
+    let commit_number = number_of(head, "commit=")?;
+    Some(Body::Commit {
+        view,
+        commit_number,
+    })
+}
+
+fn prepare_ok(view: u64, head: &str) -> Option<Body> {
+    let op_number = number_of(head, "op=")?;
+    Some(Body::PrepareOk { view, op_number })
+}
+
+fn get_state(view: u64, head: &str) -> Option<Body> {
+    let op_number = number_of(head, "op=")?;
+    Some(Body::GetState { view, op_number })
+}
+
+fn recovery(head: &str) -> Option<Body> {
+    Some(Body::Recovery {
+        nonce: number_of(head, "nonce=")?,
+        stored_view: number_of(head, "stored=")?,
+    })
 }
 
 /// What a message of numbers alone says.
 fn numbers(name: &str, head: &str) -> Option<Body> {
     match name {
-        "PREPAREOK" => {
-            let (view, op_number) = two_numbers(head, "view=", "op=")?;
-            Some(Body::PrepareOk { view, op_number })
-        }
-        "GETSTATE" => {
-            let (view, op_number) = two_numbers(head, "view=", "op=")?;
-            Some(Body::GetState { view, op_number })
-        }
-        "COMMIT" => {
-            let (view, commit_number) = two_numbers(head, "view=", "commit=")?;
-            Some(Body::Commit {
-                view,
-                commit_number,
-            })
-        }
-        "RECOVERY" => {
-            let (nonce, stored_view) = two_numbers(head, "nonce=", "stored=")?;
-            Some(Body::Recovery { nonce, stored_view })
-        }
+        "RECOVERY" => recovery(head),
         "STARTVIEWCHANGE" => Some(Body::StartViewChange {
             view: number_of(head, "view=")?,
         }),
-        _ => None,
+        _ => two_numbers(name, head),
     }
 }
 
@@ -264,15 +317,24 @@ enum BeforeLog {
 /// The numbers in front of a message's log.
 fn before_log(head: &str) -> Option<BeforeLog> {
     let view = number_of(head, "view=")?;
-    let commit = number_of(head, "commit=");
     match head.split_once(' ')?.0 {
-        "DOVIEWCHANGE" => Some(BeforeLog::DoViewChange(view, number_of(head, "normal=")?, commit?)),
-        "STARTVIEW" => Some(BeforeLog::StartView(view, commit?)),
-        "RECOVERYRESPONSE" => {
-            let nonce = number_of(head, "nonce=")?;
-            Some(BeforeLog::RecoveryResponse(view, nonce, commit))
-        }
-        "NEWSTATE" => Some(BeforeLog::NewState(view, number_of(head, "op=")?, commit?)),
+        "RECOVERYRESPONSE" => before_response(view, head),
+        name => before_commits(name, view, head),
+    }
+}
+
+fn before_response(view: u64, head: &str) -> Option<BeforeLog> {
+    let nonce = number_of(head, "nonce=")?;
+    Some(BeforeLog::RecoveryResponse(view, nonce, number_of(head, "commit=")))
+}
+
+/// The numbers of a message that has a commit number.
+fn before_commits(name: &str, view: u64, head: &str) -> Option<BeforeLog> {
+    let commit = number_of(head, "commit=")?;
+    match name {
+        "STARTVIEW" => Some(BeforeLog::StartView(view, commit)),
+        "DOVIEWCHANGE" => Some(BeforeLog::DoViewChange(view, number_of(head, "normal=")?, commit)),
+        "NEWSTATE" => Some(BeforeLog::NewState(view, number_of(head, "op=")?, commit)),
         _ => None,
     }
 }
@@ -318,11 +380,13 @@ fn said(alloc: Global, head: &str, others: &[&str]) -> io::Result<Body> {
     let line = others.first().copied().unwrap_or("");
     match body(alloc, head, line) {
         Some(body) => Ok(body),
-        None => {
-            let before = before_log(head).ok_or(unreadable())?;
-            Ok(body_with_log(before, log(alloc, others)?))
-        }
+        None => said_with_log(alloc, head, others),
     }
+}
+
+fn said_with_log(alloc: Global, head: &str, lines: &[&str]) -> io::Result<Body> {
+    let before = before_log(head).ok_or(unreadable())?;
+    Ok(body_with_log(before, log(alloc, lines)?))
 }
 
 /// Whom a message is from, and for whom.
@@ -363,9 +427,7 @@ fn start_view(log: Log) -> Message {
 
 /// The frame of a message whose log is a checkpoint with this snapshot.
 pub fn snapshot_frame(alloc: Global, snapshot: &Snapshot) -> io::Result<Vec<u8>> {
-    let checkpoint = Box::new(alloc, checkpoints::with(alloc, snapshot)?)?;
-    match Log::past(checkpoint, Vec::new(alloc)) {
-        Some(log) => frame_of(alloc, &start_view(log)),
-        None => Err(unreadable()),
-    }
+    let checkpoint = checkpoints::with(alloc, snapshot)?;
+    let log = past(alloc, checkpoint, Vec::new(alloc))?;
+    frame_of(alloc, &start_view(log))
 }

@@ -2,7 +2,7 @@
 
 use il_model::{Cells, Loc};
 use std::alloc::{AllocError, Global};
-use std::io;
+use std::{io, str};
 
 /// The error of a row that nothing can be made of.
 pub fn unreadable() -> io::Error {
@@ -12,6 +12,39 @@ pub fn unreadable() -> io::Error {
 /// The error of a row that comes out in two ways.
 pub fn otherwise() -> io::Error {
     io::Error::from(io::ErrorKind::Other)
+}
+
+/// What stands before and behind the first of a mark.
+pub fn cut<'a>(text: &'a str, mark: &str) -> io::Result<(&'a str, &'a str)> {
+    text.split_once(mark).ok_or(unreadable())
+}
+
+/// What stands before and behind the first of a mark; all of it and nothing where there is no mark.
+pub fn front<'a>(text: &'a str, mark: &str) -> (&'a str, &'a str) {
+    text.split_once(mark).unwrap_or((text, ""))
+}
+
+/// A text, to be what comes out.
+pub fn told(alloc: Global, text: &str) -> io::Result<String> {
+    Ok(String::from_str(alloc, text)?)
+}
+
+/// The bytes of what comes out, in hexadecimal.
+pub fn told_bytes(alloc: Global, bytes: &[u8]) -> io::Result<String> {
+    Ok(hex::encode(alloc, bytes)?)
+}
+
+/// A line that was printed, with its status behind it.
+pub fn with_status(alloc: Global, printed: &[u8], status: u8) -> io::Result<String> {
+    match str::from_utf8(printed) {
+        Ok(line) => Ok(format!(in alloc; "{} ({status})", line.trim_end())?),
+        Err(_) => Err(unreadable()),
+    }
+}
+
+/// Puts a text that was made.
+pub fn put_made(out: &mut String, made: Result<String, AllocError>) -> Result<(), AllocError> {
+    out.push_str(made?.as_str())
 }
 
 /// A number in hexadecimal.
@@ -98,12 +131,16 @@ fn put_at<T: Copy + Drop>(cells: &mut [T], place: u16, value: T) -> Option<()> {
     Some(())
 }
 
+fn put_word_at(cells: &mut Cells, place: u16, number: &str) -> Option<()> {
+    put_at(&mut cells.words, place, number.parse::<i16>().ok()?)
+}
+
 /// Puts a cell as a row writes it: `%QX0.0`, which is TRUE, or `%QW0=-2`.
 fn put_cell(cells: &mut Cells, word: &str) -> Option<()> {
     let (place, number) = word.split_once('=').unwrap_or((word, "1"));
     match il_model::location_from(place.as_bytes())? {
         Loc::Bit(_, bit) => put_at(&mut cells.bits, bit, true),
-        Loc::Word(_, place) => put_at(&mut cells.words, place, number.parse::<i16>().ok()?),
+        Loc::Word(_, place) => put_word_at(cells, place, number),
     }
 }
 

@@ -2,7 +2,7 @@
 
 use crate::controllers::image;
 use crate::messages::{frame_of, message, request};
-use crate::notation::{behind, lines_of, number_of, unreadable};
+use crate::notation::{behind, cut, front, lines_of, number_of, told, unreadable};
 use crate::stores::Store;
 use il_loader::Image;
 use il_model::Budget;
@@ -26,6 +26,16 @@ struct Group {
     sent: Vec<Message>,
 }
 
+/// Messages as they're said, or how many there are.
+fn tell_messages(alloc: Global, sent: &[Message], said: &str) -> io::Result<String> {
+    let count = sent.len();
+    if count > 0 && said.contains('=') && are_written(alloc, sent, said)? {
+        told(alloc, said)
+    } else {
+        Ok(format!(in alloc; "{count} messages")?)
+    }
+}
+
 /// What a step sent, or its fault.
 type Stepped = Result<Vec<Message>, StepFault>;
 
@@ -36,9 +46,24 @@ enum Happens {
     Crash,
 }
 
+/// What happens by this name; a restart has a nonce.
+fn happening(verb: &str, nonce: &str) -> Option<Happens> {
+    match verb {
+        "timeout" => Some(Happens::Event(Event::Timeout)),
+        "resend" => Some(Happens::Event(Event::Resend)),
+        "restart" => Some(Happens::Event(Event::Restart(nonce.parse::<u64>().ok()?))),
+        _ => Some(Happens::Crash),
+    }
+}
+
 /// The number of a replica, as `R1`.
 fn number(text: &str) -> Option<u8> {
     text.strip_prefix('R')?.parse::<u8>().ok()
+}
+
+/// The place of an entry, as `op=1`, from 0.
+fn place_of(text: &str) -> Option<u64> {
+    number_of(text, "op=")?.checked_sub(1)
 }
 
 fn code(text: &str, name: &str, otherwise: u64) -> Option<u16> {
@@ -57,14 +82,17 @@ fn image_of(alloc: Global, text: &str) -> io::Result<Image> {
 
 /// The replica of this number, as `every=1 image=494c..` and maybe `is=down` say.
 fn replica(alloc: Global, number: u8, text: &str) -> io::Result<Replica> {
-    let config = config(text).ok_or(unreadable())?;
-    let budget = Budget::new(10_000).ok_or(unreadable())?;
+    let (config, budget) = limits(text).ok_or(unreadable())?;
     let image = image_of(alloc, text)?;
-    let made = match behind(text, "is=") {
-        None => Replica::new(alloc, config, number, image, budget),
-        Some(_) => Replica::down(alloc, config, number, image, budget),
-    };
-    Ok(made?)
+    Ok(match behind(text, "is=") {
+        None => Replica::new(alloc, config, number, image, budget)?,
+        Some(_) => Replica::down(alloc, config, number, image, budget)?,
+    })
+}
+
+/// A group's settings, and the budget of a scan.
+fn limits(text: &str) -> Option<(Config, Budget)> {
+    Some((config(text)?, Budget::new(10_000)?))
 }
 
 fn new_node(alloc: Global, number: u8, text: &str) -> io::Result<Node> {
@@ -154,8 +182,8 @@ impl Node {
     /// Whether its log has this entry, as `op=1 C0 1 step`.
     fn has(&self, alloc: Global, text: &str) -> Option<bool> {
         let (place, asked) = text.split_once(' ')?;
-        let place = number_of(place, "op=")?.checked_sub(1)?;
-        Some(self.replica.entry(place) == Some(&request(alloc, asked)?))
+        let request = request(alloc, asked)?;
+        Some(self.replica.entry(place_of(place)?) == Some(&request))
     }
 
     /// How many of the first entries its log has.
@@ -185,6 +213,15 @@ impl Node {
         } else {
             format!(in alloc; "{entries} entries")
         }
+    }
+
+    /// What there is of it: what it `is`, its `log` or its `store`.
+    fn tell(&self, alloc: Global, what: &str, said: &str) -> io::Result<String> {
+        Ok(match what {
+            "is" => self.standing(alloc)?,
+            "log" => self.log(alloc, said)?,
+            _ => self.store.told(alloc)?,
+        })
     }
 }
 
@@ -218,33 +255,36 @@ impl Group {
 
     /// A copy of the message at this place among all that were sent.
     fn message(&self, alloc: Global, place: &str) -> io::Result<Message> {
-        let place = place.parse::<usize>().ok().ok_or(unreadable())?;
-        Ok(self.sent.get(place).ok_or(unreadable())?.copy(alloc)?)
+        let sent = self.sent(place).ok_or(unreadable())?;
+        Ok(sent.copy(alloc)?)
+    }
+
+    /// The message at this place.
+    fn sent(&self, place: &str) -> Option<&Message> {
+        self.sent.get(place.parse::<usize>().ok()?)
     }
 
     /// What happens to a replica: `timeout R1`, `resend R1`, `restart R1 7` with a nonce, `crash R1`.
     fn happen_to(&mut self, alloc: Global, verb: &str, rest: &str) -> io::Result<Stepped> {
-        let (name, nonce) = rest.split_once(' ').unwrap_or((rest, "0"));
+        let (name, nonce) = front(rest, " ");
         let number = number(name).ok_or(unreadable())?;
-        let happens = match verb {
-            "timeout" => Happens::Event(Event::Timeout),
-            "resend" => Happens::Event(Event::Resend),
-            "restart" => Happens::Event(Event::Restart(nonce.parse().ok().ok_or(unreadable())?)),
-            _ => Happens::Crash,
-        };
+        let happens = happening(verb, nonce).ok_or(unreadable())?;
         self.step(alloc, number, happens)
     }
 
     /// What happens: an event of a replica, `deliver 2`, or a message.
     fn happen(&mut self, alloc: Global, text: &str) -> io::Result<Stepped> {
-        let (verb, rest) = text.split_once(' ').ok_or(unreadable())?;
-        let message = match verb {
-            "timeout" | "resend" | "restart" | "crash" => {
-                return self.happen_to(alloc, verb, rest);
-            }
-            "deliver" => self.message(alloc, rest)?,
-            _ => written(alloc, text)?,
-        };
+        let (verb, rest) = cut(text, " ")?;
+        match verb {
+            "timeout" | "resend" | "restart" | "crash" => self.happen_to(alloc, verb, rest),
+            "deliver" => self.deliver_again(alloc, rest),
+            _ => self.deliver(alloc, written(alloc, text)?),
+        }
+    }
+
+    /// The message at this place comes.
+    fn deliver_again(&mut self, alloc: Global, place: &str) -> io::Result<Stepped> {
+        let message = self.message(alloc, place)?;
         self.deliver(alloc, message)
     }
 
@@ -255,14 +295,9 @@ impl Group {
         mut sent: Vec<Message>,
         said: &str,
     ) -> io::Result<String> {
-        let count = sent.len();
-        let is_said = count > 0 && said.contains('=') && are_written(alloc, sent.as_slice(), said)?;
+        let told = tell_messages(alloc, sent.as_slice(), said)?;
         self.sent.append(&mut sent)?;
-        Ok(if is_said {
-            String::from_str(alloc, said)?
-        } else {
-            format!(in alloc; "{count} messages")?
-        })
+        Ok(told)
     }
 
     /// What an event comes to: the messages, or a fault.
@@ -277,23 +312,22 @@ impl Group {
     fn tell_message(&self, alloc: Global, place: &str, said: &str) -> io::Result<String> {
         let message = self.message(alloc, place)?;
         let is_said = is_written(alloc, &message, said)?;
-        Ok(String::from_str(alloc, if is_said { said } else { "another" })?)
+        told(alloc, if is_said { said } else { "another" })
     }
 
     /// What there is: `is R1`, `log R1`, `store R1`, or the message `sent 6`.
     fn tell(&mut self, alloc: Global, text: &str, said: &str) -> io::Result<String> {
-        match text.split_once(' ').ok_or(unreadable())? {
-            ("is", name) => Ok(self.node(name)?.standing(alloc)?),
-            ("log", name) => Ok(self.node(name)?.log(alloc, said)?),
-            ("store", name) => Ok(self.node(name)?.store.told(alloc)?),
-            ("sent", place) => self.tell_message(alloc, place, said),
+        let (what, rest) = cut(text, " ")?;
+        match what {
+            "is" | "log" | "store" => self.node(rest)?.tell(alloc, what, said),
+            "sent" => self.tell_message(alloc, rest, said),
             _ => self.tell_event(alloc, text, said),
         }
     }
 
     /// A line with what comes of it.
     fn tell_line(&mut self, alloc: Global, line: &str) -> io::Result<String> {
-        let (text, said) = line.split_once(": ").ok_or(unreadable())?;
+        let (text, said) = cut(line, ": ")?;
         let told = self.tell(alloc, text, said)?;
         Ok(format!(in alloc; "{text}: {told}\n")?)
     }

@@ -1,7 +1,7 @@
 //! The rows of a file. A section of a row hands something in or says what comes out; a table is a row a line. The name of
 //! the file says whose rows these are.
 
-use crate::notation::{bytes_of, lines_of, plain, spread, unreadable};
+use crate::notation::{bytes_of, front, lines_of, plain, spread, told, told_bytes, unreadable};
 use crate::sessions::Exchange;
 use crate::{
     blocks, controllers, drivers, fields, frames, group_files, groups, hellos, machine_stores,
@@ -28,11 +28,15 @@ impl Found {
     ) -> Result<(), AllocError> {
         self.rows = self.rows.saturating_add(1);
         match came {
-            Ok(came) if came.as_str() == said => {}
-            Ok(came) => self.otherwise.push(format!(in alloc; "{row}: {came}")?)?,
-            Err(error) => self.otherwise.push(format!(in alloc; "{row}: {error}")?)?,
+            Ok(came) if came.as_str() == said => Ok(()),
+            Ok(came) => self.put(format!(in alloc; "{row}: {came}")),
+            Err(error) => self.put(format!(in alloc; "{row}: {error}")),
         }
-        Ok(())
+    }
+
+    /// Puts a row that comes out otherwise.
+    fn put(&mut self, row: Result<String, AllocError>) -> Result<(), AllocError> {
+        Ok(self.otherwise.push(row?)?)
     }
 }
 
@@ -61,9 +65,7 @@ impl<'a> Given<'a> {
         match title {
             "message" | "file" => self.message = body,
             "field" => self.field = body,
-            "released" => self.exchange.release(body.trim_end())?,
-            "limit" => self.exchange.limit(body.trim_end())?,
-            _ => return Ok(false),
+            _ => return self.exchange.take(title, body.trim_end()),
         }
         Ok(true)
     }
@@ -129,16 +131,26 @@ fn check_section<'a, R: Wait>(
     section: &'a str,
     found: &mut Found,
 ) -> io::Result<()> {
-    let (title, body) = section.split_once('\n').unwrap_or((section, ""));
+    let (title, body) = front(section, "\n");
     if let Some(title) = title.strip_prefix("each ") {
         return check_table(rt, alloc, given, title, body, found);
     }
     if given.take(title, body)? {
         return Ok(());
     }
-    let said = said(alloc, title, body)?;
     let came = runs(alloc, given, title, body);
-    Ok(found.count(alloc, name, said.as_str(), came)?)
+    check(alloc, name, &said(alloc, title, body)?, came, found)
+}
+
+/// Counts a row, which says what comes out.
+fn check(
+    alloc: Global,
+    row: &str,
+    said: &String,
+    came: io::Result<String>,
+    found: &mut Found,
+) -> io::Result<()> {
+    Ok(found.count(alloc, row, said.as_str(), came)?)
 }
 
 /// A table: a row a line, as `what is handed in | what comes out`.
@@ -151,12 +163,22 @@ fn check_table<R: Wait>(
     found: &mut Found,
 ) -> io::Result<()> {
     for line in lines_of(alloc, body)? {
-        let (cell, said) = line.split_once(" | ").unwrap_or((line, ""));
-        let came = comes_out(rt, alloc, given, title, cell, said);
-        let said = said_in(alloc, title, said)?;
-        found.count(alloc, line, said.as_str(), came)?;
+        check_line(rt, alloc, given, title, line, found)?;
     }
     Ok(())
+}
+
+fn check_line<R: Wait>(
+    rt: &R,
+    alloc: Global,
+    given: &mut Given<'_>,
+    title: &str,
+    line: &str,
+    found: &mut Found,
+) -> io::Result<()> {
+    let (cell, said) = front(line, " | ");
+    let came = comes_out(rt, alloc, given, title, cell, said);
+    check(alloc, line, &said_in(alloc, title, said)?, came, found)
 }
 
 /// What a line of a table of this title says.
@@ -165,7 +187,7 @@ fn said_in(alloc: Global, title: &str, said: &str) -> io::Result<String> {
         "request" => hexadecimals(alloc, said),
         "written request" if said != "none" => hexadecimals(alloc, said),
         "byte replaced" => spread(alloc, said),
-        _ => Ok(String::from_str(alloc, said)?),
+        _ => told(alloc, said),
     }
 }
 
@@ -179,16 +201,30 @@ fn comes_out<R: Wait>(
     said: &str,
 ) -> io::Result<String> {
     match given.file {
-        "blocks.rows" => blocks::table(alloc, title, cell),
         "modbus.rows" => given.exchange.table(rt, alloc, title, cell, said),
+        "group.rows" => group_files::table(alloc, given.message, title, cell),
+        "fields.rows" => fields::table(alloc, title, cell, given.field),
+        file => comes_out_of_cell(alloc, file, title, cell),
+    }
+}
+
+/// What comes out of a cell alone.
+fn comes_out_of_cell(alloc: Global, file: &str, title: &str, cell: &str) -> io::Result<String> {
+    match file {
+        "blocks.rows" => blocks::table(alloc, title, cell),
         "frames.rows" => frames::table(alloc, title, cell),
         "controllers.rows" => controllers::table(alloc, title, cell),
         "replicas.rows" => groups::table(alloc, title, cell),
+        _ => comes_out_of_machine(alloc, file, title, cell),
+    }
+}
+
+/// What comes out of a cell about machines of a group.
+fn comes_out_of_machine(alloc: Global, file: &str, title: &str, cell: &str) -> io::Result<String> {
+    match file {
         "hellos.rows" => hellos::table(alloc, title, cell),
-        "group.rows" => group_files::table(alloc, given.message, title, cell),
         "stores.rows" => machine_stores::table(alloc, title, cell),
         "drivers.rows" => drivers::table(alloc, title, cell),
-        "fields.rows" => fields::table(alloc, title, cell, given.field),
         _ => Err(unreadable()),
     }
 }
@@ -197,26 +233,32 @@ fn comes_out<R: Wait>(
 fn said(alloc: Global, title: &str, body: &str) -> io::Result<String> {
     match title {
         "frame" => hexadecimals(alloc, body),
-        "no frame" => Ok(String::from_str(alloc, "none")?),
+        "no frame" => told(alloc, "none"),
         _ => Ok(plain(alloc, body)?),
     }
 }
 
 /// What comes out where a section says it: of the lines of its run, or of what was handed in.
 fn runs(alloc: Global, given: &Given<'_>, title: &str, body: &str) -> io::Result<String> {
-    let (_, of) = title.split_once(' ').unwrap_or((title, ""));
     match given.file {
-        "blocks.rows" => blocks::run(alloc, of, body),
         "frames.rows" => frames::frame(alloc, given.message),
+        "fields.rows" => fields::run(alloc, given.field, body),
+        file => runs_of(alloc, file, front(title, " ").1, body),
+    }
+}
+
+/// What a run comes to, whose title says of what it is.
+fn runs_of(alloc: Global, file: &str, of: &str, body: &str) -> io::Result<String> {
+    match file {
+        "blocks.rows" => blocks::run(alloc, of, body),
         "controllers.rows" => controllers::run(alloc, of, body),
         "replicas.rows" => replicas::run(alloc, of, body),
         "drivers.rows" => drivers::run(alloc, of, body),
-        "fields.rows" => fields::run(alloc, given.field, body),
         _ => Err(unreadable()),
     }
 }
 
 /// Bytes without the blanks between them.
 fn hexadecimals(alloc: Global, words: &str) -> io::Result<String> {
-    Ok(hex::encode(alloc, bytes_of(alloc, words)?.as_slice())?)
+    told_bytes(alloc, bytes_of(alloc, words)?.as_slice())
 }

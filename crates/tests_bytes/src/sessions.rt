@@ -2,13 +2,15 @@
 ghost use Rattle.std.specs.Prelude.{◌≡◌};
 
 use crate::clients::{Client, Pieces, Publishing, Writes, cut_at};
-use crate::notation::{behind, bytes_of, cells_of, otherwise, unreadable};
+use crate::notation::{
+    behind, bytes_of, cells_of, cut, front, otherwise, told, told_bytes, unreadable,
+};
 use crate::values;
 use il_model::OutImage;
 use io_image::{Ages, Naming, NewList, Release, Sample, Stage, StageBook, Staging, released};
 use io_model::Counted;
 use modbus_server::{Outputs, SessionEnd, serve_session};
-use modbus_wire::{HeaderFault, Session, SessionFault};
+use modbus_wire::{Adu, HeaderFault, Session, SessionFault};
 use plc_host::{Host, Traffic};
 use std::alloc::{AllocError, Global};
 use std::io;
@@ -206,9 +208,19 @@ impl Exchange {
         }
     }
 
+    /// Takes what a section of this title hands in; false where it hands in nothing.
+    pub fn take(&mut self, title: &str, text: &str) -> io::Result<bool> {
+        match title {
+            "released" => self.release(text)?,
+            "limit" => self.limit(text)?,
+            _ => return Ok(false),
+        }
+        Ok(true)
+    }
+
     /// Takes what is released before the session: a number, and the outputs that aren't FALSE or 0.
-    pub fn release(&mut self, text: &str) -> io::Result<()> {
-        let (number, cells) = text.split_once(' ').unwrap_or((text, ""));
+    fn release(&mut self, text: &str) -> io::Result<()> {
+        let (number, cells) = front(text, " ");
         self.shown.release = Some(Release {
             number: number.parse::<u64>().ok().ok_or(unreadable())?,
             image: OutImage {
@@ -219,8 +231,8 @@ impl Exchange {
     }
 
     /// Takes the age up to which outputs are shown, and how old they are, as `200 201`; `none` is no number.
-    pub fn limit(&mut self, text: &str) -> io::Result<()> {
-        let (limit, age) = text.split_once(' ').ok_or(unreadable())?;
+    fn limit(&mut self, text: &str) -> io::Result<()> {
+        let (limit, age) = cut(text, " ")?;
         self.shown.limit = limit.parse::<u32>().ok();
         self.shown.age = Age(age.parse::<u64>().ok());
         Ok(())
@@ -236,12 +248,16 @@ impl Exchange {
     fn last_reply<R: Wait>(&self, rt: &R, alloc: Global) -> io::Result<String> {
         let whole = cut_at(self.requests.as_slice(), usize::MAX);
         let talked = served(rt, alloc, self.shown, whole, false)?;
-        if talked.end != SessionEnd::Closed {
-            return Err(otherwise());
+        match talked.end {
+            SessionEnd::Closed => told_bytes(alloc, self.behind_replies(&talked)),
+            _ => Err(otherwise()),
         }
+    }
+
+    /// What a session wrote behind the replies so far.
+    fn behind_replies<'a>(&self, talked: &'a Talked) -> &'a [u8] {
         let written = talked.written.as_slice();
-        let came = written.get(self.replies.len()..).unwrap_or(&[]);
-        Ok(hex::encode(alloc, came)?)
+        written.get(self.replies.len()..).unwrap_or(&[])
     }
 
     /// Puts a request and its reply behind those before, and gives the reply that comes, in hexadecimal. Of a request
@@ -254,8 +270,12 @@ impl Exchange {
         reply: &str,
     ) -> io::Result<String> {
         let (count, request) = repeated(request);
-        let (request, reply) = (bytes_of(alloc, request)?, bytes_of(alloc, reply)?);
-        self.put(request.as_slice(), reply.as_slice(), count)?;
+        let reply = bytes_of(alloc, reply)?;
+        self.put(
+            bytes_of(alloc, request)?.as_slice(),
+            reply.as_slice(),
+            count,
+        )?;
         let came = self.last_reply(rt, alloc)?;
         self.replies.extend_from_slice(reply.as_slice())?;
         Ok(came)
@@ -386,14 +406,14 @@ impl Exchange {
             "written request" => values::written(alloc, cell),
             "read reply" => values::answered(alloc, cell),
             "count of releases" => numbers_shown(rt, alloc, cell),
-            _ => Ok(String::from_str(alloc, self.ends(rt, alloc, title, cell)?)?),
+            _ => told(alloc, self.ends(rt, alloc, title, cell)?),
         }
     }
 }
 
 /// How a stream ends, as `REQUESTS > REPLIES`, wherever it is cut.
 fn stream<R: Wait>(rt: &R, alloc: Global, text: &str) -> io::Result<&'static str> {
-    let (requests, replies) = text.split_once('>').ok_or(unreadable())?;
+    let (requests, replies) = cut(text, ">")?;
     let exchange = Exchange {
         shown: NOTHING,
         requests: bytes_of(alloc, requests)?,
@@ -408,15 +428,27 @@ fn fault(alloc: Global, text: &str) -> io::Result<&'static str> {
     let mut session = Session::new();
     let mut found = Vec::new(alloc);
     let first = session.feed(bytes.as_slice(), &mut found);
-    for piece in [b"".as_slice(), b"\x00\x01\x00\x00\x00\x02\x01\x07"] {
-        if session.feed(piece, &mut found) != first {
-            return Err(otherwise());
-        }
+    if !is_answered_again(&mut session, &mut found, first) {
+        return Err(otherwise());
     }
     match first {
         Err(fault) if found.is_empty() => Ok(fault_name(fault)),
         _ => Ok("none"),
     }
+}
+
+/// Whether a session answers the same to nothing more, and to a request.
+fn is_answered_again(
+    session: &mut Session,
+    found: &mut Vec<Adu>,
+    first: Result<(), SessionFault>,
+) -> bool {
+    for piece in [b"".as_slice(), b"\x00\x01\x00\x00\x00\x02\x01\x07"] {
+        if session.feed(piece, found) != first {
+            return false;
+        }
+    }
+    true
 }
 
 /// A session before each request of which something is released.
@@ -468,6 +500,10 @@ fn last_of(replies: &[u8]) -> io::Result<u8> {
 fn numbers_shown<R: Wait>(rt: &R, alloc: Global, count: &str) -> io::Result<String> {
     let count = count.parse::<u64>().ok().ok_or(unreadable())?;
     let (taken, end) = publishing::<R, Brand>(rt, alloc, NewList::new(), count)?;
-    let (last, end) = (last_of(taken.as_slice())?, end_name(end));
+    told_numbers(alloc, taken.as_slice(), end)
+}
+
+fn told_numbers(alloc: Global, replies: &[u8], end: SessionEnd) -> io::Result<String> {
+    let (last, end) = (last_of(replies)?, end_name(end));
     Ok(format!(in alloc; "1 to {last}, {end}")?)
 }

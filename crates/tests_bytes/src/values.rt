@@ -1,6 +1,8 @@
 //! Modbus requests and replies as values: the bytes that are written of them, and the values that bytes are read as.
 
-use crate::notation::{behind, bytes_of, number_of, otherwise, unreadable};
+use crate::notation::{
+    behind, bytes_of, cut, number_of, otherwise, put_made, told, told_bytes, unreadable,
+};
 use modbus_wire::{Bits, Pdu, Reply, Request, Table, Words};
 use std::alloc::Global;
 use std::io;
@@ -61,13 +63,16 @@ fn writing_one(text: &str, code: u16, address: u16) -> Option<Request> {
             address,
             value: behind(text, "word=")?.parse::<i16>().ok()?,
         }),
-        22 => Some(Request::MaskWord {
-            address,
-            and_mask: number(text, "and=")?,
-            or_mask: number(text, "or=")?,
-        }),
-        _ => None,
+        _ => masking(text, address),
     }
+}
+
+fn masking(text: &str, address: u16) -> Option<Request> {
+    Some(Request::MaskWord {
+        address,
+        and_mask: number(text, "and=")?,
+        or_mask: number(text, "or=")?,
+    })
 }
 
 /// What writes several bits or words.
@@ -81,14 +86,18 @@ fn writing(text: &str, code: u16, address: u16) -> Option<Request> {
             address,
             values: words(text)?,
         }),
-        23 => Some(Request::WriteReadWords {
-            address,
-            quantity: number(text, "count=")?,
-            write_address: number(text, "into=")?,
-            values: words(text)?,
-        }),
+        23 => writing_and_reading(text, address),
         _ => None,
     }
+}
+
+fn writing_and_reading(text: &str, address: u16) -> Option<Request> {
+    Some(Request::WriteReadWords {
+        address,
+        quantity: number(text, "count=")?,
+        write_address: number(text, "into=")?,
+        values: words(text)?,
+    })
 }
 
 /// A request, as `code=23 at=3 count=6 into=14 words=255,255`.
@@ -111,13 +120,18 @@ fn is_read_back(pdu: &[u8]) -> Option<bool> {
 /// The PDU of a request, in hexadecimal; `none` where the request has none.
 pub fn written(alloc: Global, text: &str) -> io::Result<String> {
     let request = request(text).ok_or(unreadable())?;
-    let Some(pdu) = request.write() else {
-        return Ok(String::from_str(alloc, "none")?);
-    };
-    if is_read_back(pdu.as_slice()) != Some(true) {
-        return Err(otherwise());
+    match request.write() {
+        Some(pdu) => told_pdu(alloc, pdu.as_slice()),
+        None => told(alloc, "none"),
     }
-    Ok(hex::encode(alloc, pdu.as_slice())?)
+}
+
+fn told_pdu(alloc: Global, pdu: &[u8]) -> io::Result<String> {
+    if is_read_back(pdu) == Some(true) {
+        told_bytes(alloc, pdu)
+    } else {
+        Err(otherwise())
+    }
 }
 
 fn put_bits(alloc: Global, bits: &[bool]) -> io::Result<String> {
@@ -132,7 +146,7 @@ fn put_words(alloc: Global, words: &[i16]) -> io::Result<String> {
     let mut shown = String::from_str(alloc, "words=")?;
     let mut comma = "";
     for word in words {
-        shown.push_str(format!(in alloc; "{comma}{word}")?.as_str())?;
+        put_made(&mut shown, format!(in alloc; "{comma}{word}"))?;
         comma = ",";
     }
     Ok(shown)
@@ -143,7 +157,7 @@ fn shown(alloc: Global, reply: &Reply) -> io::Result<String> {
     match reply {
         Reply::Bits(bits) => put_bits(alloc, bits.as_slice()),
         Reply::Words(words) => put_words(alloc, words.as_slice()),
-        Reply::Done => Ok(String::from_str(alloc, "done")?),
+        Reply::Done => told(alloc, "done"),
         Reply::Failed(number) => Ok(format!(in alloc; "exception {number}")?),
     }
 }
@@ -162,13 +176,13 @@ fn reply_of(alloc: Global, request: &Request, pdu: &[u8]) -> io::Result<String> 
             is_answer_again(request, &reply).ok_or(otherwise())?;
             shown(alloc, &reply)
         }
-        None => Ok(String::from_str(alloc, "none")?),
+        None => told(alloc, "none"),
     }
 }
 
 /// What a PDU answers to a request, as `REQUEST > PDU`.
 pub fn answered(alloc: Global, text: &str) -> io::Result<String> {
-    let (asked, pdu) = text.split_once('>').ok_or(unreadable())?;
+    let (asked, pdu) = cut(text, ">")?;
     let request = request(asked).ok_or(unreadable())?;
     reply_of(alloc, &request, bytes_of(alloc, pdu)?.as_slice())
 }
