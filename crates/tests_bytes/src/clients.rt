@@ -31,7 +31,7 @@ pub fn cut_at<'a>(requests: &'a [u8], place: usize) -> Client<'a> {
 }
 
 impl<'a> Client<'a> {
-    /// The same client, of whose reads and then of whose writes the one at this place fails, where it has so many reads.
+    /// This client, of whose reads and then of whose writes the one at this place fails, where it has so many reads.
     pub fn failing_at(self, call: usize, reads: usize) -> Client<'a> {
         match call.checked_sub(reads) {
             None => Client {

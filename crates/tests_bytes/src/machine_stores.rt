@@ -68,8 +68,8 @@ fn of_directory(alloc: Global, title: &str, cell: &str) -> io::Result<String> {
     }
 }
 
-/// The header of these words, as `epoch=1 machine=0 started=0 identity=11 program=22`, in which one byte stands for each
-/// of the 32.
+/// The header of these words, as `epoch=1 machine=0 started=0 identity=11 program=22`, in which one byte stands for
+/// each of the 32.
 fn header_of(words: &str) -> Option<Header> {
     Some(Header {
         identity: [byte(words, "identity=")?; 32],

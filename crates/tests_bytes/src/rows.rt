@@ -1,5 +1,5 @@
-//! The rows of a file. A section of a row hands something in or says what comes out; a table is a row a line. The name of
-//! the file says whose rows these are.
+//! The rows of a file. A section of a row hands something in or says what comes out; a table is a row a line. The name
+//! of the file says whose rows these are.
 
 use crate::notation::{bytes_of, front, lines_of, plain, spread, told, told_bytes, unreadable};
 use crate::sessions::Exchange;
