@@ -18,6 +18,7 @@
 
 mod drive;
 mod filling;
+mod neighbours;
 mod opening;
 mod port;
 mod scans;

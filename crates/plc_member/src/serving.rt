@@ -1,6 +1,7 @@
 //! A machine from the start of its replica to its end.
 
 use crate::drive::{Drive, LONGEST_WAIT, Submitted};
+use crate::neighbours::Machines;
 use crate::opening::Member;
 use crate::port::Port;
 use crate::scans::{ScanBoard, ScanGate};
@@ -20,7 +21,7 @@ use std::sync::Arc;
 use std::thread;
 use std::time::{Duration, Instant};
 use vr_model::ClientNumber;
-use vr_threads::{ClusterConfig, ClusterError, MachineTimer, Seat, Solo, Starts};
+use vr_threads::{ClusterConfig, ClusterError, GroupTimer, Seat, Solo, Starts};
 
 /// So many sessions of Modbus clients are served at once.
 const SESSIONS: usize = 16;
@@ -118,6 +119,17 @@ fn links_of<R: MachineRuntime>(
     })
 }
 
+/// What says when the replica of this machine is late.
+fn timer_of<R: MachineRuntime>(
+    rt: R,
+    group: &Group,
+    number: u8,
+    machines: Machines,
+) -> GroupTimer<R, Machines> {
+    let (patience, resend) = (millis(group.times.patience), millis(group.times.resend));
+    GroupTimer::new(rt, group.config, number, patience, resend, machines)
+}
+
 /// Starts the replica of a machine that is ready, in a thread of its own.
 fn started<R: MachineRuntime, S: Starts + Send + Drop + 'static>(
     host: Host<R>,
@@ -140,16 +152,14 @@ fn started<R: MachineRuntime, S: Starts + Send + Drop + 'static>(
         driver,
     } = links_of(host, &machine, listener)?;
     let board = Arc::new(alloc, ScanBoard::new())?;
-    let times = group.times;
+    let machines = Machines {
+        exchange: Arc::try_clone(&exchange)?,
+    };
+    let timer = timer_of(rt, group, machine.number, machines);
     let seat = Seat {
         link,
         store,
-        timer: MachineTimer::new(
-            rt,
-            group.config,
-            millis(times.patience),
-            millis(times.resend),
-        ),
+        timer,
         gate: ScanGate::new(host, begun, Arc::try_clone(&board)?),
     };
     let config = ClusterConfig {
