@@ -5,10 +5,12 @@ ghost use Rattle.plc_console.specs.Asking.{way, IsAnswered, IsUnanswered};
 ghost use Rattle.plc_console.specs.Noting.{Notes, deed_done};
 
 use crate::asking::ask;
+use crate::others::Others;
 use crate::session::Unanswered;
 use il_model::{Answer, Command};
 use plc_host::Host;
 use plc_status::{Deed, Journal, Notice};
+use std::ops::Range;
 use std::sync::Wait;
 use std::time::{Clock, Duration};
 use vr_client::GroupClient;
@@ -35,6 +37,8 @@ pub struct Desk<R: Copy + Drop, L: Drop> {
     replicas: u8,
     /// What is done is told there.
     journal: Journal,
+    /// Where other consoles give commands, too.
+    others: Option<Others>,
 }
 
 impl<R: Wait + Clock + Copy + Drop, L: Link + Drop> Desk<R, L> {
@@ -55,12 +59,29 @@ impl<R: Wait + Clock + Copy + Drop, L: Link + Drop> Desk<R, L> {
             period,
             replicas: config.group_size(),
             journal,
+            others: None,
         }
     }
 
-    /// How many replicas the group has.
-    pub(crate) fn replicas(&self) -> u8 {
-        self.replicas
+    /// The same, where other consoles give commands, too.
+    pub fn among(self, others: Others) -> Desk<R, L> {
+        Desk {
+            others: Some(others),
+            ..self
+        }
+    }
+
+    /// What it knows of the controller beside the answers of its commands, where others give commands, too.
+    pub(crate) fn others(&self) -> Option<&Others> {
+        self.others.as_ref()
+    }
+
+    /// The replicas of which it tells.
+    pub(crate) fn replicas(&self) -> Range<u8> {
+        match &self.others {
+            Some(others) => others.replica..others.replica.saturating_add(1),
+            None => 0..self.replicas,
+        }
     }
 
     /// Notes this.

@@ -22,7 +22,9 @@
 //!
 //! What a command changed that wasn't refused is noted once in a journal, by a clause of what submits it
 //! (`specs/Noting`). What is told of forces, breakpoints and the program is that of a mirror: a controller that takes
-//! each command that was done. It stays alike, whatever scans the other one makes (`mirrors_stay`).
+//! each command that was done. It stays alike, whatever scans the other one makes (`mirrors_stay`). Where other consoles
+//! give commands, too, a session begins with a mirror of a snapshot of the controller (`Others`), and what they do while
+//! it lasts it doesn't know.
 //!
 //! Only tested: how answers to questions are spelled, that a request is sent again when a period went by, and the
 //! service, with a group behind it that loses its primary (`console_rows` of `tests_threads`, `tools/try-serve`).
@@ -33,6 +35,7 @@ mod asking;
 mod desk;
 mod line;
 mod mirror;
+mod others;
 mod sending;
 mod service;
 mod session;
@@ -41,6 +44,7 @@ mod telling;
 pub use asking::ask;
 pub use desk::{Desk, DeskClient};
 pub use mirror::mirrors_stay;
+pub use others::{Others, SnapshotBoard};
 pub use sending::{Reply, send_commands, worst};
 pub use service::{Console, OpenConsole};
 pub use session::{SessionEnd, Submits, Unanswered, serve_console};

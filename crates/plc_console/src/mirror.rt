@@ -32,6 +32,20 @@ impl Mirror {
         })
     }
 
+    /// Of the controller of this program that a snapshot is of. None where it's of no such controller, or memory runs
+    /// out.
+    pub(crate) fn restored(
+        alloc: Global,
+        image: Image,
+        budget: Budget,
+        snapshot: &Snapshot,
+    ) -> Option<Mirror> {
+        match Controller::restore(alloc, image, budget, snapshot) {
+            Ok(controller) => Some(Mirror { controller }),
+            Err(_) => None,
+        }
+    }
+
     /// Takes a command, which is ready, by its answer.
     #[tactic(auto, using(crate::proofs::Mirrors::followed))]
     pub(crate) fn follow(&mut self, ready: Ready, answer: &Answer)

@@ -7,8 +7,8 @@ use crate::mirror::Mirror;
 use crate::session::{Submits, Unanswered, serve_console};
 use crate::telling::{breaks_line, forces_line, program_line, status_line};
 use ctl_debugger::prepare;
-use il_loader::Image;
-use il_model::{Answer, Command};
+use il_loader::{Image, load};
+use il_model::{Answer, Budget, Command, Snapshot};
 use io_model::{Counted, write_all};
 use plc_host::{Failed, Host, ServiceRuntime};
 use plc_json::Question;
@@ -21,6 +21,9 @@ use vr_ports::{Cutter, Link, Relink};
 
 /// What an operator is told whose place another one has taken.
 const TAKEN_OVER: &[u8] = b"plc: taken over\n";
+
+/// What an operator is told where the controller isn't known: its machine's replica takes no part just now.
+const UNKNOWN: &[u8] = b"plc: replica not normal\n";
 
 /// A desk, and what is known beside it.
 #[derive(Drop)]
@@ -56,6 +59,34 @@ impl<R: Wait + Clock + Copy + Drop, L: Link + Drop> Submits for Informed<R, L> {
     }
 }
 
+impl<R: Wait + Clock + Copy + Drop, L: Link + Drop> Informed<R, L> {
+    /// Knows the controller as it is now, with the image of the program in force, where other consoles give commands,
+    /// too. Whether it does: not where no snapshot is to be had of it.
+    fn catch_up(&mut self, rt: &R, image: &mut Image) -> bool {
+        let Some(others) = self.desk.others() else {
+            return true;
+        };
+        let Some(snapshot) = others.snapshot(rt) else {
+            return false;
+        };
+        match known(self.alloc, others.budget, &snapshot) {
+            Some((mirror, in_force)) => {
+                self.mirror = mirror;
+                *image = in_force;
+                true
+            }
+            None => false,
+        }
+    }
+}
+
+/// The mirror that a snapshot gives, and the image of its program.
+fn known(alloc: Global, budget: Budget, snapshot: &Snapshot) -> Option<(Mirror, Image)> {
+    let image = load(alloc, snapshot.image.as_slice()).ok()?;
+    let same = image.copy(alloc).ok()?;
+    Some((Mirror::restored(alloc, same, budget, snapshot)?, image))
+}
+
 /// What a session works with: the desk, and the image of the program in force, in which names are looked up. A change
 /// of the program lasts beyond the session.
 #[derive(Drop)]
@@ -67,6 +98,10 @@ struct Workplace<R: Copy + Drop, L: Drop> {
 impl<R: Wait + Clock + Copy + Drop, L: Link + Drop> Session<R> for Workplace<R, L> {
     fn serve(&mut self, host: &Host<R>, connection: &Connection<'_, R>) {
         let Workplace { informed, image } = self;
+        if !informed.catch_up(&host.rt, image) {
+            let _ = write_all(&mut Counted::new(connection), UNKNOWN);
+            return;
+        }
         informed.desk.note(Notice::ConsoleBegins);
         let _ = serve_console(
             &host.rt,

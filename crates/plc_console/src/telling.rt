@@ -4,6 +4,7 @@ use il_model::{Area, ForcedSlot, Loc, Snapshot, Stop, Value};
 use plc_status::{Halt, Status};
 use sha2::{Digest, Sha256};
 use std::alloc::{AllocError, Global};
+use std::ops::Range;
 
 /// The letter of an area.
 fn letter(area: Area) -> &'static str {
@@ -82,10 +83,10 @@ pub(crate) fn program_line(alloc: Global, snapshot: &Snapshot) -> Result<String,
     format!(in alloc; "program {size} bytes {sum}\n")
 }
 
-/// How many of so many replicas are normal.
-fn normal_count(status: &Status, replicas: u8) -> u8 {
+/// How many of these replicas are normal.
+fn normal_count(status: &Status, replicas: Range<u8>) -> u8 {
     let mut count = 0u8;
-    for number in 0..replicas {
+    for number in replicas {
         if status.replica(number).is_normal() {
             count = count.saturating_add(1);
         }
@@ -109,15 +110,16 @@ fn halt_text(alloc: Global, halt: Option<Halt>) -> Result<String, AllocError> {
     }
 }
 
-/// How many scans were answered, how many of the replicas are normal, and what the last scan was held or stopped by, as
+/// How many scans were answered, how many of these replicas are normal, and what the last scan was held or stopped by, as
 /// `status scans 120 normal 3 of 3 held 5`.
 pub(crate) fn status_line(
     alloc: Global,
     status: &Status,
-    replicas: u8,
+    replicas: Range<u8>,
 ) -> Result<String, AllocError> {
     let shown = status.scans();
+    let count = replicas.end.saturating_sub(replicas.start);
     let (scans, normal) = (shown.scans, normal_count(status, replicas));
     let halt = halt_text(alloc, shown.halt)?;
-    format!(in alloc; "status scans {scans} normal {normal} of {replicas}{halt}\n")
+    format!(in alloc; "status scans {scans} normal {normal} of {count}{halt}\n")
 }

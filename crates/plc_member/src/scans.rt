@@ -1,4 +1,5 @@
-//! The last scan of a replica's log, which its thread leaves for the driver of its machine.
+//! What the thread of a replica leaves for the others of its machine: the last scan of its log for the driver, and a
+//! snapshot of its controller for a console that wants one.
 
 ghost use Rattle.std.specs.Prelude.{◌≡◌, IfSome, Some};
 ghost use Rattle.il_model.specs.declared.command.Command.{Command as Asked};
@@ -8,6 +9,7 @@ ghost use Rattle.vr_replica.specs.Scans.{last_scan_of};
 ghost use Rattle.vr_replica.specs.Standing.{StandsFor};
 
 use il_model::{Command, InImage};
+use plc_console::SnapshotBoard;
 use plc_host::Host;
 use plc_machine::LastScan;
 use std::sync::{Arc, Mutex, Wait};
@@ -65,6 +67,8 @@ pub(crate) struct ScanGate<R: Wait + Clock + Copy + Drop> {
     host: Host<R>,
     begun: Instant,
     board: Arc<ScanBoard>,
+    /// For a console of this machine.
+    snapshots: Arc<SnapshotBoard>,
     known: Known,
 }
 
@@ -97,12 +101,29 @@ fn last_of(replica: &Replica) -> Option<ScanInputs>
 
 impl<R: Wait + Clock + Copy + Drop> ScanGate<R> {
     /// Of a replica that was not started. Times are told since `begun`.
-    pub(crate) fn new(host: Host<R>, begun: Instant, board: Arc<ScanBoard>) -> ScanGate<R> {
+    pub(crate) fn new(
+        host: Host<R>,
+        begun: Instant,
+        board: Arc<ScanBoard>,
+        snapshots: Arc<SnapshotBoard>,
+    ) -> ScanGate<R> {
         ScanGate {
             host,
             begun,
             board,
+            snapshots,
             known: Known::Nothing,
+        }
+    }
+
+    /// Leaves a snapshot of the controller, where one is wanted and the replica takes part.
+    fn leave_snapshot(&self, replica: &Replica) {
+        if !self.snapshots.is_wanted() || !replica.is_normal() {
+            return;
+        }
+        // Where memory runs out, it's tried behind the next step.
+        if let Ok(snapshot) = replica.snapshot(self.host.alloc) {
+            self.snapshots.put(&self.host.rt, snapshot);
         }
     }
 
@@ -153,5 +174,6 @@ impl<R: Wait + Clock + Copy + Drop> Observer for ScanGate<R> {
             (Some(place), Some(scan)) => self.see(place, scan),
             _ => self.see_checkpoint(replica),
         }
+        self.leave_snapshot(replica);
     }
 }

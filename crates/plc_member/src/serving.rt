@@ -6,15 +6,18 @@ use crate::opening::Member;
 use crate::port::Port;
 use crate::scans::{ScanBoard, ScanGate};
 use crate::watch::Watch;
+use il_loader::Image;
 use io_image::{Naming, NewList, Pen, ReleasedWriter, SharedPen, Stamp, released};
 use io_model::CountedWrite;
 use modbus_server::{Seats, Shown};
 use net_hello::Epoch;
-use net_peers::{Exchange, Machine, PeerLink, machine_links};
+use net_peers::{Exchange, FIRST_CONSOLE, Machine, PeerLink, machine_links};
+use plc_console::{Console, Desk, DeskClient, Others, SnapshotBoard};
 use plc_group::{Group, Machine as Place};
 use plc_host::{Failed, Host, ServiceRuntime};
+use plc_listener::Door;
 use plc_machine::{MachineDriver, Pace, client_starts};
-use plc_status::{Journal, Journals, Printer, StatusWriter};
+use plc_status::{Journal, Journals, Printer, StatusReader, StatusWriter};
 use std::alloc::{AllocError, Global};
 use std::net::{Net, SocketAddr, TcpListener, TcpStream};
 use std::sync::Arc;
@@ -37,6 +40,7 @@ struct Linked<R: MachineRuntime> {
     exchange: Arc<Exchange>,
     replica: PeerLink<R>,
     driver: PeerLink<R>,
+    console: Option<PeerLink<R>>,
 }
 
 /// The replica of a machine, which runs, and what its driver needs of it.
@@ -49,6 +53,11 @@ struct Running<R: MachineRuntime> {
     driver: PeerLink<R>,
     solo: Solo<PeerLink<R>>,
     board: Arc<ScanBoard>,
+    /// The link of its console, if it has one.
+    console: Option<PeerLink<R>>,
+    snapshots: Arc<SnapshotBoard>,
+    /// Of the program with which the epoch began.
+    image: Image,
 }
 
 /// What the outputs are released to, and what clients are shown them by.
@@ -81,6 +90,11 @@ fn failed_by(error: ClusterError) -> Failed {
     }
 }
 
+/// Where a machine listens for an operator's console, if it has one.
+fn console_of(group: &Group, number: u8) -> Option<SocketAddr> {
+    group.machines.get(usize::from(number))?.console
+}
+
 /// What a machine knows of its group.
 fn machine_of<S: Drop>(
     alloc: Global,
@@ -97,7 +111,7 @@ fn machine_of<S: Drop>(
         starts: member.starts,
         number: header.machine,
         replicas: addresses(alloc, group.machines.as_slice())?,
-        has_console: false,
+        has_console: console_of(group, header.machine).is_some(),
     })
 }
 
@@ -109,6 +123,11 @@ fn links_of<R: MachineRuntime>(
 ) -> Result<Linked<R>, Failed> {
     let wait = Duration::from_millis(LONGEST_WAIT);
     let (exchange, mut links) = machine_links(host.rt, host.alloc, machine, listener, wait)?;
+    let console = if machine.has_console {
+        links.pop()
+    } else {
+        None
+    };
     let (Some(driver), Some(replica)) = (links.pop(), links.pop()) else {
         return Err(Failed::Connection);
     };
@@ -116,6 +135,7 @@ fn links_of<R: MachineRuntime>(
         exchange,
         replica,
         driver,
+        console,
     })
 }
 
@@ -150,8 +170,16 @@ fn started<R: MachineRuntime, S: Starts + Send + Drop + 'static>(
         exchange,
         replica: link,
         driver,
+        console,
     } = links_of(host, &machine, listener)?;
     let board = Arc::new(alloc, ScanBoard::new())?;
+    let snapshots = Arc::new(alloc, SnapshotBoard::new())?;
+    let gate = ScanGate::new(
+        host,
+        begun,
+        Arc::try_clone(&board)?,
+        Arc::try_clone(&snapshots)?,
+    );
     let machines = Machines {
         exchange: Arc::try_clone(&exchange)?,
     };
@@ -160,7 +188,7 @@ fn started<R: MachineRuntime, S: Starts + Send + Drop + 'static>(
         link,
         store,
         timer,
-        gate: ScanGate::new(host, begun, Arc::try_clone(&board)?),
+        gate,
     };
     let config = ClusterConfig {
         group: group.config,
@@ -179,7 +207,51 @@ fn started<R: MachineRuntime, S: Starts + Send + Drop + 'static>(
         driver,
         solo,
         board,
+        console,
+        snapshots,
+        image,
     })
+}
+
+impl<R: MachineRuntime> Running<R> {
+    /// The operator's console, if the machine has one, which takes no connection yet.
+    fn console(
+        &mut self,
+        host: Host<R>,
+        group: &Group,
+        journal: Journal,
+        status: StatusReader,
+    ) -> Result<Option<Console<R, PeerLink<R>>>, Failed> {
+        let (Some(address), Some(link)) = (console_of(group, self.number), self.console.take())
+        else {
+            return Ok(None);
+        };
+        let Ok(door) = Door::at(&host.rt, address) else {
+            return Err(Failed::Port(address.port()));
+        };
+        let client = desk_client(self.number, self.starts)?;
+        let others = Others {
+            board: Arc::try_clone(&self.snapshots)?,
+            budget: group.budget,
+            replica: self.number,
+        };
+        let period = millis(group.period);
+        let desk = Desk::new(host, group.config, client, link, period, journal).among(others);
+        let idle = Duration::from_secs(u64::from(group.times.idle));
+        let console = Console::new(host, door, desk, &self.image, status, idle)?;
+        Ok(Some(console))
+    }
+}
+
+/// The client that the console of a machine is, which was started so often.
+fn desk_client(number: u8, starts: u64) -> Result<DeskClient, Failed> {
+    match (
+        ClientNumber::new(FIRST_CONSOLE.saturating_add(number)),
+        client_starts(starts),
+    ) {
+        (Some(number), Some(starts)) => Ok(DeskClient { number, starts }),
+        _ => Err(Failed::Store(number)),
+    }
 }
 
 /// What the outputs of a machine are released to. Clients are shown them for as long as they are fresh.
@@ -261,11 +333,12 @@ impl<S: Starts + Send + Drop + 'static> Member<S> {
         let status = StatusWriter::new(host.alloc)?;
         let Journals {
             driver: journal,
+            console,
             mut printer,
-            ..
         } = Journals::new(host.alloc)?;
         let outputs = outputs_of::<J, R>(host, list, group, &status)?;
-        let running = started(host, group, self, begun)?;
+        let mut running = started(host, group, self, begun)?;
+        let console = running.console(host, group, console, status.reader()?)?;
         let Some(place) = group.machines.get(usize::from(running.number)) else {
             return Err(Failed::Connection);
         };
@@ -276,7 +349,20 @@ impl<S: Starts + Send + Drop + 'static> Member<S> {
             status,
         };
         let (drive, seats) = parts.into_drive(host, group, begun)?;
-        driven(host.rt, drive, place.modbus, seats, &mut printer, err)
+        let work = Work {
+            drive,
+            address: place.modbus,
+            seats,
+        };
+        match console {
+            Some(console) => {
+                let console = console.open()?;
+                let failed = work.done(host.rt, &mut printer, err);
+                console.close();
+                failed
+            }
+            None => work.done(host.rt, &mut printer, err),
+        }
     }
 }
 
@@ -298,22 +384,25 @@ impl<R: MachineRuntime, J: Naming, P: Pen<J> + Drop> Parts<R, J, P> {
         begun: Instant,
     ) -> Result<(Drive<R, J, P>, Seats<R, J>), Failed> {
         let Parts {
-            outputs: Outputs {
-                writer,
-                stamp,
-                seats,
-            },
-            running: Running {
-                number,
-                starts,
-                exchange,
-                driver: link,
-                solo,
-                board,
-            },
+            outputs,
+            running,
             journal,
             status,
         } = self;
+        let Outputs {
+            writer,
+            stamp,
+            seats,
+        } = outputs;
+        let Running {
+            number,
+            starts,
+            exchange,
+            driver: link,
+            solo,
+            board,
+            ..
+        } = running;
         let drive = Drive {
             host,
             begun,
@@ -343,23 +432,37 @@ impl<R: MachineRuntime, J: Naming, P: Pen<J> + Drop> Parts<R, J, P> {
     }
 }
 
-/// Has a machine driven in a thread of its own, and prints what is noted meanwhile, until something fails: what.
-fn driven<J, R, P, E: CountedWrite>(
-    rt: R,
+/// The work of a machine's driver: its port, and what clients are served with there.
+#[derive(Drop)]
+struct Work<R: MachineRuntime, J: Naming, P: Pen<J> + Drop> {
     drive: Drive<R, J, P>,
     address: SocketAddr,
     seats: Seats<R, J>,
-    printer: &mut Printer,
-    err: &mut E,
-) -> Result<Failed, Failed>
+}
+
+impl<R, J, P> Work<R, J, P>
 where
-    J: Naming + Send + Sync + 'static,
     R: MachineRuntime,
+    J: Naming + Send + Sync + 'static,
     P: Pen<J> + Send + Drop + 'static,
 {
-    let Ok(thread) = thread::spawn(&rt, move || drive.run(Port::new(rt, address, seats))) else {
-        return Err(Failed::Thread);
-    };
-    printer.attend(&rt, err);
-    Ok(thread.join(&rt))
+    /// Has it done in a thread of its own, and prints what is noted meanwhile, until something fails: what.
+    fn done<E: CountedWrite>(
+        self,
+        rt: R,
+        printer: &mut Printer,
+        err: &mut E,
+    ) -> Result<Failed, Failed> {
+        let Work {
+            drive,
+            address,
+            seats,
+        } = self;
+        let work = move || drive.run(Port::new(rt, address, seats));
+        let Ok(thread) = thread::spawn(&rt, work) else {
+            return Err(Failed::Thread);
+        };
+        printer.attend(&rt, err);
+        Ok(thread.join(&rt))
+    }
 }
