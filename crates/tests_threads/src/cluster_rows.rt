@@ -21,7 +21,7 @@ use vr_threads::{
     ChannelLink, Cluster, ClusterConfig, MachineTimer, Observer, Seat, Starts, Switchboard,
 };
 
-fn wire(alloc: Global) -> Result<Image, Fail> {
+pub fn wire(alloc: Global) -> Result<Image, Fail> {
     match load(alloc, WIRE) {
         Ok(image) => Ok(image),
         Err(_) => Err("no image")?,
@@ -103,7 +103,7 @@ fn meeting_seat<R: time::Clock + Drop, L: Drop>(
 }
 
 /// The link of a party.
-fn link_of<R: Wait + time::Clock + Copy + Drop>(
+pub fn link_of<R: Wait + time::Clock + Copy + Drop>(
     rt: R,
     alloc: Global,
     board: &Arc<Switchboard>,
@@ -262,7 +262,7 @@ fn request(client: ClientNumber, number: u64, replica: u8) -> Message {
 }
 
 /// Whether its answer comes, however often it has to be asked for.
-fn is_answered<L: Link>(link: &mut L, client: ClientNumber, number: u64) -> bool {
+pub fn is_answered<L: Link>(link: &mut L, client: ClientNumber, number: u64) -> bool {
     for turn in 0..10_000u32 {
         if turn % 100 == 0 {
             for replica in 0..3u8 {
@@ -287,14 +287,14 @@ fn is_answered<L: Link>(link: &mut L, client: ClientNumber, number: u64) -> bool
 
 /// What is waited for, of what shows of a replica.
 #[derive(Clone, Copy)]
-enum Sought {
+pub enum Sought {
     Served,
     Ended,
     Normal,
 }
 
 /// Whether a replica shows what is sought.
-fn shows(shown: Shown, sought: Sought) -> bool {
+pub fn shows(shown: Shown, sought: Sought) -> bool {
     match sought {
         Sought::Served => shown.is_served,
         Sought::Ended => !shown.is_served,

@@ -25,6 +25,10 @@ mod link_rows;
 #[cfg(test)]
 mod listener_rows;
 #[cfg(test)]
+mod machine_rows;
+#[cfg(test)]
+mod machine_stores;
+#[cfg(test)]
 mod peer_rows;
 #[cfg(test)]
 mod serve_rows;

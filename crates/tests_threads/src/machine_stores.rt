@@ -1,0 +1,97 @@
+//! The stores of machines, on real files.
+
+use plc_store::{
+    FileDirectory, Header, Opened, Refusal, Start, Store, StoreDirectory, Wanted, format, open,
+    show_directory,
+};
+use std::alloc::Global;
+use std::fs;
+use std::process::Abort;
+use std::test::Fail;
+use vr_threads::{FileStore, Starts};
+
+/// What a group of three asks of its stores.
+const WANTED: Wanted = Wanted {
+    identity: [11; 32],
+    machines: 3,
+};
+
+/// The store of machine 1, which was never started.
+fn new_store(alloc: Global) -> Result<Store, Fail> {
+    let header = Header {
+        identity: [11; 32],
+        epoch: 1,
+        program: [22; 32],
+        machine: 1,
+        is_started: false,
+    };
+    let image = Vec::from_slice(alloc, b"LIP".as_slice())?;
+    Ok(Store::new(header, image).ok_or(Refusal::TooLong)?)
+}
+
+/// Makes a store in a directory that isn't there, or is left by an earlier run.
+fn formatted(rt: HostRuntime, path: &str) -> Result<(), Fail> {
+    let _ = fs::remove_dir_all(&rt, path);
+    let mut directory = FileDirectory::make(rt, rt.alloc(), path)?;
+    format(rt.alloc(), &mut directory, &new_store(rt.alloc())?)?;
+    Ok(())
+}
+
+/// How a machine starts from a directory.
+fn started(rt: HostRuntime, path: &str) -> Result<Start, Refusal> {
+    let mut directory = FileDirectory::take(rt, rt.alloc(), path)?;
+    let Opened { start, .. } = open(rt.alloc(), &mut directory, &WANTED)?;
+    Ok(start)
+}
+
+#[test]
+fn a_machine_is_new_at_its_first_start_alone(rt: HostRuntime) -> Result<(), Fail> {
+    let path = "machine-1";
+    formatted(rt, path)?;
+    assert_eq!(rt; started(rt, path), Ok(Start::First));
+    // Behind the mark and before the first view an operator has to say what becomes of it.
+    assert_eq!(rt; started(rt, path), Err(Refusal::ViewGone));
+    let mut view = FileStore::new(rt, rt.alloc(), path, 1)?;
+    let _ = view.begin()?;
+    assert_eq!(rt; started(rt, path), Ok(Start::Again));
+    fs::remove_file(&rt, view.path())?;
+    assert_eq!(rt; started(rt, path), Err(Refusal::ViewGone));
+    fs::remove_file(&rt, "machine-1/group")?;
+    assert_eq!(rt; started(rt, path), Err(Refusal::NoStore));
+    fs::remove_dir_all(&rt, path)?;
+    assert_eq!(rt; started(rt, path), Err(Refusal::NoStore));
+    Ok(())
+}
+
+#[test]
+fn a_store_is_made_once(rt: HostRuntime) -> Result<(), Fail> {
+    let path = "machine-2";
+    formatted(rt, path)?;
+    let bytes = fs::read(&rt, "machine-2/group")?;
+    let mut directory = FileDirectory::make(rt, rt.alloc(), path)?;
+    let again = format(rt.alloc(), &mut directory, &new_store(rt.alloc())?);
+    assert_eq!(rt; again, Err(Refusal::Used));
+    assert_eq!(rt;
+        fs::read(&rt, "machine-2/group")?.as_slice(),
+        bytes.as_slice()
+    );
+    assert!(rt; !fs::exists(&rt, "machine-2/group.new")?);
+    let lines = show_directory(rt.alloc(), &directory)?;
+    assert!(rt; lines.as_str().starts_with("format 1\nidentity 0b0b"));
+    fs::remove_dir_all(&rt, path)?;
+    Ok(())
+}
+
+#[test]
+fn one_start_at_a_time_has_a_store(rt: HostRuntime) -> Result<(), Fail> {
+    let path = "machine-3";
+    formatted(rt, path)?;
+    let first = FileDirectory::take(rt, rt.alloc(), path)?;
+    assert_eq!(rt; started(rt, path), Err(Refusal::Taken));
+    // It's shown, whoever has it.
+    assert!(rt; FileDirectory::look(rt, rt.alloc(), path)?.group().is_some());
+    drop(first);
+    assert_eq!(rt; started(rt, path), Ok(Start::First));
+    fs::remove_dir_all(&rt, path)?;
+    Ok(())
+}
