@@ -78,11 +78,11 @@ impl<R: Files + Drop> Kept for FileStore<R> {
     fn know_kept() {}
 }
 
-impl<S: Kept> Kept for JudgedStarts<S> {
-    ghost holds = { λ s k. S.holds s.store k };
+impl<T: Kept> Kept for JudgedStarts<T> {
+    ghost holds = { λ s k. T.holds s.store k };
 
     fn know_kept() {
-        S::know_kept();
+        T::know_kept();
     }
 }
 

@@ -8,8 +8,8 @@ returns g c = record {
   saves = λ s t k view holds l. c.know_kept.ensures.saves s.store t.store k view holds l.0;
   save_failed = λ s t k view holds l. c.know_kept.ensures.save_failed s.store t.store k view holds l.0;
   begins = λ s t k stored holds b.
-      begun g.S.ViewStore.load_gives g.S.ViewStore.save_gives g.S.Starts.begin_gives g.S.Kept.holds c.know_kept.ensures s.is_first s.store t.store k stored holds b.0;
+      begun g.T.ViewStore.load_gives g.T.ViewStore.save_gives g.T.Starts.begin_gives g.T.Kept.holds c.know_kept.ensures s.is_first s.store t.store k stored holds b.0;
   begin_failed = λ s t k holds b.
-      not_begun g.S.ViewStore.load_gives g.S.ViewStore.save_gives g.S.Starts.begin_gives g.S.Kept.holds c.know_kept.ensures s.is_first s.store t.store k holds b.0;
+      not_begun g.T.ViewStore.load_gives g.T.ViewStore.save_gives g.T.Starts.begin_gives g.T.Kept.holds c.know_kept.ensures s.is_first s.store t.store k holds b.0;
   more = λ s k l holds sub. c.know_kept.ensures.more s.store k l holds sub;
 }
