@@ -1,5 +1,5 @@
 -- What a judged store may hold is what the store inside may hold.
-use Rattle.std.proofs.Common.{◌≡◌, ℕ, Bool, true, false, List, Option, Some, None, refl, sym, ap, ◌∙◌, subst, inl, inr}
+use Rattle.std.proofs.Common.{◌≡◌, ℕ, Bool, true, false, Option, Some, None, sym, ap, ◌∙◌, inl, inr}
 use Rattle.std.proofs.lemmas.Bool.{cases_eq}
 use Rattle.vr_model.specs.declared.event.Stored.{Stored}
 use Rattle.vr_model.specs.Stores.{only}

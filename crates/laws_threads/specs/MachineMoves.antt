@@ -1,12 +1,10 @@
 -- A machine's own list: the starts of its process, one after another, and the steps of its replica behind each.
 use Rattle.std.specs.Prelude.{◌≡◌, ℕ, ◌<◌, ◌≤◌, ◌==◌, Bool, false, List, [], ◌∷◌, Option, Some, None}
-use Rattle.vr_model.specs.declared.event.Event.{Event}
 use Rattle.vr_model.specs.declared.event.Stored.{Stored}
 use Rattle.vr_model.specs.Groups.{group_size}
 use Rattle.vr_model.specs.Membership.{Membership}
 use Rattle.vr_model.specs.Steps.{AreClientSteps, first_client}
 use Rattle.vr_model.specs.Stores.{only}
-use Rattle.vr_replica.specs.declared.state.Replica.{Replica}
 use Rattle.vr_threads.specs.declared.file_store.Held.{Held}
 use Rattle.vr_threads.specs.Keeping.{IsOneOf}
 use Rattle.vr_threads.specs.Serving.{StepsTo}

@@ -1,5 +1,5 @@
 -- When a replica is late, in nanoseconds since a beginning, by what its timer knows.
-use Rattle.std.specs.Prelude.{ℕ, ◌+◌, ◌*◌, ◌-◌, min, nat_le, ◌==◌, ◌||◌, ◌&&◌, Bool, true, false, if◌then◌else◌}
+use Rattle.std.specs.Prelude.{ℕ, ◌*◌, ◌-◌, min, nat_le, ◌==◌, ◌||◌, ◌&&◌, Bool, false, if◌then◌else◌}
 use Rattle.std.specs.Prelude.{Option, Some, None}
 use Rattle.vr_model.specs.declared.message.Body.{Body}
 use Rattle.vr_model.specs.declared.message.Body.TheVariants as body

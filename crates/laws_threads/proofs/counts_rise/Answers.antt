@@ -2,16 +2,16 @@ use Rattle.laws_threads.proofs.Counting.{loads, saves, begins, begin_failed, reo
 use Rattle.laws_threads.proofs.counts_rise.Goals as goal
 
 pub returns-clause-loads : goal.returns-clause-loads
-returns-clause-loads g c = loads
+returns-clause-loads g = loads
 
 pub returns-clause-saves : goal.returns-clause-saves
-returns-clause-saves g c = saves
+returns-clause-saves g = saves
 
 pub returns-clause-starts : goal.returns-clause-starts
-returns-clause-starts g c = begins
+returns-clause-starts g = begins
 
 pub returns-clause-fails : goal.returns-clause-fails
-returns-clause-fails g c = begin_failed
+returns-clause-fails g = begin_failed
 
 pub returns-clause-reopens : goal.returns-clause-reopens
-returns-clause-reopens g c = reopened
+returns-clause-reopens g = reopened
