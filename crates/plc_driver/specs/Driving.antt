@@ -42,10 +42,10 @@ pub record Scans (scanned : Scanned) (old new : List Release) : Type 0 where
 abbrev pub HasRun : Option ℕ → List Release → List Release → Result ℕ Failed → Type 0
 HasRun asked old new result = IfOk result (λ scans. (asked ≡ Some scans) × (length new ≡ length old + scans))
 
--- why no replica runs: a thread that isn't to be had is a device's failure
+-- why no replica runs
 abbrev pub start_failed : ClusterError → Failed
 start_failed starts.Memory = failures.Memory
-start_failed starts.Thread = failures.Device
+start_failed starts.Thread = failures.Thread
 
 -- what is counted of a scan that came so, by what came of it
 abbrev pub scan_of : Came → Scanned → Scan

@@ -57,24 +57,23 @@ impl Directory<'_> {
         }
     }
 
-    /// Takes each directory. Whether all were to be had, and hold no file of a replica.
+    /// Takes each directory. Whether all were to be had, and hold no file of a replica. A device that fails there is
+    /// the store of the replica whose directory it is.
     fn take_each<R: Files<File = File> + Copy + Drop>(
         self,
         rt: R,
         alloc: Global,
         taken: &mut Taken,
     ) -> Result<bool, Failed> {
+        let mut replica = 0u8;
         for path in self.paths {
-            let Some(lock) = Lock::of(&rt, alloc, path.as_str())? else {
-                return Ok(false);
-            };
-            let is_own = lock.is_own(&rt, path.as_str());
-            taken.locks.push(lock)?;
-            if !is_own? {
-                return Ok(false);
+            match taken.add(&rt, alloc, path.as_str()) {
+                Ok(true) => replica = replica.saturating_add(1),
+                Ok(false) => return Ok(false),
+                Err(failed) => return Err(failed.known_as(Failed::Store(replica))),
             }
         }
-        Ok(self.file_count(rt, alloc)? == 0)
+        self.is_empty(rt, alloc)
     }
 
     /// The store of a replica, which is not opened yet.
@@ -114,21 +113,39 @@ impl Directory<'_> {
         Ok(stores)
     }
 
-    /// Whether each replica of the group has its file there.
-    pub fn is_full<R: Files + Copy + Drop>(self, rt: R, alloc: Global) -> Result<bool, Failed> {
-        Ok(self.file_count(rt, alloc)? == self.config.group_size())
-    }
-
-    /// How many replicas of the group have a file there.
-    fn file_count<R: Files + Copy + Drop>(self, rt: R, alloc: Global) -> Result<u8, Failed> {
-        let mut count = 0u8;
+    /// Looks whether each replica of the group has its file there: of the first one that hasn't, the store isn't to be
+    /// had.
+    pub fn check_full<R: Files + Copy + Drop>(self, rt: R, alloc: Global) -> Result<(), Failed> {
         for replica in 0..self.config.group_size() {
-            let store = self.store(rt, alloc, replica)?;
-            if fs::exists(&rt, store.path())? {
-                count = count.saturating_add(1);
+            if !self.has_file(rt, alloc, replica)? {
+                return Err(Failed::Store(replica));
             }
         }
-        Ok(count)
+        Ok(())
+    }
+
+    /// Whether no replica of the group has a file there.
+    fn is_empty<R: Files + Copy + Drop>(self, rt: R, alloc: Global) -> Result<bool, Failed> {
+        for replica in 0..self.config.group_size() {
+            if self.has_file(rt, alloc, replica)? {
+                return Ok(false);
+            }
+        }
+        Ok(true)
+    }
+
+    /// Whether a replica has its file there.
+    fn has_file<R: Files + Copy + Drop>(
+        self,
+        rt: R,
+        alloc: Global,
+        replica: u8,
+    ) -> Result<bool, Failed> {
+        let store = self.store(rt, alloc, replica)?;
+        match fs::exists(&rt, store.path()) {
+            Ok(is_there) => Ok(is_there),
+            Err(error) => Err(Failed::from(error).known_as(Failed::Store(replica))),
+        }
     }
 
     /// Takes away the files of a group that never served, as far as they can be.
@@ -205,6 +222,21 @@ impl Lock {
 }
 
 impl Taken {
+    /// Takes one directory more: whether it was to be had.
+    fn add<R: Files<File = File>>(
+        &mut self,
+        rt: &R,
+        alloc: Global,
+        directory: &str,
+    ) -> Result<bool, Failed> {
+        let Some(lock) = Lock::of(rt, alloc, directory)? else {
+            return Ok(false);
+        };
+        let is_own = lock.is_own(rt, directory);
+        self.locks.push(lock)?;
+        Ok(is_own?)
+    }
+
     /// Takes the files away, and unlocks them.
     pub fn leave<R: Files>(self, rt: &R) {
         let Taken { locks } = self;

@@ -125,8 +125,9 @@ where
         Ok((drive, threads))
     }
 
-    /// Waits until each replica's first start has come to its end, but not for ever: whether each has.
-    pub fn await_starts(&mut self) -> bool
+    /// Waits until each replica's first start has come to its end, but not for ever. Of a replica whose start hasn't,
+    /// the store isn't to be had.
+    pub fn await_starts(&mut self) -> Result<(), Failed>
         ensures { (self.new.writer ≡ self.old.writer) × (self.new.journal ≡ self.old.journal)
             × (self.new.scans ≡ self.old.scans) }
     {
@@ -300,7 +301,7 @@ where
                 }))
             }
             Input::Nothing => Ok(None),
-            Input::Closed => Err(Failed::Device),
+            Input::Closed => Err(Failed::Connection),
         }
     }
 

@@ -127,11 +127,13 @@ where
         ensures scans { IfOk result (λ driver. driver.drive.scans ≡ settings.now.scans) }
     {
         let (mut drive, threads) = Drive::start(host, settings, image, parts)?;
-        if drive.await_starts() {
-            return Ok(Driver { drive, threads });
+        match drive.await_starts() {
+            Ok(()) => Ok(Driver { drive, threads }),
+            Err(failed) => {
+                Driver { drive, threads }.end(&host.rt);
+                Err(failed)
+            }
         }
-        Driver { drive, threads }.end(&host.rt);
-        Err(Failed::Device)
     }
 
     /// Has the group scan until as many scans are released as are asked for, in a thread of its own, and prints what is

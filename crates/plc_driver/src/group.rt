@@ -128,24 +128,29 @@ where
         }
     }
 
-    /// Waits until each replica's first start has come to its end, but not for ever: whether each has.
-    pub(crate) fn await_starts(&mut self) -> bool {
+    /// Waits until each replica's first start has come to its end, but not for ever. Of a replica whose start hasn't,
+    /// the store isn't to be had.
+    pub(crate) fn await_starts(&mut self) -> Result<(), Failed> {
         for _ in 0..LONGEST_START / LOOK {
-            if !self.is_any_starting() {
-                return true;
+            if self.starting().is_none() {
+                return Ok(());
             }
             thread::sleep(&self.host.rt, Duration::from_millis(LOOK));
         }
-        false
+        match self.starting() {
+            Some(number) => Err(Failed::Store(number)),
+            None => Ok(()),
+        }
     }
 
-    /// Whether a replica is being started.
-    fn is_any_starting(&mut self) -> bool {
-        let mut is_any = false;
+    /// The first replica that is being started, if one is.
+    fn starting(&mut self) -> Option<u8> {
         for number in 0..self.config.group_size() {
-            is_any = is_any || self.cluster.is_starting(number);
+            if self.cluster.is_starting(number) {
+                return Some(number);
+            }
         }
-        is_any
+        None
     }
 
     /// Has a replica started anew from its store; one that is up crashes first. It waits for nothing. Whether that's
@@ -167,7 +172,7 @@ where
     {
         let normal = self.look(now, journal);
         if self.watch.is_lost(normal > self.config.f, now) {
-            return Err(Failed::Device);
+            return Err(Failed::Majority);
         }
         self.revive(now, journal);
         Ok(())
@@ -256,12 +261,12 @@ where
     }
 }
 
-/// Why no replica runs: a thread that isn't to be had is a device's failure.
+/// Why no replica runs.
 fn failed_by(error: ClusterError) -> Failed
     ensures { result ≡ start_failed error }
 {
     match error {
         ClusterError::Memory => Failed::Memory,
-        ClusterError::Thread => Failed::Device,
+        ClusterError::Thread => Failed::Thread,
     }
 }

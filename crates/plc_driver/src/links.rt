@@ -93,7 +93,10 @@ where
 {
     let size = settings.config.group_size();
     let wait = Duration::from_millis(WAIT);
-    let mut links = links(host.rt, host.alloc, size, client_count(settings), wait)?;
+    let mut links = match links(host.rt, host.alloc, size, client_count(settings), wait) {
+        Ok(links) => links,
+        Err(error) => return Err(Failed::from(error).known_as(Failed::Connection)),
+    };
     for link in links.iter_mut().skip(usize::from(size)) {
         link.wait_for(client_wait(settings));
     }

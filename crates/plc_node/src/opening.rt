@@ -92,12 +92,12 @@ where
                 };
                 let period = Duration::from_millis(u64::from(settings.period));
                 let desk = Desk::new(host, settings.config, CONSOLE, link, period, journal);
-                let door = Door::open(&rt, port)?;
+                let door = door_at(&rt, port)?;
                 Some(Console::new(host, door, desk, image, status, idle)?)
             }
             None => None,
         };
-        let door = Door::open(&rt, settings.port)?;
+        let door = door_at(&rt, settings.port)?;
         let Ok((writer, readers)) = released::<J, R>(list, alloc, rt, SESSIONS) else {
             return Err(Failed::Memory);
         };
@@ -119,9 +119,7 @@ where
         host: Host<R>,
         directory: Directory<'_>,
     ) -> Result<Open<R, L, J>, Failed> {
-        if !directory.is_full(host.rt, host.alloc)? {
-            return Err(Failed::Device);
-        }
+        directory.check_full(host.rt, host.alloc)?;
         let Ready { server, console } = self;
         let console = match console {
             Some(console) => Some(console.open()?),
@@ -138,6 +136,17 @@ where
                 Err(failed)
             }
         }
+    }
+}
+
+/// The door at a port of this machine.
+fn door_at<R: Net<Listener = TcpListener, Stream = TcpStream>>(
+    rt: &R,
+    port: u16,
+) -> Result<Door, Failed> {
+    match Door::open(rt, port) {
+        Ok(door) => Ok(door),
+        Err(error) => Err(Failed::from(error).known_as(Failed::Port(port))),
     }
 }
 
