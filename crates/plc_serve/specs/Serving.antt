@@ -5,9 +5,11 @@ use Rattle.io_model.specs.declared.counted.CountedWrite.{Ghosts as CountedWriter
 use Rattle.il_text.specs.declared.fault.Fault.{Fault}
 use Rattle.il_text.specs.declared.fault.Fault.TheVariants as faults
 use Rattle.il_text.specs.Meaning.{IsTextFault}
-use Rattle.il_text.specs.Telling.{IsTold}
+use Rattle.il_text.specs.Telling.{IsTold, WentOut}
 use Rattle.plc_host.specs.declared.failed.Failed.{Failed}
-use Rattle.plc_host.specs.declared.failed.Failed.TheVariants as failures
+use Rattle.plc_serve.specs.declared.failing.Unserved.{Unserved}
+use Rattle.plc_serve.specs.declared.failing.Unserved.TheVariants as unserved
+use Rattle.plc_serve.specs.Failing.{failed_line}
 use Rattle.plc_status.specs.Notices.{IsAtMostServingTold}
 
 -- the line that tells how many scans there were
@@ -18,14 +20,14 @@ scans_line scans = (codes "scans " ++ decimal scans) ++ codes "\n"
 abbrev pub IsWhyRefused : List ℕ → Fault → Type 0
 IsWhyRefused text fault = IsTextFault text fault ⊎ (fault ≡ faults.Store)
 
--- the last that was told is the line of a fault of a device or of memory; before it the lines of serving were, or
--- nothing
-pub record IsToldAtLast {W : Type 0} (w : CountedWriter W) (status : ℕ) (old new : W) : Type 0 where
+-- the same of what a controller wasn't served by
+abbrev pub IsRefusal : List ℕ → Unserved → Type 0
+IsRefusal text (unserved.Refused fault) = IsWhyRefused text fault
+IsRefusal text (unserved.Failed failed) = ⊥
+
+-- The last that was told is the line of a fault of memory or of a device, or of what failed; before it the lines of
+-- serving were, or nothing.
+pub record IsToldAtLast {W : Type 0} (w : CountedWriter W) (old new : W) : Type 0 where
   pub before : W
   pub at_most : IsAtMostServingTold w old before
-  pub told : IsTold w (λ fault. ⊥) status before new
-
--- the fault that tells why a service failed
-abbrev pub fault_of : Failed → Fault
-fault_of failures.Memory = faults.Memory
-fault_of failed = faults.Device
+  pub told : IsTold w (λ fault. ⊥) 2 before new ⊎ ((failed : Failed) × WentOut w (failed_line failed) before new)

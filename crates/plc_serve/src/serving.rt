@@ -2,15 +2,16 @@
 
 ghost use Rattle.std.specs.Prelude.{◌≡◌, ◌≤◌, IfErr, IfNone, IfOk, IfSome, IsSomeAnd, OnOk, Some};
 ghost use Rattle.std.specs.Io.KnownBytes.{Appends};
-ghost use Rattle.il_text.specs.Status.{status_of};
 ghost use Rattle.il_text.specs.Telling.{IsTold};
 ghost use Rattle.il_text.specs.Meaning.{IsGoodText, IsTypedProgramOfText};
 ghost use Rattle.plc_status.specs.Notices.{IsAtMostServingTold, IsServingTold};
 ghost use Rattle.plc_status.specs.Reports.{IsReported};
-ghost use Rattle.plc_serve.specs.Serving.{IsToldAtLast, IsWhyRefused, fault_of, scans_line};
+ghost use Rattle.plc_serve.specs.Failing.{status_by};
+ghost use Rattle.plc_serve.specs.Serving.{IsRefusal, IsToldAtLast, IsWhyRefused, scans_line};
 
+use crate::failing::{Unserved, ended};
 use crate::service::{Loaded, Service};
-use il_text::{Fault, ended};
+use il_text::Fault;
 use io_image::{Naming, NewList};
 use io_model::CountedWrite;
 use plc_driver::Directory;
@@ -18,6 +19,7 @@ use plc_host::{Failed, Host, ServiceRuntime};
 use plc_node::Node;
 use plc_status::{open_report, put_report};
 use std::fs::File;
+use std::io;
 use std::io::Write;
 use std::net::{Net, TcpListener, TcpStream};
 use std::rt::Files;
@@ -53,23 +55,12 @@ where
     ensures refused { result ≡ 1 → IsTold E.CountedWrite (IsWhyRefused service.source.items) result err.old err.new
         × ((out.new ≡ out.old) × (report.new ≡ report.old)) }
     // Before it these lines were told, or nothing.
-    ensures failed { result ≡ 2 → IsToldAtLast E.CountedWrite result err.old err.new }
+    ensures failed { result ≡ 2 → IsToldAtLast E.CountedWrite err.old err.new }
 {
     ended(
         served::<J, R, S, F, W, E>(host, list, service, report, out, err),
         err,
     )
-}
-
-/// How it's told that a service failed: by the fault of a device or of memory.
-pub fn fault_of(failed: Failed) -> Fault
-    ensures told { result ≡ fault_of failed }
-    ensures status { status_of result ≡ 2 }
-{
-    match failed {
-        Failed::Memory => Fault::Memory,
-        _ => Fault::Device,
-    }
 }
 
 fn served<J, R, S, F: CountedWrite, W: Write, E: CountedWrite>(
@@ -79,7 +70,7 @@ fn served<J, R, S, F: CountedWrite, W: Write, E: CountedWrite>(
     report: &mut F,
     out: &mut W,
     err: &mut E,
-) -> Result<(), Fault>
+) -> Result<(), Unserved>
 where
     J: Naming + Send + Sync + 'static,
     R: ServiceRuntime + Net<Listener = TcpListener, Stream = TcpStream> + Files<File = File>,
@@ -93,24 +84,30 @@ where
     ensures told { OnOk result (IsServingTold E.CountedWrite err.old err.new) }
     ensures at_most { IsAtMostServingTold E.CountedWrite err.old err.new }
     ensures refused { IfErr result
-        (λ e. status_of e ≡ 1 → IsWhyRefused service.source.items e × (err.new ≡ err.old)
+        (λ e. status_by e ≡ 1 → IsRefusal service.source.items e × (err.new ≡ err.old)
         × ((out.new ≡ out.old) × (report.new ≡ report.old))) }
 {
-    let loaded = Loaded::of(host.alloc, service)?;
+    let loaded = Loaded::of(host.alloc, service).map_err(Unserved::Refused)?;
     match controlled::<J, R, S, F, E>(host, list, loaded, report, err) {
-        Ok(Some(scans)) => put_scans(scans, out),
-        Ok(None) => Err(Fault::Store),
-        Err(failed) => Err(fault_of(failed)),
+        Ok(Some(scans)) => put_scans(scans, out).map_err(unwritten),
+        Ok(None) => Err(Unserved::Refused(Fault::Store)),
+        Err(failed) => Err(Unserved::Failed(failed)),
     }
 }
 
+/// Why the output wasn't written.
+fn unwritten(error: io::Error) -> Unserved
+    ensures { status_by result ≡ 2 }
+{
+    Unserved::Failed(Failed::from(error).known_as(Failed::Output))
+}
+
 /// Writes the line that tells how many scans there were.
-fn put_scans<W: Write>(scans: u32, out: &mut W) -> Result<(), Fault>
-    ensures line { OnOk result (Appends (W.contents out.old) (W.contents out.new) (scans_line scans)) }
-    ensures err { IfErr result (λ e. status_of e ≡ 2) }
+fn put_scans<W: Write>(scans: u32, out: &mut W) -> io::Result<()>
+    ensures { OnOk result (Appends (W.contents out.old) (W.contents out.new) (scans_line scans)) }
 {
     writeln!(out, "scans {scans}")?;
-    Ok(out.flush()?)
+    out.flush()
 }
 
 /// Takes the directories, serves the controller of the text's program from them, and writes the report: how many scans
@@ -180,8 +177,13 @@ where
     ensures at_most { IsAtMostServingTold E.CountedWrite err.old err.new }
     ensures reported { IfOk result (λ scans. IsReported F.CountedWrite scans report.old report.new) }
 {
-    open_report(report)?;
+    open_report(report).map_err(|_| Failed::Report)?;
     let counts = node.run::<J, R, E>(host, list, err)?;
-    put_report(host.alloc, counts, report)?;
+    put_report(host.alloc, counts, report).map_err(of_report)?;
     Ok(counts.scans)
+}
+
+/// Why the report wasn't written.
+fn of_report(failed: Failed) -> Failed {
+    failed.known_as(Failed::Report)
 }
