@@ -74,6 +74,10 @@ pub record IsChangeTo (text line : List ℕ) : Type 0 where
   pub is : IsImageOfText text image
   pub changes : IsChange image line
 
+-- the lines are that command, and nothing else
+abbrev pub IsChangeAlone : List ℕ → List (List ℕ) → Type 0
+IsChangeAlone text lines = (line : List ℕ) × (lines ≡ line ∷ []) × IsChangeTo text line
+
 -- the text's image is longer than that of a change may be
 pub record IsTooLong (text : List ℕ) : Type 0 where
   pub image : List ℕ

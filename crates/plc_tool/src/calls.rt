@@ -239,8 +239,8 @@ pub fn sim_events<W: CountedWrite, E: CountedWrite>(
     ended(put_report(alloc, source, named, group, out), err)
 }
 
-/// A fault of the source comes before that of the commands.
-fn first_fault(alloc: Global, source: &[u8], fault: Fault) -> Fault
+/// The fault of a call whose second file has this one: that of the source comes before it.
+pub fn first_fault(alloc: Global, source: &[u8], fault: Fault) -> Fault
     ensures { IsFirstFault source.now fault result }
 {
     match image(alloc, source) {

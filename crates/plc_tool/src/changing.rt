@@ -1,8 +1,9 @@
 //! The command that goes on with the program of a text.
 
-ghost use Rattle.std.specs.Prelude.{IfOk, IfErr};
-ghost use Rattle.plc_tool.specs.Calls.{IsChangeTo, IsFaultOfChange};
+ghost use Rattle.std.specs.Prelude.{IfOk, IfErr, map};
+ghost use Rattle.plc_tool.specs.Calls.{IsChangeAlone, IsChangeTo, IsFaultOfChange};
 ghost use Rattle.il_text.specs.Meaning.{OrMemory};
+ghost use Rattle.plc_json.specs.Single.{bytes_of};
 
 use il_model::ImageBytes;
 use il_text::{Fault, image_bytes};
@@ -21,4 +22,16 @@ pub fn change_to(alloc: Global, text: &[u8]) -> Result<Vec<u8>, Fault>
         return Err(Fault::Commands);
     };
     Ok(change_text(alloc, &bytes)?)
+}
+
+/// The lines by which a console goes on with the program of a text: that command alone. Its faults are those of
+/// `change_to`.
+pub fn change_lines(alloc: Global, text: &[u8]) -> Result<Vec<Vec<u8>>, Fault>
+    ensures found { IfOk result (λ v. IsChangeAlone text.now (map bytes_of v.items)) }
+    ensures refused { IfErr result (OrMemory (IsFaultOfChange text.now)) }
+{
+    let line = change_to(alloc, text)?;
+    let mut lines = Vec::new(alloc);
+    lines.push(line)?;
+    Ok(lines)
 }

@@ -39,9 +39,10 @@ mod simulating;
 
 pub use answering::answers;
 pub use calls::{
-    asm, list, run, run_commands, run_without_commands, sim, sim_events, sim_without_schedule,
+    asm, first_fault, list, run, run_commands, run_without_commands, sim, sim_events,
+    sim_without_schedule,
 };
-pub use changing::change_to;
+pub use changing::{change_lines, change_to};
 pub use fault::fault_of;
 pub use report::ReportLine;
 pub use simulating::Group;
