@@ -6,21 +6,21 @@ use Rattle.plc_words.specs.declared.forms.Words.TheVariants as words
 use Rattle.plc_words.specs.Asked.{IsLostAfterAMinute as AsksForAMinute}
 use Rattle.plc.specs.declared.Outcome.{Outcome}
 use Rattle.plc.specs.declared.Outcome.TheVariants as outcomes
-use Rattle.plc.specs.Asked.{ServesAsAsked, IsLostAfterAMinute}
+use Rattle.plc.specs.Asked.{IsAsAsked, IsLostAfterAMinute}
 
-pub as_asked : (asked : Words) (outcome : Outcome) → AsksForAMinute asked → ServesAsAsked asked outcome → IsLostAfterAMinute outcome
+pub as_asked : (asked : Words) (outcome : Outcome) → AsksForAMinute asked → IsAsAsked asked outcome → IsLostAfterAMinute outcome
 as_asked asked (outcomes.Done status) minute serves = tt
-as_asked asked (outcomes.Ask console commands) minute serves = tt
-as_asked (words.Serve source stores report settings) (outcomes.Serve service path) minute serves = ap (λ (s : Settings). s.lost_after) serves ∙ minute
-as_asked (words.Asm source image) (outcomes.Serve service path) minute serves = absurd serves
-as_asked (words.List image) (outcomes.Serve service path) minute serves = absurd serves
-as_asked (words.Names source) (outcomes.Serve service path) minute serves = absurd serves
-as_asked (words.Diff old new) (outcomes.Serve service path) minute serves = absurd serves
-as_asked (words.Run source commands budget) (outcomes.Serve service path) minute serves = absurd serves
-as_asked (words.Sim source schedule config budget) (outcomes.Serve service path) minute serves = absurd serves
-as_asked (words.Ask port commands timeout) (outcomes.Serve service path) minute serves = absurd serves
-as_asked (words.Change port source timeout) (outcomes.Serve service path) minute serves = absurd serves
-as_asked (words.Field field check once) (outcomes.Serve service path) minute serves = absurd serves
-as_asked asked (outcomes.Carry text mode) minute serves = tt
-as_asked (words.Format source group machine directory) (outcomes.Serve service path) minute serves = absurd serves
-as_asked (words.Show directory) (outcomes.Serve service path) minute serves = absurd serves
+as_asked asked (outcomes.Ask asking) minute serves = tt
+as_asked asked (outcomes.Carry carrying) minute serves = tt
+as_asked (words.Serve source stores report settings) (outcomes.Serve serving) minute serves = ap (λ (s : Settings). s.lost_after) serves ∙ minute
+as_asked (words.Asm source image) (outcomes.Serve serving) minute serves = absurd serves
+as_asked (words.List image) (outcomes.Serve serving) minute serves = absurd serves
+as_asked (words.Names source) (outcomes.Serve serving) minute serves = absurd serves
+as_asked (words.Diff old new) (outcomes.Serve serving) minute serves = absurd serves
+as_asked (words.Run source commands budget) (outcomes.Serve serving) minute serves = absurd serves
+as_asked (words.Sim source schedule config budget) (outcomes.Serve serving) minute serves = absurd serves
+as_asked (words.Format source group machine directory) (outcomes.Serve serving) minute serves = absurd serves
+as_asked (words.Show directory) (outcomes.Serve serving) minute serves = absurd serves
+as_asked (words.Ask port commands timeout) (outcomes.Serve serving) minute serves = absurd serves
+as_asked (words.Field field check once) (outcomes.Serve serving) minute serves = absurd serves
+as_asked (words.Change port source timeout) (outcomes.Serve serving) minute serves = absurd serves

@@ -2,33 +2,41 @@
 
 ghost use Rattle.std.specs.Prelude.{◌≡◌, false};
 
-use crate::{file, tell_of};
+use crate::calls::flushed;
+use crate::files::{file, tell_of, tell_path};
 use il_text::{Fault, image_bytes, put, put_numbered, tell};
-use io_model::CountedWrite;
+use io_model::{Counted, CountedWrite};
 use plc_group::{Group, exposed_lines, read_group, tell_group_fault};
+use plc_host::Failed;
 use plc_machine::{NotMade, new_store};
+use plc_serve::tell_failed;
 use plc_store::{FileDirectory, Refusal, Store, show_directory, tell_refusal};
-use std::io;
 use std::io::Write;
 
-/// Where the store of a machine comes from, and where it goes.
+/// The machine whose store is to be made, and where.
 #[derive(Clone, Copy)]
-pub(crate) struct Formatted<'a> {
-    pub(crate) source: &'a str,
-    pub(crate) group: &'a str,
-    pub(crate) machine: u8,
-    pub(crate) directory: &'a str,
+struct Formatted<'a> {
+    machine: u8,
+    directory: &'a str,
 }
 
 /// Makes the store of a machine of a group: the status.
-pub(crate) fn format<E: CountedWrite>(rt: &HostRuntime, asked: &Formatted, err: &mut E) -> u8 {
-    let image = match image_at(rt, asked.source) {
+pub(crate) fn format<E: CountedWrite>(
+    rt: &HostRuntime,
+    source: &str,
+    group: &str,
+    machine: u8,
+    directory: &str,
+    err: &mut E,
+) -> u8 {
+    let image = match image_at(rt, source) {
         Ok(image) => image,
-        Err(fault) => return tell_of(asked.source, fault, err),
+        Err(fault) => return tell_of(source, fault, err),
     };
-    match file(rt, asked.group) {
-        Ok(bytes) => format_of(rt, asked, bytes.as_slice(), image, err),
-        Err(fault) => tell_of(asked.group, fault, err),
+    let asked = Formatted { machine, directory };
+    match file(rt, group) {
+        Ok(bytes) => format_of(rt, &asked, bytes.as_slice(), image, err),
+        Err(fault) => tell_of(group, fault, err),
     }
 }
 
@@ -52,7 +60,7 @@ fn format_of<E: CountedWrite>(
     match new_store(&group, asked.machine, image) {
         Ok(store) => match format_in(rt, asked.directory, &store) {
             Ok(()) => tell_exposed(rt, &group, err),
-            Err(refusal) => tell_refusal(refusal, err),
+            Err(refusal) => tell_at(asked.directory, refusal, err),
         },
         Err(NotMade::NoMachine) => tell_no_machine(asked.machine, err),
         Err(NotMade::TooLong) => tell_refusal(Refusal::TooLong, err),
@@ -94,11 +102,22 @@ pub(crate) fn show<W: Write, E: CountedWrite>(
     err: &mut E,
 ) -> u8 {
     match shown(rt, directory) {
-        Ok(lines) => match print(lines.as_str(), out) {
-            Ok(()) => 0,
-            Err(error) => tell(Fault::from(error), err),
-        },
-        Err(refusal) => tell_refusal(refusal, err),
+        Ok(lines) => {
+            let mut counted = Counted::new(&mut *out);
+            match put(&mut counted, lines.as_str().as_bytes()) {
+                Ok(()) => flushed(0, out, err),
+                Err(_) => tell_failed(Failed::Output, err),
+            }
+        }
+        Err(refusal) => tell_at(directory, refusal, err),
+    }
+}
+
+/// Tells why a store was refused, and answers the status. A device that failed is told by the path of the directory.
+fn tell_at<E: CountedWrite>(directory: &str, refusal: Refusal, err: &mut E) -> u8 {
+    match refusal {
+        Refusal::Device => tell_path(b"plc: device store ", directory, err),
+        refusal => tell_refusal(refusal, err),
     }
 }
 
@@ -106,9 +125,4 @@ pub(crate) fn show<W: Write, E: CountedWrite>(
 fn shown(rt: &HostRuntime, directory: &str) -> Result<String, Refusal> {
     let directory = FileDirectory::look(*rt, rt.alloc(), directory)?;
     show_directory(rt.alloc(), &directory)
-}
-
-fn print<W: Write>(text: &str, out: &mut W) -> io::Result<()> {
-    out.write_all(text.as_bytes())?;
-    out.flush()
 }

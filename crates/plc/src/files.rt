@@ -1,0 +1,80 @@
+//! Files that a call reads: what they hold, how it's told that one can't be read or written, and whether two paths are one file.
+
+use il_text::{Fault, put, tell};
+use io_model::CountedWrite;
+use std::fs;
+use std::io::Read;
+use std::os::unix::fs::MetadataExt;
+
+/// The word for standard input, where a file's path may stand.
+const STANDARD_INPUT: &str = "-";
+
+/// What a file holds.
+pub(crate) fn file(rt: &HostRuntime, path: &str) -> Result<Vec<u8>, Fault> {
+    Ok(fs::read(rt, path)?)
+}
+
+/// What a file holds, or standard input.
+pub(crate) fn text_at(rt: &HostRuntime, path: &str) -> Result<Vec<u8>, Fault> {
+    if path != STANDARD_INPUT {
+        return file(rt, path);
+    }
+    let mut text = Vec::new(rt.alloc());
+    rt.stdin().read_to_end(&mut text)?;
+    Ok(text)
+}
+
+/// Tells why files are refused before anything is read, and answers the status.
+pub(crate) fn refuse<E: CountedWrite>(err: &mut E, line: &[u8]) -> u8 {
+    let _ = put(err, line);
+    Fault::Commands.status()
+}
+
+/// Tells a device that failed by its path, and answers the status.
+pub(crate) fn tell_path<E: CountedWrite>(text: &[u8], path: &str, err: &mut E) -> u8 {
+    if put(err, text).is_ok() && put(err, path.as_bytes()).is_ok() {
+        let _ = put(err, b"\n");
+    }
+    Fault::Device.status()
+}
+
+/// Tells that a file can't be read, and answers the status.
+pub(crate) fn tell_unread<E: CountedWrite>(path: &str, err: &mut E) -> u8 {
+    tell_path(b"plc: device read ", path, err)
+}
+
+/// Tells that a file can't be written, and answers the status.
+pub(crate) fn tell_unwritten<E: CountedWrite>(path: &str, err: &mut E) -> u8 {
+    tell_path(b"plc: device write ", path, err)
+}
+
+/// Tells a fault that came where a file was read, and answers the status.
+pub(crate) fn tell_of<E: CountedWrite>(path: &str, fault: Fault, err: &mut E) -> u8 {
+    match fault {
+        Fault::Device => tell_unread(path, err),
+        fault => tell(fault, err),
+    }
+}
+
+/// Whether two paths lead to one file that is there.
+pub(crate) fn are_same(rt: &HostRuntime, one: &str, other: &str) -> bool {
+    match (fs::metadata(rt, one), fs::metadata(rt, other)) {
+        (Ok(one), Ok(other)) => one.dev() == other.dev() && one.ino() == other.ino(),
+        _ => false,
+    }
+}
+
+/// The directory in which a path lies.
+fn directory_of(path: &str) -> &str {
+    match path.rsplit_once('/') {
+        Some(("", _)) => "/",
+        Some((directory, _)) => directory,
+        None => ".",
+    }
+}
+
+/// Whether a path lies in one of these directories.
+pub(crate) fn is_among(rt: &HostRuntime, path: &str, directories: &[&str]) -> bool {
+    let own = directory_of(path);
+    directories.iter().any(|directory| own == *directory || are_same(rt, own, directory))
+}
