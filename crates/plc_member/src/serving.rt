@@ -1,5 +1,7 @@
 //! A machine from the start of its replica to its end.
 
+ghost use Rattle.std.specs.Prelude.{◌≡◌};
+
 use crate::drive::{Drive, LONGEST_WAIT, Submitted};
 use crate::neighbours::Machines;
 use crate::opening::Member;
