@@ -38,3 +38,5 @@ mod serving_rows;
 mod shelf;
 #[cfg(test)]
 mod store_rows;
+#[cfg(test)]
+mod suspending_rows;
