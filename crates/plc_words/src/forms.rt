@@ -69,6 +69,11 @@ const GROUP: &str = "group";
 /// The word of the option `--machine`.
 const MACHINE: &str = "machine";
 
+/// What a group's file has for its machines, or they haven't.
+const SETTINGS: [&str; 12] = [
+    SCANS, FAILURES, EVERY, PORT, PERIOD, IDLE, BUDGET, LINKS, CRASH, REPORT, CONSOLE, STALE,
+];
+
 /// The word of a store's directory.
 const DIRECTORY: &str = "DIR";
 
@@ -84,6 +89,8 @@ const ONCE: &str = "once";
 const NO_FORM: &str = "error: the words name no form of call\n";
 
 const NO_STORES: &str = "error: --store is given once, or once for each of the 2F+1 replicas\n";
+
+const NO_STORE: &str = "error: --store is given once beside --group\n";
 
 const STATUSES: &str = "Exit status:
   0  good
@@ -275,6 +282,29 @@ The report is one line of JSON, written before 'scans N':
   scans                      how many scans were released
   sessions                   how many clients were served
   writes                     how many of their writes were taken
+
+With --group GROUP one machine of a group is served, in a process of its own: DIR is its store, as
+'plc format' made it with the program, and GROUP the file of the group, which has all other settings.
+It goes on until it's ended from outside, or something fails, and then it's started anew by the same
+words. One machine drives at a time: its port for Modbus answers, and the others' are closed. Of the
+lines above it tells those of scans and of a console, and of machines, counted from 0:
+  driving view V             this machine drives from now on
+  standing by view V         another one does
+  stale view V               it leads, and released nothing for as long as outputs are shown
+  no port view V             it leads, and its port isn't to be had
+  machine J joined           there's a connection with machine J
+  machine J lost             there's none any more
+  machine J refused: WHY     it's no machine of this group as it's here: another version, group, epoch or
+                             program, own party, no member, or fewer starts
+  replica normal view V      the replica of this machine takes part
+  replica not normal         it learns what it missed, or the group has no majority; after a minute that's
+                             told once more
+Where GROUP or DIR is refused, it's told as by 'plc format', and nothing has started. Further:
+  plc: store missing         nothing was formatted in DIR
+  plc: store of another group  GROUP isn't the file with which DIR was formatted
+  plc: store of another machine  GROUP has fewer machines
+  plc: store lost its view   the replica's file in DIR is gone
+  plc: store has a view and was not started  DIR is of two machines
 "
 );
 
@@ -443,6 +473,12 @@ pub enum Words<'a> {
         report: Option<&'a str>,
         settings: Settings,
     },
+    /// Serves one machine of a group, whose store is in a directory.
+    ServeMachine {
+        /// The file of its group.
+        group: &'a str,
+        directory: &'a str,
+    },
     /// Sends the commands of a file to the console at a port, and prints what it answers.
     Ask {
         port: u16,
@@ -574,9 +610,12 @@ fn show_command<'a>(alloc: Global) -> Result<Command<'a>, AllocError> {
 
 fn serve_command<'a>(alloc: Global) -> Result<Command<'a>, AllocError> {
     Command::new(alloc, "serve")
-        .about("Runs a program on replicas in threads, and serves it to Modbus clients")
+        .about(
+            "Runs a program on replicas in threads, and serves it to Modbus clients; or one machine of a group",
+        )
         .after_help(SERVING)
-        .arg(file(alloc, "SOURCE").help("The program's text, in Instruction List"))?
+        .arg(served_source(alloc)?.help("The program's text, in Instruction List"))?
+        .arg(served_group(alloc)?)?
         .arg(directory(alloc))?
         .arg(count(alloc, SCANS, "N").help(
             "After how many scans it ends; without it, it goes on until it's interrupted",
@@ -719,6 +758,27 @@ fn group_file<'a>(alloc: Global) -> Arg<'a> {
         .help("The file of the group")
 }
 
+/// The text is wanted where no group is given, and refused where one is.
+fn served_source<'a>(alloc: Global) -> Result<Arg<'a>, AllocError> {
+    Arg::new(alloc, "SOURCE")
+        .action(ArgAction::Set)
+        .required_unless_present(GROUP)?
+        .conflicts_with(GROUP)
+}
+
+/// The option is refused where it is given twice or empty, or beside what the group's file has.
+fn served_group<'a>(alloc: Global) -> Result<Arg<'a>, AllocError> {
+    let mut group = Arg::new(alloc, GROUP)
+        .long(GROUP)
+        .value_name("GROUP")
+        .value_parser(ValueParser::NonEmptyString)
+        .help("The file of a group, in place of SOURCE: one machine of it is served");
+    for setting in SETTINGS {
+        group = group.conflicts_with(setting)?;
+    }
+    Ok(group)
+}
+
 /// The option is wanted, and refused where it is given twice, or is no number of a machine.
 fn machine<'a>(alloc: Global) -> Arg<'a> {
     Arg::new(alloc, MACHINE)
@@ -848,6 +908,31 @@ fn served<'a>(
     }))
 }
 
+/// A controller that is to be served by replicas of its own.
+fn served_alone<'a>(alloc: Global, inner: &ArgMatches<'a>) -> Result<Option<Words<'a>>, WordsError>
+    ensures { IfOk result (λ form. IfSome form IsLostAfterAMinute) }
+{
+    match settings(inner) {
+        Some(settings) => served(alloc, inner, settings),
+        None => Ok(None),
+    }
+}
+
+/// The machine of a group that is to be served, from the one directory of its store.
+fn served_machine<'a>(
+    alloc: Global,
+    inner: &ArgMatches<'a>,
+    group: &'a str,
+) -> Result<Option<Words<'a>>, WordsError>
+    ensures { IfOk result (λ form. IfSome form IsLostAfterAMinute) }
+{
+    let stores = directories(alloc, inner)?;
+    match stores.as_slice() {
+        [directory] => Ok(Some(Words::ServeMachine { group, directory })),
+        _ => Err(WordsError::Bad(String::from_str(alloc, NO_STORE)?)),
+    }
+}
+
 fn form_of<'a>(alloc: Global, matches: &ArgMatches<'a>) -> Result<Option<Words<'a>>, WordsError>
     ensures { IfOk result (λ form. IfSome form IsLostAfterAMinute) }
 {
@@ -855,9 +940,9 @@ fn form_of<'a>(alloc: Global, matches: &ArgMatches<'a>) -> Result<Option<Words<'
         return Ok(None);
     };
     match name {
-        "serve" => match settings(inner) {
-            Some(settings) => served(alloc, inner, settings),
-            None => Ok(None),
+        "serve" => match inner.get_str(GROUP) {
+            Some(group) => served_machine(alloc, inner, group),
+            None => served_alone(alloc, inner),
         },
         "ask" => Ok(asked(inner)),
         "field" => Ok(carried(inner)),

@@ -443,6 +443,38 @@ fn words_ask_for_the_store_of_a_machine(rt: HostRuntime) -> Result<(), Fail> {
 }
 
 #[test]
+fn words_ask_to_serve_a_machine(rt: HostRuntime) -> Result<(), Fail> {
+    let machine = Words::ServeMachine {
+        group: "g",
+        directory: "d",
+    };
+    ask_for(
+        &rt,
+        rt.alloc(),
+        &[("plc serve --group g --store d", machine)],
+    )?;
+    let rows: [Row; 4] = [
+        (
+            "--store d --store e",
+            "error: --store is given once beside --group\n",
+        ),
+        (
+            "",
+            "error: the following required arguments were not provided:\n  --store <DIR>\n",
+        ),
+        (
+            "--store d a.il",
+            "error: the argument '--group <GROUP>' cannot be used with '[SOURCE]'",
+        ),
+        (
+            "--store d --period 100",
+            "error: the argument '--group <GROUP>' cannot be used with '--period <MS>'",
+        ),
+    ];
+    are_bad(&rt, rt.alloc(), "plc serve --group g", &rows)
+}
+
+#[test]
 fn words_without_text_are_bad(rt: HostRuntime) {
     let mut out = Vec::new(rt.alloc());
     let mut err = Vec::new(rt.alloc());
