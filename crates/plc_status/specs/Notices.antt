@@ -46,8 +46,7 @@ refused_line number why = refused_party number ++ (why_name why ++ codes "\n")
 
 -- of a replica that wasn't normal for a minute: why it may never be again
 abbrev pub long_line : List ℕ
-long_line = codes "replica not normal for a minute: "
-    ++ codes "if most machines have lost their memory, a new epoch is due\n"
+long_line = codes "replica not normal for a minute: if most machines have lost their memory, a new epoch is due\n"
 
 -- the line that tells the port at which clients are served
 abbrev pub port_line : ℕ → List ℕ

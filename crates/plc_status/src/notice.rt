@@ -4,7 +4,7 @@ ghost use Rattle.std.specs.Prelude.{◌≡◌};
 ghost use Rattle.il_text.specs.Telling.{Sends};
 ghost use Rattle.il_text.specs.Lines.{stop_name};
 ghost use Rattle.plc_status.specs.Notices.{long_line, machine_line, notice_line, numbered_line, refused_line};
-ghost use Rattle.plc_status.specs.Notices.{replica_line, stopped_line, view_line, why_name, IsPortTold};
+ghost use Rattle.plc_status.specs.Notices.{refused_party, replica_line, stopped_line, view_line, why_name, IsPortTold};
 
 use crate::deed::{Deed, put_deed};
 use il_model::Stop;
@@ -141,6 +141,16 @@ fn name_of_why(why: Why) -> &'static str
     }
 }
 
+/// Who was refused, if it told its number.
+fn put_refused_party<E: CountedWrite>(err: &mut E, number: Option<u8>) -> Result<(), DeviceFault>
+    ensures { Sends E.CountedWrite (refused_party number) err.old err.new result }
+{
+    match number {
+        Some(number) => put_machine(err, number, b" refused: "),
+        None => put(err, b"machine refused: "),
+    }
+}
+
 /// What is told of a connection that was refused.
 fn put_refused<E: CountedWrite>(
     err: &mut E,
@@ -149,10 +159,7 @@ fn put_refused<E: CountedWrite>(
 ) -> Result<(), DeviceFault>
     ensures { Sends E.CountedWrite (refused_line number why) err.old err.new result }
 {
-    match number {
-        Some(number) => put_machine(err, number, b" refused: ")?,
-        None => put(err, b"machine refused: ")?,
-    }
+    put_refused_party(err, number)?;
     put(err, name_of_why(why).as_bytes())?;
     put(err, b"\n")
 }
@@ -161,10 +168,9 @@ fn put_refused<E: CountedWrite>(
 fn put_not_normal_long<E: CountedWrite>(err: &mut E) -> Result<(), DeviceFault>
     ensures { Sends E.CountedWrite long_line err.old err.new result }
 {
-    put(err, b"replica not normal for a minute: ")?;
     put(
         err,
-        b"if most machines have lost their memory, a new epoch is due\n",
+        b"replica not normal for a minute: if most machines have lost their memory, a new epoch is due\n",
     )
 }
 
