@@ -12,6 +12,7 @@ pub as_asked : (asked : Words) (outcome : Outcome) → AsksForAMinute asked → 
 as_asked asked (outcomes.Done status) minute serves = tt
 as_asked asked (outcomes.Ask asking) minute serves = tt
 as_asked asked (outcomes.Carry carrying) minute serves = tt
+as_asked asked (outcomes.ServeMachine machine) minute serves = tt
 as_asked (words.Serve source stores report settings) (outcomes.Serve serving) minute serves = ap (λ (s : Settings). s.lost_after) serves ∙ minute
 as_asked (words.Asm source image) (outcomes.Serve serving) minute serves = absurd serves
 as_asked (words.List image) (outcomes.Serve serving) minute serves = absurd serves
@@ -24,3 +25,4 @@ as_asked (words.Show directory) (outcomes.Serve serving) minute serves = absurd 
 as_asked (words.Ask port commands timeout) (outcomes.Serve serving) minute serves = absurd serves
 as_asked (words.Field field check once) (outcomes.Serve serving) minute serves = absurd serves
 as_asked (words.Change port source timeout) (outcomes.Serve serving) minute serves = absurd serves
+as_asked (words.ServeMachine group directory) (outcomes.Serve serving) minute serves = absurd serves

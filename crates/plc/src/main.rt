@@ -5,6 +5,7 @@ mod asking;
 mod calls;
 mod carrying;
 mod files;
+mod machines;
 mod serving;
 mod stores;
 
@@ -12,6 +13,7 @@ ghost use Rattle.plc.specs.Asked.{IsAsAsked, IsLostAfterAMinute};
 
 use crate::asking::{Asking, Console, ask};
 use crate::carrying::{Carrying, carried};
+use crate::machines::{Machine, serve_machine};
 use crate::serving::{Report, Serving, settled};
 use il_text::{Fault, tell};
 use io_image::NewList;
@@ -40,6 +42,8 @@ enum Outcome {
     Ask(Asking),
     /// A controller is to be served.
     Serve(Serving),
+    /// A machine of a group is to be served.
+    ServeMachine(Machine),
     /// The inputs and outputs of a field are to be carried.
     Carry(Carrying),
 }
@@ -66,6 +70,9 @@ fn main(rt: HostRuntime) -> ExitCode {
                 host, list, service, &mut file, &mut out, &mut err,
             );
             settled(&rt, status, &report, &mut err)
+        }
+        Outcome::ServeMachine(machine) => {
+            serve_machine::<Brand, _, _>(host, NewList::new(), &machine, &mut err)
         }
         Outcome::Carry(Carrying { text, mode }) => {
             let mut counted = Counted::new(&mut out);
@@ -166,6 +173,9 @@ fn perform<W: Write, E: CountedWrite>(
             Outcome::Done,
             Outcome::Ask,
         ),
+        Words::ServeMachine { group, directory } => Machine::of(
+            rt, group, directory, err,
+        ).map_or_else(Outcome::Done, Outcome::ServeMachine),
         Words::Serve {
             source,
             stores,

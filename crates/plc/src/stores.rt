@@ -34,9 +34,25 @@ pub(crate) fn format<E: CountedWrite>(
         Err(fault) => return tell_of(source, fault, err),
     };
     let asked = Formatted { machine, directory };
-    match file(rt, group) {
-        Ok(bytes) => format_of(rt, &asked, bytes.as_slice(), image, err),
-        Err(fault) => tell_of(group, fault, err),
+    match group_at(rt, group, err) {
+        Ok(group) => format_of(rt, &asked, &group, image, err),
+        Err(status) => status,
+    }
+}
+
+/// The group of a file; or the status where there is none, which is told.
+pub(crate) fn group_at<E: CountedWrite>(
+    rt: &HostRuntime,
+    path: &str,
+    err: &mut E,
+) -> Result<Group, u8> {
+    let bytes = match file(rt, path) {
+        Ok(bytes) => bytes,
+        Err(fault) => return Err(tell_of(path, fault, err)),
+    };
+    match read_group(rt.alloc(), bytes.as_slice()) {
+        Ok(group) => Ok(group),
+        Err(fault) => Err(tell_group_fault(&fault, err)),
     }
 }
 
@@ -45,21 +61,17 @@ fn image_at(rt: &HostRuntime, source: &str) -> Result<Vec<u8>, Fault> {
     image_bytes(rt.alloc(), file(rt, source)?.as_slice())
 }
 
-/// Makes the store of a machine of the group of these bytes, which begins with this image: the status.
+/// Makes the store of a machine of a group, which begins with this image: the status.
 fn format_of<E: CountedWrite>(
     rt: &HostRuntime,
     asked: &Formatted,
-    bytes: &[u8],
+    group: &Group,
     image: Vec<u8>,
     err: &mut E,
 ) -> u8 {
-    let group = match read_group(rt.alloc(), bytes) {
-        Ok(group) => group,
-        Err(fault) => return tell_group_fault(&fault, err),
-    };
-    match new_store(&group, asked.machine, image) {
+    match new_store(group, asked.machine, image) {
         Ok(store) => match format_in(rt, asked.directory, &store) {
-            Ok(()) => tell_exposed(rt, &group, err),
+            Ok(()) => tell_exposed(rt, group, err),
             Err(refusal) => tell_at(asked.directory, refusal, err),
         },
         Err(NotMade::NoMachine) => tell_no_machine(asked.machine, err),
@@ -84,7 +96,7 @@ fn tell_no_machine<E: CountedWrite>(machine: u8, err: &mut E) -> u8 {
 }
 
 /// Tells which addresses of a group anybody on their network can write to, and answers the status.
-fn tell_exposed<E: CountedWrite>(rt: &HostRuntime, group: &Group, err: &mut E) -> u8 {
+pub(crate) fn tell_exposed<E: CountedWrite>(rt: &HostRuntime, group: &Group, err: &mut E) -> u8 {
     match exposed_lines(rt.alloc(), group) {
         Ok(lines) => {
             let _ = put(err, lines.as_str().as_bytes());
@@ -114,7 +126,7 @@ pub(crate) fn show<W: Write, E: CountedWrite>(
 }
 
 /// Tells why a store was refused, and answers the status. A device that failed is told by the path of the directory.
-fn tell_at<E: CountedWrite>(directory: &str, refusal: Refusal, err: &mut E) -> u8 {
+pub(crate) fn tell_at<E: CountedWrite>(directory: &str, refusal: Refusal, err: &mut E) -> u8 {
     match refusal {
         Refusal::Device => tell_path(b"plc: device store ", directory, err),
         refusal => tell_refusal(refusal, err),
