@@ -7,7 +7,7 @@ use net_peers::{Exchange, Machine, PeerLink, machine_links};
 use std::alloc::Global;
 use std::net::{Net, SocketAddr, TcpListener, TcpStream};
 use std::process::Abort;
-use std::rt::{Alloc, Files};
+use std::rt::Files;
 use std::sync::{Arc, Wait};
 use std::test::Fail;
 use std::thread::Threads;
@@ -112,7 +112,7 @@ impl<L: Relink + Send + Drop + 'static> Running<L> {
 }
 
 /// An empty directory for the files of stores.
-fn clear<R: Files>(rt: &R) -> Result<(), Fail> {
+fn clear<R: Files + Alloc>(rt: &R) -> Result<(), Fail> {
     let _ = fs::remove_dir_all(rt, "machines");
     fs::create_dir(rt, "machines")?;
     Ok(())

@@ -1,5 +1,7 @@
 //! The stores of machines, on real files.
 
+ghost use Rattle.std.specs.Prelude.{◌≡◌, IfOk, false};
+
 use plc_store::{
     FileDirectory, Header, Opened, Refusal, Start, Store, StoreDirectory, Wanted, format, open,
     show_directory,
@@ -17,7 +19,9 @@ const WANTED: Wanted = Wanted {
 };
 
 /// The store of machine 1, which was never started.
-fn new_store(alloc: Global) -> Result<Store, Fail> {
+fn new_store(alloc: Global) -> Result<Store, Fail>
+    ensures { IfOk result (λ store. store.header.is_started ≡ false) }
+{
     let header = Header {
         identity: [11; 32],
         epoch: 1,
@@ -26,7 +30,10 @@ fn new_store(alloc: Global) -> Result<Store, Fail> {
         is_started: false,
     };
     let image = Vec::from_slice(alloc, b"LIP".as_slice())?;
-    Ok(Store::new(header, image).ok_or(Refusal::TooLong)?)
+    match Store::new(header, image) {
+        Some(store) => Ok(store),
+        None => Err(Refusal::TooLong)?,
+    }
 }
 
 /// Makes a store in a directory that isn't there, or is left by an earlier run.
