@@ -6,12 +6,14 @@ ghost use Rattle.vr_model.specs.Groups.{group_size};
 ghost use Rattle.plc_status.specs.Journal.{AreNoted};
 ghost use Rattle.plc_driver.specs.Driving.{start_failed};
 
+use crate::saving::{Saves, patient_stores};
 use crate::watch::Watch;
 use il_loader::Image;
 use plc_host::{Failed, Host, ServiceRuntime};
 use plc_settings::Settings;
 use plc_status::{Journal, Notice, StatusWriter};
 use std::alloc::Global;
+use std::sync::Arc;
 use std::thread;
 use std::time::{Clock, Duration};
 use vr_model::Config;
@@ -42,6 +44,8 @@ pub(crate) struct Group<R: Clock + Copy + Drop, L: Relink + Drop> {
     config: Config,
     cluster: Cluster<L>,
     watch: Watch,
+    /// How the saves of each replica go.
+    saves: Vec<Arc<Saves>>,
 }
 
 /// The parts of a replica with this link and this store.
@@ -108,6 +112,7 @@ where
         let config = settings.config;
         let patience = Duration::from_secs(u64::from(settings.lost_after));
         let watch = Watch::new(alloc, config, patience)?;
+        let (stores, saves) = patient_stores(rt, alloc, stores)?;
         let seats = seats(rt, alloc, config, links, stores)?;
         let common = ClusterConfig {
             group: config,
@@ -121,6 +126,7 @@ where
                     config,
                     cluster,
                     watch,
+                    saves,
                 };
                 Ok((group, threads))
             }
@@ -159,9 +165,13 @@ where
         self.cluster.restart(&self.host.rt, number)
     }
 
-    /// What shows of a replica.
+    /// What shows of a replica. While a save of it is to be tried again it's down.
     pub(crate) fn shown(&mut self, number: u8) -> Shown {
-        self.cluster.shown(number)
+        let shown = self.cluster.shown(number);
+        match self.saves.get(usize::from(number)) {
+            Some(saves) if saves.are_failing() => shown.starting(),
+            _ => shown,
+        }
     }
 
     /// Notes what changed of the replicas since the last look at them, and has those started anew that need it, where
@@ -185,6 +195,7 @@ where
     {
         let mut normal = 0u8;
         for number in 0..self.config.group_size() {
+            self.note_saves(number, journal);
             let shown = self.shown(number);
             self.watch.look_at(number, shown, now, journal);
             if shown.is_normal() {
@@ -192,6 +203,19 @@ where
             }
         }
         normal
+    }
+
+    /// Notes each save of a replica that failed since the last look.
+    #[tactic(auto, using(crate::proofs::Noted::both, crate::proofs::Noted::none, crate::proofs::Noted::one))]
+    fn note_saves(&mut self, number: u8, journal: &mut Journal)
+        ensures { AreNoted journal.old journal.new }
+    {
+        let Some(saves) = self.saves.get(usize::from(number)) else {
+            return;
+        };
+        if saves.has_failed_anew() {
+            journal.put(Notice::Store(number));
+        }
     }
 
     /// Has those replicas started anew that need it, where that is due, and notes each.
@@ -227,6 +251,9 @@ where
     pub(crate) fn end(&mut self, journal: &mut Journal) -> bool
         ensures { AreNoted journal.old journal.new }
     {
+        for saves in &self.saves {
+            saves.end();
+        }
         for _ in 0..LONGEST_END / LOOK {
             // Again with each look: a start that was under way makes its link anew.
             self.cluster.cut();

@@ -30,6 +30,7 @@ mod group;
 mod links;
 mod pace;
 mod reviving;
+mod saving;
 mod watch;
 
 pub use directory::{Directory, Taken};
