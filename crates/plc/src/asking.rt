@@ -3,12 +3,12 @@
 ghost use Rattle.std.specs.Prelude.{◌≡◌, IfOk};
 ghost use Rattle.plc.specs.Asked.{AsksFor, AsksToChange, status_of_reply};
 
-use crate::files::{tell_of, text_at};
+use crate::files::{tell_misfit, tell_of, text_at};
 use il_text::{Fault, image_bytes, put, put_numbered, tell};
 use io_model::{Counted, CountedWrite};
 use plc_console::{Reply, send_commands, worst};
 use plc_host::{Failed, Host};
-use plc_json::command_texts;
+use plc_json::{Listed, command_texts};
 use plc_serve::tell_failed;
 use plc_tool::{change_lines, fault_of};
 use std::net::{Net, TcpListener, TcpStream};
@@ -53,7 +53,10 @@ impl Asking {
         };
         match command_texts(rt.alloc(), text.as_slice()) {
             Ok(lines) => Ok(Asking { console, lines }),
-            Err(fault) => Err(tell(fault_of(fault), err)),
+            Err(fault) => {
+                tell_misfit(rt, Listed::Asked, text.as_slice(), err);
+                Err(tell(fault_of(fault), err))
+            }
         }
     }
 

@@ -1,14 +1,20 @@
 //! The calls that read files, print what comes of them on standard output, and end.
 
-use crate::files::{are_same, file, refuse, tell_of, tell_unwritten};
+use crate::files::{are_same, file, refuse, tell_misfit, tell_of, tell_unwritten};
 use il_model::Budget;
 use il_text::{Fault, put, tell};
 use io_file::NewFile;
 use io_model::{Counted, CountedWrite};
 use plc_host::Failed;
+use plc_json::Listed;
 use plc_serve::tell_failed;
 use plc_tool::{Group, first_fault};
 use std::io::Write;
+
+/// The lines of a file that is no list of commands, and of one that is no schedule.
+const COMMANDS: &[u8] = b"plc: commands\n";
+
+const SCHEDULE: &[u8] = b"plc: schedule\n";
 
 /// The status of what was written, once it is flushed.
 pub(crate) fn flushed<W: Write, E: CountedWrite>(status: u8, out: &mut W, err: &mut E) -> u8 {
@@ -184,6 +190,9 @@ pub(crate) fn run<W: Write, E: CountedWrite>(
         &mut Counted::new(&mut told),
     );
     let failures = counted.faults();
+    if told.as_slice() == COMMANDS {
+        tell_misfit(rt, Listed::Commands, commands.as_slice(), err);
+    }
     ended(status, failures, told.as_slice(), out, err)
 }
 
@@ -221,5 +230,8 @@ pub(crate) fn sim<W: Write, E: CountedWrite>(
         &mut Counted::new(&mut told),
     );
     let failures = counted.faults();
+    if told.as_slice() == SCHEDULE {
+        tell_misfit(rt, Listed::Events, schedule.as_slice(), err);
+    }
     ended(status, failures, told.as_slice(), out, err)
 }

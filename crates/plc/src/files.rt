@@ -1,7 +1,8 @@
-//! Files that a call reads: what they hold, how it's told that one can't be read or written, and whether two paths are one file.
+//! Files that a call reads: what they hold, how it's told what is wrong with one, and whether two paths are one file.
 
-use il_text::{Fault, put, tell};
-use io_model::CountedWrite;
+use il_text::{Fault, put, put_numbered, tell};
+use io_model::{CountedWrite, DeviceFault};
+use plc_json::{Listed, Misfit, misfit};
 use std::fs;
 use std::io::Read;
 use std::os::unix::fs::MetadataExt;
@@ -46,6 +47,42 @@ pub(crate) fn tell_unread<E: CountedWrite>(path: &str, err: &mut E) -> u8 {
 /// Tells that a file can't be written, and answers the status.
 pub(crate) fn tell_unwritten<E: CountedWrite>(path: &str, err: &mut E) -> u8 {
     tell_path(b"plc: device write ", path, err)
+}
+
+/// Tells where a text stops being a list of these, if that can be found.
+pub(crate) fn tell_misfit<E: CountedWrite>(
+    rt: &HostRuntime,
+    listed: Listed,
+    text: &[u8],
+    err: &mut E,
+) {
+    let _ = match misfit(rt.alloc(), listed, text) {
+        Some(Misfit::NoJson { line, column }) => put_place(err, line, column),
+        Some(Misfit::NoList) => put(err, b"plc: no list\n"),
+        Some(Misfit::Item(number)) => put_item(err, listed, number),
+        None => Ok(()),
+    };
+}
+
+fn put_place<E: CountedWrite>(err: &mut E, line: usize, column: usize) -> Result<(), DeviceFault> {
+    put_numbered(err, b"plc: no JSON at ", line)?;
+    put_numbered(err, b":", column)?;
+    put(err, b"\n")
+}
+
+/// Commands count from 1, events from 0.
+fn put_item<E: CountedWrite>(
+    err: &mut E,
+    listed: Listed,
+    number: usize,
+) -> Result<(), DeviceFault> {
+    match listed {
+        Listed::Events => put_numbered(err, b"plc: no event ", number)?,
+        Listed::Commands | Listed::Asked => {
+            put_numbered(err, b"plc: no command ", number.saturating_add(1))?;
+        }
+    }
+    put(err, b"\n")
 }
 
 /// Tells a fault that came where a file was read, and answers the status.

@@ -54,7 +54,7 @@ fn each_event(alloc: Global, items: &[Json]) -> Result<Vec<NamedEvent>, JsonFaul
 }
 
 /// One event: an object with one member, whose key is the event's name.
-fn event(alloc: Global, json: &Json) -> Result<NamedEvent, JsonFault>
+pub(crate) fn event(alloc: Global, json: &Json) -> Result<NamedEvent, JsonFault>
     ensures found { IfOk result (λ e. event_of (view json.now) ≡ Some (scheduled e)) }
     ensures refused { IfErr result (λ e. e ≡ Shape → event_of (view json.now) ≡ None) }
 {

@@ -45,7 +45,7 @@ pub fn read_asked(alloc: Global, text: &[u8]) -> Result<Asked, JsonFault>
 }
 
 /// A question is a word; all else is a command.
-fn asked_by(alloc: Global, json: &Json) -> Result<Asked, JsonFault>
+pub(crate) fn asked_by(alloc: Global, json: &Json) -> Result<Asked, JsonFault>
     ensures found { IfOk result (λ a. asking_of (view json.now) ≡ Some (asking a)) }
     ensures refused { IfErr result (λ e. e ≡ Shape → asking_of (view json.now) ≡ None) }
 {
