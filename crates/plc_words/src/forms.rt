@@ -121,7 +121,9 @@ A fault is one line on standard error. Of the program's text, at line L and colu
                              open, 6 more than 16 open, 7 a write to what can't be written, 8 a field
                              that the block hasn't, that is given twice or the wrong way round
 Of files and the machine:
-  plc: device                a file or a stream failed
+  plc: device read PATH      the file can't be read
+  plc: device output         standard output is closed or full
+  plc: device                another file or stream failed
   plc: memory                memory ran out"
         )
     };
@@ -158,13 +160,15 @@ Answers:
                              forced, 4 a value of another type, 5 there is no current result,
                              6 no image, 7 a scan is held or stopped: no change
 
-Where COMMANDS is no such array, 'plc: commands' is told, and nothing has run.
+Where COMMANDS is no such array, 'plc: commands' is told, and nothing has run. Before it a line tells
+'plc: no command N', counted from 1, 'plc: no list', or 'plc: no JSON at L:C'.
 "
 );
 
 const ASSEMBLY: &str = with_source_faults!(
     "Prints one line, 'words N': how many words the image has, those of arguments too.
-The file IMAGE is made, or written over, only where the source is good.
+The file IMAGE is made, or written over, only where the source is good; 'plc: device write IMAGE' tells
+that it can't be.
 "
 );
 
@@ -178,7 +182,8 @@ A fault is one line on standard error; POS is a byte of the image, counted from 
                              8 bytes stand behind its end
   plc: load N at POS         5 a value that may not stand there, 6 a type that doesn't fit, 7 a jump
                              to no label
-  plc: device                a file or a stream failed
+  plc: device read PATH      the file can't be read
+  plc: device output         standard output is closed or full
   plc: memory                memory ran out";
 
 const NAMES: &str = with_source_faults!(
@@ -220,7 +225,8 @@ The report is one line of JSON:
   sent                    how many messages were sent
 
 Where SCHEDULE is no such array, or a name in it is none of the program's, 'plc: schedule' is told, and
-nothing has run. Where event I, counted from 0, can't take place, 'plc: schedule I R' is: 1 its client or
+nothing has run. Before it a line tells 'plc: no event I', counted from 0, 'plc: no list', or 'plc: no
+JSON at L:C'. Where event I, counted from 0, can't take place, 'plc: schedule I R' is: 1 its client or
 replica is out of range, 2 the message is not yet sent, 3 the replica had the nonce before, 4 the client
 submits while it waits, or retries while it doesn't, 5 the replica is up, 6 the client's numbers are used
 up.
@@ -249,8 +255,10 @@ nothing has started.
 What changes is told by a line on standard error, and the status stays:
   replica I down             replica I has not been normal for a second
   replica I normal           it's normal again
-  replica I store            its file couldn't be read or written: it's down, and started anew after
-                             5 s, then after 10 s, up to each minute, until it's normal again
+  replica I store            its file couldn't be read or written: it's down. A save is tried again
+                             after 1 s, then after 2 s, up to each minute, and it keeps what it knows;
+                             behind a start that failed it's started anew after 5 s, then after 10 s,
+                             up to each minute, until it's normal again
   replica I starts           it's started anew
   replica I crashed          it was crashed and restarted, as --crash asks for
   held P                     a scan is held before instruction P; outputs stay as they were released last
@@ -264,7 +272,12 @@ What changes is told by a line on standard error, and the status stays:
                              their instruction, force and unforce a number (%IXb.n is 8b+n, %IWk
                              1024+k, %QXb.n 4096+8b+n, %QWk 5120+k)
   N lines lost               so many found no room, since nobody read them in time
-Where fewer than F+1 replicas have been normal for a minute it ends with 'plc: device'.
+Where fewer than F+1 replicas have been normal for a minute it ends with 'plc: device no majority'. Of
+what isn't to be had for a start, or failed, the line is one of these:
+  plc: device port P         the port is in use
+  plc: device store I        the directory of replica I, or its file there
+  plc: device report         the file of --report
+  plc: device no thread      nor, with 'no connection', a connection between replicas
 
 With --console P an operator's console is served at port P of 127.0.0.1, to one client at a time. Each
 line is one of the commands of 'plc run' in JSON, but no scan, and is answered by its line, or a
@@ -277,7 +290,8 @@ question, which changes nothing; any other line is answered by 'plc: commands'. 
 Where another client comes, it takes the console over once a command that waits is answered, and the
 first is told 'plc: taken over'. At a breakpoint all outputs stay as they are until the scan goes on.
 
-The report is one line of JSON, written before 'scans N':
+The report is one line of JSON, written before 'scans N', beside its file, which it replaces at a good
+end; into a device, a pipe or a link that is there it's written straight:
   crashes                    how often a replica was crashed by --crash
   scans                      how many scans were released
   sessions                   how many clients were served
@@ -320,10 +334,11 @@ With --change SOURCE one command is sent: the change to the program of a text. W
 
 The status is 0 where each command was done or told what it asked for, 4 where one was answered
 'refused N', and 5 where one was answered 'plc: commands'. Where the console can't be asked:
-  plc: commands              COMMANDS is no list of commands; nothing was sent
+  plc: commands              COMMANDS is no list of commands; nothing was sent. Before it a line tells
+                             'plc: no command N', counted from 1, 'plc: no list', or 'plc: no JSON at L:C'
   plc: change of N bytes     the image of SOURCE has more than 32768 bytes; nothing was sent
   plc: device port PORT      nobody serves a console at the port
-  plc: device                another client took it over, or it ended, or gave no answer for S
+  plc: device no answer      another client took it over, or it ended, or gave no answer for S
                              seconds, before each was answered
 "
 );

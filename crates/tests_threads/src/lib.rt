@@ -31,6 +31,8 @@ mod machine_stores;
 #[cfg(test)]
 mod peer_rows;
 #[cfg(test)]
+mod saving_rows;
+#[cfg(test)]
 mod serve_rows;
 #[cfg(test)]
 mod serving_rows;

@@ -247,7 +247,7 @@ const REFUSED: Row = Row {
     least: 0,
     status: 2,
     out: b"",
-    err: &["plc: device"],
+    err: &["plc: device port"],
     has_file: false,
 };
 
@@ -323,7 +323,11 @@ const ROWS: &[Row] = &[
         visit: Visit::Operator(0),
         seen: Some(1),
         least: 1000,
-        err: &["replica 0 store", "replica 1 store", "plc: device"],
+        err: &[
+            "replica 0 store",
+            "replica 1 store",
+            "plc: device no majority",
+        ],
         has_file: true,
         ..REFUSED
     },
@@ -350,6 +354,7 @@ const ROWS: &[Row] = &[
     },
     Row {
         before: Before::Hinder,
+        err: &["plc: device store 1"],
         ..REFUSED
     },
     Row {
@@ -570,6 +575,14 @@ fn is_turn(turns: &mut [Turn], line: &str) -> bool {
     }
 }
 
+/// A line, without the number of the port that it tells isn't to be had.
+fn without_port(line: &str) -> &str {
+    match line.split_once("plc: device port ") {
+        Some(_) => "plc: device port",
+        None => line,
+    }
+}
+
 /// Whether a text has these lines, in order, and no other but that of a port, those of a console that comes and goes, and
 /// those of replicas that are down for a while or are started again: that a store failed, or a replica crashed, is told
 /// only where it's wanted.
@@ -582,7 +595,7 @@ fn tells(text: &str, lines: &[&str]) -> bool {
     }; 7];
     for line in text.split_terminator('\n') {
         let may_be = is_turn(&mut turns, line);
-        if lines.get(count) == Some(&line) {
+        if lines.get(count) == Some(&without_port(line)) {
             count = count.saturating_add(1);
         } else if !may_be && !line.starts_with("serving on ") && !line.starts_with("console ") {
             return false;
