@@ -58,14 +58,14 @@ pub(crate) fn tell_misfit<E: CountedWrite>(
 ) {
     let _ = match misfit(rt.alloc(), listed, text) {
         Some(Misfit::NoJson { line, column }) => put_place(err, line, column),
-        Some(Misfit::NoList) => put(err, b"plc: no list\n"),
+        Some(Misfit::NoList) => put(err, b"no list\n"),
         Some(Misfit::Item(number)) => put_item(err, listed, number),
         None => Ok(()),
     };
 }
 
 fn put_place<E: CountedWrite>(err: &mut E, line: usize, column: usize) -> Result<(), DeviceFault> {
-    put_numbered(err, b"plc: no JSON at ", line)?;
+    put_numbered(err, b"no JSON at ", line)?;
     put_numbered(err, b":", column)?;
     put(err, b"\n")
 }
@@ -77,9 +77,9 @@ fn put_item<E: CountedWrite>(
     number: usize,
 ) -> Result<(), DeviceFault> {
     match listed {
-        Listed::Events => put_numbered(err, b"plc: no event ", number)?,
+        Listed::Events => put_numbered(err, b"no event ", number)?,
         Listed::Commands | Listed::Asked => {
-            put_numbered(err, b"plc: no command ", number.saturating_add(1))?;
+            put_numbered(err, b"no command ", number.saturating_add(1))?;
         }
     }
     put(err, b"\n")

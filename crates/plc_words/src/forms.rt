@@ -161,7 +161,7 @@ Answers:
                              6 no image, 7 a scan is held or stopped: no change
 
 Where COMMANDS is no such array, 'plc: commands' is told, and nothing has run. Before it a line tells
-'plc: no command N', counted from 1, 'plc: no list', or 'plc: no JSON at L:C'.
+'no command N', counted from 1, 'no list', or 'no JSON at L:C'.
 "
 );
 
@@ -225,7 +225,7 @@ The report is one line of JSON:
   sent                    how many messages were sent
 
 Where SCHEDULE is no such array, or a name in it is none of the program's, 'plc: schedule' is told, and
-nothing has run. Before it a line tells 'plc: no event I', counted from 0, 'plc: no list', or 'plc: no
+nothing has run. Before it a line tells 'no event I', counted from 0, 'no list', or 'plc: no
 JSON at L:C'. Where event I, counted from 0, can't take place, 'plc: schedule I R' is: 1 its client or
 replica is out of range, 2 the message is not yet sent, 3 the replica had the nonce before, 4 the client
 submits while it waits, or retries while it doesn't, 5 the replica is up, 6 the client's numbers are used
@@ -335,7 +335,7 @@ With --change SOURCE one command is sent: the change to the program of a text. W
 The status is 0 where each command was done or told what it asked for, 4 where one was answered
 'refused N', and 5 where one was answered 'plc: commands'. Where the console can't be asked:
   plc: commands              COMMANDS is no list of commands; nothing was sent. Before it a line tells
-                             'plc: no command N', counted from 1, 'plc: no list', or 'plc: no JSON at L:C'
+                             'no command N', counted from 1, 'no list', or 'no JSON at L:C'
   plc: change of N bytes     the image of SOURCE has more than 32768 bytes; nothing was sent
   plc: device port PORT      nobody serves a console at the port
   plc: device no answer      another client took it over, or it ended, or gave no answer for S
