@@ -2,7 +2,7 @@
 
 use il_text::{Fault, put, put_numbered, tell};
 use io_model::{CountedWrite, DeviceFault};
-use plc_json::{Listed, Misfit, misfit};
+use plc_json::{Listed, Misfit, misfit_in};
 use std::fs;
 use std::io::Read;
 use std::os::unix::fs::MetadataExt;
@@ -56,7 +56,7 @@ pub(crate) fn tell_misfit<E: CountedWrite>(
     text: &[u8],
     err: &mut E,
 ) {
-    let _ = match misfit(rt.alloc(), listed, text) {
+    let _ = match misfit_in(rt.alloc(), listed, text) {
         Some(Misfit::NoJson { line, column }) => put_place(err, line, column),
         Some(Misfit::NoList) => put(err, b"no list\n"),
         Some(Misfit::Item(number)) => put_item(err, listed, number),

@@ -27,7 +27,7 @@ pub enum Misfit {
 }
 
 /// Where a text stops being a list of these, if it does, and memory lasts to find it.
-pub fn misfit(alloc: Global, listed: Listed, text: &[u8]) -> Option<Misfit> {
+pub fn misfit_in(alloc: Global, listed: Listed, text: &[u8]) -> Option<Misfit> {
     let json = match Json::from_slice(alloc, text) {
         Ok(json) => json,
         Err(error) if error.is_memory() => return None,

@@ -225,8 +225,8 @@ The report is one line of JSON:
   sent                    how many messages were sent
 
 Where SCHEDULE is no such array, or a name in it is none of the program's, 'plc: schedule' is told, and
-nothing has run. Before it a line tells 'no event I', counted from 0, 'no list', or 'plc: no
-JSON at L:C'. Where event I, counted from 0, can't take place, 'plc: schedule I R' is: 1 its client or
+nothing has run. Before it a line tells 'no event I', counted from 0, 'no list', or 'no JSON
+at L:C'. Where event I, counted from 0, can't take place, 'plc: schedule I R' is: 1 its client or
 replica is out of range, 2 the message is not yet sent, 3 the replica had the nonce before, 4 the client
 submits while it waits, or retries while it doesn't, 5 the replica is up, 6 the client's numbers are used
 up.
