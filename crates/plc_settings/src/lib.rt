@@ -17,6 +17,7 @@
 //!     lost_after: 60,
 //!     console: None,
 //!     stale: None,
+//!     status: None,
 //! };
 //! ```
 //!
@@ -26,6 +27,7 @@
 #![tactic(auto)]
 
 use il_model::Budget;
+use std::net::SocketAddr;
 use vr_model::Config;
 
 /// How messages go from one replica of a group to another.
@@ -61,4 +63,6 @@ pub struct Settings {
     pub console: Option<u16>,
     /// In milliseconds, from 1: outputs aren't shown that were released longer ago, if that is asked for.
     pub stale: Option<u32>,
+    /// Where what shows is served to browsers and to Prometheus, if it is.
+    pub status: Option<SocketAddr>,
 }

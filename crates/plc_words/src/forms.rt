@@ -885,6 +885,7 @@ fn settings(inner: &ArgMatches) -> Option<Settings>
         lost_after: LOST_AFTER,
         console: inner.get_one::<u16>(CONSOLE),
         stale: inner.get_one::<u32>(STALE),
+        status: None,
     })
 }
 

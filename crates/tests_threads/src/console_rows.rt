@@ -405,6 +405,7 @@ fn settings(console: u16, links: Links, crash: Option<u32>) -> Option<Settings> 
         lost_after: 60,
         console: Some(console),
         stale: None,
+        status: None,
     })
 }
 

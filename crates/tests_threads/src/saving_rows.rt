@@ -121,6 +121,7 @@ fn settings() -> Result<Settings, Fail> {
         lost_after: 60,
         console: None,
         stale: None,
+        status: None,
     })
 }
 
