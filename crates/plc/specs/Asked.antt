@@ -1,5 +1,5 @@
 -- What a call has the program serve.
-use Rattle.std.specs.Prelude.{◌≡◌, ℕ, Bool, true, false, List, map}
+use Rattle.std.specs.Prelude.{◌≡◌, ℕ, Bool, true, false, List, map, string_bytes}
 use Rattle.plc_console.specs.declared.sending.Reply.{Reply}
 use Rattle.plc_console.specs.declared.sending.Reply.TheVariants as replies
 use Rattle.plc_field.specs.declared.run.Mode.{Mode}
@@ -35,7 +35,8 @@ AsksToChange console asking = (asking.console ≡ console)
 abbrev pub IsAsAsked : Words → Outcome → Type 0
 IsAsAsked asked (outcomes.Done status) = Unit {0}
 IsAsAsked (words.Serve source stores report settings) (outcomes.Serve serving) = serving.service.settings ≡ settings
-IsAsAsked (words.ServeMachine group directory) (outcomes.ServeMachine machine) = Unit {0}
+IsAsAsked (words.ServeMachine group directory) (outcomes.ServeMachine machine) =
+    string_bytes machine.directory ≡ directory.now
 IsAsAsked (words.Field field check once) (outcomes.Carry carrying) = carrying.mode ≡ mode_of check once
 IsAsAsked (words.Ask port commands timeout) (outcomes.Ask asking) =
     AsksFor (record { port = port; timeout = timeout }) asking

@@ -1,18 +1,13 @@
 //! One machine of a group that is to be served.
 
-ghost use Rattle.std.specs.Prelude.{◌≡◌};
+ghost use Rattle.std.specs.Prelude.{◌≡◌, IfOk, string_bytes};
 
 use crate::stores::{group_at, tell_at, tell_exposed};
 use il_text::{Fault, tell};
-use io_image::{Naming, NewList};
 use io_model::CountedWrite;
 use plc_group::Group;
-use plc_host::Host;
-use plc_member::{MachineRuntime, Member, Unserved};
+use plc_member::Unserved;
 use plc_serve::tell_failed;
-use std::alloc::Global;
-use std::fs::File;
-use std::rt::Files;
 
 /// One machine of a group that is to be served.
 #[derive(Drop)]
@@ -29,7 +24,9 @@ impl Machine {
         group: &str,
         directory: &str,
         err: &mut E,
-    ) -> Result<Machine, u8> {
+    ) -> Result<Machine, u8>
+        ensures { IfOk result (λ machine. string_bytes machine.directory ≡ directory.now) }
+    {
         let group = group_at(rt, group, err)?;
         let Ok(directory) = String::from_str(rt.alloc(), directory) else {
             return Err(tell(Fault::Memory, err));
@@ -41,31 +38,12 @@ impl Machine {
     }
 }
 
-/// Serves a machine until something fails, which is told: the status.
-pub(crate) fn serve_machine<J, R, E: CountedWrite>(
-    host: Host<R>,
-    list: NewList,
-    machine: &Machine,
+/// Tells why a machine isn't served from a directory, or is no more, and answers the status.
+pub(crate) fn tell_unserved<E: CountedWrite>(
+    directory: &str,
+    unserved: Unserved,
     err: &mut E,
-) -> u8
-where
-    J: Naming + Send + Sync + 'static,
-    R: MachineRuntime + Files<File = File> + Alloc<A = Global>,
-    requires { list ≡ J.book }
-{
-    let Machine { group, directory } = machine;
-    match Member::open(host, group, directory.as_str()) {
-        // The directory is locked to the end.
-        Ok((member, _directory)) => {
-            let failed = member.serve::<J, R, E>(host, list, group, err);
-            tell_failed(failed, err)
-        }
-        Err(unserved) => tell_unserved(directory.as_str(), unserved, err),
-    }
-}
-
-/// Tells why a machine isn't served from a directory, and answers the status.
-fn tell_unserved<E: CountedWrite>(directory: &str, unserved: Unserved, err: &mut E) -> u8 {
+) -> u8 {
     match unserved {
         Unserved::Refused(refusal) => tell_at(directory, refusal, err),
         Unserved::Image(error) => tell(Fault::from(error), err),

@@ -13,13 +13,14 @@ ghost use Rattle.plc.specs.Asked.{IsAsAsked, IsLostAfterAMinute};
 
 use crate::asking::{Asking, Console, ask};
 use crate::carrying::{Carrying, carried};
-use crate::machines::{Machine, serve_machine};
+use crate::machines::{Machine, tell_unserved};
 use crate::serving::{Report, Serving, settled};
 use il_text::{Fault, tell};
 use io_image::NewList;
 use io_model::{Counted, CountedWrite};
 use plc_field::run_field;
 use plc_host::Host;
+use plc_member::{Member, Unserved};
 use plc_serve::serve;
 use plc_status::ReportFile;
 use plc_tool::Group;
@@ -71,8 +72,18 @@ fn main(rt: HostRuntime) -> ExitCode {
             );
             settled(&rt, status, &report, &mut err)
         }
-        Outcome::ServeMachine(machine) => {
-            serve_machine::<Brand, _, _>(host, NewList::new(), &machine, &mut err)
+        Outcome::ServeMachine(Machine { group, directory }) => {
+            let unserved = match Member::open(host, &group, directory.as_str()) {
+                // The directory is locked to the end.
+                Ok((member, _directory)) => Unserved::Failed(member.serve::<Brand, _, _>(
+                    host,
+                    NewList::new(),
+                    &group,
+                    &mut err,
+                )),
+                Err(unserved) => unserved,
+            };
+            tell_unserved(directory.as_str(), unserved, &mut err)
         }
         Outcome::Carry(Carrying { text, mode }) => {
             let mut counted = Counted::new(&mut out);
