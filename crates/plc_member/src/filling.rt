@@ -1,11 +1,20 @@
 //! The stage of a machine that takes over.
 
-ghost use Rattle.std.specs.Prelude.{◌≡◌, OnOk};
+ghost use Rattle.std.specs.Prelude.{◌≡◌, OnOk, length};
 ghost use Rattle.io_image.specs.Book.{cells_of};
 ghost use Rattle.io_image.specs.Staging.{Changed};
 
 use il_model::InImage;
 use io_image::{StageError, Staging};
+
+/// There is an input for each bit and each word. For proofs; it does nothing.
+fn know_whole(inputs: &InImage)
+    ensures bits { length inputs.now.cells.bits ≡ 512 }
+    ensures words { length inputs.now.cells.words ≡ 64 }
+{
+    let _bit = inputs.cells.bits[0];
+    let _word = inputs.cells.words[0];
+}
 
 /// Fills the staged inputs with those of the last scan, so that no input falls to FALSE where a machine takes over.
 /// What was written before is overwritten.
@@ -14,8 +23,8 @@ pub(crate) fn fill<S: Staging>(staging: &mut S, inputs: &InImage) -> Result<(), 
         (λ before after. cells_of after ≡ inputs.now.cells)) }
 {
     let shown = staging.sample().inputs;
-    prove!(shown.cells.bits.len() == inputs.cells.bits.len());
-    prove!(shown.cells.words.len() == inputs.cells.words.len());
+    know_whole(&shown);
+    know_whole(inputs);
     staging.write_bits(0, inputs.cells.bits.as_slice())?;
     staging.write_words(0, inputs.cells.words.as_slice())?;
     Ok(())
