@@ -58,16 +58,17 @@ struct Running<L: Relink + Drop> {
 }
 
 impl<L: Relink + Send + Drop + 'static> Running<L> {
-    /// Starts the replica of this number from the file of its store, which was judged to be started first now, or not.
-    fn start<R, N>(
+    /// Starts the replica of this number from its store.
+    fn start<R, S, N>(
         rt: R,
         number: u8,
-        is_first: bool,
+        store: S,
         link: L,
         neighbours: N,
     ) -> Result<Running<L>, Fail>
     where
-        R: Files + Alloc<A = Global> + Threads + Wait + Clock + Copy + Send + Drop + 'static,
+        R: Alloc<A = Global> + Threads + Wait + Clock + Copy + Send + Drop + 'static,
+        S: Starts + Send + Drop + 'static,
         N: Neighbours + Send + Drop + 'static,
     {
         let alloc = rt.alloc();
@@ -80,7 +81,7 @@ impl<L: Relink + Send + Drop + 'static> Running<L> {
         };
         let seat = Seat {
             link,
-            store: JudgedStarts::new(FileStore::new(rt, alloc, "machines", number)?, is_first),
+            store,
             timer: GroupTimer::new(rt, group, number, patience, resend, neighbours),
             gate: OpenGate,
         };
@@ -111,6 +112,16 @@ impl<L: Relink + Send + Drop + 'static> Running<L> {
     }
 }
 
+/// The store of a replica, which was judged to be started first now, or not.
+fn store_of<R: Files + Alloc<A = Global> + Copy + Drop>(
+    rt: R,
+    number: u8,
+    is_first: bool,
+) -> Result<JudgedStarts<FileStore<R>>, Fail> {
+    let store = FileStore::new(rt, rt.alloc(), "machines", number)?;
+    Ok(JudgedStarts::new(store, is_first))
+}
+
 /// An empty directory for the files of stores.
 fn clear<R: Files + Alloc>(rt: &R) -> Result<(), Fail> {
     let _ = fs::remove_dir_all(rt, "machines");
@@ -128,7 +139,7 @@ fn each_machine_crashes_and_comes_back(rt: HostRuntime) -> Result<(), Fail> {
     let (mut machines, mut back) = (Vec::new(alloc), Vec::new(alloc));
     for number in 0..3u8 {
         let link = link_of(rt, alloc, &board, Party::Replica(number))?;
-        machines.push(Running::start(rt, number, true, link, AllThere)?)?;
+        machines.push(Running::start(rt, number, store_of(rt, number, true)?, link, AllThere)?)?;
     }
     let mut link = link_of(rt, alloc, &board, Party::Client(client))?;
     assert!(rt; is_answered(&mut link, client, 1));
@@ -136,7 +147,7 @@ fn each_machine_crashes_and_comes_back(rt: HostRuntime) -> Result<(), Fail> {
         machine.end(&rt);
         assert!(rt; is_answered(&mut link, client, 2 + u64::from(number)));
         let own = link_of(rt, alloc, &board, Party::Replica(number))?;
-        let mut machine = Running::start(rt, number, false, own, AllThere)?;
+        let mut machine = Running::start(rt, number, store_of(rt, number, false)?, own, AllThere)?;
         assert!(rt; machine.comes_to(&rt, Sought::Normal));
         assert_eq!(rt; machine.solo.look().starts, 2);
         back.push(machine)?;
@@ -158,7 +169,7 @@ fn no_file_makes_a_machine_new(rt: HostRuntime) -> Result<(), Fail> {
             let _ = FileStore::new(rt, alloc, "machines", 1)?.begin()?;
         }
         let link = link_of(rt, alloc, &board, Party::Replica(1))?;
-        let mut machine = Running::start(rt, 1, is_first, link, AllThere)?;
+        let mut machine = Running::start(rt, 1, store_of(rt, 1, is_first)?, link, AllThere)?;
         assert!(rt; machine.comes_to(&rt, Sought::Served));
         let shown = machine.solo.look();
         assert!(rt; shown.has_failed && shown.standing.status == Status::Down);
@@ -221,7 +232,7 @@ fn a_machine_ends_and_is_connected_again(rt: HostRuntime) -> Result<(), Fail> {
     let (mut machines, mut drivers) = (Vec::new(alloc), Vec::new(alloc));
     for (number, listener) in (0..3u8).zip(listeners) {
         let (there, link, driver) = machine_at(rt, number, 1, at.as_slice(), listener)?;
-        machines.push(Running::start(rt, number, true, link, there)?)?;
+        machines.push(Running::start(rt, number, store_of(rt, number, true)?, link, there)?)?;
         drivers.push(driver)?;
     }
     let (mut machines, mut drivers) = (machines.into_iter(), drivers.into_iter());
@@ -235,7 +246,7 @@ fn a_machine_ends_and_is_connected_again(rt: HostRuntime) -> Result<(), Fail> {
     let address = *at.first().ok_or("no address")?;
     let listener = TcpListener::bind(&rt, address)?;
     let (there, link, _driver) = machine_at(rt, 0, 2, at.as_slice(), listener)?;
-    let mut back = Running::start(rt, 0, false, link, there)?;
+    let mut back = Running::start(rt, 0, store_of(rt, 0, false)?, link, there)?;
     assert!(rt; back.comes_to(&rt, Sought::Normal));
     back.end(&rt);
     for machine in machines {
@@ -244,11 +255,10 @@ fn a_machine_ends_and_is_connected_again(rt: HostRuntime) -> Result<(), Fail> {
     Ok(fs::remove_dir_all(&rt, "machines")?)
 }
 
-/// When a replica of three times out first, in milliseconds, by its number and what it is, and by who is near and
-/// reached from then on: before it was alone for so long, if at all. It's asked each 5 ms, but not within that gap.
+/// When replica 1 of three times out first, in milliseconds, by what it is and by who is near and reached, behind having
+/// been alone for so long. It's asked each 5 ms, but not within that gap.
 #[derive(Clone, Copy)]
 struct Row {
-    number: u8,
     standing: Standing,
     alone_for: u64,
     there: (u8, u8),
@@ -274,10 +284,9 @@ const CHANGES: Standing = Standing {
     is_primary: false,
 };
 
-/// A row of replica 1, which was never alone nor stood still.
-const fn row(standing: Standing, near: u8, reached: u8, at: u64) -> Row {
+/// A row of one that was never alone nor stood still.
+const fn steady(standing: Standing, near: u8, reached: u8, at: u64) -> Row {
     Row {
-        number: 1,
         standing,
         alone_for: 0,
         there: (near, reached),
@@ -290,7 +299,7 @@ const fn row(standing: Standing, near: u8, reached: u8, at: u64) -> Row {
 fn first_timeout(row: Row) -> Result<u64, Fail> {
     let (config, _) = group_of_three()?;
     let times = GroupTimes::new(Duration::from_millis(100), Duration::from_millis(25));
-    let mut patience = GroupPatience::new(config, row.number, times);
+    let mut patience = GroupPatience::new(config, 1, times);
     patience.stand(row.standing);
     for tick in 0..400u64 {
         let now = tick * 5;
@@ -313,26 +322,26 @@ fn first_timeout(row: Row) -> Result<u64, Fail> {
 fn a_replica_times_out_by_who_is_there(rt: HostRuntime) -> Result<(), Fail> {
     let rows = [
         // Nothing of its primary, which is there; which isn't reached; and where nobody is.
-        row(FOLLOWS, 0b101, 0b101, 100),
-        row(FOLLOWS, 0b101, 0b100, 40),
-        row(FOLLOWS, 0b000, 0b101, 0),
+        steady(FOLLOWS, 0b101, 0b101, 100),
+        steady(FOLLOWS, 0b101, 0b100, 40),
+        steady(FOLLOWS, 0b000, 0b101, 0),
         // A primary that hears nothing, whoever is there.
-        row(LEADS, 0b000, 0b000, 100),
+        steady(LEADS, 0b000, 0b000, 100),
         // The primary of the view that is to begin is near; and it isn't.
-        row(CHANGES, 0b100, 0b000, 100),
-        row(CHANGES, 0b001, 0b101, 40),
+        steady(CHANGES, 0b100, 0b000, 100),
+        steady(CHANGES, 0b001, 0b101, 40),
         // It was alone until 295 ms; it stood still for 60 ms, and for 250.
         Row {
             alone_for: 300,
-            ..row(FOLLOWS, 0b101, 0b101, 695)
+            ..steady(FOLLOWS, 0b101, 0b101, 695)
         },
         Row {
             gap: (20, 80),
-            ..row(FOLLOWS, 0b101, 0b101, 180)
+            ..steady(FOLLOWS, 0b101, 0b101, 180)
         },
         Row {
             gap: (20, 270),
-            ..row(FOLLOWS, 0b101, 0b101, 670)
+            ..steady(FOLLOWS, 0b101, 0b101, 670)
         },
     ];
     for row in rows {
