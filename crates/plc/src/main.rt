@@ -7,6 +7,7 @@ mod carrying;
 mod files;
 mod machines;
 mod serving;
+mod showing;
 mod stores;
 
 ghost use Rattle.plc.specs.Asked.{IsAsAsked, IsLostAfterAMinute};
@@ -15,12 +16,14 @@ use crate::asking::{Asking, Console, ask};
 use crate::carrying::{Carrying, carried};
 use crate::machines::{Machine, tell_unserved};
 use crate::serving::{Report, Serving, settled};
+use crate::showing::notices_of;
 use il_text::{Fault, tell};
 use io_image::NewList;
 use io_model::{Counted, CountedWrite};
 use plc_field::run_field;
 use plc_host::Host;
 use plc_member::{Member, Unserved};
+use plc_page::Telling;
 use plc_serve::serve;
 use plc_status::ReportFile;
 use plc_tool::Group;
@@ -67,6 +70,7 @@ fn main(rt: HostRuntime) -> ExitCode {
             let path = report.as_ref().map(Report::written_at);
             let mut file = Counted::new(ReportFile::at(&rt, path));
             let list = NewList::new();
+            let mut err = Counted::new(Telling::new(rt, rt.stderr(), notices_of(&service.showing)));
             let status = serve::<Brand, _, _, _, _, _>(
                 host, list, service, &mut file, &mut out, &mut err,
             );

@@ -3,13 +3,14 @@
 ghost use Rattle.std.specs.Prelude.{◌≡◌, IfOk};
 
 use crate::files::{are_same, is_among, refuse, tell_unread};
+use crate::showing::showing_of;
 use io_model::CountedWrite;
 use plc_host::{Failed, Host};
 use plc_serve::{Service, tell_failed};
 use plc_settings::Settings;
 use std::alloc::AllocError;
 use std::fs;
-use std::net::TcpListener;
+use std::net::{SocketAddr, TcpListener};
 use vr_threads::FileStore;
 
 /// Standard output, as what can be looked at.
@@ -74,25 +75,36 @@ fn opened(
             Some(path) => Some(Report::at(rt, path)?),
             None => None,
         },
-        service: Service::new(host, source, stores, settings)?,
+        service: Service::new(host, source, stores, settings, showing_of(rt, &settings)?)?,
     })
 }
 
-/// A port of this machine, or none where it's in use.
-fn listener(rt: &HostRuntime, port: u16) -> Option<TcpListener> {
-    TcpListener::bind(rt, ("127.0.0.1", port)).ok()
+/// A port of this machine.
+fn own(port: u16) -> SocketAddr {
+    SocketAddr::from(([127, 0, 0, 1], port))
+}
+
+/// This address, if one is asked for; its port where that isn't to be had.
+fn held(rt: &HostRuntime, address: Option<SocketAddr>) -> Result<Option<TcpListener>, u16> {
+    let Some(address) = address else {
+        return Ok(None);
+    };
+    match TcpListener::bind(rt, address) {
+        Ok(listener) => Ok(Some(listener)),
+        Err(_) => Err(address.port()),
+    }
+}
+
+/// The ports of a controller that is to be served, all at once; or the first one that isn't to be had.
+fn held_ports(rt: &HostRuntime, settings: &Settings) -> Result<[Option<TcpListener>; 3], u16> {
+    let clients = held(rt, Some(own(settings.port)))?;
+    let console = held(rt, settings.console.map(own))?;
+    Ok([clients, console, held(rt, settings.status)?])
 }
 
 /// The first port of a controller that is to be served which isn't to be had.
 fn taken_port(rt: &HostRuntime, settings: &Settings) -> Option<u16> {
-    let clients = listener(rt, settings.port);
-    if clients.is_none() {
-        return Some(settings.port);
-    }
-    match settings.console {
-        Some(port) if listener(rt, port).is_none() => Some(port),
-        _ => None,
-    }
+    held_ports(rt, settings).err()
 }
 
 /// Whether a report would be written over the source, among the stores, or over the file that is standard output.

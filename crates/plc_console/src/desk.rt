@@ -11,7 +11,8 @@ use il_model::{Answer, Command};
 use plc_host::Host;
 use plc_status::{Deed, Journal, Notice};
 use std::ops::Range;
-use std::sync::Wait;
+use std::sync::atomic::{AtomicBool, Ordering};
+use std::sync::{Arc, Wait};
 use std::time::{Clock, Duration};
 use vr_client::GroupClient;
 use vr_model::{ClientNumber, Config};
@@ -39,6 +40,8 @@ pub struct Desk<R: Copy + Drop, L: Drop> {
     journal: Journal,
     /// Where other consoles give commands, too.
     others: Option<Others>,
+    /// Set before the group can know of a change of the program, if that is wanted.
+    has_changed: Option<Arc<AtomicBool>>,
 }
 
 impl<R: Wait + Clock + Copy + Drop, L: Link + Drop> Desk<R, L> {
@@ -60,6 +63,15 @@ impl<R: Wait + Clock + Copy + Drop, L: Link + Drop> Desk<R, L> {
             replicas: config.group_size(),
             journal,
             others: None,
+            has_changed: None,
+        }
+    }
+
+    /// The same, and this is set before the group can know of a change of the program.
+    pub fn telling_changes(self, has_changed: Arc<AtomicBool>) -> Desk<R, L> {
+        Desk {
+            has_changed: Some(has_changed),
+            ..self
         }
     }
 
@@ -106,6 +118,9 @@ impl<R: Wait + Clock + Copy + Drop, L: Link + Drop> Desk<R, L> {
             (λ answer. Notes (deed_done command.now answer) self.old.journal self.new.journal) }
         ensures silent { OnErr result (self.new.journal ≡ self.old.journal) }
     {
+        if let Command::Change(_) = command {
+            tell_change(&self.has_changed);
+        }
         let answer = self.ask(command)?;
         note(command, &answer, &mut self.journal);
         Ok(answer)
@@ -141,5 +156,12 @@ fn note(command: &Command, answer: &Answer, journal: &mut Journal)
     }
     if let Some(deed) = Deed::of(command) {
         journal.put(Notice::Done(deed));
+    }
+}
+
+/// Tells that another program may be in force from now on, where that is wanted.
+fn tell_change(has_changed: &Option<Arc<AtomicBool>>) {
+    if let Some(has_changed) = has_changed {
+        has_changed.store(true, Ordering::SeqCst);
     }
 }

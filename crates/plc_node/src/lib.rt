@@ -16,5 +16,6 @@
 
 mod node;
 mod opening;
+mod showing;
 
 pub use node::Node;

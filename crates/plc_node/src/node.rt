@@ -5,15 +5,19 @@ ghost use Rattle.vr_model.specs.Groups.{group_size};
 ghost use Rattle.plc_status.specs.Notices.{IsAtMostServingTold, IsServingTold};
 
 use crate::opening::{Kept, Ready};
+use crate::showing::ToShow;
 use il_loader::Image;
 use io_image::{Naming, NewList};
 use io_model::CountedWrite;
 use plc_driver::{Directory, Driver, GroupLinks, Parts};
 use plc_host::{Failed, Host, ServiceRuntime};
+use plc_page::Showing;
 use plc_settings::Settings;
 use plc_status::{Counts, Journals, StatusWriter};
 use std::net::{Net, TcpListener, TcpStream};
 use std::rt::Files;
+use std::sync::Arc;
+use std::sync::atomic::AtomicBool;
 use std::time::Instant;
 use vr_ports::Relink;
 use vr_threads::Starts;
@@ -28,6 +32,8 @@ pub struct Node<'a, S: Drop> {
     pub settings: Settings,
     /// What is shown of it meanwhile.
     pub status: StatusWriter,
+    /// What a page shows beside it, if one is wanted.
+    pub showing: Option<Showing>,
     ghost one_each: { vec_len stores ≡ group_size settings.config.f },
 }
 
@@ -79,6 +85,7 @@ impl<S: Starts + Send + Drop + 'static> Node<'_, S> {
             stores,
             settings,
             status,
+            showing,
         } = self;
         let Host { rt, alloc } = host;
         let Journals {
@@ -86,10 +93,18 @@ impl<S: Starts + Send + Drop + 'static> Node<'_, S> {
             console,
             printer,
         } = Journals::new(alloc)?;
+        let begun = Instant::now(&rt)?;
+        let shown = ToShow {
+            status: status.reader()?,
+            begun,
+            has_changed: Arc::new(alloc, AtomicBool::new(false))?,
+            showing,
+        };
         let kept = Kept {
             traffic: status.traffic()?,
             console,
             status: status.reader()?,
+            shown,
         };
         let (ready, writer) = Ready::<R, L, J>::new(
             host, list, &settings, &image, &mut links, kept,
@@ -100,7 +115,7 @@ impl<S: Starts + Send + Drop + 'static> Node<'_, S> {
             writer,
             journal,
             status,
-            begun: Instant::now(&rt)?,
+            begun,
         };
         let driver = match Driver::start(host, &settings, &image, parts) {
             Ok(driver) => driver,

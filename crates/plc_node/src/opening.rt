@@ -4,6 +4,7 @@ ghost use Rattle.std.specs.Prelude.{◌≡◌, [], IfOk, Some};
 ghost use Rattle.plc_status.specs.Journal.{IsJournalOf};
 ghost use Rattle.plc_status.specs.Notices.{IsServingTold};
 
+use crate::showing::{ToShow, close_page, opened_page};
 use il_loader::Image;
 use io_image::{
     MarkingPen, Naming, NewList, Pen, ReleasedWriter, SharedPen, Stage, Stamp, released,
@@ -14,6 +15,7 @@ use plc_console::{Console, Desk, DeskClient, OpenConsole};
 use plc_driver::{Directory, Driver, Ended};
 use plc_host::{Failed, Host, ServiceRuntime, Traffic};
 use plc_listener::Door;
+use plc_page::{OpenPage, Page};
 use plc_settings::Settings;
 use plc_status::{Counts, Journal, Printer, StatusReader, tell_port};
 use std::net::{Net, TcpListener, TcpStream};
@@ -39,6 +41,7 @@ pub(crate) struct Kept {
     pub(crate) traffic: Arc<Traffic>,
     pub(crate) console: Journal,
     pub(crate) status: StatusReader,
+    pub(crate) shown: ToShow,
 }
 
 /// What outputs are released to: it marks when.
@@ -49,12 +52,14 @@ pub(crate) type Releases<J, R> = ReleasedWriter<J, MarkingPen<SharedPen<J, R>, R
 pub(crate) struct Ready<R: ServiceRuntime, L: Relink + Drop, J: Naming> {
     server: Server<R, J>,
     console: Option<Console<R, L>>,
+    page: Option<Page<R, J>>,
 }
 
 /// What takes connections. It can't be let go of but by `close`, which joins its threads.
 pub(crate) struct Open<R: ServiceRuntime, L: Relink + Drop, J: Naming> {
     server: OpenServer<R, J>,
     console: Option<OpenConsole<R, L>>,
+    page: Option<OpenPage<R, J>>,
     /// The inputs that the sessions stage.
     stage: Arc<Stage>,
 }
@@ -83,6 +88,7 @@ where
             traffic,
             console: journal,
             status,
+            shown,
         } = kept;
         let idle = Duration::from_secs(u64::from(settings.idle));
         let console = match settings.console {
@@ -91,25 +97,42 @@ where
                     return Err(Failed::Device);
                 };
                 let period = Duration::from_millis(u64::from(settings.period));
-                let desk = Desk::new(host, settings.config, CONSOLE, link, period, journal);
+                let changed = Arc::try_clone(&shown.has_changed)?;
+                let desk = Desk::new(
+                    host,
+                    settings.config,
+                    CONSOLE,
+                    link,
+                    period,
+                    journal,
+                ).telling_changes(changed);
                 let door = door_at(&rt, port)?;
                 Some(Console::new(host, door, desk, image, status, idle)?)
             }
             None => None,
         };
         let door = door_at(&rt, settings.port)?;
-        let Ok((writer, readers)) = released::<J, R>(list, alloc, rt, SESSIONS) else {
+        let Ok((writer, mut readers)) = released::<J, R>(list, alloc, rt, SESSIONS + 1) else {
             return Err(Failed::Memory);
         };
+        let Some(reader) = readers.pop() else {
+            return Err(Failed::Memory);
+        };
+        let page = shown.page(host, settings, image, reader)?;
         let stamp = Arc::new(alloc, Stamp::new(rt)?)?;
         let writer = writer.marked(Arc::try_clone(&stamp)?);
-        let shown = Shown {
+        let outputs = Shown {
             readers,
             stamp,
             limit: settings.stale,
         };
-        let server = Server::new(host, door, shown, idle, traffic)?;
-        Ok((Ready { server, console }, writer))
+        let server = Server::new(host, door, outputs, idle, traffic)?;
+        let ready = Ready {
+            server,
+            console,
+            page,
+        };
+        Ok((ready, writer))
     }
 
     /// Takes connections, if each replica has its file in the directory: one whose file could not be made is down. The
@@ -120,18 +143,31 @@ where
         directory: Directory<'_>,
     ) -> Result<Open<R, L, J>, Failed> {
         directory.check_full(host.rt, host.alloc)?;
-        let Ready { server, console } = self;
+        let Ready {
+            server,
+            console,
+            page,
+        } = self;
         let console = match console {
             Some(console) => Some(console.open()?),
             None => None,
+        };
+        let page = match opened_page(page) {
+            Ok(page) => page,
+            Err(failed) => {
+                close_console(console);
+                return Err(failed);
+            }
         };
         match opened(server) {
             Ok((server, stage)) => Ok(Open {
                 server,
                 console,
+                page,
                 stage,
             }),
             Err(failed) => {
+                close_page(page);
                 close_console(console);
                 Err(failed)
             }
@@ -198,11 +234,13 @@ where
         let Open {
             server,
             console,
+            page,
             stage,
         } = self;
         tell_port(err, server.port());
         let driven = driver.run(rt, stage, &mut printer, err);
         let (sessions, writes) = server.close();
+        close_page(page);
         close_console(console);
         let Ended {
             mut journal,

@@ -4,7 +4,7 @@
 //!
 //! ```rust
 //! let host = Host { rt, alloc };
-//! let service = Service::new(host, "motor.il", &["stores"], settings)?;
+//! let service = Service::new(host, "motor.il", &["stores"], settings, None)?; // no page
 //! let mut file = Counted::new(ReportFile::at(&rt, None)); // no report is wanted
 //! let status = serve::<Brand, _, _, _, _, _>(host, NewList::new(), service, &mut file, &mut out, &mut err);
 //! // 0 after so many scans as the settings ask for

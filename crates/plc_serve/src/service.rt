@@ -8,6 +8,7 @@ use il_loader::Image;
 use il_text::{Fault, image};
 use plc_driver::Directory;
 use plc_host::{Failed, Host};
+use plc_page::Showing;
 use plc_settings::Settings;
 use plc_status::StatusWriter;
 use std::alloc::{AllocError, Global};
@@ -25,6 +26,8 @@ pub struct Service<S: Drop> {
     pub settings: Settings,
     /// What is shown of it while it's served: a reader of it is to be had before.
     pub status: StatusWriter,
+    /// What a page shows beside it, if one is wanted.
+    pub showing: Option<Showing>,
     ghost one_each: { vec_len stores ≡ group_size settings.config.f },
 }
 
@@ -35,6 +38,7 @@ impl<R: Files + Alloc<A = Global> + Copy + Drop> Service<FileStore<R>> {
         source: &str,
         directories: &[&str],
         settings: Settings,
+        showing: Option<Showing>,
     ) -> Result<Service<FileStore<R>>, Failed>
         ensures { IfOk result (λ service. service.settings ≡ settings) }
     {
@@ -51,6 +55,7 @@ impl<R: Files + Alloc<A = Global> + Copy + Drop> Service<FileStore<R>> {
             stores,
             settings,
             status: StatusWriter::new(alloc)?,
+            showing,
         })
     }
 }
@@ -73,6 +78,7 @@ pub(crate) struct Loaded<S: Drop> {
     pub(crate) stores: Vec<S>,
     pub(crate) settings: Settings,
     pub(crate) status: StatusWriter,
+    pub(crate) showing: Option<Showing>,
     ghost one_each: { vec_len stores ≡ group_size settings.config.f },
 }
 
@@ -91,6 +97,7 @@ impl<S: Drop> Loaded<S> {
             stores,
             settings,
             status,
+            showing,
         } = service;
         Ok(Loaded {
             image: image(alloc, source.as_slice())?,
@@ -99,6 +106,7 @@ impl<S: Drop> Loaded<S> {
             stores,
             settings,
             status,
+            showing,
         })
     }
 }

@@ -137,6 +137,7 @@ where
         stores,
         settings,
         status,
+        showing,
         ..
     } = loaded;
     let directory = Directory {
@@ -152,6 +153,7 @@ where
         stores,
         settings,
         status,
+        showing,
     };
     let done = reported::<J, R, S, F, E>(host, list, node, report, err);
     taken.leave(&rt);

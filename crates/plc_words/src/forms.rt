@@ -10,9 +10,10 @@ use il_model::Budget;
 use plc_settings::{Links, Settings};
 use std::alloc::{AllocError, Global};
 use std::convert::AsStr;
+use std::net::SocketAddr;
 use vr_model::Config;
 
-const VERSION: &str = "0.1.0";
+pub const VERSION: &str = "0.1.0";
 
 /// The word of the option `--budget`.
 const BUDGET: &str = "budget";
@@ -60,6 +61,9 @@ const CHANGE: &str = "change";
 /// The word of the option `--timeout`.
 const TIMEOUT: &str = "timeout";
 
+/// The word of the option `--status`.
+const STATUS: &str = "status";
+
 /// The word of the option `--stale`.
 const STALE: &str = "stale";
 
@@ -87,6 +91,9 @@ const CHECK: &str = "check";
 const ONCE: &str = "once";
 
 const NO_FORM: &str = "error: the words name no form of call\n";
+
+const NO_ADDRESS: &str =
+    "error: --status is a port, 1 to 65535, or an address of this machine with one\n";
 
 const NO_STORES: &str = "error: --store is given once, or once for each of the 2F+1 replicas\n";
 
@@ -278,6 +285,11 @@ what isn't to be had for a start, or failed, the line is one of these:
   plc: device store I        the directory of replica I, or its file there
   plc: device report         the file of --report
   plc: device no thread      nor, with 'no connection', a connection between replicas
+
+With --status P what shows is served at port P of 127.0.0.1 over HTTP/1.1, and changes nothing: a page
+for browsers at /, figures for Prometheus at /metrics, JSON at /state. With --status ADDR:P it's at that
+address of this machine, for whoever reaches it. Up to 16 connections are served at once, each until it
+has sent no request for 30 seconds.
 
 With --console P an operator's console is served at port P of 127.0.0.1, to one client at a time. Each
 line is one of the commands of 'plc run' in JSON, but no scan, and is answered by its line, or a
@@ -659,7 +671,8 @@ fn serve_command<'a>(alloc: Global) -> Result<Command<'a>, AllocError> {
         .arg(console(alloc))?
         .arg(count(alloc, STALE, "MS").help(
             "Milliseconds until outputs aren't shown any more; without it they always are",
-        ))
+        ))?
+        .arg(status(alloc))
 }
 
 fn ask_command<'a>(alloc: Global) -> Result<Command<'a>, AllocError> {
@@ -824,6 +837,15 @@ fn console<'a>(alloc: Global) -> Arg<'a> {
 }
 
 /// The option is refused where it is given twice or empty.
+fn status<'a>(alloc: Global) -> Arg<'a> {
+    Arg::new(alloc, STATUS)
+        .long(STATUS)
+        .value_name("[ADDR:]P")
+        .value_parser(ValueParser::NonEmptyString)
+        .help("The port of a page for browsers and of figures for Prometheus, 1 to 65535")
+}
+
+/// The option is refused where it is given twice or empty.
 fn report<'a>(alloc: Global) -> Arg<'a> {
     Arg::new(alloc, REPORT)
         .long(REPORT)
@@ -889,6 +911,29 @@ fn settings(inner: &ArgMatches) -> Option<Settings>
     })
 }
 
+/// A port of this machine, or an address of its own with a port.
+fn address_of(text: &str) -> Option<SocketAddr> {
+    let address = match text.parse::<u16>() {
+        Ok(port) => SocketAddr::from(([127, 0, 0, 1], port)),
+        Err(_) => text.parse::<SocketAddr>().ok()?,
+    };
+    if address.port() == 0 || address.ip().is_unspecified() {
+        return None;
+    }
+    Some(address)
+}
+
+/// Where what shows is served, if it is.
+fn shown_at(alloc: Global, inner: &ArgMatches) -> Result<Option<SocketAddr>, WordsError> {
+    let Some(text) = inner.get_str(STATUS) else {
+        return Ok(None);
+    };
+    match address_of(text) {
+        Some(address) => Ok(Some(address)),
+        None => Err(WordsError::Bad(String::from_str(alloc, NO_ADDRESS)?)),
+    }
+}
+
 /// The directories for the stores.
 fn directories<'a>(alloc: Global, inner: &ArgMatches<'a>) -> Result<Vec<&'a str>, AllocError> {
     let mut stores = Vec::new(alloc);
@@ -915,6 +960,10 @@ fn served<'a>(
     }
     let Some(source) = inner.get_str("SOURCE") else {
         return Ok(None);
+    };
+    let settings = Settings {
+        status: shown_at(alloc, inner)?,
+        ..settings
     };
     Ok(Some(Words::Serve {
         source,

@@ -20,5 +20,5 @@ mod forms;
 mod telling;
 
 pub use error::WordsError;
-pub use forms::{Words, read_words};
+pub use forms::{VERSION, Words, read_words};
 pub use telling::tell_words;

@@ -16,6 +16,7 @@ mod hellos;
 mod machine_stores;
 mod messages;
 mod notation;
+mod pages;
 mod replicas;
 mod rows;
 mod sessions;

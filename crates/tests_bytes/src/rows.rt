@@ -5,7 +5,7 @@ use crate::notation::{bytes_of, front, lines_of, plain, spread, told, told_bytes
 use crate::sessions::Exchange;
 use crate::{
     blocks, controllers, drivers, fields, frames, group_files, groups, hellos, machine_stores,
-    replicas,
+    pages, replicas,
 };
 use std::alloc::{AllocError, Global};
 use std::io;
@@ -41,7 +41,7 @@ impl Found {
 }
 
 /// What a row hands in: the name of its file, and by sections an exchange of requests and replies, the lines of a
-/// message, and the text of a field.
+/// message or of what shows, and the text of a field.
 #[derive(Drop)]
 struct Given<'a> {
     file: &'a str,
@@ -63,7 +63,7 @@ impl<'a> Given<'a> {
     /// Takes what a section hands in; false where it hands in nothing.
     fn take(&mut self, title: &str, body: &'a str) -> io::Result<bool> {
         match title {
-            "message" | "file" => self.message = body,
+            "message" | "file" | "shown" => self.message = body,
             "field" => self.field = body,
             _ => return self.exchange.take(title, body.trim_end()),
         }
@@ -225,6 +225,7 @@ fn comes_out_of_machine(alloc: Global, file: &str, title: &str, cell: &str) -> i
         "hellos.rows" => hellos::table(alloc, title, cell),
         "stores.rows" => machine_stores::table(alloc, title, cell),
         "drivers.rows" => drivers::table(alloc, title, cell),
+        "page.rows" => pages::table(alloc, title, cell),
         _ => Err(unreadable()),
     }
 }
@@ -234,6 +235,8 @@ fn said(alloc: Global, title: &str, body: &str) -> io::Result<String> {
     match title {
         "frame" => hexadecimals(alloc, body),
         "no frame" => told(alloc, "none"),
+        "metrics" => told(alloc, body),
+        "state" => Ok(joined(alloc, body)?),
         _ => Ok(plain(alloc, body)?),
     }
 }
@@ -243,6 +246,7 @@ fn runs(alloc: Global, given: &Given<'_>, title: &str, body: &str) -> io::Result
     match given.file {
         "frames.rows" => frames::frame(alloc, given.message),
         "fields.rows" => fields::run(alloc, given.field, body),
+        "page.rows" => pages::text(alloc, title, given.message),
         file => runs_of(alloc, file, front(title, " ").1, body),
     }
 }
@@ -256,6 +260,16 @@ fn runs_of(alloc: Global, file: &str, of: &str, body: &str) -> io::Result<String
         "drivers.rows" => drivers::run(alloc, of, body),
         _ => Err(unreadable()),
     }
+}
+
+/// Lines joined to one.
+fn joined(alloc: Global, body: &str) -> Result<String, AllocError> {
+    let mut line = String::new(alloc);
+    for part in body.lines() {
+        line.push_str(part)?;
+    }
+    line.push_str("\n")?;
+    Ok(line)
 }
 
 /// Bytes without the blanks between them.

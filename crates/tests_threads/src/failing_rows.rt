@@ -291,6 +291,7 @@ fn sixteen_clients_see_one_history(rt: HostRuntime) -> Result<(), Fail> {
             stores,
             settings,
             status,
+            showing: None,
         },
         &mut Counted::new(&mut report),
         &mut out,

@@ -153,6 +153,7 @@ fn a_disk_that_hangs_stops_no_scan(rt: HostRuntime) -> Result<(), Fail> {
             stores,
             settings,
             status,
+            showing: None,
         },
         &mut Counted::new(&mut report),
         &mut out,

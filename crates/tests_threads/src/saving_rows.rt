@@ -156,6 +156,7 @@ fn a_save_that_failed_is_tried_again(rt: HostRuntime) -> Result<(), Fail> {
             stores,
             settings,
             status: StatusWriter::new(alloc)?,
+            showing: None,
         },
         &mut Counted::new(&mut report),
         &mut out,

@@ -507,7 +507,7 @@ fn asked<R: Files + Alloc<A = Global> + Copy + Drop>(
         rt,
         alloc: rt.alloc(),
     };
-    match Service::new(host, source, stores.as_slice(), settings) {
+    match Service::new(host, source, stores.as_slice(), settings, None) {
         Ok(service) => Ok(service),
         Err(_) => Err("no service")?,
     }
@@ -663,6 +663,7 @@ fn controllers_are_served(rt: HostRuntime) -> Result<(), Fail> {
             stores,
             settings,
             status,
+            showing,
         } = prepared(rt, row, in_use, console, &mut held)?;
         let directory = directories.first().ok_or("no directory")?;
         let file = format!(in alloc; "{directory}/replica-0")?;
@@ -672,6 +673,7 @@ fn controllers_are_served(rt: HostRuntime) -> Result<(), Fail> {
             stores: with_falling(alloc, stores, row.falls, row.starts)?,
             settings,
             status,
+            showing,
         };
         let told = Arc::new(alloc, AtomicU64::new(0))?;
         let begun = Instant::now(&rt)?;

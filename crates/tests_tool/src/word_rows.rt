@@ -6,6 +6,7 @@ use plc_settings::{Links, Settings};
 use plc_words::{Words, WordsError, read_words, tell_words};
 use std::alloc::{AllocError, Global};
 use std::io;
+use std::net::SocketAddr;
 use std::process::Abort;
 use std::test::Fail;
 use vr_model::Config;
@@ -102,6 +103,7 @@ fn greatest() -> Result<Settings, Fail> {
         crash: Some(4_294_967_295),
         console: Some(65_535),
         stale: Some(4_294_967_295),
+        status: Some(SocketAddr::from(([127, 0, 0, 1], 65_535))),
         ..settings()?
     })
 }
@@ -117,6 +119,7 @@ fn least() -> Result<Settings, Fail> {
         crash: Some(1),
         console: Some(1),
         stale: Some(1),
+        status: Some(SocketAddr::from(([10, 0, 0, 5], 1))),
         ..settings()?
     })
 }
@@ -125,11 +128,11 @@ fn least() -> Result<Settings, Fail> {
 fn words_ask_to_serve(rt: HostRuntime) -> Result<(), Fail> {
     let middle =
         "plc serve a.il --store d --links channel --scans 1 --port 1 --period 1 --idle 1 --crash 1 \
-                  --report r --console 1 --stale 1";
+                  --report r --console 1 --stale 1 --status 10.0.0.5:1";
     let last =
         "plc serve --scans=4294967295 --store=d --f=3 --every=65535 --port=65535 --period=4294967295 \
-                --idle=4294967295 --crash=4294967295 --report=r --console=65535 --stale=4294967295 --store=e \
-                --store=f --store=g --store=h --store=i --store=j a.il";
+                --idle=4294967295 --crash=4294967295 --report=r --console=65535 --stale=4294967295 --status=65535 \
+                --store=e --store=f --store=g --store=h --store=i --store=j a.il";
     let alloc = rt.alloc();
     let each = ["d", "e", "f", "g", "h", "i", "j"];
     let first = serve(alloc, &["d"], None, settings()?)?;
@@ -415,6 +418,17 @@ fn missing_words_of_serve_are_bad(rt: HostRuntime) -> Result<(), Fail> {
         ),
     ];
     are_bad(&rt, rt.alloc(), "plc serve a.il", &rows)
+}
+
+#[test]
+fn an_address_without_a_port_of_its_own_is_bad(rt: HostRuntime) -> Result<(), Fail> {
+    let rows: [Row; 5] = ["0", "65536", "0.0.0.0:80", "10.0.0.5", "plant:80"].map(|word| {
+        (
+            word,
+            "error: --status is a port, 1 to 65535, or an address of this machine with one",
+        )
+    });
+    are_bad(&rt, rt.alloc(), "plc serve a.il --store d --status", &rows)
 }
 
 #[test]

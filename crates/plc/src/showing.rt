@@ -1,0 +1,29 @@
+//! What the page of a controller shows beside what is published of it.
+
+use plc_host::Failed;
+use plc_page::{Notices, ProcessFiles, Showing};
+use plc_settings::Settings;
+use plc_words::VERSION;
+use std::hash::RandomState;
+use std::sync::Arc;
+
+/// What a page shows beside what is published, if one is asked for.
+pub(crate) fn showing_of(rt: &HostRuntime, settings: &Settings) -> Result<Option<Showing>, Failed> {
+    if settings.status.is_none() {
+        return Ok(None);
+    }
+    Ok(Some(Showing {
+        version: VERSION,
+        notices: Arc::new(rt.alloc(), Notices::new(rt.alloc()))?,
+        keys: RandomState::new(rt)?,
+        process: ProcessFiles::open(rt).ok(),
+    }))
+}
+
+/// Where the lines are kept that a page shows, if there is one.
+pub(crate) fn notices_of(showing: &Option<Showing>) -> Option<Arc<Notices>> {
+    match showing {
+        Some(showing) => Arc::try_clone(&showing.notices).ok(),
+        None => None,
+    }
+}

@@ -1,0 +1,4 @@
+pub mod Answers
+pub mod Notices
+pub mod Page
+pub mod Sources

@@ -1,0 +1,32 @@
+//! What shows of a controller while it runs, for a browser and for Prometheus: a page, figures and JSON at a port, over
+//! HTTP/1.1. It's only read: nothing of the controller is changed by it, and nothing that scans waits for it.
+//!
+//! ```rust
+//! let notices = Arc::new(alloc, Notices::new(alloc))?;
+//! let mut err = Counted::new(Telling::new(rt, rt.stderr(), Some(notices))); // what is told is kept
+//! let page = Page::new(host, address, &settings, &image, showing, published)?; // at 127.0.0.1:8080
+//! let open = page.open()?; // GET /, /state and /metrics are answered from now on
+//! open.close();
+//! ```
+//!
+//! Proved: what a request is answered is a function of its method, its path, its host and of what was read
+//! (`specs/Answers`): 200 with the page, the JSON or the figures, or 400, 404, 405, 421; each output has the value at
+//! its own place (`specs/Sources`); the last 200 lines that were told are kept (`specs/Notices`). What goes out over a
+//! connection answers the requests that came in, in order (`http_server` of the kit).
+//!
+//! No program serves it yet: its word is to come, and with it rows and a tool that tries it.
+#![tactic(auto)]
+
+mod answer;
+mod notices;
+mod page;
+mod process;
+mod service;
+mod shown;
+mod source;
+
+pub use answer::{Show, Site, Verdict, respond, verdict_of};
+pub use notices::{Notices, Telling};
+pub use process::ProcessFiles;
+pub use service::{OpenPage, Page};
+pub use shown::{Published, Showing};

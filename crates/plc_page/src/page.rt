@@ -1,0 +1,390 @@
+//! The page: its text, which is readable by itself, and the style and the script that make it a view.
+
+ghost use Rattle.std.specs.Prelude.{OnOk};
+ghost use Rattle.plc_page.specs.Page.{age_words, halt_words, page_text, point_line, point_lines, replica_line};
+ghost use Rattle.plc_page.specs.Page.{replica_lines, scan_line, held_words, known_age, stopped_words};
+ghost use Rattle.plc_figures.specs.Texts.{IsAdded};
+
+use plc_figures::{
+    Halt, Point, Reading, Replica, Scans, phase_name, put, put_number, put_place, put_seconds,
+    put_signed, stop_name,
+};
+use std::alloc::AllocError;
+
+/// What a browser may load for the page: its own style and script, and what shows; no other site may frame it.
+pub(crate) const POLICY: &str =
+    "default-src 'none'; connect-src 'self'; script-src 'self'; style-src 'self'; \
+base-uri 'none'; form-action 'none'; frame-ancestors 'none'";
+
+/// The page up to what shows.
+const HEAD: &str = r#"<!doctype html>
+<html lang="en">
+<head>
+<meta charset="utf-8">
+<meta name="viewport" content="width=device-width, initial-scale=1">
+<meta name="color-scheme" content="light dark">
+<title>PLC</title>
+<link rel="stylesheet" href="style.css">
+<script src="script.js" defer></script>
+</head>
+<body>
+<header><span id="lamp" class="lamp"></span><h1>PLC</h1><p id="says" role="status"></p><p id="version"></p></header>
+<main>
+<pre id="plain">
+"#;
+
+/// The page behind what shows.
+const TAIL: &str = r#"</pre>
+<div id="view" hidden>
+<section id="halted" class="wide" hidden>
+<h2 id="why"></h2><ol id="listing" tabindex="0" aria-label="The program"></ol></section>
+<section class="wide tiles" id="tiles" aria-label="Scans"></section>
+<section id="group"><h2>Replicas</h2>
+<table><thead><tr><th>Replica</th><th>State</th><th>View</th><th>Starts</th></tr></thead>
+<tbody id="replicas"></tbody></table></section>
+<section id="ins"><h2>Inputs</h2><ul id="inputs"></ul></section>
+<section id="outs"><h2>Outputs</h2><ul id="outputs"></ul></section>
+<section id="told"><h2>Notices</h2>
+<ol id="notices" tabindex="0" aria-label="Notices, the last one first"></ol></section>
+</div>
+</main>
+</body>
+</html>
+"#;
+
+/// How the page looks.
+pub(crate) const STYLE: &str = r#":root {
+  color-scheme: light dark;
+  --page: #f4f5f7; --card: #ffffff; --text: #1c2128; --quiet: #626b77; --line: #dfe3e8;
+  --good: #1a7f37; --bad: #c62828; --warn: #9a6700; --lit: #2fb344; --dark: #d5dae1; --mark: #ffe2df;
+}
+@media (prefers-color-scheme: dark) {
+  :root {
+    --page: #0e1116; --card: #171b22; --text: #e4e8ee; --quiet: #919cab; --line: #2a313c;
+    --good: #4cc26b; --bad: #ff7b72; --warn: #e3b341; --lit: #3ddc64; --dark: #333c48; --mark: #4c1f20;
+  }
+}
+* { box-sizing: border-box; }
+body { margin: 0; background: var(--page); color: var(--text); font: 15px/1.45 system-ui, "DejaVu Sans", sans-serif; }
+header { display: flex; flex-wrap: wrap; gap: .25rem .75rem; align-items: center; padding: .75rem 1.25rem;
+  background: var(--card); border-bottom: 1px solid var(--line); }
+h1 { font-size: 1.15rem; margin: 0; letter-spacing: .04em; }
+header p { margin: 0; }
+#version { margin-left: auto; color: var(--quiet); font-size: .85rem; }
+main { max-width: 76rem; margin: 0 auto; padding: 1.25rem; }
+#view { display: grid; gap: 1rem; grid-template-columns: repeat(auto-fit, minmax(min(21rem, 100%), 1fr)); }
+#view[hidden], section[hidden], pre[hidden] { display: none; }
+section { background: var(--card); border: 1px solid var(--line); border-radius: .6rem; padding: .9rem 1.1rem;
+  min-width: 0; }
+.wide { grid-column: 1 / -1; }
+h2 { font-size: .8rem; margin: 0 0 .6rem; color: var(--quiet); text-transform: uppercase; letter-spacing: .08em; }
+.tiles { display: grid; gap: 1rem; grid-template-columns: repeat(auto-fit, minmax(7.5rem, 1fr)); }
+.tile b { display: block; font-size: 1.5rem; font-weight: 600; line-height: 1.25; font-variant-numeric: tabular-nums; }
+.tile span { color: var(--quiet); font-size: .85rem; }
+table { width: 100%; border-collapse: collapse; font-variant-numeric: tabular-nums; }
+th { text-align: left; font-weight: 500; color: var(--quiet); font-size: .85rem; }
+th, td { padding: .3rem .5rem .3rem 0; border-bottom: 1px solid var(--line); }
+tbody tr:last-child td { border-bottom: 0; }
+ul, ol { list-style: none; margin: 0; padding: 0; }
+#inputs li, #outputs li { display: flex; gap: .7rem; align-items: center; padding: .3rem 0;
+  border-bottom: 1px solid var(--line); }
+#inputs li:last-child, #outputs li:last-child { border-bottom: 0; }
+.name { overflow-wrap: anywhere; }
+.place { margin-left: auto; color: var(--quiet); font: .85rem ui-monospace, "DejaVu Sans Mono", monospace; }
+.number { min-width: 4.5rem; text-align: right; font-weight: 600; font-variant-numeric: tabular-nums; }
+.lamp { flex: none; display: inline-block; width: .95rem; height: .95rem; border-radius: 50%; background: var(--dark);
+  box-shadow: inset 0 0 0 1px #0003; }
+.lamp.on, .lamp.good { background: var(--lit); box-shadow: inset 0 0 0 1px #0002, 0 0 .5rem var(--lit); }
+.lamp.bad { background: var(--bad); box-shadow: 0 0 .5rem var(--bad); }
+.lamp.warn { background: var(--warn); box-shadow: 0 0 .5rem var(--warn); }
+.bit { min-width: 4.5rem; display: flex; gap: .5rem; align-items: center; justify-content: flex-end;
+  color: var(--quiet); }
+.good { color: var(--good); }
+.bad { color: var(--bad); font-weight: 600; }
+.warn { color: var(--warn); font-weight: 600; }
+#halted { border-color: currentColor; }
+#halted h2 { color: inherit; }
+#halted ol { color: var(--text); font-weight: 400; }
+#listing, #notices { max-height: 18rem; overflow: auto; font: .85rem/1.6 ui-monospace, "DejaVu Sans Mono", monospace; }
+#listing { counter-reset: line; }
+#listing li { counter-increment: line; white-space: pre; padding: 0 .5rem 0 4rem; position: relative;
+  min-width: max-content; }
+#listing li::before { content: counter(line); position: absolute; left: 0; width: 3rem; text-align: right;
+  color: var(--quiet); }
+#listing li[aria-current] { background: var(--mark); color: inherit; font-weight: 700;
+  box-shadow: inset .25rem 0 var(--bad); }
+#notices li { padding: .15rem 0; } #notices time { color: var(--quiet); margin-right: .9rem; }
+pre { margin: 0; overflow: auto; font: .9rem/1.6 ui-monospace, "DejaVu Sans Mono", monospace; }
+.old { opacity: .45; }
+:focus-visible { outline: 2px solid var(--good); outline-offset: 2px; border-radius: .3rem; }
+@media (max-width: 30rem) { main { padding: .75rem; } .tile b { font-size: 1.2rem; } #version { display: none; } }
+"#;
+
+/// What the page does: it asks each second for what shows.
+pub(crate) const SCRIPT: &str = r#"'use strict';
+const byId = (id) => document.getElementById(id);
+const make = (name, kind, ...inside) => {
+  const made = document.createElement(name);
+  if (kind) made.className = kind;
+  made.append(...inside.map((it) => it instanceof Node ? it : String(it)));
+  return made;
+};
+const fill = (id, made) => byId(id).replaceChildren(...made);
+const duration = (time) => time < 1 ? Math.round(time * 1000) + ' ms' : time < 120 ? time.toFixed(1) + ' s'
+  : Math.round(time / 60) + ' min';
+const isNormal = (it) => it.status === 'normal' && !it.failed;
+let before = null;
+
+function rate(scans) {
+  const now = performance.now();
+  const last = before;
+  before = { now, count: scans.count };
+  return last === null ? '–' : ((scans.count - last.count) * 1000 / (now - last.now)).toFixed(1);
+}
+
+function tiles(state) {
+  const { scans } = state;
+  const normal = state.replicas.filter(isNormal).length;
+  const all = state.replicas.length;
+  const tile = (name, value, kind) => make('div', 'tile', make('b', kind, value), make('span', '', name));
+  const made = [tile('scans a second', rate(scans)), tile('last interval', duration(scans.interval))];
+  if (scans.age !== null) made.push(tile('last release', duration(scans.age) + ' ago', scans.fresh ? '' : 'bad'));
+  made.push(tile('scans', scans.count.toLocaleString('en')), tile('late scans', scans.late.toLocaleString('en')),
+    tile('replicas normal', normal + ' of ' + all, normal === all ? '' : 'warn'),
+    tile('requests of clients', state.clients.requests.toLocaleString('en')));
+  fill('tiles', made);
+}
+
+function point(it) {
+  const isBit = it.place[2] === 'X';
+  const lamp = make('span', it.value ? 'lamp on' : 'lamp');
+  lamp.setAttribute('aria-hidden', 'true');
+  const shown = isBit ? make('span', 'bit', it.value ? 'on' : 'off', lamp) : make('span', 'number', it.value);
+  return make('li', '', make('span', 'name', it.name), make('span', 'place', it.place), shown);
+}
+
+function points(box, list, points) {
+  byId(box).hidden = points.length === 0;
+  fill(list, points.map(point));
+}
+
+function replica(it) {
+  const state = it.failed ? it.status + ', store failed' : it.primary ? it.status + ', primary' : it.status;
+  const kind = it.failed || it.status === 'down' ? 'bad' : it.status === 'normal' ? 'good' : 'warn';
+  return make('tr', '', make('td', '', it.replica), make('td', kind, state), make('td', '', it.view),
+    make('td', '', it.starts));
+}
+
+function notice(it) {
+  const time = new Date(it.at * 1000);
+  const shown = make('time', '', time.toLocaleTimeString('en-GB'));
+  shown.dateTime = time.toISOString();
+  shown.title = time.toLocaleString();
+  return make('li', '', shown, it.line);
+}
+
+async function program() {
+  const text = (await (await fetch('program')).text()).trimEnd();
+  return text === '' ? [] : text.split('\n');
+}
+
+async function halted(halt) {
+  byId('halted').hidden = halt === null;
+  if (halt === null) return;
+  const isHeld = halt.why === 'held';
+  const all = await program();
+  const at = all.indexOf('END_VAR') + 1 + halt.position;
+  const place = all.length > 0 ? 'line ' + (at + 1) : 'instruction ' + halt.position;
+  byId('halted').className = isHeld ? 'wide warn' : 'wide bad';
+  byId('why').textContent = isHeld ? 'Held before ' + place : 'Stopped at ' + place + ': ' + halt.why;
+  const box = byId('listing');
+  if (box.children.length !== all.length) fill('listing', all.map((line) => make('li', '', line)));
+  const marked = box.children[at];
+  if (marked === undefined || marked.hasAttribute('aria-current')) return;
+  box.querySelector('[aria-current]')?.removeAttribute('aria-current');
+  marked.setAttribute('aria-current', 'true');
+  box.scrollTop = marked.offsetTop - box.offsetTop - box.clientHeight / 2;
+}
+
+function says(kind, words) {
+  byId('lamp').className = 'lamp ' + kind;
+  byId('says').className = kind;
+  byId('says').textContent = words;
+}
+
+function judge(state) {
+  const { halt, age, fresh } = state.scans;
+  const primary = state.replicas.find((it) => it.primary);
+  const down = state.replicas.filter((it) => !isNormal(it)).map((it) => it.replica);
+  if (halt !== null && halt.why === 'held') says('warn', 'held at a breakpoint');
+  else if (halt !== null) says('bad', 'stopped: ' + halt.why);
+  else if (age !== null && !fresh) says('bad', 'nothing was released for ' + duration(age));
+  else if (down.length > 0) says('warn', 'runs; replica ' + down.join(', ') + ' not normal');
+  else if (primary === undefined) says('warn', 'no replica leads');
+  else says('good', 'runs; replica ' + primary.replica + ' leads in view ' + state.view);
+}
+
+async function show() {
+  const answer = await fetch('state');
+  if (!answer.ok) throw new Error(answer.status);
+  const state = await answer.json();
+  const { version, process } = state;
+  byId('version').textContent = 'plc ' + version
+    + (process === null ? '' : ', ' + (process.memory / 1048576).toFixed(1) + ' MB');
+  judge(state);
+  tiles(state);
+  fill('replicas', state.replicas.map(replica));
+  points('ins', 'inputs', state.inputs);
+  points('outs', 'outputs', state.outputs);
+  byId('told').hidden = state.notices.length === 0;
+  fill('notices', [...state.notices].reverse().map(notice));
+  byId('plain').hidden = true;
+  byId('view').hidden = false;
+  byId('view').classList.remove('old');
+  await halted(state.scans.halt);
+}
+
+async function go() {
+  try {
+    await show();
+  } catch (fault) {
+    says('bad', 'no answer: what is shown is old');
+    byId('view').classList.add('old');
+  }
+  setTimeout(go, 1000);
+}
+go();
+"#;
+
+/// Adds a text.
+pub(crate) fn put_text(out: &mut Vec<u8>, text: &str) -> Result<(), AllocError>
+    ensures { OnOk result (IsAdded out.old.items text.now out.new.items) }
+{
+    put(out, text.as_bytes())?;
+    Ok(())
+}
+
+/// How long ago the scan began that released outputs last, in words.
+fn put_known_age(out: &mut Vec<u8>, age: u64) -> Result<(), AllocError>
+    ensures { OnOk result (IsAdded out.old.items (known_age age) out.new.items) }
+{
+    put(out, b", the last ")?;
+    put_seconds(out, age)?;
+    put(out, b" s ago")?;
+    Ok(())
+}
+
+/// The same, if there was one.
+fn put_age(out: &mut Vec<u8>, age: Option<u64>) -> Result<(), AllocError>
+    ensures { OnOk result (IsAdded out.old.items (age_words age) out.new.items) }
+{
+    match age {
+        None => Ok(()),
+        Some(age) => put_known_age(out, age),
+    }
+}
+
+/// Where the last scan was held, in words.
+fn put_held(out: &mut Vec<u8>, position: u64) -> Result<(), AllocError>
+    ensures { OnOk result (IsAdded out.old.items (held_words position) out.new.items) }
+{
+    put(out, b", held before instruction ")?;
+    put_number(out, position)?;
+    Ok(())
+}
+
+/// Why and where the last scan stopped, in words.
+fn put_stopped(out: &mut Vec<u8>, why: &[u8], position: u64) -> Result<(), AllocError>
+    ensures { OnOk result (IsAdded out.old.items (stopped_words why.now position) out.new.items) }
+{
+    put(out, b", stopped by ")?;
+    put(out, why)?;
+    put(out, b" at instruction ")?;
+    put_number(out, position)?;
+    Ok(())
+}
+
+/// By what the last scan was held or stopped, if it was.
+fn put_halt(out: &mut Vec<u8>, halt: Option<Halt>) -> Result<(), AllocError>
+    ensures { OnOk result (IsAdded out.old.items (halt_words halt) out.new.items) }
+{
+    match halt {
+        None => Ok(()),
+        Some(Halt::Held(position)) => put_held(out, u64::from(position)),
+        Some(Halt::Stopped(stop, position)) => {
+            put_stopped(out, stop_name(stop), u64::from(position))
+        }
+    }
+}
+
+/// The scans, in words.
+fn put_scans(out: &mut Vec<u8>, scans: &Scans) -> Result<(), AllocError>
+    ensures { OnOk result (IsAdded out.old.items (scan_line scans.now) out.new.items) }
+{
+    put(out, b"scans: ")?;
+    put_number(out, scans.releases)?;
+    put_age(out, scans.age)?;
+    put_halt(out, scans.halt)?;
+    put(out, b"\n")?;
+    Ok(())
+}
+
+/// A replica, in words.
+fn put_replica(out: &mut Vec<u8>, number: usize, shown: &Replica) -> Result<(), AllocError>
+    ensures { OnOk result (IsAdded out.old.items (replica_line (number, shown.now)) out.new.items) }
+{
+    put(out, b"replica ")?;
+    put_number(out, number as u64)?;
+    put(out, b": ")?;
+    put(out, phase_name(shown.standing.status))?;
+    put(out, b", view ")?;
+    put_number(out, shown.standing.view)?;
+    put(out, b"\n")?;
+    Ok(())
+}
+
+/// All replicas, a line each.
+fn put_replicas(out: &mut Vec<u8>, replicas: &[Replica]) -> Result<(), AllocError>
+    ensures { OnOk result (IsAdded out.old.items (replica_lines replicas.now) out.new.items) }
+{
+    for (number, shown) in replicas.iter().enumerate() {
+        put_replica(out, number, shown)?;
+    }
+    Ok(())
+}
+
+/// An input or an output, in words.
+fn put_point(out: &mut Vec<u8>, point: &Point) -> Result<(), AllocError>
+    ensures { OnOk result (IsAdded out.old.items (point_line point.now) out.new.items) }
+{
+    put(out, point.name.as_slice())?;
+    put(out, b" ")?;
+    put_place(out, point.place)?;
+    put(out, b" = ")?;
+    put_signed(out, point.value)?;
+    put(out, b"\n")?;
+    Ok(())
+}
+
+/// Inputs or outputs, a line each.
+fn put_points(out: &mut Vec<u8>, points: &[Point]) -> Result<(), AllocError>
+    ensures { OnOk result (IsAdded out.old.items (point_lines points.now) out.new.items) }
+{
+    for point in points {
+        put_point(out, point)?;
+    }
+    Ok(())
+}
+
+/// Adds the page, with what shows in words.
+pub(crate) fn put_page(out: &mut Vec<u8>, reading: &Reading) -> Result<(), AllocError>
+    ensures { OnOk result (IsAdded out.old.items (page_text reading.now) out.new.items) }
+{
+    put_text(out, HEAD)?;
+    put_scans(out, &reading.scans)?;
+    put_replicas(out, reading.replicas.as_slice())?;
+    put_points(out, reading.inputs.as_slice())?;
+    put_points(out, reading.outputs.as_slice())?;
+    put_text(out, TAIL)?;
+    Ok(())
+}

@@ -1,0 +1,220 @@
+//! Where what shows is read.
+
+ghost use Rattle.std.specs.Prelude.{◌≡◌, IfOk, map};
+ghost use Rattle.std.specs.List.{flat_map};
+ghost use Rattle.plc_page.specs.Sources.{halt_of, point_at, replica_of, shown, value_at, AreOfStatus, IsOfScans};
+ghost use Rattle.plc_page.specs.Sources.{named_output, output_of, spelt, spelt_option};
+
+use crate::notices::Notices;
+use crate::process::ProcessFiles;
+use il_model::{Area, Cells, Loc, Variable};
+use io_image::{Naming, ReleasedReader};
+use plc_figures::{Clients, Halt, Point, Reading, Replica, Scans};
+use plc_host::Host;
+use plc_status::{ScanStatus, Status, StatusReader};
+use std::alloc::{AllocError, Global};
+use std::sync::atomic::{AtomicBool, Ordering};
+use std::sync::{Arc, Wait};
+use std::time::{Clock, Duration, Instant};
+use vr_shown::Shown;
+
+/// A name of the program, and its place among the outputs.
+#[derive(Drop)]
+pub(crate) struct Named {
+    name: Vec<u8>,
+    place: Loc,
+}
+
+/// What shows is read from these. None of them is waited for by whoever scans.
+#[derive(Drop)]
+pub(crate) struct Source<J: Naming> {
+    pub(crate) status: StatusReader,
+    pub(crate) released: ReleasedReader<J>,
+    pub(crate) outputs: Vec<Named>,
+    /// How many replicas the group has.
+    pub(crate) replicas: u8,
+    /// From when the moments of the scans count.
+    pub(crate) begun: Instant,
+    /// So long ago the last release began at most, where nothing is wrong.
+    pub(crate) longest_age: Duration,
+    /// The program may be another one than that whose outputs these are.
+    pub(crate) has_changed: Arc<AtomicBool>,
+    pub(crate) notices: Arc<Notices>,
+    pub(crate) process: Option<ProcessFiles>,
+}
+
+/// A variable that has a place among the outputs.
+fn output(alloc: Global, variable: &Variable) -> Result<Option<Named>, AllocError>
+    ensures { IfOk result (λ named. spelt_option named ≡ output_of variable.now.name variable.now.location) }
+{
+    let Some(place) = variable.location else {
+        return Ok(None);
+    };
+    let (Loc::Bit(Area::Output, _) | Loc::Word(Area::Output, _)) = place else {
+        return Ok(None);
+    };
+    let name = Vec::from_slice(alloc, variable.name.bytes())?;
+    Ok(Some(Named { name, place }))
+}
+
+/// What shows at one moment, and whether the program is the one that was served at first.
+#[derive(Drop)]
+pub(crate) struct Taken {
+    pub(crate) reading: Reading,
+    pub(crate) is_in_force: bool,
+}
+
+/// The variables that have a place among the outputs, in the order in which they are declared.
+pub(crate) fn outputs(alloc: Global, variables: &[Variable]) -> Result<Vec<Named>, AllocError>
+    ensures { IfOk result (λ outputs. map spelt outputs.items ≡ flat_map named_output variables.now) }
+{
+    let mut outputs = Vec::new(alloc);
+    for variable in variables {
+        if let Some(named) = output(alloc, variable)? {
+            outputs.push(named)?;
+        }
+    }
+    Ok(outputs)
+}
+
+/// What there is at a place among these cells: 0 and 1 for a bit.
+fn value_at(cells: &Cells, place: Loc) -> i64
+    ensures { result ≡ value_at cells.now place }
+{
+    match place {
+        Loc::Bit(_, number) => match cells.bits.get(usize::from(number)) {
+            Some(true) => 1,
+            _ => 0,
+        },
+        Loc::Word(_, number) => match cells.words.get(usize::from(number)) {
+            Some(word) => i64::from(*word),
+            None => 0,
+        },
+    }
+}
+
+/// A name with what there is at its place.
+fn point(alloc: Global, named: &Named, cells: &Cells) -> Result<Point, AllocError>
+    ensures { IfOk result (λ point. shown point ≡ point_at cells.now named.now) }
+{
+    Ok(Point {
+        name: Vec::from_slice(alloc, named.name.as_slice())?,
+        place: named.place,
+        value: value_at(cells, named.place),
+    })
+}
+
+/// Each name with what there is at its place, in their order.
+fn points(alloc: Global, names: &[Named], cells: &Cells) -> Result<Vec<Point>, AllocError>
+    ensures { IfOk result (λ points. map shown points.items ≡ map (point_at cells.now) names.now) }
+{
+    let mut points = Vec::with_capacity(alloc, names.len())?;
+    for named in names {
+        points.push(point(alloc, named, cells)?)?;
+    }
+    Ok(points)
+}
+
+/// By what a scan was held or stopped, if it was.
+fn halt_of(halt: Option<plc_status::Halt>) -> Option<Halt>
+    ensures { result ≡ halt_of halt }
+{
+    match halt? {
+        plc_status::Halt::Held(position) => Some(Halt::Held(position)),
+        plc_status::Halt::Stopped(stop, position) => Some(Halt::Stopped(stop, position)),
+    }
+}
+
+/// The scans, by how long ago the last release began.
+fn scans_of(scans: &ScanStatus, age: Option<Duration>, longest_age: Duration) -> Scans
+    ensures { IsOfScans scans.now result }
+{
+    Scans {
+        scans: scans.scans,
+        late: scans.late,
+        releases: scans.releases,
+        interval: scans.interval,
+        interval_sum: scans.interval_sum,
+        interval_counts: scans.interval_counts,
+        age: age.map(microseconds),
+        is_fresh: age.is_some_and(|age| age <= longest_age),
+        halt: halt_of(scans.halt),
+    }
+}
+
+/// A time in whole microseconds.
+fn microseconds(time: Duration) -> u64 {
+    u64::try_from(time.as_micros()).unwrap_or(u64::MAX)
+}
+
+/// What shows of a replica.
+fn replica_of(shown: Shown) -> Replica
+    ensures { result ≡ replica_of shown }
+{
+    Replica {
+        standing: shown.standing,
+        starts: shown.starts,
+        has_failed: shown.has_failed,
+    }
+}
+
+/// What shows of each of so many replicas, at its number.
+fn replicas_of(alloc: Global, status: &Status, count: u8) -> Result<Vec<Replica>, AllocError>
+    ensures { IfOk result (λ replicas. AreOfStatus status.now replicas.items) }
+{
+    let mut replicas = Vec::with_capacity(alloc, usize::from(count))?;
+    for number in 0..count {
+        replicas.push(replica_of(status.replica(number)))?;
+    }
+    Ok(replicas)
+}
+
+impl<J: Naming> Source<J> {
+    /// How long ago the scan began that released outputs last, if there was one.
+    fn age<R: Clock>(&self, rt: &R, scans: &ScanStatus) -> Option<Duration> {
+        if scans.releases == 0 {
+            return None;
+        }
+        let now = Instant::now(rt).ok()?;
+        let lasted = now.saturating_duration_since(self.begun);
+        Some(lasted.saturating_sub(Duration::from_micros(scans.released_at)))
+    }
+
+    /// What shows now.
+    pub(crate) fn read<R: Clock + Wait + Copy>(
+        &mut self,
+        host: &Host<R>,
+    ) -> Result<Taken, AllocError> {
+        let Host { rt, alloc } = *host;
+        let status = self.status.read();
+        let scans = status.scans();
+        let image = self.released.read().image;
+        // Behind the image: a program that isn't the first one has released nothing before it's set.
+        let is_in_force = !self.has_changed.load(Ordering::SeqCst);
+        let outputs = if is_in_force {
+            points(alloc, self.outputs.as_slice(), &image.cells)?
+        } else {
+            Vec::new(alloc)
+        };
+        let process = match &mut self.process {
+            Some(files) => files.read(),
+            None => None,
+        };
+        let reading = Reading {
+            replicas: replicas_of(alloc, &status, self.replicas)?,
+            scans: scans_of(&scans, self.age(&rt, &scans), self.longest_age),
+            clients: Clients {
+                sessions: status.sessions,
+                requests: status.requests,
+            },
+            process,
+            inputs: Vec::new(alloc),
+            outputs,
+            notices: self.notices.last(&rt)?,
+        };
+        Ok(Taken {
+            reading,
+            is_in_force,
+        })
+    }
+}
