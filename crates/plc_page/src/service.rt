@@ -85,7 +85,8 @@ impl<R: Wait + Clock + Copy, J: Naming> Service for Answering<'_, R, J> {
         } = self.source.lock(&self.host.rt).read(self.host)?;
         let program = if is_in_force { self.program } else { &[] };
         let alloc = self.host.alloc;
-        respond(alloc, self.site, request, &reading, program, response)
+        respond(alloc, self.site, request, &reading, program, response)?;
+        Ok(())
     }
 }
 

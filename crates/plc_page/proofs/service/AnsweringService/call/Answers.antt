@@ -1,0 +1,5 @@
+use Rattle.std.proofs.Common.{refl}
+use Rattle.plc_page.proofs.service.AnsweringService.call.Goals as goal
+
+pub returns-clause-ok : goal.returns-clause-ok
+returns-clause-ok g c = (refl, (c.in_ok-reading.field-0.reading, c.if-is_in_force.program.now, c.in_ok-respond.ensures))
