@@ -11,7 +11,7 @@ ghost use Rattle.io_driver.specs.Driver.{release_by};
 ghost use Rattle.plc_status.specs.Journal.{AreNoted};
 ghost use Rattle.plc_status.specs.Scans.{after_scan};
 ghost use Rattle.plc_driver.specs.Driving.{AsksForScan, HasRun, Publishes, Scans, scan_of};
-ghost use Rattle.plc_status.specs.Halting.{IsHaltNoted};
+ghost use Rattle.plc_status.specs.Halting.{IsHaltNoted, halted};
 
 use crate::crashes::Crashes;
 use crate::group::Group;
@@ -21,12 +21,22 @@ use io_driver::ScanDriver;
 use io_image::{Naming, Pen, ReleasedWriter, Staging};
 use plc_host::{Failed, Host, ServiceRuntime};
 use plc_settings::Settings;
-use plc_status::{Halt, Journal, Notice, Scan, StatusWriter, halt_in, note_halt};
+use plc_status::{Halt, Journal, Notice, Scan, StatusWriter, halt_in};
 use std::sync::Wait;
 use std::time::{Clock, Duration, Instant};
 use vr_model::Message;
 use vr_ports::{Input, Relink, send_all};
 use vr_threads::{ClusterThreads, Starts};
+
+/// What is noted of a scan that was held or stopped by this, or goes on.
+fn halted(halt: Option<Halt>) -> Notice
+    ensures { result ≡ halted halt }
+{
+    match halt {
+        Some(halt) => halt.notice(),
+        None => Notice::GoesOn,
+    }
+}
 
 /// What came of a scan.
 #[derive(Clone, Copy)]
@@ -350,7 +360,9 @@ where
         ensures halt { self.new.halt ≡ halt }
         ensures same { self.new.writer ≡ self.old.writer }
     {
-        note_halt(self.halt, halt, &mut self.journal);
+        if self.halt != halt {
+            self.journal.put(halted(halt));
+        }
         self.halt = halt;
     }
 
