@@ -6,6 +6,7 @@ use crate::stores::{group_at, tell_at, tell_exposed};
 use il_text::{Fault, tell};
 use io_model::CountedWrite;
 use plc_group::Group;
+use plc_host::Failed;
 use plc_member::Unserved;
 use plc_serve::tell_failed;
 
@@ -38,15 +39,21 @@ impl Machine {
     }
 }
 
-/// Tells why a machine isn't served from a directory, or is no more, and answers the status.
+/// Why a machine is served no more, if by a fault.
+pub(crate) fn ended_by(failed: Option<Failed>) -> Option<Unserved> {
+    Some(Unserved::Failed(failed?))
+}
+
+/// Tells why a machine isn't served from a directory, or is no more, if by a fault, and answers the status.
 pub(crate) fn tell_unserved<E: CountedWrite>(
     directory: &str,
-    unserved: Unserved,
+    unserved: Option<Unserved>,
     err: &mut E,
 ) -> u8 {
     match unserved {
-        Unserved::Refused(refusal) => tell_at(directory, refusal, err),
-        Unserved::Image(error) => tell(Fault::from(error), err),
-        Unserved::Failed(failed) => tell_failed(failed, err),
+        Some(Unserved::Refused(refusal)) => tell_at(directory, refusal, err),
+        Some(Unserved::Image(error)) => tell(Fault::from(error), err),
+        Some(Unserved::Failed(failed)) => tell_failed(failed, err),
+        None => 0,
     }
 }

@@ -14,7 +14,7 @@ ghost use Rattle.plc.specs.Asked.{IsAsAsked, IsLostAfterAMinute};
 
 use crate::asking::{Asking, Console, ask};
 use crate::carrying::{Carrying, carried};
-use crate::machines::{Machine, tell_unserved};
+use crate::machines::{Machine, ended_by, tell_unserved};
 use crate::serving::{Report, Serving, settled};
 use crate::showing::notices_of;
 use il_text::{Fault, tell};
@@ -22,7 +22,7 @@ use io_image::NewList;
 use io_model::{Counted, CountedWrite};
 use plc_field::run_field;
 use plc_host::Host;
-use plc_member::{Member, Unserved};
+use plc_member::Member;
 use plc_page::Telling;
 use plc_serve::serve;
 use plc_status::ReportFile;
@@ -79,13 +79,11 @@ fn main(rt: HostRuntime) -> ExitCode {
         Outcome::ServeMachine(Machine { group, directory }) => {
             let unserved = match Member::open(host, &group, directory.as_str()) {
                 // The directory is locked to the end.
-                Ok((member, _directory)) => Unserved::Failed(member.serve::<Brand, _, _>(
-                    host,
-                    NewList::new(),
-                    &group,
-                    &mut err,
-                )),
-                Err(unserved) => unserved,
+                Ok((member, _directory)) => {
+                    let list = NewList::new();
+                    ended_by(member.serve::<Brand, _, _>(host, list, &group, &mut err))
+                }
+                Err(unserved) => Some(unserved),
             };
             tell_unserved(directory.as_str(), unserved, &mut err)
         }

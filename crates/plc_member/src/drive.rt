@@ -13,6 +13,7 @@ ghost use Rattle.plc_member.specs.Driving.{MayScan, Publishes};
 use crate::filling::fill;
 use crate::port::{Port, Turn};
 use crate::scans::ScanBoard;
+use crate::stop::Stop;
 use crate::watch::{Watch, note, told_of};
 use io_image::{Naming, Pen, Release, ReleasedWriter, Stage, StageError, Stamp};
 use net_peers::{Exchange, PeerLink};
@@ -75,6 +76,8 @@ where
     pub(crate) asked: Duration,
     /// The view in which it was told that the port isn't to be had.
     pub(crate) refused_in: Option<u64>,
+    /// What ends it.
+    pub(crate) stop: Stop,
 }
 
 /// The view that a machine leads, if it leads.
@@ -117,24 +120,28 @@ where
     J: Naming + Send + Sync + 'static,
     P: Pen<J> + Drop,
 {
-    /// Drives while the machine leads, and stands by else, until something fails: what. The port is open while outputs
-    /// are shown, and closed at the end. Then nothing more is noted.
-    pub(crate) fn run(mut self, port: Port<R, J>) -> Failed {
+    /// Drives while the machine leads, and stands by else, until something fails: what; or, with none, until it's asked
+    /// to stop. The port is open while outputs are shown, and closed at the end. Then nothing more is noted.
+    pub(crate) fn run(mut self, port: Port<R, J>) -> Option<Failed> {
         let failed = self.go_on(port);
         self.solo.cut();
         self.journal.end();
         failed
     }
 
-    /// Turn by turn, until something fails.
-    fn go_on(&mut self, mut port: Port<R, J>) -> Failed {
+    /// Turn by turn, until something fails or it's asked to stop.
+    fn go_on(&mut self, mut port: Port<R, J>) -> Option<Failed> {
         let rt = self.host.rt;
         for _ in rt.forever() {
+            if self.stop.is_asked() {
+                port.close();
+                return None;
+            }
             let shows = match self.turn() {
                 Ok(shows) => shows,
                 Err(failed) => {
                     port.close();
-                    return failed;
+                    return Some(failed);
                 }
             };
             match port.tended(shows) {
@@ -142,7 +149,7 @@ where
                     port = tended;
                     self.note_port(turn);
                 }
-                Err(failed) => return failed,
+                Err(failed) => return Some(failed),
             }
         }
         port.close();

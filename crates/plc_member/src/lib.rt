@@ -5,7 +5,8 @@
 //! ```rust
 //! let host = Host { rt, alloc };
 //! let (member, directory) = Member::open(host, &group, "store")?; // judged, locked and marked as started
-//! let failed = member.serve::<Brand, _, _>(host, NewList::new(), &group, &mut err); // why it ended
+//! let stop = member.stop()?; // `stop.ask()` ends it, from any thread
+//! let failed = member.serve::<Brand, _, _>(host, NewList::new(), &group, &mut err); // why it ended, if by a fault
 //! ```
 //!
 //! Proved: a scan is submitted only as of a machine that leads, where one is due, and its inputs are one sample; what is
@@ -23,9 +24,11 @@ mod opening;
 mod port;
 mod scans;
 mod serving;
+mod stop;
 mod unserved;
 mod watch;
 
 pub use opening::Member;
 pub use serving::MachineRuntime;
+pub use stop::Stop;
 pub use unserved::Unserved;

@@ -2,6 +2,7 @@
 
 ghost use Rattle.std.specs.Prelude.{◌≡◌};
 
+use crate::stop::Stop;
 use crate::unserved::Unserved;
 use il_loader::{Image, load};
 use plc_group::Group;
@@ -10,7 +11,7 @@ use plc_machine::wanted;
 use plc_store::{
     FileDirectory, Header, Opened, Refusal, Start, Store, StoreDirectory, open, read_store,
 };
-use std::alloc::Global;
+use std::alloc::{AllocError, Global};
 use std::fs::File;
 use std::net::{Net, SocketAddr, TcpListener, TcpStream};
 use std::rt::Files;
@@ -28,6 +29,15 @@ pub struct Member<S: Drop> {
     /// How many starts there are with this one.
     pub(crate) starts: u64,
     pub(crate) listener: TcpListener,
+    /// What ends it.
+    pub(crate) stop: Stop,
+}
+
+impl<S: Drop> Member<S> {
+    /// What ends its serving.
+    pub fn stop(&self) -> Result<Stop, AllocError> {
+        self.stop.another()
+    }
 }
 
 /// The number of the machine whose store a directory has.
@@ -110,6 +120,7 @@ where
             store,
             starts,
             listener,
+            stop: Stop::new(alloc)?,
         };
         Ok((member, directory))
     }

@@ -7,6 +7,7 @@ use crate::neighbours::Machines;
 use crate::opening::Member;
 use crate::port::Port;
 use crate::scans::{ScanBoard, ScanGate};
+use crate::stop::Stop;
 use crate::watch::Watch;
 use il_loader::Image;
 use io_image::{Naming, NewList, Pen, ReleasedWriter, SharedPen, Stamp, released};
@@ -60,6 +61,8 @@ struct Running<R: MachineRuntime> {
     snapshots: Arc<SnapshotBoard>,
     /// Of the program with which the epoch began.
     image: Image,
+    /// What ends it.
+    stop: Stop,
 }
 
 /// What the outputs are released to, and what clients are shown them by.
@@ -166,6 +169,7 @@ fn started<R: MachineRuntime, S: Starts + Send + Drop + 'static>(
         store,
         starts,
         listener,
+        stop,
         ..
     } = member;
     let Linked {
@@ -212,6 +216,7 @@ fn started<R: MachineRuntime, S: Starts + Send + Drop + 'static>(
         console,
         snapshots,
         image,
+        stop,
     })
 }
 
@@ -299,33 +304,35 @@ fn driver_of(group: &Group, number: u8, starts: u64) -> Result<MachineDriver, Fa
 }
 
 impl<S: Starts + Send + Drop + 'static> Member<S> {
-    /// Serves the machine until something fails: what. `err` has a line for each change. It fails at once where something
-    /// isn't to be had.
+    /// Serves the machine until something fails: what; or, with none, until it's asked to stop. `err` has a line for
+    /// each change. It fails at once where something isn't to be had.
     pub fn serve<J, R, E: CountedWrite>(
         self,
         host: Host<R>,
         list: NewList,
         group: &Group,
         err: &mut E,
-    ) -> Failed
+    ) -> Option<Failed>
     where
         J: Naming + Send + Sync + 'static,
         R: MachineRuntime,
         requires { list ≡ J.book }
     {
         match self.run::<J, R, E>(host, list, group, err) {
-            Ok(failed) | Err(failed) => failed,
+            Ok(failed) => failed,
+            Err(failed) => Some(failed),
         }
     }
 
-    /// Runs it until something fails: what. An error is something that isn't to be had at its start.
+    /// Runs it until something fails: what; or, with none, until it's asked to stop. An error is something that isn't to
+    /// be had at its start.
     fn run<J, R, E: CountedWrite>(
         self,
         host: Host<R>,
         list: NewList,
         group: &Group,
         err: &mut E,
-    ) -> Result<Failed, Failed>
+    ) -> Result<Option<Failed>, Failed>
     where
         J: Naming + Send + Sync + 'static,
         R: MachineRuntime,
@@ -403,6 +410,7 @@ impl<R: MachineRuntime, J: Naming, P: Pen<J> + Drop> Parts<R, J, P> {
             driver: link,
             solo,
             board,
+            stop,
             ..
         } = running;
         let drive = Drive {
@@ -429,6 +437,7 @@ impl<R: MachineRuntime, J: Naming, P: Pen<J> + Drop> Parts<R, J, P> {
             },
             asked: millis(0),
             refused_in: None,
+            stop,
         };
         Ok((drive, seats))
     }
@@ -448,13 +457,14 @@ where
     J: Naming + Send + Sync + 'static,
     P: Pen<J> + Send + Drop + 'static,
 {
-    /// Has it done in a thread of its own, and prints what is noted meanwhile, until something fails: what.
+    /// Has it done in a thread of its own, and prints what is noted meanwhile, until something fails: what; or, with none,
+    /// until it's asked to stop.
     fn done<E: CountedWrite>(
         self,
         rt: R,
         printer: &mut Printer,
         err: &mut E,
-    ) -> Result<Failed, Failed> {
+    ) -> Result<Option<Failed>, Failed> {
         let Work {
             drive,
             address,

@@ -59,13 +59,18 @@ fn request(function: u8, address: u8, value: u16) -> [u8; 12] {
 }
 
 /// Writes a bit by function 05 or a word by 06: whether the reply is the request.
-fn is_written(stream: &mut TcpStream, function: u8, address: u8, value: u16) -> io::Result<bool> {
+pub fn is_written(
+    stream: &mut TcpStream,
+    function: u8,
+    address: u8,
+    value: u16,
+) -> io::Result<bool> {
     let asked = request(function, address, value);
     Ok(reply_to::<12>(stream, asked)? == asked)
 }
 
 /// `%QX0.0` and `%QX0.1` by function 02, and `%QW0` by 04.
-fn outputs(stream: &mut TcpStream) -> io::Result<(u8, u16)> {
+pub fn outputs(stream: &mut TcpStream) -> io::Result<(u8, u16)> {
     let bits = reply_to::<10>(stream, request(2, 0, 2))?;
     let words = reply_to::<11>(stream, request(4, 0, 1))?;
     Ok((bits[9], u16::from_be_bytes([words[9], words[10]])))
@@ -104,7 +109,7 @@ fn answered(clients: &mut [TcpStream]) -> io::Result<u8> {
     Ok(count)
 }
 
-fn connect<R: Net<Listener = TcpListener, Stream = TcpStream>>(
+pub fn connect<R: Net<Listener = TcpListener, Stream = TcpStream>>(
     rt: &R,
     port: u16,
 ) -> io::Result<TcpStream> {
