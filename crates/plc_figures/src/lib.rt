@@ -10,7 +10,7 @@
 //! Proved: each text is the definition's of what shows, each replica under its own number and each point's value beside
 //! its own name, and nothing else (`specs/Metrics`, `specs/State`).
 //!
-//! No program uses it yet: the page that shows it, and its rows, are to come.
+//! Tests: `page.rows` of `tests_bytes` have both texts, written by hand.
 #![tactic(auto)]
 
 mod json;
