@@ -74,8 +74,9 @@ const GROUP: &str = "group";
 const MACHINE: &str = "machine";
 
 /// What a group's file has for its machines, or they haven't.
-const SETTINGS: [&str; 12] = [
+const SETTINGS: [&str; 13] = [
     SCANS, FAILURES, EVERY, PORT, PERIOD, IDLE, BUDGET, LINKS, CRASH, REPORT, CONSOLE, STALE,
+    STATUS,
 ];
 
 /// The word of a store's directory.
