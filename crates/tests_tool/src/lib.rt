@@ -9,6 +9,8 @@ mod limit_rows;
 #[cfg(test)]
 mod line_rows;
 #[cfg(test)]
+mod misfit_rows;
+#[cfg(test)]
 mod stream_rows;
 #[cfg(test)]
 mod text_rows;
