@@ -29,8 +29,6 @@ mod machine_rows;
 #[cfg(test)]
 mod machine_stores;
 #[cfg(test)]
-mod member_rows;
-#[cfg(test)]
 mod peer_rows;
 #[cfg(test)]
 mod saving_rows;
