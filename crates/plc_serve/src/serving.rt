@@ -1,11 +1,11 @@
 //! The controller from its text to its end.
 
-ghost use Rattle.std.specs.Prelude.{◌≡◌, ◌≤◌, IfErr, IfNone, IfOk, IfSome, IsSomeAnd, OnOk, Some};
+ghost use Rattle.std.specs.Prelude.{◌≡◌, [], ◌≤◌, IfErr, IfNone, IfOk, IfSome, IsSomeAnd, OnOk, Some};
 ghost use Rattle.std.specs.Io.KnownBytes.{Appends};
 ghost use Rattle.il_text.specs.Telling.{IsTold};
 ghost use Rattle.il_text.specs.Meaning.{IsGoodText, IsTypedProgramOfText};
 ghost use Rattle.plc_status.specs.Notices.{IsAtMostServingTold, IsServingTold};
-ghost use Rattle.plc_status.specs.Reports.{IsReported};
+ghost use Rattle.plc_status.specs.Reports.{IsReported, report_line};
 ghost use Rattle.plc_serve.specs.Failing.{status_by};
 ghost use Rattle.plc_serve.specs.Serving.{IsRefusal, IsToldAtLast, IsWhyRefused, scans_line};
 
@@ -17,7 +17,8 @@ use io_model::CountedWrite;
 use plc_driver::Directory;
 use plc_host::{Failed, Host, ServiceRuntime};
 use plc_node::Node;
-use plc_status::{open_report, put_report};
+use plc_status::{Counts, open_report, put_report};
+use std::alloc::Global;
 use std::fs::File;
 use std::io;
 use std::io::Write;
@@ -87,7 +88,10 @@ where
         (λ e. status_by e ≡ 1 → IsRefusal service.source.items e × (err.new ≡ err.old)
         × ((out.new ≡ out.old) × (report.new ≡ report.old))) }
 {
-    let loaded = Loaded::of(host.alloc, service).map_err(Unserved::Refused)?;
+    let loaded = match Loaded::of(host.alloc, service) {
+        Ok(loaded) => loaded,
+        Err(fault) => return Err(Unserved::Refused(fault)),
+    };
     match controlled::<J, R, S, F, E>(host, list, loaded, report, err) {
         Ok(Some(scans)) => put_scans(scans, out).map_err(unwritten),
         Ok(None) => Err(Unserved::Refused(Fault::Store)),
@@ -179,13 +183,29 @@ where
     ensures at_most { IsAtMostServingTold E.CountedWrite err.old err.new }
     ensures reported { IfOk result (λ scans. IsReported F.CountedWrite scans report.old report.new) }
 {
-    open_report(report).map_err(|_| Failed::Report)?;
+    opened(report)?;
     let counts = node.run::<J, R, E>(host, list, err)?;
-    put_report(host.alloc, counts, report).map_err(of_report)?;
+    written(host.alloc, counts, report)?;
     Ok(counts.scans)
 }
 
-/// Why the report wasn't written.
-fn of_report(failed: Failed) -> Failed {
-    failed.known_as(Failed::Report)
+/// Writes no byte of a report: one that can't be written is missed.
+fn opened<F: CountedWrite>(report: &mut F) -> Result<(), Failed>
+    ensures { OnOk result (Appends (F.held report.old) (F.held report.new) []) }
+{
+    match open_report(report) {
+        Ok(()) => Ok(()),
+        Err(_) => Err(Failed::Report),
+    }
+}
+
+/// Writes the line of a report.
+fn written<F: CountedWrite>(alloc: Global, counts: Counts, report: &mut F) -> Result<(), Failed>
+    ensures { OnOk result (Appends (F.held report.old) (F.held report.new)
+        (report_line counts.crashes counts.scans counts.sessions counts.writes)) }
+{
+    match put_report(alloc, counts, report) {
+        Ok(()) => Ok(()),
+        Err(failed) => Err(failed.known_as(Failed::Report)),
+    }
 }
