@@ -422,12 +422,14 @@ fn missing_words_of_serve_are_bad(rt: HostRuntime) -> Result<(), Fail> {
 
 #[test]
 fn an_address_without_a_port_of_its_own_is_bad(rt: HostRuntime) -> Result<(), Fail> {
-    let rows: [Row; 5] = ["0", "65536", "0.0.0.0:80", "10.0.0.5", "plant:80"].map(|word| {
-        (
-            word,
-            "error: --status is a port, 1 to 65535, or an address of this machine with one",
-        )
-    });
+    let part = "error: --status is a port, 1 to 65535, or an address of this machine with one";
+    let rows: [Row; 5] = [
+        ("0", part),
+        ("65536", part),
+        ("0.0.0.0:80", part),
+        ("10.0.0.5", part),
+        ("plant:80", part),
+    ];
     are_bad(&rt, rt.alloc(), "plc serve a.il --store d --status", &rows)
 }
 
