@@ -167,36 +167,38 @@ fn perform<W: Write, E: CountedWrite>(
             directory,
         } => Outcome::Done(stores::format(rt, source, group, machine, directory, err)),
         Words::Show { directory } => Outcome::Done(stores::show(rt, directory, out, err)),
-        Words::Field { field, check, once } => Carrying::of(
-            rt, field, check, once, err,
-        ).map_or_else(Outcome::Done, Outcome::Carry),
+        Words::Field { field, check, once } => match Carrying::of(rt, field, check, once, err) {
+            Ok(carrying) => Outcome::Carry(carrying),
+            Err(status) => Outcome::Done(status),
+        },
         Words::Ask {
             port,
             commands,
             timeout,
-        } => Asking::of_commands(rt, Console { port, timeout }, commands, err).map_or_else(
-            Outcome::Done,
-            Outcome::Ask,
-        ),
+        } => match Asking::of_commands(rt, Console { port, timeout }, commands, err) {
+            Ok(asking) => Outcome::Ask(asking),
+            Err(status) => Outcome::Done(status),
+        },
         Words::Change {
             port,
             source,
             timeout,
-        } => Asking::of_change(rt, Console { port, timeout }, source, err).map_or_else(
-            Outcome::Done,
-            Outcome::Ask,
-        ),
-        Words::ServeMachine { group, directory } => Machine::of(
-            rt, group, directory, err,
-        ).map_or_else(Outcome::Done, Outcome::ServeMachine),
+        } => match Asking::of_change(rt, Console { port, timeout }, source, err) {
+            Ok(asking) => Outcome::Ask(asking),
+            Err(status) => Outcome::Done(status),
+        },
+        Words::ServeMachine { group, directory } => match Machine::of(rt, group, directory, err) {
+            Ok(machine) => Outcome::ServeMachine(machine),
+            Err(status) => Outcome::Done(status),
+        },
         Words::Serve {
             source,
             stores,
             report,
             settings,
-        } => Serving::of(rt, source, stores.as_slice(), report, settings, err).map_or_else(
-            Outcome::Done,
-            Outcome::Serve,
-        ),
+        } => match Serving::of(rt, source, stores.as_slice(), report, settings, err) {
+            Ok(serving) => Outcome::Serve(serving),
+            Err(status) => Outcome::Done(status),
+        },
     }
 }
