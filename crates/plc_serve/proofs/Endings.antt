@@ -4,6 +4,9 @@ use Rattle.std.specs.Prelude.{IfErr, IsOk, OnOk}
 use Rattle.std.specs.Io.KnownBytes.{Appends}
 use Rattle.std.proofs.KnownBytes.{Appends-trans}
 use Rattle.io_model.specs.declared.counted.CountedWrite.{Ghosts as CountedWriter}
+use Rattle.il_text.specs.declared.fault.Fault.{Fault}
+use Rattle.il_text.specs.Meaning.{IsTextFault, OrMemory}
+use Rattle.il_text.specs.Status.{status_of}
 use Rattle.il_text.specs.Telling.{IsTold, WentOut, fault_line}
 use Rattle.plc_status.specs.Notices.{IsAtMostServingTold, IsServingTold}
 use Rattle.plc_status.specs.Reports.{IsReported, report_line}
@@ -31,6 +34,13 @@ module _ {W : Type 0} (w : CountedWriter W) (status : ℕ) (old middle new : W) 
   failed (Ok done) two at_most ends = absurd (omega (arith, two, ends.0))
   failed (Err (whys.Refused e)) two at_most ends = record { before = middle; at_most = at_most; told = inl (record { fault = e; answered = sym two ∙ ends.0; is = λ one. absurd (omega (arith, one, two, ends.0)); line = ends.1 }) }
   failed (Err (whys.Failed e)) two at_most ends = record { before = middle; at_most = at_most; told = inr (e, ends.1) }
+
+-- a text that gives no image is refused, unless memory ran out
+pub refusal : (text : List ℕ) (fault : Fault) → OrMemory (IsTextFault text) fault → status_of fault ≡ 1 → IsWhyRefused text fault
+refusal text fault (inl is) one = inl is
+refusal text fault (inr memory) one =
+    let two_is_one : 2 ≡ 1 = subst (λ (f : Fault). status_of f ≡ 1) memory one in
+    absurd (omega (arith, two_is_one))
 
 -- no byte was written, and then the line of a report with so many scans
 pub reported : {W : Type 0} (w : CountedWriter W) (crashes scans sessions writes : ℕ) (old opened new : W) → Appends (w.held old) (w.held opened) [] → Appends (w.held opened) (w.held new) (report_line crashes scans sessions writes) → IsReported w scans old new
