@@ -4,6 +4,8 @@ use Rattle.plc_status.specs.declared.journal.Journal.{Journal}
 use Rattle.plc_status.specs.declared.notice.Notice.{Notice}
 use Rattle.plc_status.specs.declared.notice.Notice.TheVariants as notices
 use Rattle.plc_status.specs.Journal.{IsPut}
+use Rattle.plc_member.specs.declared.port.Turn.{Turn}
+use Rattle.plc_member.specs.declared.port.Turn.TheVariants as turns
 
 -- what is told of a replica by the view in which it was normal before, if in any, and by that in which it is now
 abbrev pub turn_of : Option ℕ → Option ℕ → Option Notice
@@ -16,3 +18,11 @@ turn_of None None = None
 abbrev pub IsNoted : Option Notice → Journal → Journal → Type 0
 IsNoted None old new = new ≡ old
 IsNoted (Some notice) old new = IsPut notice old new
+
+-- what is told of a port that took this turn in this view: that it isn't to be had once a view
+abbrev pub notice_of_port : Turn → ℕ → Option ℕ → Option Notice
+notice_of_port turns.Same view refused = None
+notice_of_port turns.Opened view refused = Some (notices.Driving view)
+notice_of_port turns.Closed view refused = Some (notices.Stale view)
+notice_of_port turns.Refused view (Some before) = if before == view then None else Some (notices.NoPort view)
+notice_of_port turns.Refused view None = Some (notices.NoPort view)

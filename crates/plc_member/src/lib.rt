@@ -22,9 +22,12 @@ mod filling;
 mod neighbours;
 mod opening;
 mod port;
+mod publisher;
+mod requester;
 mod scans;
 mod serving;
 mod stop;
+mod teller;
 mod unserved;
 mod watch;
 

@@ -2,15 +2,17 @@
 
 ghost use Rattle.std.specs.Prelude.{◌≡◌};
 
-use crate::drive::{Drive, LONGEST_WAIT, Submitted};
+use crate::drive::Drive;
 use crate::neighbours::Machines;
 use crate::opening::Member;
 use crate::port::Port;
+use crate::publisher::Publisher;
+use crate::requester::{LONGEST_WAIT, Requester};
 use crate::scans::{ScanBoard, ScanGate};
 use crate::stop::Stop;
-use crate::watch::Watch;
+use crate::teller::{Submitted, Teller};
 use il_loader::Image;
-use io_image::{Naming, NewList, Pen, ReleasedWriter, SharedPen, Stamp, released};
+use io_image::{Naming, NewList, Pen, SharedPen, Stamp, released};
 use io_model::CountedWrite;
 use modbus_server::{Seats, Shown};
 use net_hello::Epoch;
@@ -46,6 +48,36 @@ struct Linked<R: MachineRuntime> {
     console: Option<PeerLink<R>>,
 }
 
+/// Where the thread of a replica leaves what the others of its machine look at.
+#[derive(Drop)]
+struct Boards {
+    /// The last scan of its log.
+    scans: Arc<ScanBoard>,
+    /// A snapshot of its controller, for a console that wants one.
+    snapshots: Arc<SnapshotBoard>,
+}
+
+impl Boards {
+    /// Nothing was left there.
+    fn new(alloc: Global) -> Result<Boards, AllocError> {
+        Ok(Boards {
+            scans: Arc::new(alloc, ScanBoard::new())?,
+            snapshots: Arc::new(alloc, SnapshotBoard::new())?,
+        })
+    }
+
+    /// What leaves there what a replica comes to that was not started. Times are told since `begun`.
+    fn gate<R: MachineRuntime>(
+        &self,
+        host: Host<R>,
+        begun: Instant,
+    ) -> Result<ScanGate<R>, AllocError> {
+        let scans = Arc::try_clone(&self.scans)?;
+        let snapshots = Arc::try_clone(&self.snapshots)?;
+        Ok(ScanGate::new(host, begun, scans, snapshots))
+    }
+}
+
 /// The replica of a machine, which runs, and what its driver needs of it.
 #[derive(Drop)]
 struct Running<R: MachineRuntime> {
@@ -55,10 +87,9 @@ struct Running<R: MachineRuntime> {
     exchange: Arc<Exchange>,
     driver: PeerLink<R>,
     solo: Solo<PeerLink<R>>,
-    board: Arc<ScanBoard>,
+    boards: Boards,
     /// The link of its console, if it has one.
     console: Option<PeerLink<R>>,
-    snapshots: Arc<SnapshotBoard>,
     /// Of the program with which the epoch began.
     image: Image,
     /// What ends it.
@@ -68,8 +99,7 @@ struct Running<R: MachineRuntime> {
 /// What the outputs are released to, and what clients are shown them by.
 #[derive(Drop)]
 struct Outputs<R: MachineRuntime, J: Naming, P: Pen<J> + Drop> {
-    writer: ReleasedWriter<J, P>,
-    stamp: Arc<Stamp<R>>,
+    publisher: Publisher<R, J, P>,
     seats: Seats<R, J>,
 }
 
@@ -155,6 +185,15 @@ fn timer_of<R: MachineRuntime>(
     GroupTimer::new(rt, group.config, number, patience, resend, machines)
 }
 
+/// How the replicas of a group run.
+fn config_of(group: &Group) -> ClusterConfig {
+    ClusterConfig {
+        group: group.config,
+        budget: group.budget,
+        turns: u64::MAX,
+    }
+}
+
 /// Starts the replica of a machine that is ready, in a thread of its own.
 fn started<R: MachineRuntime, S: Starts + Send + Drop + 'static>(
     host: Host<R>,
@@ -164,6 +203,8 @@ fn started<R: MachineRuntime, S: Starts + Send + Drop + 'static>(
 ) -> Result<Running<R>, Failed> {
     let Host { rt, alloc } = host;
     let machine = machine_of(alloc, group, &member)?;
+    let boards = Boards::new(alloc)?;
+    let gate = boards.gate(host, begun)?;
     let Member {
         image,
         store,
@@ -178,14 +219,6 @@ fn started<R: MachineRuntime, S: Starts + Send + Drop + 'static>(
         driver,
         console,
     } = links_of(host, &machine, listener)?;
-    let board = Arc::new(alloc, ScanBoard::new())?;
-    let snapshots = Arc::new(alloc, SnapshotBoard::new())?;
-    let gate = ScanGate::new(
-        host,
-        begun,
-        Arc::try_clone(&board)?,
-        Arc::try_clone(&snapshots)?,
-    );
     let machines = Machines {
         exchange: Arc::try_clone(&exchange)?,
     };
@@ -196,13 +229,15 @@ fn started<R: MachineRuntime, S: Starts + Send + Drop + 'static>(
         timer,
         gate,
     };
-    let config = ClusterConfig {
-        group: group.config,
-        budget: group.budget,
-        turns: u64::MAX,
-    };
     // Its thread ends with the process.
-    let (solo, _thread) = match Solo::start(&rt, alloc, config, machine.number, &image, seat) {
+    let (solo, _thread) = match Solo::start(
+        &rt,
+        alloc,
+        config_of(group),
+        machine.number,
+        &image,
+        seat,
+    ) {
         Ok(started) => started,
         Err(error) => return Err(failed_by(error)),
     };
@@ -212,9 +247,8 @@ fn started<R: MachineRuntime, S: Starts + Send + Drop + 'static>(
         exchange,
         driver,
         solo,
-        board,
+        boards,
         console,
-        snapshots,
         image,
         stop,
     })
@@ -238,7 +272,7 @@ impl<R: MachineRuntime> Running<R> {
         };
         let client = desk_client(self.number, self.starts)?;
         let others = Others {
-            board: Arc::try_clone(&self.snapshots)?,
+            board: Arc::try_clone(&self.boards.snapshots)?,
             budget: group.budget,
             replica: self.number,
         };
@@ -285,8 +319,7 @@ where
     };
     let idle = Duration::from_secs(u64::from(group.times.idle));
     Ok(Outputs {
-        writer,
-        stamp,
+        publisher: Publisher { writer, stamp },
         seats: Seats::new(host, shown, idle, status.traffic()?)?,
     })
 }
@@ -392,51 +425,42 @@ impl<R: MachineRuntime, J: Naming, P: Pen<J> + Drop> Parts<R, J, P> {
         group: &Group,
         begun: Instant,
     ) -> Result<(Drive<R, J, P>, Seats<R, J>), Failed> {
+        let driver = driver_of(group, self.running.number, self.running.starts)?;
+        let stage = self.outputs.seats.shared_stage()?;
         let Parts {
             outputs,
             running,
             journal,
             status,
         } = self;
-        let Outputs {
-            writer,
-            stamp,
-            seats,
-        } = outputs;
+        let Outputs { publisher, seats } = outputs;
         let Running {
             number,
-            starts,
             exchange,
             driver: link,
             solo,
-            board,
+            boards,
             stop,
             ..
         } = running;
+        let requester = Requester {
+            alloc: host.alloc,
+            number,
+            period: millis(group.period),
+            driver,
+            link,
+            sent: millis(0),
+        };
         let drive = Drive {
             host,
             begun,
-            number,
-            period: millis(group.period),
-            driver: driver_of(group, number, starts)?,
-            link,
+            requester,
             solo,
-            board,
-            stage: seats.shared_stage()?,
-            writer,
-            stamp,
-            exchange,
-            watch: Watch::new(),
-            journal,
-            status,
-            halt: None,
-            submitted: Submitted {
-                at: begun,
-                since: millis(0),
-                is_late: false,
-            },
-            asked: millis(0),
-            refused_in: None,
+            board: boards.scans,
+            stage,
+            publisher,
+            teller: Teller::new(number, exchange, journal, status),
+            submitted: Submitted::at_the_start(begun),
             stop,
         };
         Ok((drive, seats))

@@ -1,0 +1,144 @@
+//! What a machine tells its operator: what its journal notes, and what its status shows.
+
+ghost use Rattle.std.specs.Prelude.{◌≡◌};
+ghost use Rattle.plc_member.specs.Watching.{IsNoted, notice_of_port};
+ghost use Rattle.plc_status.specs.Halting.{IsHaltNoted};
+
+use crate::port::Turn;
+use crate::watch::{Watch, note, told_of};
+use net_peers::Exchange;
+use plc_host::{Host, ServiceRuntime};
+use plc_status::{Halt, Journal, Notice, Scan, StatusWriter, note_halt};
+use std::sync::Arc;
+use std::time::{Duration, Instant};
+use vr_shown::Shown;
+
+/// When a scan was submitted.
+#[derive(Clone, Copy)]
+pub(crate) struct Submitted {
+    pub(crate) at: Instant,
+    /// The same since the machine began.
+    pub(crate) since: Duration,
+    /// It came a period late or more.
+    pub(crate) is_late: bool,
+}
+
+impl Submitted {
+    /// Of a machine that began then, and has submitted nothing.
+    pub(crate) fn at_the_start(begun: Instant) -> Submitted {
+        Submitted {
+            at: begun,
+            since: Duration::from_millis(0),
+            is_late: false,
+        }
+    }
+}
+
+/// What a machine tells its operator.
+#[derive(Drop)]
+pub(crate) struct Teller {
+    /// Of its machine.
+    number: u8,
+    /// What the links of the machine's own parties tell.
+    exchange: Arc<Exchange>,
+    watch: Watch,
+    journal: Journal,
+    status: StatusWriter,
+    /// By what the last scan was held or stopped, if it was.
+    halt: Option<Halt>,
+    /// The view in which it was told that the port isn't to be had.
+    refused_in: Option<u64>,
+}
+
+/// A time in whole microseconds.
+fn microseconds(time: Duration) -> u64 {
+    u64::try_from(time.as_micros()).unwrap_or(u64::MAX)
+}
+
+/// What is told of a port that took this turn in this view, where it was told before that it isn't to be had in that one.
+fn notice_of_port(turn: Turn, view: u64, refused_in: Option<u64>) -> Option<Notice>
+    ensures { result ≡ notice_of_port turn view refused_in }
+{
+    match turn {
+        Turn::Same => None,
+        Turn::Opened => Some(Notice::Driving(view)),
+        Turn::Closed => Some(Notice::Stale(view)),
+        Turn::Refused if refused_in == Some(view) => None,
+        Turn::Refused => Some(Notice::NoPort(view)),
+    }
+}
+
+impl Teller {
+    /// Of this machine. Nothing was told.
+    pub(crate) fn new(
+        number: u8,
+        exchange: Arc<Exchange>,
+        journal: Journal,
+        status: StatusWriter,
+    ) -> Teller {
+        Teller {
+            number,
+            exchange,
+            watch: Watch::new(),
+            journal,
+            status,
+            halt: None,
+            refused_in: None,
+        }
+    }
+
+    /// Follows what the machine's own replica shows.
+    pub(crate) fn look(&mut self, shown: Shown, now: Duration) {
+        self.status.set_replica(self.number, shown);
+        self.status.publish();
+        self.watch.look(shown, now, &mut self.journal);
+        if shown.has_failed {
+            self.journal.put(Notice::Store(self.number));
+        }
+    }
+
+    /// Notes what changed of the connections.
+    pub(crate) fn note_links<R: ServiceRuntime>(&mut self, host: &Host<R>) {
+        for notice in self.exchange.notices(&host.rt, host.alloc) {
+            note(told_of(notice), &mut self.journal);
+        }
+    }
+
+    /// Notes what became of the port of a machine that leads this view.
+    pub(crate) fn note_port(&mut self, turn: Turn, view: u64)
+        ensures { IsNoted (notice_of_port turn view self.old.refused_in) self.old.journal self.new.journal }
+    {
+        note(
+            notice_of_port(turn, view, self.refused_in),
+            &mut self.journal,
+        );
+        if turn == Turn::Refused {
+            self.refused_in = Some(view);
+        }
+    }
+
+    /// Notes that the machine doesn't lead any more.
+    pub(crate) fn note_standing_by(&mut self, view: u64) {
+        self.journal.put(Notice::StandingBy(view));
+    }
+
+    /// Counts a scan that was answered, and notes where it was held or stopped, or goes on.
+    pub(crate) fn count(&mut self, submitted: Submitted, halt: Option<Halt>, is_released: bool)
+        ensures noted { IsHaltNoted self.old.halt halt self.old.journal self.new.journal }
+        ensures halt { self.new.halt ≡ halt }
+    {
+        note_halt(self.halt, halt, &mut self.journal);
+        self.halt = halt;
+        self.status.scanned(Scan {
+            at: microseconds(submitted.since),
+            is_late: submitted.is_late,
+            is_released,
+            halt,
+        });
+    }
+
+    /// Notes nothing more.
+    pub(crate) fn end(&mut self) {
+        self.journal.end();
+    }
+}
