@@ -1,0 +1,287 @@
+"""What all clients of a group read and wrote, with its times, and what would be wrong with it. By these alone, whatever
+machines, threads and networks were between: so it's tried itself, by histories that are made up (histories.py).
+
+Times are those of one clock, in seconds. A read that began before another one ended may have been answered after it."""
+import bisect
+import itertools
+from typing import NamedTuple
+
+from program import GREATEST, TOLD, Outputs, mark_after
+
+DENSE = 0.03            # seconds from read to read at one machine, at most, where nothing is missed between two of them
+CALM = 1.0              # seconds behind a fault until all is as before
+OPEN = 8.0              # seconds in which a command that wasn't answered may be done still
+MOST_WAYS = 4096        # that scans which nobody read may have gone
+
+
+class Read(NamedTuple):
+    begun: float
+    ended: float
+    machine: int
+    outputs: Outputs
+    session: int = 0        # which connection
+
+
+class Write(NamedTuple):
+    """Of %IW0, that was acknowledged. Each value is one above that of the write before; behind the greatest is 0."""
+    begun: float
+    ended: float
+    machine: int
+    value: int
+    session: int = 0
+
+
+class Command(NamedTuple):
+    """A force of %IX0.2 by an operator, of whom there is one: whether it was answered `done`. Else it may be done or
+    not, until OPEN seconds after it."""
+    begun: float
+    ended: float
+    value: bool
+    is_done: bool = True
+
+
+class History(NamedTuple):
+    period: float
+    fresh: float            # how long outputs are shown
+    reads: list
+    writes: list = ()
+    commands: list = ()
+    faults: list = ()       # times in which there was any, as (begun, ended)
+
+    def in_time(self):
+        return sorted(self.reads, key=lambda it: it.ended)
+
+    def by_count(self):
+        """What was read first of each scan that anybody read, by its count."""
+        first = {}
+        for read in self.in_time():
+            first.setdefault(read.outputs.count, read)
+        return [first[count] for count in sorted(first)]
+
+    def dense(self):
+        return min(DENSE, self.period / 3)
+
+    def noise(self):
+        """The times in which there was a fault, or behind one, apart from each other."""
+        merged = []
+        for begun, ended in sorted(self.faults):
+            if merged and begun <= merged[-1][1]:
+                merged[-1][1] = max(merged[-1][1], ended + CALM)
+            else:
+                merged.append([begun, ended + CALM])
+        return merged
+
+
+def is_calm(noise, since, until):
+    place = bisect.bisect(noise, until, key=lambda it: it[0])
+    return place == 0 or noise[place - 1][1] < since
+
+
+def is_before(one, other):
+    """Whether a value was written before the other one."""
+    return 0 < (other - one) % (GREATEST + 1) <= GREATEST // 2
+
+
+def goes_back(history):
+    """A read of a count below one that was read to its end before it began, at any port."""
+    ended, next_one, greatest = history.in_time(), 0, -1
+    for read in sorted(history.reads):
+        while next_one < len(ended) and ended[next_one].ended < read.begun:
+            greatest = max(greatest, ended[next_one].outputs.count)
+            next_one += 1
+        if read.outputs.count < greatest:
+            return f'machine {read.machine} shows scan {read.outputs.count} after {greatest}, at {read.begun:.3f}'
+    return None
+
+
+def has_two_answers(history):
+    """Two reads of one scan with different outputs."""
+    told = {}
+    for read in history.in_time():
+        before = told.setdefault(read.outputs.count, read)
+        if before.outputs != read.outputs:
+            return f'machine {read.machine} shows {read.outputs}, and machine {before.machine} {before.outputs}'
+    return None
+
+
+def ways(before, after):
+    """What the scans between two that were read may have had, where nobody read them: each with the word, the bits and
+    the text of the one or of the other, and words between those of both in the order of writes."""
+    missed = after.count - before.count - 1
+    words = [(before.word + n) % (GREATEST + 1) for n in range((after.word - before.word) % (GREATEST + 1) + 1)]
+    others = sorted(itertools.product({before.bits, after.bits}, {before.text, after.text}))
+    count = len(words) ** missed * len(others) ** missed
+    if count > MOST_WAYS:
+        return None
+    rising = itertools.combinations_with_replacement(words, missed)
+    return itertools.product(rising, itertools.product(others, repeat=missed))
+
+
+def comes_about(before, after):
+    """Whether the mark of a scan follows from that of one before, by what the program does; None if it can't be told."""
+    found = ways(before, after)
+    if found is None:
+        return None
+    for words, others in found:
+        mark = before.mark
+        for word, (bits, text) in zip(words, others):
+            mark = mark_after(mark, Outputs(0, word, bits, 0, text))
+        if mark_after(mark, after) == after.mark:
+            return True
+    return False
+
+
+def differs_from_the_table(history):
+    """A scan whose mark doesn't follow from the one that was read before it."""
+    found = history.by_count()
+    for before, after in zip(found, found[1:]):
+        if comes_about(before.outputs, after.outputs) is False:
+            return f'machine {after.machine} shows {after.outputs} behind {before.outputs}'
+    return None
+
+
+def judged(history):
+    """How many scans were held against the table, and how many that were read couldn't be."""
+    found = [it.outputs for it in history.by_count()]
+    told = [comes_about(before, after) for before, after in zip(found, found[1:])]
+    return len(told) - told.count(None), told.count(None)
+
+
+def inputs_go_back(history):
+    """A scan with an input that was written before that of a scan before it."""
+    found = history.by_count()
+    for before, after in zip(found, found[1:]):
+        if is_before(after.outputs.word, before.outputs.word):
+            return f'machine {after.machine} shows {after.outputs} behind {before.outputs}'
+    return None
+
+
+def by_session(history):
+    found = {}
+    for read in sorted(history.reads):
+        found.setdefault(read.session, []).append(read)
+    return found
+
+
+def loses_an_input(history):
+    """An input that was acknowledged, and isn't in the scan after the next one, though its connection still stands.
+    (The next one may have been under way. Those after it are held to it by inputs_go_back.)"""
+    reads = by_session(history)
+    for write in history.writes:
+        own = reads.get(write.session, [])
+        later = own[bisect.bisect_left(own, write.ended, key=lambda it: it.begun):]
+        read = next((it for it in later if it.outputs.count >= later[0].outputs.count + 2), None)
+        if read and is_before(read.outputs.word, write.value):
+            return f'machine {read.machine} had {write.value} at {write.ended:.3f}, and shows {read.outputs}'
+    return None
+
+
+def is_open(history, since, until):
+    """Whether a command that wasn't answered may be done in this time."""
+    return any(not it.is_done and it.begun <= until and since <= it.ended + OPEN for it in history.commands)
+
+
+def breaks_a_force(history, command, until):
+    """A read of the scan after the next one behind a force that was done, or of one after that, without it."""
+    reads = history.in_time()
+    later = [it for it in reads[bisect.bisect(reads, command.ended, key=lambda it: it.ended):]
+             if command.ended <= it.begun and it.ended <= until]
+    for read in later:
+        if read.outputs.count >= later[0].outputs.count + 2 and bool(read.outputs.bits & TOLD) != command.value:
+            return f'{command.value} was forced at {command.ended:.3f}, and machine {read.machine} shows {read.outputs}'
+    return None
+
+
+def loses_a_command(history):
+    """A force that was done, and isn't in the scan after the next one, at any machine, until another is asked for."""
+    for command, follows in zip(history.commands, [*history.commands[1:], None]):
+        until = follows.begun if follows else float('inf')
+        if command.is_done and not is_open(history, command.begun, until if follows else command.ended):
+            found = breaks_a_force(history, command, until)
+            if found:
+                return found
+    return None
+
+
+def two_show(history):
+    """A machine that shows outputs, then another one, and then the first again sooner than it may."""
+    ended, last = {}, None
+    for read in sorted(history.reads):
+        if last not in (None, read.machine) and read.begun - ended.get(read.machine, -9) < 0.9 * history.fresh:
+            return f'machine {read.machine} shows {read.outputs} at {read.begun:.3f}, and machine {last} did between'
+        ended[read.machine], last = read.ended, read.machine
+    return None
+
+
+def has_too_many(history):
+    """More scans than there was time for, over any time: each is due a period after the one before it, or later."""
+    lowest, since = None, None
+    slack = 2.5 + history.fresh / history.period
+    for read in history.by_count():
+        ahead = read.outputs.count - read.ended / history.period
+        if lowest is not None and ahead - lowest > slack:
+            return f'scan {read.outputs.count} at {read.ended:.3f}, and {since.outputs.count} at {since.ended:.3f}'
+        if lowest is None or ahead < lowest:
+            lowest, since = ahead, read
+    return None
+
+
+def calm_runs(history):
+    """Runs of reads of one machine, one soon after the other, without a fault near: lists of each scan's first read."""
+    run, last, noise = [], None, history.noise()
+    for read in history.in_time():
+        goes_on = last and read.machine == last.machine and read.ended - last.ended <= history.dense()
+        if not goes_on or not is_calm(noise, last.ended, read.ended):
+            yield run
+            run = []
+        if not run or run[-1].outputs.count != read.outputs.count:
+            run.append(read)
+        last = read
+    yield run
+
+
+def leaves_one_out(history):
+    """A scan that nobody read, though somebody read all the time, and there was time for it to be seen."""
+    for run in calm_runs(history):
+        for before, after in zip(run[1:], run[2:]):
+            missed = after.outputs.count - before.outputs.count - 1
+            if missed > 0 and after.ended - before.ended > history.period / 2:
+                return f'machine {after.machine} shows {after.outputs} at {after.ended:.3f} behind {before.outputs}'
+    return None
+
+
+def does_one_twice(history):
+    """A scan that comes sooner than it's due: one more than those before it had time for."""
+    for run in calm_runs(history):
+        ahead = [it.outputs.count - it.ended / history.period for it in run]
+        for place in range(4, len(run)):
+            if ahead[place] > max(ahead[1:place]) + 0.6:
+                return f'machine {run[place].machine} shows {run[place].outputs} at {run[place].ended:.3f}, too soon'
+    return None
+
+
+CHECKS = [goes_back, has_two_answers, differs_from_the_table, inputs_go_back, loses_an_input, loses_a_command, two_show,
+          has_too_many, leaves_one_out, does_one_twice]
+
+
+def faults_of(history):
+    """What is wrong of all that, each with its name; nothing is wanted."""
+    found = {check.__name__.replace('_', ' '): check(history) for check in CHECKS}
+    return {name: fault for name, fault in found.items() if fault}
+
+
+def releases(history):
+    """When each scan was read first, as (moment, count), in the order of time."""
+    found, seen = [], set()
+    for read in history.in_time():
+        if read.outputs.count not in seen:
+            seen.add(read.outputs.count)
+            found.append((read.ended, read.outputs.count))
+    return found
+
+
+def longest(history, since, until):
+    """The longest time between two releases that were read, of those that end in this time, in seconds."""
+    found = releases(history)
+    between = (b[0] - a[0] for a, b in zip(found, found[1:]) if since <= b[0] <= until)
+    return max(between, default=until - since)

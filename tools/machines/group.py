@@ -1,0 +1,265 @@
+"""A group of machines, each a process of `plc serve --group` on this computer, and clients that read at every port of
+it all the time. What they read and wrote is a history for the checker."""
+import itertools
+import os
+import shutil
+import signal
+import subprocess
+import tempfile
+import threading
+import time
+
+import checker
+import disk
+import network
+from checker import History, Read, Write
+from modbus import Modbus
+from program import GREATEST, source
+
+LIMIT = 0.4             # seconds that a client waits for anything
+PIECE = 0.004           # seconds from read to read
+WRITES = 0.03           # and from write to write
+
+
+def now():
+    return time.monotonic()
+
+
+class Machine:
+    """A process, and the lines on its standard error with their moments, over all its starts."""
+
+    def __init__(self, number, words):
+        self.number, self.words, self.process, self.lines, self.started = number, words, None, [], 0.0
+        self.noise = []     # when it was started, stopped or killed, as faults of a history
+
+    def start(self):
+        self.started = now()
+        self.noise.append((self.started, self.started))
+        self.process = subprocess.Popen(self.words, stdin=subprocess.DEVNULL, stdout=subprocess.DEVNULL,
+                                        stderr=subprocess.PIPE, text=True)
+        self.reader = threading.Thread(target=self.read, args=(self.process,), daemon=True)
+        self.reader.start()
+
+    def read(self, process):
+        for line in process.stderr:
+            self.lines.append((now(), line.rstrip('\n')))
+
+    def send(self, what):
+        self.noise.append((now(), now()))
+        self.process.send_signal(what)
+
+    def kill(self, what=signal.SIGKILL):
+        """Ends it: its status."""
+        self.send(what)
+        status = self.process.wait(10)
+        self.reader.join(10)
+        return status
+
+    def is_up(self):
+        return self.process is not None and self.process.poll() is None
+
+    def since(self, moment):
+        return [line for at, line in list(self.lines) if at >= moment]
+
+    def told(self, beginning, since, seconds):
+        """When a line that begins so came, within so long."""
+        end = now() + seconds
+        while now() < end:
+            for at, line in list(self.lines):
+                if at >= since and line.startswith(beginning):
+                    return at
+            time.sleep(0.01)
+        return None
+
+    def is_normal(self, seconds):
+        """Whether it's normal since its start, within so long."""
+        return self.told('replica normal', self.started, seconds) is not None
+
+    def is_well(self, others):
+        """Whether it's up and normal, and so many other machines are joined to it."""
+        told = self.since(self.started)
+        standing = [line for line in told if line.startswith('replica n')][-1:]
+        near = {line.split()[1]: line.endswith(' joined') for line in told if line.endswith((' joined', ' lost'))}
+        is_normal = any(line.startswith('replica normal') for line in standing)
+        return self.is_up() and is_normal and sum(near.values()) == others
+
+
+class Group:
+    """The machines of a group, what they are made of, and what clients read and wrote."""
+
+    def __init__(self, options, size=None, over=None, has_disks=False, folder=None, **keys):
+        self.plc, self.period, self.size = options.plc, options.period / 1000, size or options.machines
+        self.fresh, self.work = self.period + 0.04, tempfile.mkdtemp(prefix='machines-', dir=folder)
+        self.disks, self.network = [], None
+        self.reads, self.writes, self.commands, self.faults = [], [], [], []
+        self.is_over, self.threads, self.sessions = False, [], itertools.count()
+        try:
+            keys = {'name': '"tried"', 'period': options.period, **keys}
+            self.make(over or network.Loopback(self.size), has_disks, keys)
+        except BaseException:
+            self.close()
+            raise
+
+    def make(self, over, has_disks, keys):
+        """The files, the stores and what is formatted in them."""
+        self.network, self.source = over, self.path('program.il')
+        self.disks = [disk.Disk(self.path(f'disk-{it}')) for it in range(self.size)] if has_disks else []
+        with open(self.source, 'w') as file:
+            file.write(source())
+        for machine in range(self.size):
+            self.write_file(self.file(machine), keys, machine)
+        self.machines, self.formats = [], []
+        for machine in range(self.size):
+            own = ('--group', self.file(machine), '--store', self.store(machine))
+            self.machines.append(Machine(machine, self.words(machine, 'serve', *own)))
+            self.formats.append(self.run('format', self.source, '--machine', str(machine), *own))
+
+    def __enter__(self):
+        return self
+
+    def __exit__(self, *_):
+        self.close()
+
+    def close(self):
+        self.is_over = True
+        for machine in getattr(self, 'machines', ()):
+            if machine.is_up():
+                machine.send(signal.SIGCONT)
+                machine.kill()
+        for thread in self.threads:
+            thread.join(5)
+        if self.network:
+            self.network.close()
+        for it in self.disks:
+            it.close()
+        shutil.rmtree(self.work)
+
+    def path(self, name):
+        return os.path.join(self.work, name)
+
+    def file(self, machine):
+        return self.path(f'group-{machine}.toml')
+
+    def store(self, machine):
+        return self.disks[machine].store if self.disks else self.path(f'store-{machine}')
+
+    def write_file(self, path, keys, reader):
+        """The group's file, as a machine has it."""
+        tables = [''.join(f'{key} = {value}\n' for key, value in keys.items())]
+        for machine in range(self.size):
+            places = {'replica': self.network.replica(machine, reader),
+                      'modbus': network.told(*self.network.modbus(machine)),
+                      'console': network.told(*self.network.console(machine))}
+            tables.append('\n[[machine]]\n' + ''.join(f'{key} = "{place}"\n' for key, place in places.items()))
+        with open(path, 'w') as file:
+            file.write(''.join(tables))
+
+    def words(self, machine, *words):
+        return [*self.network.ahead(machine), self.plc, *words]
+
+    def run(self, *words):
+        """A call of the program: its status, and the last line on its standard error."""
+        ended = subprocess.run([self.plc, *words], stdin=subprocess.DEVNULL, capture_output=True, text=True, timeout=30)
+        return ended.returncode, (ended.stderr.rstrip('\n').split('\n'))[-1]
+
+    def begin(self):
+        """Starts each machine, and a client at each port that reads on and on. Whether one drives and all are normal."""
+        for machine in self.machines:
+            machine.start()
+        for machine in range(self.size):
+            self.go_on(self.poll, machine)
+        return all(machine.is_normal(20) for machine in self.machines) and self.driving(20) is not None
+
+    def go_on(self, what, *words):
+        """Does it in a thread, which looks whether all is over."""
+        self.threads.append(threading.Thread(target=what, args=words, daemon=True))
+        self.threads[-1].start()
+
+    def client(self, machine):
+        return Modbus(self.network.connect(machine, LIMIT))
+
+    def read(self, client, machine, session):
+        begun = now()
+        outputs = client.outputs()
+        self.reads.append(Read(begun, now(), machine, outputs, session))
+        return outputs
+
+    def poll(self, machine):
+        """Reads at a machine's port, while it's open."""
+        while not self.is_over:
+            try:
+                with self.client(machine) as client:
+                    session = next(self.sessions)
+                    while not self.is_over:
+                        self.read(client, machine, session)
+                        time.sleep(PIECE)
+            except OSError:
+                time.sleep(self.network.pause)
+
+    def keep_writing(self):
+        """Writes %IW0 at the machine that drives, one value after the other, and reads what becomes of it."""
+        value = 0
+        while not self.is_over:
+            try:
+                machine = self.driving(1)
+                with self.client(0 if machine is None else machine) as client:
+                    session = next(self.sessions)
+                    while not self.is_over:
+                        value = (value + 1) % (GREATEST + 1)
+                        begun = now()
+                        client.write_word(0, value)
+                        self.writes.append(Write(begun, now(), machine, value, session))
+                        self.read(client, machine, session)
+                        time.sleep(WRITES)
+            except OSError:
+                time.sleep(PIECE)
+
+    def driving(self, seconds):
+        """The machine whose port answers, within so long."""
+        end = now() + seconds
+        while now() < end:
+            for machine in range(self.size):
+                try:
+                    with self.client(machine) as client:
+                        client.outputs()
+                        return machine
+                except OSError:
+                    pass
+            time.sleep(0.01)
+        return None
+
+    def write(self, *writes):
+        """Has the machine that drives take these inputs: places with their values, bits where those are truth values.
+        Whether it does so within ten seconds."""
+        end = now() + 10
+        while now() < end:
+            try:
+                with self.client(self.driving(10)) as client:
+                    for place, value in writes:
+                        (client.write_bit if isinstance(value, bool) else client.write_word)(place, value)
+                    return True
+            except (OSError, TypeError):
+                time.sleep(0.01)
+        return False
+
+    def are_well(self, seconds):
+        """Whether all are up, normal and joined to each other, and one drives, within so long."""
+        end = now() + seconds
+        while now() < end:
+            if all(machine.is_well(self.size - 1) for machine in self.machines) and self.driving(0.5) is not None:
+                return True
+            time.sleep(0.02)
+        return False
+
+    def history(self):
+        faults = self.faults + [it for machine in self.machines for it in machine.noise]
+        return History(self.period, self.fresh, list(self.reads), list(self.writes), list(self.commands), faults)
+
+    def longest(self, since, until):
+        return checker.longest(self.history(), since, until)
+
+    def since(self, moment):
+        """The lines of all machines, in the order of time, as seconds behind a moment."""
+        lines = sorted((at, machine.number, line) for machine in self.machines for at, line in list(machine.lines)
+                       if at >= moment)
+        return [f'{at - moment:.3f} machine {number}: {line}' for at, number, line in lines]
