@@ -194,6 +194,14 @@ class ZooKeeper(Nodes):
             return b'Mode: leader' in b''.join(iter(lambda: stream.recv(4096), b''))
 
 
+def machine():
+    """When and where it's measured."""
+    with open('/proc/cpuinfo') as file:
+        names = [line.split(': ')[1].strip() for line in file if line.startswith('model name')]
+    at = time.strftime('%Y-%m-%d %H:%M', time.gmtime())
+    return f'{at} UTC, {len(names)} processors, {names[0] if names else "of an unknown kind"}, load {os.getloadavg()[0]:.1f}'
+
+
 def is_there(kind):
     """Whether it's installed."""
     return shutil.which(kind.program) is not None and os.path.exists(getattr(kind, 'jar', '/'))

@@ -136,6 +136,7 @@ def kills_in_turn(group, times):
         longest.append(group.longest(killed, now()))
         machine.start()
         if not group.are_well(20):
+            print('\n'.join(f'    {line}' for line in group.since(killed)))
             raise RuntimeError('a machine is not well again')
         time.sleep(0.5)
     return longest
