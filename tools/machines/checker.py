@@ -4,14 +4,15 @@ machines, threads and networks were between: so it's tried itself, by histories 
 Times are those of one clock, in seconds. A read that began before another one ended may have been answered after it."""
 import bisect
 import itertools
+import math
 from typing import NamedTuple
 
-from program import GREATEST, TOLD, Outputs, mark_after
+from program import GREATEST, TEXTS, TOLD, Outputs, mark_after
 
 DENSE = 0.03            # seconds from read to read at one machine, at most, where nothing is missed between two of them
 CALM = 1.0              # seconds behind a fault until all is as before
 OPEN = 8.0              # seconds in which a command that wasn't answered may be done still
-MOST_WAYS = 4096        # that scans which nobody read may have gone
+MOST_WAYS = 20000       # that scans which nobody read may have gone
 
 
 class Read(NamedTuple):
@@ -32,12 +33,13 @@ class Write(NamedTuple):
 
 
 class Command(NamedTuple):
-    """A force of %IX0.2 by an operator, of whom there is one: whether it was answered `done`. Else it may be done or
-    not, until OPEN seconds after it."""
+    """A force of %IX0.2 by an operator, of whom there is one, or a change of the text: whether it was answered `done`.
+    Else it may be done or not, until OPEN seconds after it."""
     begun: float
     ended: float
-    value: bool
+    value: bool | int
     is_done: bool = True
+    is_force: bool = True
 
 
 class History(NamedTuple):
@@ -104,47 +106,78 @@ def has_two_answers(history):
     return None
 
 
-def ways(before, after):
-    """What the scans between two that were read may have had, where nobody read them: each with the word, the bits and
-    the text of the one or of the other, and words between those of both in the order of writes."""
-    missed = after.count - before.count - 1
+def rising(before, after, missed):
+    """The inputs that scans between two may have had: none was written before that of the one, or after that of the
+    other."""
     words = [(before.word + n) % (GREATEST + 1) for n in range((after.word - before.word) % (GREATEST + 1) + 1)]
-    others = sorted(itertools.product({before.bits, after.bits}, {before.text, after.text}))
-    count = len(words) ** missed * len(others) ** missed
-    if count > MOST_WAYS:
-        return None
-    rising = itertools.combinations_with_replacement(words, missed)
-    return itertools.product(rising, itertools.product(others, repeat=missed))
+    return math.comb(len(words) + missed - 1, missed), itertools.combinations_with_replacement(words, missed)
 
 
-def comes_about(before, after):
-    """Whether the mark of a scan follows from that of one before, by what the program does; None if it can't be told."""
-    found = ways(before, after)
-    if found is None:
-        return None
-    for words, others in found:
-        mark = before.mark
-        for word, (bits, text) in zip(words, others):
-            mark = mark_after(mark, Outputs(0, word, bits, 0, text))
-        if mark_after(mark, after) == after.mark:
-            return True
-    return False
+def changing(before, after, missed, is_quiet):
+    """The bits and texts that they may have had: those of the one until some scan, and then of the other; or any, if an
+    operator was at work."""
+    if not is_quiet:
+        every = [(before.bits & ~TOLD | told, text) for told in (0, TOLD) for text in TEXTS]
+        return len(every) ** missed, itertools.product(every, repeat=missed)
+    places = itertools.product(*(range(missed + 1) if one != other else (0,)
+                                 for one, other in ((before.bits, after.bits), (before.text, after.text))))
+    found = [[(before.bits if n < bits else after.bits, before.text if n < text else after.text) for n in range(missed)]
+             for bits, text in places]
+    return len(found), found
+
+
+def between(before, after, is_quiet):
+    """What the scans had that were missed between two: their outputs, with marks of which that of the other one follows;
+    None if there are none, and () if there are too many ways to tell."""
+    missed = after.count - before.count - 1
+    some_words, words = rising(before, after, missed)
+    some_others, others = changing(before, after, missed, is_quiet)
+    if some_words * some_others > MOST_WAYS:
+        return ()
+    for way in itertools.product(words, others):
+        found = [before]
+        for word, (bits, text) in zip(*way):
+            outputs = Outputs(found[-1].count + 1, word, bits, 0, text)
+            found.append(outputs._replace(mark=mark_after(found[-1].mark, outputs)))
+        if mark_after(found[-1].mark, after) == after.mark:
+            return [*found[1:], after]
+    return None
+
+
+def told_of(history):
+    """For each scan that was read, and the one read before it: both, and what was between them, as above."""
+    acts = sorted([it.begun, it.ended if it.is_done else it.ended + OPEN] for it in history.commands)
+    found = history.by_count()
+    for before, after in zip(found, found[1:]):
+        is_quiet = not any(begun <= after.ended and before.ended - history.period <= ended for begun, ended in acts)
+        yield before, after, between(before.outputs, after.outputs, is_quiet)
 
 
 def differs_from_the_table(history):
     """A scan whose mark doesn't follow from the one that was read before it."""
-    found = history.by_count()
-    for before, after in zip(found, found[1:]):
-        if comes_about(before.outputs, after.outputs) is False:
+    for before, after, found in told_of(history):
+        if found is None:
             return f'machine {after.machine} shows {after.outputs} behind {before.outputs}'
     return None
 
 
 def judged(history):
     """How many scans were held against the table, and how many that were read couldn't be."""
-    found = [it.outputs for it in history.by_count()]
-    told = [comes_about(before, after) for before, after in zip(found, found[1:])]
-    return len(told) - told.count(None), told.count(None)
+    told = [found for _, _, found in told_of(history)]
+    return len(told) - told.count(()), told.count(())
+
+
+def all_scans(history):
+    """The outputs of each scan from the first on, those that nobody read by what follows from them; until one that
+    can't be told."""
+    found, start = [], Outputs(0, 0, 0, 0, TEXTS[0])
+    reads = history.by_count()
+    first = between(start, reads[0].outputs, True) if reads else ()
+    for more in itertools.chain([first], (it for _, _, it in told_of(history))):
+        if not more:
+            break
+        found += more
+    return found
 
 
 def inputs_go_back(history):
@@ -178,7 +211,7 @@ def loses_an_input(history):
 
 def is_open(history, since, until):
     """Whether a command that wasn't answered may be done in this time."""
-    return any(not it.is_done and it.begun <= until and since <= it.ended + OPEN for it in history.commands)
+    return any(it.is_force and not it.is_done and it.begun <= until and since <= it.ended + OPEN for it in history.commands)
 
 
 def breaks_a_force(history, command, until):
@@ -194,7 +227,8 @@ def breaks_a_force(history, command, until):
 
 def loses_a_command(history):
     """A force that was done, and isn't in the scan after the next one, at any machine, until another is asked for."""
-    for command, follows in zip(history.commands, [*history.commands[1:], None]):
+    forces = [it for it in history.commands if it.is_force]
+    for command, follows in zip(forces, [*forces[1:], None]):
         until = follows.begun if follows else float('inf')
         if command.is_done and not is_open(history, command.begun, until if follows else command.ended):
             found = breaks_a_force(history, command, until)

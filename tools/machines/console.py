@@ -40,7 +40,7 @@ class Operator:
 
     def __init__(self, group, chance):
         self.group, self.chance, self.done, self.open, self.forced = group, chance, 0, 0.0, False
-        self.images = [self.image(text) for text in program.TEXTS]
+        self.images = {text: self.image(text) for text in program.TEXTS}
 
     def image(self, text):
         path, image = self.group.path(f'text-{text}.il'), self.group.path(f'text-{text}.image')
@@ -103,4 +103,6 @@ class Operator:
 
     def change(self):
         """Goes on with one of two texts of the program."""
-        self.ask({'change': self.chance.choice(self.images)})
+        text, begun = self.chance.choice(program.TEXTS), now()
+        is_done = self.ask({'change': self.images[text]}) == ['done']
+        self.group.commands.append(Command(begun, now(), text, is_done, is_force=False))
