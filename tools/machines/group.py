@@ -163,12 +163,17 @@ class Group:
         return ended.returncode, (ended.stderr.rstrip('\n').split('\n'))[-1]
 
     def begin(self):
-        """Starts each machine, and a client at each port that reads on and on. Whether one drives and all are normal."""
+        """Starts each machine, and a client at each port that reads on and on. Whether all are well within half a
+        minute."""
+        begun = now()
         for machine in self.machines:
             machine.start()
         for machine in range(self.size):
             self.go_on(self.poll, machine)
-        return all(machine.is_normal(20) for machine in self.machines) and self.driving(20) is not None
+        is_well = self.are_well(30)
+        if not is_well:
+            print('  not well:', *self.since(begun), sep='\n    ')
+        return is_well
 
     def go_on(self, what, *words):
         """Does it in a thread, which looks whether all is over."""
