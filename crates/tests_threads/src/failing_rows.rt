@@ -122,16 +122,16 @@ fn client(mut stream: TcpStream, number: u8) -> Seen {
 /// What takes the lines on standard error of a controller, and passes on the port. With each line it reads what shows
 /// of the controller.
 #[derive(Drop)]
-struct Operator<'a> {
+struct Operator {
     text: Vec<u8>,
-    port: &'a AtomicU64,
+    port: Arc<AtomicU64>,
     status: StatusReader,
     /// How many releases showed last.
     releases: u64,
     goes_back: bool,
 }
 
-impl Operator<'_> {
+impl Operator {
     fn look(&mut self) {
         let releases = self.status.read().scans().releases;
         self.goes_back = self.goes_back || releases < self.releases;
@@ -148,7 +148,7 @@ fn port_of(line: &[u8]) -> Option<u16> {
         .ok()
 }
 
-impl Write for Operator<'_> {
+impl Write for Operator {
     fn write(&mut self, bytes: &[u8]) -> io::Result<usize> {
         self.text.extend_from_slice(bytes)?;
         self.look();
@@ -277,7 +277,7 @@ fn sixteen_clients_see_one_history(rt: HostRuntime) -> Result<(), Fail> {
     let clients = coming(&rt, alloc, &told)?;
     let mut operator = Operator {
         text: Vec::new(alloc),
-        port: &told,
+        port: Arc::try_clone(&told)?,
         status: status.reader()?,
         releases: 0,
         goes_back: false,

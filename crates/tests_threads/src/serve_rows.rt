@@ -441,13 +441,13 @@ fn prepared<R: Files<File = File> + Alloc<A = Global> + Copy + Drop>(
 
 /// What takes the lines on standard error of a controller, and passes on the port.
 #[derive(Drop)]
-struct Operator<'a> {
+struct Operator {
     text: Vec<u8>,
-    port: &'a AtomicU64,
+    port: Arc<AtomicU64>,
 }
 
-impl Operator<'_> {
-    fn new(alloc: Global, port: &AtomicU64) -> Operator<'_> {
+impl Operator {
+    fn new(alloc: Global, port: Arc<AtomicU64>) -> Operator {
         Operator {
             text: Vec::new(alloc),
             port,
@@ -464,7 +464,7 @@ fn port_of(line: &[u8]) -> Option<u16> {
         .ok()
 }
 
-impl Write for Operator<'_> {
+impl Write for Operator {
     fn write(&mut self, bytes: &[u8]) -> io::Result<usize> {
         self.text.extend_from_slice(bytes)?;
         if let Some(port) = port_of(self.text.as_slice()) {
@@ -679,7 +679,7 @@ fn controllers_are_served(rt: HostRuntime) -> Result<(), Fail> {
         let begun = Instant::now(&rt)?;
         let clients = visiting(&rt, alloc, &told, visit_of(row, console))?;
         let mut out = Vec::new(alloc);
-        let mut operator = Operator::new(alloc, &told);
+        let mut operator = Operator::new(alloc, Arc::try_clone(&told)?);
         let status = serve::<Brand, _, _, _, _, _>(
             Host { rt, alloc },
             NewList::new(),
