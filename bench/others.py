@@ -162,7 +162,7 @@ class ZooKeeper(Nodes):
     name, program = 'ZooKeeper', 'java'
     jar = '/usr/share/java/zookeeper.jar'
     # tickTime, initLimit, syncLimit, and the least time between two looks at the votes of an election
-    kinds = {'default: 2000 ms, 10, 5': (2000, 10, 5, None), '100 ms, 5, 2, 20 ms': (100, 5, 2, 20)}
+    kinds = {'default: 2000 ms, 10, 5': (2000, 10, 5, None), '100 ms, 20, 5, 20 ms': (100, 20, 5, 20)}
 
     def words(self, node):
         tick, first, later, notice = self.settings
