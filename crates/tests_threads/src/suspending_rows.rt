@@ -1,9 +1,12 @@
 //! What serves clients while a port is open, closed, and open again.
 
-use io_image::{NewList, Stamp, released};
+ghost use Rattle.std.specs.Prelude.{◌≡◌};
+
+use io_image::{Naming, NewList, Stamp, released};
 use modbus_server::{Seats, Shown};
-use plc_host::{Host, Traffic};
+use plc_host::{Host, ServiceRuntime, Traffic};
 use plc_listener::Door;
+use std::alloc::Global;
 use std::io;
 use std::io::{Read, Write};
 use std::marker::Brand;
@@ -40,13 +43,17 @@ fn is_over(client: &mut TcpStream) -> bool {
     !matches!(client.read(&mut [0; 1]), Ok(1))
 }
 
-/// A client writes while the port is open; then its session ends, and nobody is let in; then another one reads what was
-/// written, at the same port.
-#[test]
-fn what_was_staged_stays_while_no_port_is_open(rt: HostRuntime) -> Result<(), Fail> {
+/// Whether a client writes while the port is open; then its session ends, and nobody is let in; then another one reads
+/// what was written, at the same port.
+fn stays_staged<J, R>(rt: R, list: NewList) -> Result<bool, Fail>
+where
+    J: Naming + Send + Sync + 'static,
+    R: ServiceRuntime + Net<Listener = TcpListener, Stream = TcpStream> + Alloc<A = Global>,
+    requires { list ≡ J.book }
+{
     let alloc = rt.alloc();
     let host = Host { rt, alloc };
-    let Ok((_writer, readers)) = released::<Brand, _>(NewList::new(), alloc, rt, 2) else {
+    let Ok((_writer, readers)) = released::<J, _>(list, alloc, rt, 2) else {
         return Err("no list")?;
     };
     let shown = Shown {
@@ -73,7 +80,12 @@ fn what_was_staged_stays_while_no_port_is_open(rt: HostRuntime) -> Result<(), Fa
     let second = asked::<_, 11>(&rt, port, &READS);
     let counts = open.close();
     let (_client, kept) = second?;
-    assert!(rt; written == WRITES && is_over && is_shut);
-    assert!(rt; kept == KEPT && counts == (2, 1));
+    let is_kept = kept == KEPT && counts == (2, 1);
+    Ok(written == WRITES && is_over && is_shut && is_kept)
+}
+
+#[test]
+fn what_was_staged_stays_while_no_port_is_open(rt: HostRuntime) -> Result<(), Fail> {
+    assert!(rt; stays_staged::<Brand, _>(rt, NewList::new())?);
     Ok(())
 }
