@@ -1,0 +1,6 @@
+pub mod Epochs
+pub mod Told
+pub mod Recovering
+pub mod Keeping
+pub mod Table
+pub mod GoingOn

@@ -1,0 +1,51 @@
+//! How a group of machines begins anew once its history is lost, as after a power cut: its epochs. An epoch is a run of
+//! its own: replicas begin normal in view 0 with empty logs, and no message of one epoch is taken in another. One
+//! machine is a value that is told what comes, and when, and says what is to be done: it has no socket, no thread and
+//! no clock.
+//!
+//! ```rust
+//! let mut machine = ColdStart::new(place, &kept, image, starts, now); // as its store says
+//! match machine.hear_word(from, &epoch, &word, now) { // or hear, hear_recovery, look, stored
+//!     Step::Freezes(word) | Step::Confirms(word) => .., // said to that machine
+//!     Step::Ends(epoch) | Step::Hears(epoch) => .., // close and drop all of the old epoch; store `machine.kept()`
+//!     Step::Begins(_) => .., // store `machine.kept()`, then `machine.stored(..)`
+//!     Step::Starts(epoch) => .., // a new replica, normal in view 0
+//!     Step::Thaws(nonce) => .., // the replica crashes, and recovers under this nonce
+//!     _ => ..,
+//! }
+//! if machine.takes_answers() { .. } // else no RECOVERYRESPONSE is handed to the replica
+//! ```
+//!
+//! A machine that recovers, and knows that f others do, too, asks all others to freeze: to take no answer. Of f that do
+//! it asks once more, each under the nonce that it told, whether they still are. If all of them are, then f+1 were
+//! recovering and frozen at one moment, and no view of the epoch can be led behind it: that's the evidence with which
+//! the next epoch is entered. Who hears of a later epoch leaves its own for it. Nobody begins an epoch before f others
+//! have entered it, or before its store has that.
+//!
+//! Proved (`specs/Table`, `specs/Recovering`, `specs/Keeping`): each call takes exactly the step of the table that what
+//! comes and what the machine is call for, and else changes nothing. Words are taken of other machines of the group
+//! alone, in the epoch that was begun alone; an answer counts only to the question asked under the present nonce, the
+//! second also only of a machine that was asked, under the nonce that it told first. An epoch is begun only once the
+//! store has it as begun, f others said hello in it, and the image in force here is its image. By hand a store goes to
+//! the next epoch exactly where it has one. No step lets a store go back: an epoch that was begun is left for a later
+//! one alone, and never entered again (`no_store_goes_back`).
+//!
+//! That the protocol keeps what it promises is no theorem here: `tools/check-cold-start` looks at all states of a model
+//! of it, within bounds. Rows of `tests_bytes` have who says what in which order. No program uses it yet.
+#![tactic(auto)]
+
+mod cold_start;
+mod epoch;
+mod kept;
+mod laws;
+mod recovery;
+mod told;
+mod word;
+
+pub use cold_start::{ColdStart, Greeting, Phase, Place, Step};
+pub use epoch::is_later;
+pub use kept::{ByHandFault, Kept};
+pub use laws::no_store_goes_back;
+pub use recovery::{BEFORE_FREEZING, FROZEN, Question, Recovery};
+pub use told::{Moment, RECENT, Told};
+pub use word::{Answer, Word};
