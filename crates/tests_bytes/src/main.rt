@@ -8,6 +8,7 @@ mod checkpoints;
 mod clients;
 mod controllers;
 mod drivers;
+mod epochs;
 mod fields;
 mod frames;
 mod group_files;

@@ -4,8 +4,8 @@
 use crate::notation::{bytes_of, front, lines_of, plain, spread, told, told_bytes, unreadable};
 use crate::sessions::Exchange;
 use crate::{
-    blocks, controllers, drivers, fields, frames, group_files, groups, hellos, machine_stores,
-    pages, replicas,
+    blocks, controllers, drivers, epochs, fields, frames, group_files, groups, hellos,
+    machine_stores, pages, replicas,
 };
 use std::alloc::{AllocError, Global};
 use std::io;
@@ -226,6 +226,7 @@ fn comes_out_of_machine(alloc: Global, file: &str, title: &str, cell: &str) -> i
         "stores.rows" => machine_stores::table(alloc, title, cell),
         "drivers.rows" => drivers::table(alloc, title, cell),
         "page.rows" => pages::table(alloc, title, cell),
+        "cold_start.rows" => epochs::table(alloc, title, cell),
         _ => Err(unreadable()),
     }
 }
@@ -258,6 +259,7 @@ fn runs_of(alloc: Global, file: &str, of: &str, body: &str) -> io::Result<String
         "controllers.rows" => controllers::run(alloc, of, body),
         "replicas.rows" => replicas::run(alloc, of, body),
         "drivers.rows" => drivers::run(alloc, of, body),
+        "cold_start.rows" => epochs::run(alloc, of, body),
         _ => Err(unreadable()),
     }
 }
