@@ -80,7 +80,10 @@ class EtcdClient:
             raise OSError(why) from why
         if answer.status != 200:
             raise OSError(text)
-        return json.loads(text)
+        try:
+            return json.loads(text)
+        except ValueError as why:
+            raise OSError(why) from why
 
     def commit(self):
         self.post('/v3/kv/put', self.BODY)
@@ -143,7 +146,10 @@ class ZooKeeperClient:
 
     def ask(self, kind, request, allowed=()):
         self.number += 1
-        number, _, fault = struct.unpack('>iqi', self.exchange(struct.pack('>ii', self.number, kind) + request)[:16])
+        answer = self.exchange(struct.pack('>ii', self.number, kind) + request)
+        if len(answer) < 16:
+            raise OSError('no answer')
+        number, _, fault = struct.unpack('>iqi', answer[:16])
         if number != self.number or fault not in (0, *allowed):
             raise OSError(f'fault {fault}')
 
@@ -162,7 +168,7 @@ class ZooKeeper(Nodes):
     name, program = 'ZooKeeper', 'java'
     jar = '/usr/share/java/zookeeper.jar'
     # tickTime, initLimit, syncLimit, and the least time between two looks at the votes of an election
-    kinds = {'default: 2000 ms, 10, 5': (2000, 10, 5, None), '100 ms, 20, 5, 20 ms': (100, 20, 5, 20)}
+    kinds = {'default: 2000 ms, 10, 5': (2000, 10, 5, None), '500 ms, 10, 5, 20 ms': (500, 10, 5, 20)}
 
     def words(self, node):
         tick, first, later, notice = self.settings
