@@ -1,5 +1,6 @@
 -- When a connection to a party is dialled, given up, kept alive by a beat, and ended. All times are in milliseconds.
-use Rattle.std.specs.Prelude.{◌≡◌, ℕ, ◌+◌, ◌-◌, ◌*◌, ◌^◌, ◌<◌, ◌≤◌, nat_le, min, if◌then◌else◌}
+use Rattle.std.specs.Prelude.{◌≡◌, ℕ, ◌+◌, ◌-◌, ◌*◌, ◌/◌, ◌^◌, ◌<◌, ◌≤◌, nat_le, min, if◌then◌else◌}
+use Rattle.net_peers.specs.declared.course.Pulse.{Pulse}
 use Rattle.net_peers.specs.declared.phase.Phase.{Phase}
 use Rattle.net_peers.specs.declared.phase.Phase.TheVariants.{Away, Joining, Open}
 use Rattle.net_peers.specs.declared.phase.Duty.{Duty}
@@ -13,24 +14,23 @@ joining_limit = 400
 abbrev pub longest_pause : ℕ
 longest_pause = 400
 
--- an end that has sent nothing for so long sends a beat
-abbrev pub beat_after : ℕ
-beat_after = 25
-
 -- a connection over which nothing came for so long is over
 abbrev pub silence_limit : ℕ
 silence_limit = 500
 
--- from whom something came within so long is near
-abbrev pub near_limit : ℕ
-near_limit = 60
+-- The pulse of a group by the patience of its replicas, and by how often they send again: from whom something came
+-- within three fifths of the patience is near, if that isn't so long that the connection is over; and there are two
+-- beats at least within that time.
+abbrev pub pulse_of : ℕ → ℕ → Pulse
+pulse_of patience resend = let near = min silence_limit (3 * patience / 5) in
+    record { beat = min resend (near / 2); near = near }
 
--- what is to be done now
-abbrev pub duty_at : Phase → ℕ → Duty
-duty_at (Away due) now = if nat_le due now then Dial else Nothing
-duty_at (Joining since) now = if nat_le joining_limit (now - since) then GiveUp else Nothing
-duty_at (Open since heard sent) now = if nat_le silence_limit (now - heard) then End
-    else (if nat_le beat_after (now - sent) then Beat else Nothing)
+-- what is to be done now; an end that has sent nothing for so long sends a beat
+abbrev pub duty_at : ℕ → Phase → ℕ → Duty
+duty_at beat (Away due) now = if nat_le due now then Dial else Nothing
+duty_at beat (Joining since) now = if nat_le joining_limit (now - since) then GiveUp else Nothing
+duty_at beat (Open since heard sent) now = if nat_le silence_limit (now - heard) then End
+    else (if nat_le beat (now - sent) then Beat else Nothing)
 
 abbrev pub heard_at : Phase → ℕ → Phase
 heard_at (Away due) now = Away due
@@ -58,7 +58,8 @@ IsOpen (Away due) = ⊥
 IsOpen (Joining since) = ⊥
 IsOpen (Open since heard sent) = Unit {0}
 
-abbrev pub IsNear : Phase → ℕ → Type 0
-IsNear (Away due) now = ⊥
-IsNear (Joining since) now = ⊥
-IsNear (Open since heard sent) now = now - heard < near_limit
+-- something came over it within so long
+abbrev pub IsNear : ℕ → Phase → ℕ → Type 0
+IsNear near (Away due) now = ⊥
+IsNear near (Joining since) now = ⊥
+IsNear near (Open since heard sent) now = now - heard < near

@@ -158,7 +158,7 @@ impl Exchange {
         self.reached.load(Ordering::SeqCst)
     }
 
-    /// From which of them something came within the last 60 ms.
+    /// From which of them something came just now, by the pulse of the machine.
     pub fn near(&self) -> u8 {
         self.near.load(Ordering::SeqCst)
     }

@@ -4,29 +4,30 @@
 //! is dialled again.
 //!
 //! ```rust
-//! use net_peers::{Machine, machine_links};
+//! use net_peers::{Machine, Pulse, machine_links};
 //!
-//! let machine = Machine { identity, epoch, starts: 3, number: 0, replicas: addresses, has_console: true };
+//! let pulse = Pulse::of(100, 25); // a beat each 25 ms; near is of whom something came within 60 ms
+//! let machine = Machine { identity, epoch, starts: 3, number: 0, replicas: addresses, has_console: true, pulse };
 //! // the links of replica 0, of driver 0 and of the console, which is client 8
 //! let (exchange, links) = machine_links(rt, alloc, &machine, listener, Duration::from_millis(5))?;
-//! let is_connected = exchange.reached() & 0b10 != 0; // to replica 1; `near`: it was heard of within 60 ms
+//! let is_connected = exchange.reached() & 0b10 != 0; // to replica 1; `near`: it was heard of just now
 //! for notice in exchange.notices(&rt, alloc) {} // LinkNotice::Joined(..), Lost(..), Refused(..)
 //! ```
 //!
-//! Proved: when a connection is dialled, given up after 400 ms, dialled again after 50 to 400 ms, kept alive by a beat
-//! after 25 ms, and over after 500 ms of silence, as definitions (`Course`). A message that a link gives is to its own
-//! party, and came from the machine's own parties or over a connection whose other end said a hello that was accepted,
-//! of another party of this group in this epoch, which is the message's sender; then it's no scan. Behind 1 MiB that
-//! waits for a party a message to it is lost, whole. A refusal is told once for each cause and party. Of what was put
-//! at the other end since the hello a prefix is given, in order, where TCP gives a prefix of what was written
-//! (`only_sent_is_given_in_records`). Each call is safe and returns, but for the wait of a poll or a lock.
+//! Proved: when a connection is dialled, given up after 400 ms, dialled again after 50 to 400 ms, kept alive by a beat,
+//! and over after 500 ms of silence, and when its other end is near, as definitions (`Course`, `Pulse`). A message that
+//! a link gives is to its own party, and came from the machine's own parties or over a connection whose other end said a
+//! hello that was accepted, of another party of this group in this epoch, which is the message's sender; then it's no
+//! scan. Behind 1 MiB that waits for a party a message to it is lost, whole. A refusal is told once for each cause and
+//! party. Of what was put at the other end since the hello a prefix is given, in order, where TCP gives a prefix of what
+//! was written (`only_sent_is_given_in_records`). Each call is safe and returns, but for the wait of a poll or a lock.
 //!
 //! Tested (`peer_rows` of `tests_threads`): each refusal, that it's answered and noticed at both ends, that a higher
 //! start replaces an older one, hello and record cut at each byte, strangers that are let go, a partition that heals,
 //! and a party that stands still. By its code alone: that a party which isn't connected has no `Outbox`, since only an
 //! open connection has one. In no clause: that a socket delivers, what a poll reports, that a send doesn't wait, that
 //! what is handed to the exchange is given to its party. Nothing is authentic or secret: addresses belong on a network
-//! of the group's own. No program uses it yet.
+//! of the group's own.
 #![tactic(auto)]
 
 mod accepted;
@@ -42,7 +43,7 @@ mod peer;
 mod phase;
 mod strangers;
 
-pub use course::Course;
+pub use course::{Course, Pulse};
 pub use exchange::{Exchange, PeerCutter};
 pub use laws::only_sent_is_given_in_records;
 pub use link::PeerLink;

@@ -1,5 +1,6 @@
 //! The links of the parties of one machine.
 
+use crate::course::Pulse;
 use crate::exchange::Exchange;
 use crate::link::{LISTENER, PeerLink, WAKER};
 use crate::notice::Told;
@@ -35,6 +36,8 @@ pub struct Machine {
     /// Where the replica of each machine listens, by their numbers.
     pub replicas: Vec<SocketAddr>,
     pub has_console: bool,
+    /// How often its parties say that they are there, and how soon another one is missed.
+    pub pulse: Pulse,
 }
 
 /// The client of this number; `InvalidInput` where there is none.
@@ -73,8 +76,8 @@ fn peers_of_replica(alloc: Global, machine: &Machine) -> io::Result<Vec<Peer>> {
             } else {
                 None
             };
-            peers.push(Peer::new(Party::Replica(number), dialled, 0))?;
-            peers.push(Peer::new(console(number)?, None, 0))?;
+            peers.push(Peer::new(Party::Replica(number), dialled, machine.pulse))?;
+            peers.push(Peer::new(console(number)?, None, machine.pulse))?;
         }
         number = number.saturating_add(1);
     }
@@ -87,7 +90,8 @@ fn peers_of_console(alloc: Global, machine: &Machine) -> io::Result<Vec<Peer>> {
     let mut number = 0u8;
     for address in machine.replicas.iter() {
         if number != machine.number {
-            peers.push(Peer::new(Party::Replica(number), Some(*address), 0))?;
+            let party = Party::Replica(number);
+            peers.push(Peer::new(party, Some(*address), machine.pulse))?;
         }
         number = number.saturating_add(1);
     }

@@ -7,7 +7,7 @@ ghost use Rattle.net_peers.specs.Passing.{CameFrom};
 
 use crate::accepted::Accepted;
 use crate::connection::{Connection, Unopened};
-use crate::course::Course;
+use crate::course::{Course, Pulse};
 use crate::greeting::{Greeted, Greeting, greet};
 use crate::phase::Duty;
 use mio::net::TcpStream as Wire;
@@ -71,12 +71,12 @@ pub(crate) struct Peer {
 
 impl Peer {
     /// A party that is not connected yet, and is dialled at once if it's this end that dials.
-    pub(crate) fn new(party: Party, address: Option<SocketAddr>, now: u64) -> Peer {
+    pub(crate) fn new(party: Party, address: Option<SocketAddr>, pulse: Pulse) -> Peer {
         Peer {
             party,
             address,
             state: State::Away,
-            course: Course::new(now),
+            course: Course::new(pulse, 0),
             starts: 0,
             has_joined: false,
         }

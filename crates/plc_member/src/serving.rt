@@ -16,7 +16,7 @@ use io_image::{Naming, NewList, Pen, SharedPen, Stamp, released};
 use io_model::CountedWrite;
 use modbus_server::{Seats, Shown};
 use net_hello::Epoch;
-use net_peers::{Exchange, FIRST_CONSOLE, Machine, PeerLink, machine_links};
+use net_peers::{Exchange, FIRST_CONSOLE, Machine, PeerLink, Pulse, machine_links};
 use plc_console::{Console, Desk, DeskClient, Others, SnapshotBoard};
 use plc_group::{Group, Machine as Place};
 use plc_host::{Failed, Host, ServiceRuntime};
@@ -147,6 +147,7 @@ fn machine_of<S: Drop>(
         number: header.machine,
         replicas: addresses(alloc, group.machines.as_slice())?,
         has_console: console_of(group, header.machine).is_some(),
+        pulse: Pulse::of(group.times.patience, group.times.resend),
     })
 }
 

@@ -3,7 +3,7 @@
 use crate::cluster_rows::{Sought, is_answered, link_of, shows, wire};
 use crate::shelf::group_of_three;
 use net_hello::Epoch;
-use net_peers::{Exchange, Machine, PeerLink, machine_links};
+use net_peers::{Exchange, Machine, PeerLink, Pulse, machine_links};
 use std::alloc::Global;
 use std::net::{Net, SocketAddr, TcpListener, TcpStream};
 use std::process::Abort;
@@ -209,6 +209,7 @@ where
         number,
         replicas: Vec::from_slice(alloc, at)?,
         has_console: false,
+        pulse: Pulse::of(100, 25),
     };
     let wait = Duration::from_millis(1);
     let (exchange, links) = machine_links(rt, alloc, &machine, listener, wait)?;

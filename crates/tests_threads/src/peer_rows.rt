@@ -5,7 +5,7 @@ ghost use Rattle.std.specs.Prelude.{◌≤◌, length};
 use il_model::{Command, ImageBytes, InImage};
 use net_ends::{Inbox, NonBlocking, Outbox};
 use net_hello::{Epoch, HELLO, Hello, Refusal};
-use net_peers::{Exchange, FIRST_CONSOLE, LinkNotice, Machine, PeerLink, machine_links};
+use net_peers::{Exchange, FIRST_CONSOLE, LinkNotice, Machine, PeerLink, Pulse, machine_links};
 use net_records::Records;
 use std::alloc::Global;
 use std::io::{ErrorKind, Read, Write};
@@ -59,6 +59,7 @@ fn machine_of(alloc: Global, number: u8, at: &[SocketAddr]) -> Result<Machine, F
         number,
         replicas: Vec::from_slice(alloc, at)?,
         has_console: false,
+        pulse: Pulse::of(100, 25),
     })
 }
 
