@@ -14,6 +14,8 @@ use Rattle.modbus_wire.specs.declared.session.SessionFault.{SessionFault}
 use Rattle.modbus_wire.specs.declared.session.SessionFault.TheVariants as faults
 use Rattle.modbus_wire.specs.Frames.{Adu, frame_of, IsFramed, adus}
 use Rattle.modbus_wire.specs.Feeding.{Feeding}
+use Rattle.plc_host.specs.declared.requests.Requests.{Requests}
+use Rattle.modbus_server.specs.Counting.{with_reply, with_replies}
 use Rattle.modbus_server.specs.Sessions.{Images, Answers, AnswersAll, Adds, AnswersSome, Serves, Breaks, BreaksAfter, Stops, Talks}
 use Rattle.modbus_server.specs.declared.serve.SessionEnd.{SessionEnd}
 use Rattle.modbus_server.specs.declared.serve.SessionEnd.TheVariants as ends
@@ -32,18 +34,25 @@ one_answered a b u x h = (b, h, refl)
 frames_more : (as' : List Adu) (x : Adu) → flat_map frame_of (as' ++ x ∷ []) ≡ flat_map frame_of as' ++ frame_of x
 frames_more as' x = flat_map-append frame_of as' (x ∷ []) ∙ ap (λ (l : List ℕ). flat_map frame_of as' ++ l) (flat_map-cons frame_of x [] ∙ append-nil (frame_of x))
 
-pub adds_none : (a : Images) (out : List ℕ) → Adds a [] out out a
-adds_none a out = record { replies = []; answered = refl; added = sym (append-nil out) }
+counts_more : (n : Requests) (a b : Images) (us as' : List Adu) (u x : Adu) → AnswersAll a us as' b → with_replies n (us ++ u ∷ []) (as' ++ x ∷ []) ≡ with_reply (with_replies n us as') u x
+counts_more n a b [] [] u x h = refl
+counts_more n a b [] (y ∷ as') u x h = absurd h
+counts_more n a b (v ∷ us) [] u x h = absurd h
+counts_more n a b (v ∷ us) (y ∷ as') u x h = counts_more (with_reply n v y) h.0 b us as' u x h.2
 
-pub adds_more : (a b c : Images) (us : List Adu) (u x : Adu) (out mid out' : List ℕ) → Adds a us out mid b → Answers b u x c → out' ≡ mid ++ frame_of x → Adds a (us ++ u ∷ []) out out' c
-adds_more a b c us u x out mid out' t h e = record {
+pub adds_none : (a : Images) (out : List ℕ) (n : Requests) → Adds a [] out out n n a
+adds_none a out n = record { replies = []; answered = refl; added = sym (append-nil out); counted = refl }
+
+pub adds_more : (a b c : Images) (us : List Adu) (u x : Adu) (out mid out' : List ℕ) (n m m' : Requests) → Adds a us out mid n m b → Answers b u x c → out' ≡ mid ++ frame_of x → m' ≡ with_reply m u x → Adds a (us ++ u ∷ []) out out' n m' c
+adds_more a b c us u x out mid out' n m m' t h e k = record {
   replies = t.replies ++ x ∷ [];
   answered = both_answered a b c us (u ∷ []) t.replies (x ∷ []) t.answered (one_answered b c u x h);
   added = e ∙ (ap (λ (l : List ℕ). l ++ frame_of x) t.added ∙ (append_assoc out (flat_map frame_of t.replies) (frame_of x) ∙ ap (λ (l : List ℕ). out ++ l) (sym (frames_more t.replies x))));
+  counted = k ∙ (ap (λ (r : Requests). with_reply r u x) t.counted ∙ sym (counts_more n a b us t.replies u x t.answered));
 }
 
-pub answers_more : (a b c : Images) (requests : List Adu) (i : ℕ) (u x : Adu) (out mid : List ℕ) → take (i + 1) requests ≡ take i requests ++ u ∷ [] → Adds a (take i requests) out mid b → Answers b u x c → AnswersSome a requests c
-answers_more a b c requests i u x out mid e t h =
+pub answers_more : (a b c : Images) (requests : List Adu) (i : ℕ) (u x : Adu) (out mid : List ℕ) (n m : Requests) → take (i + 1) requests ≡ take i requests ++ u ∷ [] → Adds a (take i requests) out mid n m b → Answers b u x c → AnswersSome a requests c
+answers_more a b c requests i u x out mid n m e t h =
     (i + 1, t.replies ++ x ∷ [], subst (λ (l : List Adu). AnswersAll a l (t.replies ++ x ∷ []) c) (sym e) (both_answered a b c (take i requests) (u ∷ []) t.replies (x ∷ []) t.answered (one_answered b c u x h)))
 
 pub framed_at : (us : List Adu) (i : ℕ) (d : Adu) → AllByRecursion IsFramed us → i < length us → IsFramed (get_or us i d)
@@ -110,12 +119,12 @@ pub silent_after : (from : Ending HeaderFault) (piece : List ℕ) (images images
 silent_after (Rest bytes) piece images images' held requests first some = breaks_silent (bytes ++ piece) images images' held requests first some
 silent_after (Fault fault) piece images images' held requests first some = absurd first
 
-pub written_after : (from : Ending HeaderFault) (piece : List ℕ) (images images' : Images) (held held' : Option (List ℕ)) (requests : List Adu) (out out' : List ℕ) (count : ℕ)
-    → StartsAfter from piece requests → out ≡ [] → Adds images requests out out' images' → Appends held held' (take count out') → BreaksAfter from piece images images' held held'
-written_after (Rest bytes) piece images images' held held' requests out out' count first none t written =
+pub written_after : (from : Ending HeaderFault) (piece : List ℕ) (images images' : Images) (held held' : Option (List ℕ)) (requests : List Adu) (out out' : List ℕ) (n m : Requests) (count : ℕ)
+    → StartsAfter from piece requests → out ≡ [] → Adds images requests out out' n m images' → Appends held held' (take count out') → BreaksAfter from piece images images' held held'
+written_after (Rest bytes) piece images images' held held' requests out out' n m count first none t written =
     let sent : out' ≡ flat_map frame_of t.replies = t.added ∙ ap (λ (l : List ℕ). l ++ flat_map frame_of t.replies) none in
     breaks_written (bytes ++ piece) images images' held held' requests t.replies count first t.answered (subst (λ (l : List ℕ). Appends held held' (take count l)) sent written)
-written_after (Fault fault) piece images images' held held' requests out out' count first none t written = absurd first
+written_after (Fault fault) piece images images' held held' requests out out' n m count first none t written = absurd first
 
 -- a call failed
 pub on_err : {A E : Type 0} (P : Type 0) (r : Result A E) → P → OnErr r P

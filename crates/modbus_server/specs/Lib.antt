@@ -1,3 +1,4 @@
+pub mod Counting
 pub mod Requests
 pub mod Replies
 pub mod Sessions

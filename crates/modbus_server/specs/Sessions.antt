@@ -11,6 +11,8 @@ use Rattle.io_image.specs.Releases.{IsRising, shown}
 use Rattle.io_image.specs.declared.release.Release.{Release}
 use Rattle.modbus_wire.specs.Frames.{Adu, frame_of, adus}
 use Rattle.modbus_wire.specs.declared.header.HeaderFault.{HeaderFault}
+use Rattle.plc_host.specs.declared.requests.Requests.{Requests}
+use Rattle.modbus_server.specs.Counting.{with_replies}
 use Rattle.modbus_server.specs.Replies.{Replies, timely_reply}
 use Rattle.modbus_server.specs.declared.serve.SessionEnd.{SessionEnd}
 use Rattle.modbus_server.specs.declared.serve.SessionEnd.TheVariants as ends
@@ -70,11 +72,13 @@ pub record Breaks (stream : List ℕ) (images images' : Images) (held held' : Op
   pub prefix : IsPrefix output (flat_map frame_of replies)
   pub written : Appends held held' output
 
--- These requests were answered, and the bytes of the answers were added.
-pub record Adds (before : Images) (requests : List Adu) (out out' : List ℕ) (after : Images) : Type 0 where
+-- These requests were answered, the bytes of the answers were added, and each request was counted with its answer.
+pub record Adds (before : Images) (requests : List Adu) (out out' : List ℕ) (counts counts' : Requests) (after : Images)
+    : Type 0 where
   pub replies : List Adu
   pub answered : AnswersAll before requests replies after
   pub added : out' ≡ out ++ flat_map frame_of replies
+  pub counted : counts' ≡ with_replies counts requests replies
 
 -- These are the first of the requests, and were answered.
 abbrev pub AnswersSome : Images → List Adu → Images → Type 0

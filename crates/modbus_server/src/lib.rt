@@ -21,14 +21,18 @@
 //! Proved: `reply` is the table of functions, with its order of checks, cells and reply, by the bytes of a request and by
 //! its values (`values_are_served`). `serve_session` writes the replies in order, each by what its reader shows, behind
 //! all that it saw before, or with exception 4 in place of outputs that were released longer ago than the limit, if
-//! there's one. It ends by Closed only at the reader's end, by a fault of the header only where the stream has it, by
-//! Device only where a device failed.
+//! there's one; each is counted with its request, by the function and by the exception that it is, if it's one. It ends
+//! by Closed only at the reader's end, by a fault of the header only where the stream has it, by Device only where a
+//! device failed.
+//!
+//! By its code alone: that what is counted of a piece is added to the traffic once its replies went out.
 //!
 //! Shown by tests: that a reply doesn't wait for the next request, and that the read for it enters anew (`modbus.rows`
 //! of `tests_bytes`, with sessions that fail in the middle); the service (`serve_rows` and `failing_rows` of
 //! `tests_threads`); that clients of others are content (`tools/try-clients`).
 #![tactic(auto)]
 
+mod counting;
 mod outputs;
 mod replies;
 mod request;

@@ -32,7 +32,7 @@ pub(crate) struct Seat<R: Clock + Drop, J: Naming> {
 
 impl<R: Wait + Clock + Copy + Drop, J: Naming> Session<R> for Seat<R, J> {
     fn serve(&mut self, host: &Host<R>, connection: &Connection<'_, R>) {
-        self.traffic.add_session();
+        self.traffic.begin_session();
         let _ = serve_session(
             host,
             &self.traffic,
@@ -41,6 +41,7 @@ impl<R: Wait + Clock + Copy + Drop, J: Naming> Session<R> for Seat<R, J> {
             &mut self.stage.handle(&host.rt),
             &mut self.outputs,
         );
+        self.traffic.end_session();
     }
 }
 

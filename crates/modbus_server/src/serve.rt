@@ -6,12 +6,13 @@ ghost use Rattle.io_model.specs.Stream.{IsRest};
 ghost use Rattle.modbus_wire.specs.Frames.{IsFramed};
 ghost use Rattle.modbus_server.specs.Sessions.{images_of, Answers, Adds, AnswersSome, Serves, Stops, Talks};
 
+use crate::counting::count_reply;
 use crate::outputs::Outputs;
 use crate::replies::timely_reply;
 use io_image::{Ages, Naming, Staging};
 use io_model::{CountedRead, CountedWrite, write_all};
 use modbus_wire::{Adu, HeaderFault, Session, SessionFault, know_any_pieces};
-use plc_host::{Host, Traffic};
+use plc_host::{Host, Requests, Traffic};
 use std::alloc::AllocError;
 use std::sync::Wait;
 
@@ -50,23 +51,26 @@ fn answer<S: Staging, J: Naming, A: Ages>(
     }
 }
 
-/// Adds the replies to these requests.
+/// Adds the replies to these requests, and counts each.
 fn answer_all<S: Staging, J: Naming, A: Ages>(
     requests: &[Adu],
     out: &mut Vec<u8>,
+    counts: &mut Requests,
     staging: &mut S,
     outputs: &mut Outputs<J, A>,
 ) -> Result<(), AllocError>
     requires { AllByRecursion IsFramed requests.now }
     ensures ok { OnOk result
         (Adds (images_of (S.told staging.old) outputs.old.released outputs.old.limit) requests.now
-        out.old.items out.new.items (images_of (S.told staging.new) outputs.new.released outputs.new.limit)) }
+        out.old.items out.new.items counts.old counts.new (images_of (S.told staging.new) outputs.new.released outputs.new.limit)) }
     ensures err { OnErr result
         (AnswersSome (images_of (S.told staging.old) outputs.old.released outputs.old.limit) requests.now
         (images_of (S.told staging.new) outputs.new.released outputs.new.limit)) }
 {
     for request in requests {
-        answer(request, staging, outputs).write_to(out)?;
+        let reply = answer(request, staging, outputs);
+        count_reply(counts, request, &reply);
+        reply.write_to(out)?;
     }
     Ok(())
 }
@@ -106,13 +110,14 @@ fn serve_piece<W: CountedWrite, S: Staging, J: Naming, A: Ages>(
     requests.clear();
     replies.clear();
     let fed = session.feed(piece, requests);
-    if answer_all(requests.as_slice(), replies, staging, outputs).is_err() {
+    let mut counts = Requests::none();
+    if answer_all(requests.as_slice(), replies, &mut counts, staging, outputs).is_err() {
         return Err(SessionEnd::Memory);
     }
     if write_all(writer, replies.as_slice()).is_err() {
         return Err(SessionEnd::Device);
     }
-    traffic.add_requests(requests.len() as u64);
+    traffic.add_requests(&counts);
     match fed {
         Ok(()) => Ok(()),
         Err(SessionFault::Header(fault)) => Err(SessionEnd::Header(fault)),

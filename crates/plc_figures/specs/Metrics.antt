@@ -4,11 +4,12 @@ use Rattle.std.specs.List.{enumerate_from, flat_map}
 use Rattle.plc_figures.specs.declared.reading.Clients.{Clients}
 use Rattle.plc_figures.specs.declared.reading.Halt.{Halt}
 use Rattle.plc_figures.specs.declared.reading.Halt.TheVariants as halts
+use Rattle.plc_figures.specs.declared.reading.Machine.{Machine}
 use Rattle.plc_figures.specs.declared.reading.Process.{Process}
 use Rattle.plc_figures.specs.declared.reading.Reading.{Reading}
 use Rattle.plc_figures.specs.declared.reading.Replica.{Replica}
 use Rattle.plc_figures.specs.declared.reading.Scans.{Scans}
-use Rattle.plc_figures.specs.Readings.{bounds, flag_number, greatest_view, shows_normal, sum_of}
+use Rattle.plc_figures.specs.Readings.{bounds, flag_number, function_name, greatest_view, shows_normal, sum_of}
 use Rattle.plc_figures.specs.Texts.{seconds_text}
 
 -- what figures of this name are, and of which type
@@ -97,21 +98,21 @@ scan_metrics scans =
     ++ gauge_text (codes "plc_stopped") (codes "Whether the last scan stopped at a fault.")
     (stopped_number scans.halt))))
 
--- whether a replica is normal, with its number
-abbrev pub normal_line : ℕ × Replica → List ℕ
-normal_line it = replica_sample (codes "plc_replica_normal") it.0 (flag_number (shows_normal it.1))
+-- whether a replica is normal
+abbrev pub normal_line : Replica → List ℕ
+normal_line shown = replica_sample (codes "plc_replica_normal") shown.number (flag_number (shows_normal shown))
 
 abbrev pub normal_lines : List Replica → List ℕ
-normal_lines replicas = flat_map normal_line (enumerate_from 0 replicas)
+normal_lines replicas = flat_map normal_line replicas
 
--- how often a replica was started, with its number
-abbrev pub starts_line : ℕ × Replica → List ℕ
-starts_line it = replica_sample (codes "plc_replica_starts_total") it.0 it.1.starts
+-- how often a replica was started
+abbrev pub starts_line : Replica → List ℕ
+starts_line shown = replica_sample (codes "plc_replica_starts_total") shown.number shown.starts
 
 abbrev pub starts_lines : List Replica → List ℕ
-starts_lines replicas = flat_map starts_line (enumerate_from 0 replicas)
+starts_lines replicas = flat_map starts_line replicas
 
--- each replica by its number, from 0
+-- each replica by its number
 abbrev pub group_metrics : List Replica → List ℕ
 group_metrics replicas =
     family_text (codes "plc_replica_normal") (codes "gauge") (codes "Whether the replica is normal.")
@@ -120,12 +121,51 @@ group_metrics replicas =
     ++ (starts_lines replicas
     ++ gauge_text (codes "plc_view") (codes "The greatest view of a replica.") (greatest_view replicas))))
 
-abbrev pub client_metrics : Clients → List ℕ
-client_metrics clients =
+abbrev pub known_machine : Machine → List ℕ
+known_machine machine =
+    gauge_text (codes "plc_driving") (codes "Whether this machine drives: its scans are the group's, and it shows outputs.")
+    (flag_number machine.is_driving)
+    ++ gauge_text (codes "plc_epoch") (codes "The epoch of the group.") machine.epoch
+
+abbrev pub machine_metrics : Option Machine → List ℕ
+machine_metrics None = []
+machine_metrics (Some machine) = known_machine machine
+
+-- how many requests of a function were answered, by the place of its count
+abbrev pub function_line : ℕ × ℕ → List ℕ
+function_line it =
+    codes "plc_modbus_requests_total{function=\""
+    ++ (function_name it.0 ++ (codes "\"} " ++ (decimal it.1 ++ codes "\n")))
+
+abbrev pub function_lines : List ℕ → List ℕ
+function_lines counts = flat_map function_line (enumerate_from 0 counts)
+
+-- how many requests were answered by an exception, by the place of its count; codes begin with 1
+abbrev pub exception_line : ℕ × ℕ → List ℕ
+exception_line it =
+    codes "plc_modbus_exceptions_total{code=\""
+    ++ (decimal (it.0 + 1) ++ (codes "\"} " ++ (decimal it.1 ++ codes "\n")))
+
+abbrev pub exception_lines : List ℕ → List ℕ
+exception_lines counts = flat_map exception_line (enumerate_from 0 counts)
+
+abbrev pub session_metrics : Clients → List ℕ
+session_metrics clients =
     counter_text (codes "plc_sessions_total") (codes "Connections of Modbus clients that were given a session.")
     clients.sessions
-    ++ counter_text (codes "plc_modbus_requests_total") (codes "Requests of Modbus clients that were answered.")
-    clients.requests
+    ++ gauge_text (codes "plc_sessions") (codes "Sessions of Modbus clients that are open.") clients.open_sessions
+
+abbrev pub request_metrics : Clients → List ℕ
+request_metrics clients =
+    family_text (codes "plc_modbus_requests_total") (codes "counter")
+    (codes "Requests of Modbus clients that were answered.")
+    ++ (function_lines clients.functions
+    ++ (family_text (codes "plc_modbus_exceptions_total") (codes "counter")
+    (codes "Requests of Modbus clients that were answered by an exception.")
+    ++ exception_lines clients.exceptions))
+
+abbrev pub client_metrics : Clients → List ℕ
+client_metrics clients = session_metrics clients ++ request_metrics clients
 
 abbrev pub known_process : Process → List ℕ
 known_process process =
@@ -148,5 +188,6 @@ metrics_text version reading =
     build_metrics version
     ++ (scan_metrics reading.scans
     ++ (group_metrics reading.replicas.items
+    ++ (machine_metrics reading.machine
     ++ (client_metrics reading.clients
-    ++ process_metrics reading.process)))
+    ++ process_metrics reading.process))))

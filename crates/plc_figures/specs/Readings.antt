@@ -1,5 +1,5 @@
 -- What shows of the scans, and of the replicas of a group.
-use Rattle.std.specs.Prelude.{ℕ, ◌+◌, ◌-◌, ◌^◌, min, max, Bool, true, false, not, List, [], ◌∷◌, fold}
+use Rattle.std.specs.Prelude.{ℕ, ◌+◌, ◌-◌, ◌^◌, min, max, Bool, true, false, not, nat_lt, if◌then◌else◌, List, [], ◌∷◌, fold, get_or, codes, decimal}
 use Rattle.vr_model.specs.declared.standing.Status.{Status}
 use Rattle.vr_model.specs.declared.standing.Status.TheVariants as statuses
 use Rattle.plc_figures.specs.declared.reading.Replica.{Replica}
@@ -14,7 +14,7 @@ bounds =
 abbrev pub capped : ℕ → ℕ → ℕ
 capped total count = min (total + count) (2 ^ 64 - 1)
 
--- how many are counted in these buckets
+-- how many are counted at these places together
 abbrev pub sum_of : List ℕ → ℕ
 sum_of counts = fold capped 0 counts
 
@@ -36,3 +36,11 @@ flag_number true = 1
 -- the greatest view that shows
 abbrev pub greatest_view : List Replica → ℕ
 greatest_view replicas = fold (λ view shown. max view shown.standing.view) 0 replicas
+
+-- the functions of Modbus whose requests are counted each by itself
+abbrev pub functions : List ℕ
+functions = 1 ∷ 2 ∷ 3 ∷ 4 ∷ 5 ∷ 6 ∷ 15 ∷ 16 ∷ 22 ∷ 23 ∷ []
+
+-- the function whose requests are counted at this place
+abbrev pub function_name : ℕ → List ℕ
+function_name place = if nat_lt place 10 then decimal (get_or functions place 0) else codes "other"

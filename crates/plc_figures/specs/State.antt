@@ -1,5 +1,5 @@
 -- What shows of a controller, as one JSON object. Times are seconds.
-use Rattle.std.specs.Prelude.{ℕ, List, ◌++◌, Option, Some, None, codes, decimal}
+use Rattle.std.specs.Prelude.{ℕ, ◌+◌, List, ◌++◌, Option, Some, None, codes, decimal}
 use Rattle.std.specs.Fmt.{signed_decimal}
 use Rattle.std.specs.List.{enumerate_from, flat_map}
 use Rattle.il_lister.specs.Listing.{location_text}
@@ -9,6 +9,7 @@ use Rattle.vr_model.specs.declared.standing.Status.TheVariants as statuses
 use Rattle.plc_figures.specs.declared.reading.Clients.{Clients}
 use Rattle.plc_figures.specs.declared.reading.Halt.{Halt}
 use Rattle.plc_figures.specs.declared.reading.Halt.TheVariants as halts
+use Rattle.plc_figures.specs.declared.reading.Machine.{Machine}
 use Rattle.plc_figures.specs.declared.reading.Point.{Point}
 use Rattle.plc_figures.specs.declared.reading.Process.{Process}
 use Rattle.plc_figures.specs.declared.reading.Reading.{Reading}
@@ -16,7 +17,7 @@ use Rattle.plc_figures.specs.declared.reading.Replica.{Replica}
 use Rattle.plc_figures.specs.declared.reading.Scans.{Scans}
 use Rattle.plc_figures.specs.declared.reading.Told.{Told}
 use Rattle.plc_figures.specs.Json.{comma, flag_json, string_json}
-use Rattle.plc_figures.specs.Readings.{greatest_view}
+use Rattle.plc_figures.specs.Readings.{function_name, greatest_view, sum_of}
 use Rattle.plc_figures.specs.Texts.{seconds_text}
 
 abbrev pub phase_name : Status → List ℕ
@@ -25,11 +26,11 @@ phase_name statuses.ViewChange = codes "view change"
 phase_name statuses.Recovering = codes "recovering"
 phase_name statuses.Down = codes "down"
 
--- a replica, with its number
+-- a replica, with its number; it stands at this place
 abbrev pub replica_json : ℕ × Replica → List ℕ
 replica_json it = comma it.0
     ++ (codes "{\"replica\":"
-    ++ (decimal it.0
+    ++ (decimal it.1.number
     ++ (codes ",\"status\":\""
     ++ (phase_name it.1.standing.status
     ++ (codes "\",\"view\":"
@@ -70,10 +71,43 @@ scans_json scans = codes "{\"count\":"
     ++ (codes ",\"fresh\":"
     ++ (flag_json scans.is_fresh ++ (codes ",\"halt\":" ++ (halt_json scans.halt ++ codes "}")))))))))))))
 
+abbrev pub known_machine : Machine → List ℕ
+known_machine machine =
+    codes "{\"number\":"
+    ++ (decimal machine.number
+    ++ (codes ",\"epoch\":"
+    ++ (decimal machine.epoch ++ (codes ",\"driving\":" ++ (flag_json machine.is_driving ++ codes "}")))))
+
+abbrev pub machine_json : Option Machine → List ℕ
+machine_json None = codes "null"
+machine_json (Some machine) = known_machine machine
+
+-- how many requests of a function were answered, by the place of its count
+abbrev pub function_json : ℕ × ℕ → List ℕ
+function_json it = comma it.0
+    ++ (codes "\"" ++ (function_name it.0 ++ (codes "\":" ++ decimal it.1)))
+
+abbrev pub functions_json : List ℕ → List ℕ
+functions_json counts = flat_map function_json (enumerate_from 0 counts)
+
+-- how many requests were answered by an exception, by the place of its count; codes begin with 1
+abbrev pub exception_json : ℕ × ℕ → List ℕ
+exception_json it = comma it.0
+    ++ (codes "\"" ++ (decimal (it.0 + 1) ++ (codes "\":" ++ decimal it.1)))
+
+abbrev pub exceptions_json : List ℕ → List ℕ
+exceptions_json counts = flat_map exception_json (enumerate_from 0 counts)
+
 abbrev pub clients_json : Clients → List ℕ
-clients_json clients =
-    codes "{\"sessions\":"
-    ++ (decimal clients.sessions ++ (codes ",\"requests\":" ++ (decimal clients.requests ++ codes "}")))
+clients_json clients = codes "{\"sessions\":"
+    ++ (decimal clients.sessions
+    ++ (codes ",\"open\":"
+    ++ (decimal clients.open_sessions
+    ++ (codes ",\"requests\":"
+    ++ (decimal (sum_of clients.functions)
+    ++ (codes ",\"functions\":{"
+    ++ (functions_json clients.functions
+    ++ (codes "},\"exceptions\":{" ++ (exceptions_json clients.exceptions ++ codes "}}")))))))))
 
 abbrev pub known_process : Process → List ℕ
 known_process process =
@@ -118,10 +152,12 @@ state_text version reading = codes "{\"version\":"
     ++ (string_json version
     ++ (codes ",\"view\":"
     ++ (decimal (greatest_view reading.replicas.items)
+    ++ (codes ",\"machine\":"
+    ++ (machine_json reading.machine
     ++ (codes ",\"replicas\":["
     ++ (replicas_json reading.replicas.items
     ++ (codes "],\"scans\":"
     ++ (scans_json reading.scans
     ++ (codes ",\"clients\":"
     ++ (clients_json reading.clients
-    ++ (codes ",\"process\":" ++ (process_json reading.process ++ lists_text reading)))))))))))
+    ++ (codes ",\"process\":" ++ (process_json reading.process ++ lists_text reading)))))))))))))

@@ -22,6 +22,9 @@ mod text;
 
 pub use metrics::put_metrics;
 pub use names::{phase_name, put_place, stop_name};
-pub use reading::{BOUNDS, BUCKETS, Clients, Halt, Point, Process, Reading, Replica, Scans, Told};
+pub use reading::{
+    BOUNDS, BUCKETS, Clients, EXCEPTIONS, FUNCTIONS, Halt, Machine, PLACES, Point, Process,
+    Reading, Replica, Scans, Told,
+};
 pub use state::put_state;
 pub use text::{put, put_number, put_seconds, put_signed};

@@ -7,12 +7,18 @@ ghost use Rattle.plc_figures.specs.Metrics.{age_metrics, held_number, known_age}
 ghost use Rattle.plc_figures.specs.Metrics.{scan_counts, scan_metrics, stopped_number};
 ghost use Rattle.plc_figures.specs.Metrics.{bucket_line, bucket_lines, bucket_text, interval_metrics, totals_text};
 ghost use Rattle.plc_figures.specs.Metrics.{group_metrics, normal_line, normal_lines, starts_line, starts_lines};
+ghost use Rattle.plc_figures.specs.Metrics.{known_machine, machine_metrics};
+ghost use Rattle.plc_figures.specs.Metrics.{exception_line, exception_lines, function_line, function_lines};
+ghost use Rattle.plc_figures.specs.Metrics.{request_metrics, session_metrics};
 ghost use Rattle.plc_figures.specs.Metrics.{build_metrics, client_metrics, metrics_text};
 ghost use Rattle.plc_figures.specs.Metrics.{known_process, process_metrics};
 ghost use Rattle.plc_figures.specs.Readings.{flag_number, greatest_view, sum_of};
 ghost use Rattle.plc_figures.specs.Texts.{IsAdded};
 
-use crate::reading::{BOUNDS, BUCKETS, Clients, Halt, Process, Reading, Replica, Scans};
+use crate::names::put_function;
+use crate::reading::{
+    BOUNDS, BUCKETS, Clients, EXCEPTIONS, Halt, Machine, PLACES, Process, Reading, Replica, Scans,
+};
 use crate::text::{put, put_number, put_seconds};
 use std::alloc::AllocError;
 
@@ -55,17 +61,12 @@ fn put_time(out: &mut Vec<u8>, name: &[u8], microseconds: u64) -> Result<(), All
 }
 
 /// A figure of the replica with this number.
-fn put_of_replica(
-    out: &mut Vec<u8>,
-    name: &[u8],
-    number: usize,
-    value: u64,
-) -> Result<(), AllocError>
+fn put_of_replica(out: &mut Vec<u8>, name: &[u8], number: u8, value: u64) -> Result<(), AllocError>
     ensures { OnOk result (IsAdded out.old.items (replica_sample name.now number value) out.new.items) }
 {
     put(out, name)?;
     put(out, b"{replica=\"")?;
-    put_number(out, number as u64)?;
+    put_number(out, u64::from(number))?;
     put(out, b"\"} ")?;
     put_number(out, value)?;
     put(out, b"\n")?;
@@ -134,8 +135,8 @@ fn stopped_number(halt: Option<Halt>) -> u64
     }
 }
 
-/// How many are counted in these buckets.
-fn sum_of(counts: &[u64]) -> u64
+/// How many are counted at these places together.
+pub(crate) fn sum_of(counts: &[u64]) -> u64
     ensures { result ≡ sum_of counts.now }
 {
     counts
@@ -261,35 +262,40 @@ fn flag(is_so: bool) -> u64
 }
 
 /// Whether a replica is normal.
-fn put_normal_one(out: &mut Vec<u8>, number: usize, shown: &Replica) -> Result<(), AllocError>
-    ensures { OnOk result (IsAdded out.old.items (normal_line (number, shown.now)) out.new.items) }
+fn put_normal_one(out: &mut Vec<u8>, shown: &Replica) -> Result<(), AllocError>
+    ensures { OnOk result (IsAdded out.old.items (normal_line shown.now) out.new.items) }
 {
-    put_of_replica(out, b"plc_replica_normal", number, flag(shown.is_normal()))
+    put_of_replica(
+        out,
+        b"plc_replica_normal",
+        shown.number,
+        flag(shown.is_normal()),
+    )
 }
 
 /// Whether each replica is normal.
 fn put_normal(out: &mut Vec<u8>, replicas: &[Replica]) -> Result<(), AllocError>
     ensures { OnOk result (IsAdded out.old.items (normal_lines replicas.now) out.new.items) }
 {
-    for (number, shown) in replicas.iter().enumerate() {
-        put_normal_one(out, number, shown)?;
+    for shown in replicas {
+        put_normal_one(out, shown)?;
     }
     Ok(())
 }
 
 /// How often a replica was started.
-fn put_starts_one(out: &mut Vec<u8>, number: usize, shown: &Replica) -> Result<(), AllocError>
-    ensures { OnOk result (IsAdded out.old.items (starts_line (number, shown.now)) out.new.items) }
+fn put_starts_one(out: &mut Vec<u8>, shown: &Replica) -> Result<(), AllocError>
+    ensures { OnOk result (IsAdded out.old.items (starts_line shown.now) out.new.items) }
 {
-    put_of_replica(out, b"plc_replica_starts_total", number, shown.starts)
+    put_of_replica(out, b"plc_replica_starts_total", shown.number, shown.starts)
 }
 
 /// How often each replica was started.
 fn put_starts(out: &mut Vec<u8>, replicas: &[Replica]) -> Result<(), AllocError>
     ensures { OnOk result (IsAdded out.old.items (starts_lines replicas.now) out.new.items) }
 {
-    for (number, shown) in replicas.iter().enumerate() {
-        put_starts_one(out, number, shown)?;
+    for shown in replicas {
+        put_starts_one(out, shown)?;
     }
     Ok(())
 }
@@ -330,9 +336,78 @@ fn put_group(out: &mut Vec<u8>, replicas: &[Replica]) -> Result<(), AllocError>
     Ok(())
 }
 
-/// The figures of Modbus clients.
-fn put_clients(out: &mut Vec<u8>, clients: &Clients) -> Result<(), AllocError>
-    ensures { OnOk result (IsAdded out.old.items (client_metrics clients.now) out.new.items) }
+/// Whether a machine drives, and its epoch.
+fn put_known_machine(out: &mut Vec<u8>, machine: Machine) -> Result<(), AllocError>
+    ensures { OnOk result (IsAdded out.old.items (known_machine machine) out.new.items) }
+{
+    put_gauge(
+        out,
+        b"plc_driving",
+        b"Whether this machine drives: its scans are the group's, and it shows outputs.",
+        flag(machine.is_driving),
+    )?;
+    put_gauge(out, b"plc_epoch", b"The epoch of the group.", machine.epoch)?;
+    Ok(())
+}
+
+/// The same, if it's of a machine.
+fn put_machine(out: &mut Vec<u8>, machine: Option<Machine>) -> Result<(), AllocError>
+    ensures { OnOk result (IsAdded out.old.items (machine_metrics machine) out.new.items) }
+{
+    match machine {
+        None => Ok(()),
+        Some(machine) => put_known_machine(out, machine),
+    }
+}
+
+/// How many requests were answered of the function whose count has this place.
+fn put_function_line(out: &mut Vec<u8>, place: usize, count: u64) -> Result<(), AllocError>
+    ensures { OnOk result (IsAdded out.old.items (function_line (place, count)) out.new.items) }
+{
+    put(out, b"plc_modbus_requests_total{function=\"")?;
+    put_function(out, place)?;
+    put(out, b"\"} ")?;
+    put_number(out, count)?;
+    put(out, b"\n")?;
+    Ok(())
+}
+
+/// How many requests were answered, by their functions.
+fn put_functions(out: &mut Vec<u8>, counts: &[u64; PLACES]) -> Result<(), AllocError>
+    ensures { OnOk result (IsAdded out.old.items (function_lines counts.now) out.new.items) }
+{
+    for (place, count) in counts.iter().enumerate() {
+        put_function_line(out, place, *count)?;
+    }
+    Ok(())
+}
+
+/// How many requests were answered by the exception whose count has this place.
+fn put_exception_line(out: &mut Vec<u8>, place: usize, count: u64) -> Result<(), AllocError>
+    requires { place < 4 }
+    ensures { OnOk result (IsAdded out.old.items (exception_line (place, count)) out.new.items) }
+{
+    put(out, b"plc_modbus_exceptions_total{code=\"")?;
+    put_number(out, place as u64 + 1)?;
+    put(out, b"\"} ")?;
+    put_number(out, count)?;
+    put(out, b"\n")?;
+    Ok(())
+}
+
+/// How many requests were answered by an exception, by their codes.
+fn put_exceptions(out: &mut Vec<u8>, counts: &[u64; EXCEPTIONS]) -> Result<(), AllocError>
+    ensures { OnOk result (IsAdded out.old.items (exception_lines counts.now) out.new.items) }
+{
+    for (place, count) in counts.iter().enumerate() {
+        put_exception_line(out, place, *count)?;
+    }
+    Ok(())
+}
+
+/// The sessions of Modbus clients.
+fn put_sessions(out: &mut Vec<u8>, clients: &Clients) -> Result<(), AllocError>
+    ensures { OnOk result (IsAdded out.old.items (session_metrics clients.now) out.new.items) }
 {
     put_counter(
         out,
@@ -340,12 +415,42 @@ fn put_clients(out: &mut Vec<u8>, clients: &Clients) -> Result<(), AllocError>
         b"Connections of Modbus clients that were given a session.",
         clients.sessions,
     )?;
-    put_counter(
+    put_gauge(
+        out,
+        b"plc_sessions",
+        b"Sessions of Modbus clients that are open.",
+        clients.open_sessions,
+    )?;
+    Ok(())
+}
+
+/// The requests of Modbus clients.
+fn put_requests(out: &mut Vec<u8>, clients: &Clients) -> Result<(), AllocError>
+    ensures { OnOk result (IsAdded out.old.items (request_metrics clients.now) out.new.items) }
+{
+    put_family(
         out,
         b"plc_modbus_requests_total",
+        b"counter",
         b"Requests of Modbus clients that were answered.",
-        clients.requests,
     )?;
+    put_functions(out, &clients.functions)?;
+    put_family(
+        out,
+        b"plc_modbus_exceptions_total",
+        b"counter",
+        b"Requests of Modbus clients that were answered by an exception.",
+    )?;
+    put_exceptions(out, &clients.exceptions)?;
+    Ok(())
+}
+
+/// The figures of Modbus clients.
+fn put_clients(out: &mut Vec<u8>, clients: &Clients) -> Result<(), AllocError>
+    ensures { OnOk result (IsAdded out.old.items (client_metrics clients.now) out.new.items) }
+{
+    put_sessions(out, clients)?;
+    put_requests(out, clients)?;
     Ok(())
 }
 
@@ -402,6 +507,7 @@ pub fn put_metrics(out: &mut Vec<u8>, version: &[u8], reading: &Reading) -> Resu
     put_build(out, version)?;
     put_scans(out, &reading.scans)?;
     put_group(out, reading.replicas.as_slice())?;
+    put_machine(out, reading.machine)?;
     put_clients(out, &reading.clients)?;
     put_process(out, reading.process)?;
     Ok(())

@@ -4,9 +4,11 @@ ghost use Rattle.std.specs.Prelude.{◌≡◌, OnOk};
 ghost use Rattle.il_lister.specs.Listing.{area_letter, location_text};
 ghost use Rattle.il_model.specs.declared.program.Loc.TheVariants as places;
 ghost use Rattle.il_text.specs.Lines.{stop_name};
+ghost use Rattle.plc_figures.specs.Readings.{function_name};
 ghost use Rattle.plc_figures.specs.State.{phase_name};
 ghost use Rattle.plc_figures.specs.Texts.{IsAdded};
 
+use crate::reading::FUNCTIONS;
 use crate::text::{put, put_number};
 use il_model::{Area, Loc, Stop};
 use std::alloc::AllocError;
@@ -77,5 +79,16 @@ pub fn put_place(out: &mut Vec<u8>, place: Loc) -> Result<(), AllocError>
     match place {
         Loc::Bit(area, number) => put_bit(out, area, number),
         Loc::Word(area, number) => put_word(out, area, number),
+    }
+}
+
+/// Adds the function of Modbus whose requests are counted at this place.
+pub(crate) fn put_function(out: &mut Vec<u8>, place: usize) -> Result<(), AllocError>
+    ensures { OnOk result (IsAdded out.old.items (function_name place) out.new.items) }
+{
+    if place < 10 {
+        put_number(out, FUNCTIONS[place])
+    } else {
+        put(out, b"other")
     }
 }

@@ -9,6 +9,7 @@ use vr_model::{Standing, Status};
 /// What shows of a replica.
 #[derive(Clone, Copy)]
 pub struct Replica {
+    pub number: u8,
     pub standing: Standing,
     /// How often it was started.
     pub starts: u64,
@@ -67,13 +68,36 @@ pub struct Scans {
     pub halt: Option<Halt>,
 }
 
+/// The functions of Modbus whose requests are counted each by itself.
+pub const FUNCTIONS: [u64; 10] = [1, 2, 3, 4, 5, 6, 15, 16, 22, 23];
+
+/// So many counts by functions there are: one for each of these, and the last for all others.
+pub const PLACES: usize = 11;
+
+/// The greatest code of an exception; the least is 1.
+pub const EXCEPTIONS: usize = 4;
+
 /// What Modbus clients did so far.
 #[derive(Clone, Copy)]
 pub struct Clients {
     /// How many connections were given a session.
     pub sessions: u64,
-    /// How many requests were answered.
-    pub requests: u64,
+    /// How many of these sessions aren't at their end.
+    pub open_sessions: u64,
+    /// How many requests were answered of each function, in the order of `FUNCTIONS`, and behind them of all others.
+    pub functions: [u64; PLACES],
+    /// How many of them by an exception, of each code.
+    pub exceptions: [u64; EXCEPTIONS],
+}
+
+/// What shows of a machine of a group.
+#[derive(Clone, Copy)]
+pub struct Machine {
+    pub number: u8,
+    /// The epoch of the group in which it takes part.
+    pub epoch: u64,
+    /// It drives: the scans of the group are its own, and it shows outputs.
+    pub is_driving: bool,
 }
 
 /// What this process takes.
@@ -105,7 +129,8 @@ pub struct Point {
 /// What shows of a controller.
 #[derive(Drop)]
 pub struct Reading {
-    /// Each at its number.
+    /// Of which machine, if it's of one: of others then nothing shows.
+    pub machine: Option<Machine>,
     pub replicas: Vec<Replica>,
     pub scans: Scans,
     pub clients: Clients,

@@ -2,24 +2,28 @@
 
 ghost use Rattle.std.specs.Prelude.{OnOk};
 ghost use Rattle.plc_figures.specs.State.{age_json, clients_json, halt_json, known_process, process_json, why_json};
+ghost use Rattle.plc_figures.specs.State.{exception_json, exceptions_json, function_json, functions_json};
+ghost use Rattle.plc_figures.specs.State.{known_machine, machine_json};
 ghost use Rattle.plc_figures.specs.State.{lists_text, notices_json, point_json, points_json, told_json};
 ghost use Rattle.plc_figures.specs.State.{replica_json, replicas_json, scans_json, state_text};
 ghost use Rattle.plc_figures.specs.Texts.{IsAdded};
 
 use crate::json::{put_comma, put_flag, put_string};
-use crate::metrics::greatest_view;
-use crate::names::{phase_name, put_place, stop_name};
-use crate::reading::{Clients, Halt, Point, Process, Reading, Replica, Scans, Told};
+use crate::metrics::{greatest_view, sum_of};
+use crate::names::{phase_name, put_function, put_place, stop_name};
+use crate::reading::{
+    Clients, EXCEPTIONS, Halt, Machine, PLACES, Point, Process, Reading, Replica, Scans, Told,
+};
 use crate::text::{put, put_number, put_seconds, put_signed};
 use std::alloc::AllocError;
 
-/// A replica, by its number.
-fn put_replica(out: &mut Vec<u8>, number: usize, shown: &Replica) -> Result<(), AllocError>
-    ensures { OnOk result (IsAdded out.old.items (replica_json (number, shown.now)) out.new.items) }
+/// A replica, which stands at this place.
+fn put_replica(out: &mut Vec<u8>, place: usize, shown: &Replica) -> Result<(), AllocError>
+    ensures { OnOk result (IsAdded out.old.items (replica_json (place, shown.now)) out.new.items) }
 {
-    put_comma(out, number)?;
+    put_comma(out, place)?;
     put(out, b"{\"replica\":")?;
-    put_number(out, number as u64)?;
+    put_number(out, u64::from(shown.number))?;
     put(out, b",\"status\":\"")?;
     put(out, phase_name(shown.standing.status))?;
     put(out, b"\",\"view\":")?;
@@ -38,8 +42,8 @@ fn put_replica(out: &mut Vec<u8>, number: usize, shown: &Replica) -> Result<(), 
 fn put_replicas(out: &mut Vec<u8>, replicas: &[Replica]) -> Result<(), AllocError>
     ensures { OnOk result (IsAdded out.old.items (replicas_json replicas.now) out.new.items) }
 {
-    for (number, shown) in replicas.iter().enumerate() {
-        put_replica(out, number, shown)?;
+    for (place, shown) in replicas.iter().enumerate() {
+        put_replica(out, place, shown)?;
     }
     Ok(())
 }
@@ -101,15 +105,90 @@ fn put_scans(out: &mut Vec<u8>, scans: &Scans) -> Result<(), AllocError>
     Ok(())
 }
 
+/// A machine.
+fn put_known_machine(out: &mut Vec<u8>, machine: Machine) -> Result<(), AllocError>
+    ensures { OnOk result (IsAdded out.old.items (known_machine machine) out.new.items) }
+{
+    put(out, b"{\"number\":")?;
+    put_number(out, u64::from(machine.number))?;
+    put(out, b",\"epoch\":")?;
+    put_number(out, machine.epoch)?;
+    put(out, b",\"driving\":")?;
+    put_flag(out, machine.is_driving)?;
+    put(out, b"}")?;
+    Ok(())
+}
+
+/// The same: null where it's of none.
+fn put_machine(out: &mut Vec<u8>, machine: Option<Machine>) -> Result<(), AllocError>
+    ensures { OnOk result (IsAdded out.old.items (machine_json machine) out.new.items) }
+{
+    match machine {
+        None => put(out, b"null"),
+        Some(machine) => put_known_machine(out, machine),
+    }
+}
+
+/// How many requests were answered of the function whose count has this place.
+fn put_function_count(out: &mut Vec<u8>, place: usize, count: u64) -> Result<(), AllocError>
+    ensures { OnOk result (IsAdded out.old.items (function_json (place, count)) out.new.items) }
+{
+    put_comma(out, place)?;
+    put(out, b"\"")?;
+    put_function(out, place)?;
+    put(out, b"\":")?;
+    put_number(out, count)?;
+    Ok(())
+}
+
+/// How many requests were answered, by their functions.
+fn put_functions(out: &mut Vec<u8>, counts: &[u64; PLACES]) -> Result<(), AllocError>
+    ensures { OnOk result (IsAdded out.old.items (functions_json counts.now) out.new.items) }
+{
+    for (place, count) in counts.iter().enumerate() {
+        put_function_count(out, place, *count)?;
+    }
+    Ok(())
+}
+
+/// How many requests were answered by the exception whose count has this place.
+fn put_exception_count(out: &mut Vec<u8>, place: usize, count: u64) -> Result<(), AllocError>
+    requires { place < 4 }
+    ensures { OnOk result (IsAdded out.old.items (exception_json (place, count)) out.new.items) }
+{
+    put_comma(out, place)?;
+    put(out, b"\"")?;
+    put_number(out, place as u64 + 1)?;
+    put(out, b"\":")?;
+    put_number(out, count)?;
+    Ok(())
+}
+
+/// How many requests were answered by an exception, by their codes.
+fn put_exceptions(out: &mut Vec<u8>, counts: &[u64; EXCEPTIONS]) -> Result<(), AllocError>
+    ensures { OnOk result (IsAdded out.old.items (exceptions_json counts.now) out.new.items) }
+{
+    for (place, count) in counts.iter().enumerate() {
+        put_exception_count(out, place, *count)?;
+    }
+    Ok(())
+}
+
 /// What Modbus clients did.
 fn put_clients(out: &mut Vec<u8>, clients: &Clients) -> Result<(), AllocError>
     ensures { OnOk result (IsAdded out.old.items (clients_json clients.now) out.new.items) }
 {
     put(out, b"{\"sessions\":")?;
     put_number(out, clients.sessions)?;
+    put(out, b",\"open\":")?;
+    put_number(out, clients.open_sessions)?;
     put(out, b",\"requests\":")?;
-    put_number(out, clients.requests)?;
-    put(out, b"}")?;
+    put_number(out, sum_of(&clients.functions))?;
+    put(out, b",\"functions\":{")?;
+    put_functions(out, &clients.functions)?;
+    put(out, b"},\"exceptions\":{")?;
+    put_exceptions(out, &clients.exceptions)?;
+    put(out, b"}}")?;
     Ok(())
 }
 
@@ -205,6 +284,8 @@ pub fn put_state(out: &mut Vec<u8>, version: &[u8], reading: &Reading) -> Result
     put_string(out, version)?;
     put(out, b",\"view\":")?;
     put_number(out, greatest_view(reading.replicas.as_slice()))?;
+    put(out, b",\"machine\":")?;
+    put_machine(out, reading.machine)?;
     put(out, b",\"replicas\":[")?;
     put_replicas(out, reading.replicas.as_slice())?;
     put(out, b"],\"scans\":")?;

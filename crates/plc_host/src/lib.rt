@@ -11,15 +11,18 @@
 //! };
 //! ```
 //!
-//! Proved: an error of std, as a service meets it, becomes the one of `Failed` that `specs/Failing` says.
+//! Proved: an error of std, as a service meets it, becomes the one of `Failed` that `specs/Failing` says; requests are
+//! counted by their functions and by the exceptions that answered them (`specs/Requests`).
 //!
 //! By its code alone: that `Traffic` counts what it is told.
 #![tactic(auto)]
 
 mod failed;
 mod host;
+mod requests;
 mod traffic;
 
 pub use failed::Failed;
 pub use host::{Host, ServiceRuntime};
+pub use requests::{EXCEPTIONS, FUNCTIONS, PLACES, Requests};
 pub use traffic::Traffic;

@@ -1,12 +1,33 @@
 //! What clients did, as it's counted.
 
+use crate::requests::{EXCEPTIONS, PLACES, Requests};
+use std::array;
 use std::sync::atomic::{AtomicU64, Ordering};
 
-/// How many connections were given a session, and how many requests were answered. Any thread counts and reads.
+/// How many connections were given a session, how many of these ended, and how many requests were answered. Any thread
+/// counts and reads. No count falls.
 #[derive(Drop)]
 pub struct Traffic {
     sessions: AtomicU64,
-    requests: AtomicU64,
+    ended: AtomicU64,
+    functions: [AtomicU64; PLACES],
+    exceptions: [AtomicU64; EXCEPTIONS],
+}
+
+/// Counts so many more at each place.
+fn add(counts: &[AtomicU64], more: &[u64]) {
+    for (count, more) in counts.iter().zip(more.iter()) {
+        if *more > 0 {
+            count.fetch_add(*more, Ordering::SeqCst);
+        }
+    }
+}
+
+/// How many were counted at each place.
+fn read(counts: &[AtomicU64], shown: &mut [u64]) {
+    for (count, shown) in counts.iter().zip(shown.iter_mut()) {
+        *shown = count.load(Ordering::SeqCst);
+    }
 }
 
 impl Traffic {
@@ -14,18 +35,26 @@ impl Traffic {
     pub fn new() -> Traffic {
         Traffic {
             sessions: AtomicU64::new(0),
-            requests: AtomicU64::new(0),
+            ended: AtomicU64::new(0),
+            functions: array::from_fn(|_| AtomicU64::new(0)),
+            exceptions: array::from_fn(|_| AtomicU64::new(0)),
         }
     }
 
     /// Counts one session more.
-    pub fn add_session(&self) {
+    pub fn begin_session(&self) {
         self.sessions.fetch_add(1, Ordering::SeqCst);
     }
 
-    /// Counts so many requests more.
-    pub fn add_requests(&self, count: u64) {
-        self.requests.fetch_add(count, Ordering::SeqCst);
+    /// Counts one more that is at its end.
+    pub fn end_session(&self) {
+        self.ended.fetch_add(1, Ordering::SeqCst);
+    }
+
+    /// Counts these requests.
+    pub fn add_requests(&self, requests: &Requests) {
+        add(&self.functions, &requests.functions);
+        add(&self.exceptions, &requests.exceptions);
     }
 
     /// How many sessions there were so far.
@@ -33,8 +62,17 @@ impl Traffic {
         self.sessions.load(Ordering::SeqCst)
     }
 
-    /// How many requests were answered so far.
-    pub fn requests(&self) -> u64 {
-        self.requests.load(Ordering::SeqCst)
+    /// How many of them aren't at their end.
+    pub fn open_sessions(&self) -> u64 {
+        let ended = self.ended.load(Ordering::SeqCst);
+        self.sessions().saturating_sub(ended)
+    }
+
+    /// The requests that were answered so far.
+    pub fn requests(&self) -> Requests {
+        let mut requests = Requests::none();
+        read(&self.functions, &mut requests.functions);
+        read(&self.exceptions, &mut requests.exceptions);
+        requests
     }
 }

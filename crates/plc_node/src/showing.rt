@@ -3,7 +3,7 @@
 use il_loader::Image;
 use io_image::{Naming, ReleasedReader};
 use plc_host::{Failed, Host, ServiceRuntime};
-use plc_page::{OpenPage, Page, Published, Showing};
+use plc_page::{OpenPage, Page, Published, Showing, Whose};
 use plc_settings::Settings;
 use plc_status::StatusReader;
 use std::net::{Net, TcpListener, TcpStream};
@@ -46,12 +46,14 @@ impl ToShow {
             return Ok(None);
         };
         let published = Published {
+            whose: Whose::Group(settings.config.group_size()),
+            period: settings.period,
             status,
             released,
             begun,
             has_changed,
         };
-        Ok(Some(Page::new(host, address, settings, image, showing, published)?))
+        Ok(Some(Page::new(host, address, image, showing, published)?))
     }
 }
 

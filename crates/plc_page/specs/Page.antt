@@ -1,11 +1,12 @@
 -- The page, with what shows in words.
-use Rattle.std.specs.Prelude.{ℕ, List, [], ◌++◌, Option, Some, None, codes, decimal}
+use Rattle.std.specs.Prelude.{ℕ, Bool, true, false, List, [], ◌++◌, Option, Some, None, codes, decimal}
 use Rattle.std.specs.Fmt.{signed_decimal}
-use Rattle.std.specs.List.{enumerate_from, flat_map}
+use Rattle.std.specs.List.{flat_map}
 use Rattle.il_lister.specs.Listing.{location_text}
 use Rattle.il_text.specs.Lines.{stop_name}
 use Rattle.plc_figures.specs.declared.reading.Halt.{Halt}
 use Rattle.plc_figures.specs.declared.reading.Halt.TheVariants as halts
+use Rattle.plc_figures.specs.declared.reading.Machine.{Machine}
 use Rattle.plc_figures.specs.declared.reading.Point.{Point}
 use Rattle.plc_figures.specs.declared.reading.Reading.{Reading}
 use Rattle.plc_figures.specs.declared.reading.Replica.{Replica}
@@ -15,14 +16,28 @@ use Rattle.plc_figures.specs.Texts.{seconds_text}
 use Rattle.plc_page.specs.declared.page.TheConstants.{HEAD, TAIL}
 
 -- replica 2: normal, view 0
-abbrev pub replica_line : ℕ × Replica → List ℕ
-replica_line it = codes "replica "
-    ++ (decimal it.0
+abbrev pub replica_line : Replica → List ℕ
+replica_line shown = codes "replica "
+    ++ (decimal shown.number
     ++ (codes ": "
-    ++ (phase_name it.1.standing.status ++ (codes ", view " ++ (decimal it.1.standing.view ++ codes "\n")))))
+    ++ (phase_name shown.standing.status ++ (codes ", view " ++ (decimal shown.standing.view ++ codes "\n")))))
 
 abbrev pub replica_lines : List Replica → List ℕ
-replica_lines replicas = flat_map replica_line (enumerate_from 0 replicas)
+replica_lines replicas = flat_map replica_line replicas
+
+abbrev pub course_words : Bool → List ℕ
+course_words false = codes " stands by"
+course_words true = codes " drives"
+
+-- machine 1 drives, epoch 2
+abbrev pub machine_line : Machine → List ℕ
+machine_line machine = codes "machine "
+    ++ (decimal machine.number
+    ++ (course_words machine.is_driving ++ (codes ", epoch " ++ (decimal machine.epoch ++ codes "\n"))))
+
+abbrev pub machine_words : Option Machine → List ℕ
+machine_words None = []
+machine_words (Some machine) = machine_line machine
 
 abbrev pub known_age : ℕ → List ℕ
 known_age age = codes ", the last " ++ (seconds_text age ++ codes " s ago")
@@ -60,5 +75,6 @@ point_lines points = flat_map point_line points
 abbrev pub page_text : Reading → List ℕ
 page_text reading = HEAD.now
     ++ (scan_line reading.scans
+    ++ (machine_words reading.machine
     ++ (replica_lines reading.replicas.items
-    ++ (point_lines reading.inputs.items ++ (point_lines reading.outputs.items ++ TAIL.now))))
+    ++ (point_lines reading.inputs.items ++ (point_lines reading.outputs.items ++ TAIL.now)))))

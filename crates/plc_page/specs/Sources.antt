@@ -1,26 +1,32 @@
 -- What is read for the page.
-use Rattle.std.specs.Prelude.{◌≡◌, ◌<◌, ℕ, ℤ, pos, Bool, false, if◌then◌else◌, List, [], ◌∷◌, Option, Some, None, get_or, length}
+use Rattle.std.specs.Prelude.{◌≡◌, ◌<◌, ◌+◌, ℕ, ℤ, pos, Bool, true, false, if◌then◌else◌, List, [], ◌∷◌, Option, Some, None, get_or, length}
 use Rattle.http_server.specs.declared.state.Config.{Config}
 use Rattle.il_model.specs.declared.cells.Cells.{Cells}
 use Rattle.il_model.specs.declared.program.Area.TheVariants as areas
 use Rattle.il_model.specs.declared.program.Loc.{Loc}
 use Rattle.il_model.specs.declared.program.Loc.TheVariants as places
 use Rattle.il_model.specs.declared.program.Variable.{Variable}
+use Rattle.plc_figures.specs.declared.reading.Clients.{Clients}
 use Rattle.plc_figures.specs.declared.reading.Halt.{Halt}
 use Rattle.plc_figures.specs.declared.reading.Halt.TheVariants as halts
+use Rattle.plc_figures.specs.declared.reading.Machine.{Machine}
 use Rattle.plc_figures.specs.declared.reading.Point.{Point}
 use Rattle.plc_figures.specs.declared.reading.Replica.{Replica}
 use Rattle.plc_figures.specs.declared.reading.Scans.{Scans}
+use Rattle.plc_host.specs.Requests.{functions as counted_functions}
+use Rattle.plc_status.specs.declared.machine.MachineStatus.{MachineStatus}
 use Rattle.plc_status.specs.declared.scans.Halt.{Halt as Published}
 use Rattle.plc_status.specs.declared.scans.Halt.TheVariants as published
 use Rattle.plc_status.specs.declared.scans.ScanStatus.{ScanStatus}
 use Rattle.plc_status.specs.declared.status.Status.{Status}
-use Rattle.plc_figures.specs.Readings.{bounds as shown_bounds}
+use Rattle.plc_figures.specs.Readings.{bounds as shown_bounds, functions as shown_functions}
 use Rattle.plc_status.specs.Scans.{bounds as published_bounds}
 use Rattle.plc_status.specs.Published.{status_words, AreOfGroup}
 use Rattle.vr_shown.specs.declared.shown.Shown.{Shown}
 use Rattle.vr_shown.specs.Showing.{nothing_shown}
 use Rattle.plc_page.specs.declared.source.Named.{Named}
+use Rattle.plc_page.specs.declared.whose.Whose.{Whose}
+use Rattle.plc_page.specs.declared.whose.Whose.TheVariants as whose
 
 -- a name and its place
 abbrev pub spelt : Named → List ℕ × Loc
@@ -70,15 +76,45 @@ pub record IsOfScans (published : ScanStatus) (shown : Scans) : Type 0 where
   pub halt : shown.halt ≡ halt_of published.halt
   pub bounds : shown_bounds ≡ published_bounds
 
-abbrev pub replica_of : Shown → Replica
-replica_of shown = record { standing = shown.standing; starts = shown.starts; has_failed = shown.has_failed }
+-- what shows of clients is what was counted of them, with the same functions
+pub record IsOfClients (published : Status) (shown : Clients) : Type 0 where
+  pub sessions : shown.sessions ≡ published.sessions
+  pub open_sessions : shown.open_sessions ≡ published.open_sessions
+  pub requests : shown.functions ≡ published.requests.functions
+  pub exceptions : shown.exceptions ≡ published.requests.exceptions
+  pub functions : shown_functions ≡ counted_functions
 
--- at each number stands what the status has of the replica with that number
-abbrev pub AreOfStatus : Status → List Replica → Type 0
-AreOfStatus status replicas =
+-- of a group nothing shows of a machine; of a machine what is published of it, with its number
+abbrev pub machine_of : Whose → Option MachineStatus → Option Machine
+machine_of (whose.Group count) published = None
+machine_of (whose.Machine number) None = None
+machine_of (whose.Machine number) (Some published) =
+    Some (record { number = number; epoch = published.epoch; is_driving = published.is_driving })
+
+-- outputs that were released here are those of the controller: of a machine that stands by they aren't
+abbrev pub shows_outputs : Option Machine → Bool
+shows_outputs None = true
+shows_outputs (Some machine) = machine.is_driving
+
+-- the number of the first replica that shows
+abbrev pub first_of : Whose → ℕ
+first_of (whose.Group count) = 0
+first_of (whose.Machine number) = number
+
+abbrev pub replica_of : ℕ → Shown → Replica
+replica_of number shown = record {
+  number = number;
+  standing = shown.standing;
+  starts = shown.starts;
+  has_failed = shown.has_failed;
+}
+
+-- from this number on, each replica has its number, and what the status has of the replica with that number
+abbrev pub AreOfStatus : Status → ℕ → List Replica → Type 0
+AreOfStatus status first replicas =
     (group : List Shown) (scans : ScanStatus) → AreOfGroup group → status.words ≡ status_words group scans
-    → (number : ℕ) (other : Replica) → number < length replicas
-    → get_or replicas number other ≡ replica_of (get_or group number nothing_shown)
+    → (place : ℕ) (other : Replica) → place < length replicas
+    → get_or replicas place other ≡ replica_of (first + place) (get_or group (first + place) nothing_shown)
 
 -- a head of a request has at most 8192 bytes, and no request has a body
 abbrev pub IsLimited : Config → Type 0

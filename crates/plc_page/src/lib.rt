@@ -4,7 +4,7 @@
 //! ```rust
 //! let notices = Arc::new(alloc, Notices::new(alloc))?;
 //! let mut err = Counted::new(Telling::new(rt, rt.stderr(), Some(notices))); // what is told is kept
-//! let page = Page::new(host, address, &settings, &image, showing, published)?; // at 127.0.0.1:8080
+//! let page = Page::new(host, address, &image, showing, published)?; // at 127.0.0.1:8080
 //! let open = page.open()?; // GET /, /state and /metrics are answered from now on
 //! open.close();
 //! ```
@@ -25,9 +25,11 @@ mod process;
 mod service;
 mod shown;
 mod source;
+mod whose;
 
 pub use answer::{Show, Site, Verdict, respond, verdict_of};
 pub use notices::{Notices, Telling};
 pub use process::ProcessFiles;
 pub use service::{OpenPage, Page};
 pub use shown::{Published, Showing};
+pub use whose::Whose;

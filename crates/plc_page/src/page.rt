@@ -1,13 +1,14 @@
 //! The page: its text, which is readable by itself, and the style and the script that make it a view.
 
-ghost use Rattle.std.specs.Prelude.{OnOk};
+ghost use Rattle.std.specs.Prelude.{◌≡◌, OnOk};
 ghost use Rattle.plc_page.specs.Page.{age_words, halt_words, page_text, point_line, point_lines, replica_line};
 ghost use Rattle.plc_page.specs.Page.{replica_lines, scan_line, held_words, known_age, stopped_words};
+ghost use Rattle.plc_page.specs.Page.{course_words, machine_line, machine_words};
 ghost use Rattle.plc_figures.specs.Texts.{IsAdded};
 
 use plc_figures::{
-    Halt, Point, Reading, Replica, Scans, phase_name, put, put_number, put_place, put_seconds,
-    put_signed, stop_name,
+    Halt, Machine, Point, Reading, Replica, Scans, phase_name, put, put_number, put_place,
+    put_seconds, put_signed, stop_name,
 };
 use std::alloc::AllocError;
 
@@ -79,7 +80,8 @@ section { background: var(--card); border: 1px solid var(--line); border-radius:
 .wide { grid-column: 1 / -1; }
 h2 { font-size: .8rem; margin: 0 0 .6rem; color: var(--quiet); text-transform: uppercase; letter-spacing: .08em; }
 .tiles { display: grid; gap: 1rem; grid-template-columns: repeat(auto-fit, minmax(7.5rem, 1fr)); }
-.tile b { display: block; font-size: 1.5rem; font-weight: 600; line-height: 1.25; font-variant-numeric: tabular-nums; }
+.tile b { display: block; font-size: 1.35rem; font-weight: 600; line-height: 1.4; white-space: nowrap;
+  font-variant-numeric: tabular-nums; }
 .tile span { color: var(--quiet); font-size: .85rem; }
 table { width: 100%; border-collapse: collapse; font-variant-numeric: tabular-nums; }
 th { text-align: left; font-weight: 500; color: var(--quiet); font-size: .85rem; }
@@ -133,6 +135,7 @@ const fill = (id, made) => byId(id).replaceChildren(...made);
 const duration = (time) => time < 1 ? Math.round(time * 1000) + ' ms' : time < 120 ? time.toFixed(1) + ' s'
   : Math.round(time / 60) + ' min';
 const isNormal = (it) => it.status === 'normal' && !it.failed;
+const standsBy = (state) => state.machine !== null && !state.machine.driving;
 let before = null;
 
 function rate(scans) {
@@ -143,15 +146,17 @@ function rate(scans) {
 }
 
 function tiles(state) {
-  const { scans } = state;
+  const { scans, machine } = state;
   const normal = state.replicas.filter(isNormal).length;
   const all = state.replicas.length;
   const tile = (name, value, kind) => make('div', 'tile', make('b', kind, value), make('span', '', name));
   const made = [tile('scans a second', rate(scans)), tile('last interval', duration(scans.interval))];
-  if (scans.age !== null) made.push(tile('last release', duration(scans.age) + ' ago', scans.fresh ? '' : 'bad'));
-  made.push(tile('scans', scans.count.toLocaleString('en')), tile('late scans', scans.late.toLocaleString('en')),
-    tile('replicas normal', normal + ' of ' + all, normal === all ? '' : 'warn'),
-    tile('requests of clients', state.clients.requests.toLocaleString('en')));
+  if (scans.age !== null && !standsBy(state))
+    made.push(tile('last release', duration(scans.age) + ' ago', scans.fresh ? '' : 'bad'));
+  made.push(tile('scans', scans.count.toLocaleString('en')), tile('late scans', scans.late.toLocaleString('en')));
+  if (machine === null) made.push(tile('replicas normal', normal + ' of ' + all, normal === all ? '' : 'warn'));
+  else made.push(tile('epoch', machine.epoch));
+  made.push(tile('requests of clients', state.clients.requests.toLocaleString('en')));
   fill('tiles', made);
 }
 
@@ -214,14 +219,19 @@ function says(kind, words) {
 
 function judge(state) {
   const { halt, age, fresh } = state.scans;
+  const { machine, view } = state;
   const primary = state.replicas.find((it) => it.primary);
   const down = state.replicas.filter((it) => !isNormal(it)).map((it) => it.replica);
-  if (halt !== null && halt.why === 'held') says('warn', 'held at a breakpoint');
+  const isBad = down.length > 0;
+  if (standsBy(state)) says(isBad ? 'warn' : 'good', 'machine ' + machine.number + ' stands by in view ' + view
+    + (isBad ? '; its replica is not normal' : ''));
+  else if (halt !== null && halt.why === 'held') says('warn', 'held at a breakpoint');
   else if (halt !== null) says('bad', 'stopped: ' + halt.why);
   else if (age !== null && !fresh) says('bad', 'nothing was released for ' + duration(age));
-  else if (down.length > 0) says('warn', 'runs; replica ' + down.join(', ') + ' not normal');
+  else if (isBad) says('warn', 'runs; replica ' + down.join(', ') + ' not normal');
+  else if (machine !== null) says('good', 'machine ' + machine.number + ' drives in view ' + view);
   else if (primary === undefined) says('warn', 'no replica leads');
-  else says('good', 'runs; replica ' + primary.replica + ' leads in view ' + state.view);
+  else says('good', 'runs; replica ' + primary.replica + ' leads in view ' + view);
 }
 
 async function show() {
@@ -241,7 +251,7 @@ async function show() {
   byId('plain').hidden = true;
   byId('view').hidden = false;
   byId('view').classList.remove('old');
-  await halted(state.scans.halt);
+  await halted(standsBy(state) ? null : state.scans.halt);
 }
 
 async function go() {
@@ -329,12 +339,46 @@ fn put_scans(out: &mut Vec<u8>, scans: &Scans) -> Result<(), AllocError>
     Ok(())
 }
 
+/// Whether a machine drives, in words.
+fn course_words(is_driving: bool) -> &'static [u8]
+    ensures { result.now ≡ course_words is_driving }
+{
+    if is_driving {
+        b" drives"
+    } else {
+        b" stands by"
+    }
+}
+
+/// A machine, in words.
+fn put_known_machine(out: &mut Vec<u8>, machine: Machine) -> Result<(), AllocError>
+    ensures { OnOk result (IsAdded out.old.items (machine_line machine) out.new.items) }
+{
+    put(out, b"machine ")?;
+    put_number(out, u64::from(machine.number))?;
+    put(out, course_words(machine.is_driving))?;
+    put(out, b", epoch ")?;
+    put_number(out, machine.epoch)?;
+    put(out, b"\n")?;
+    Ok(())
+}
+
+/// The same, if it's of one.
+fn put_machine(out: &mut Vec<u8>, machine: Option<Machine>) -> Result<(), AllocError>
+    ensures { OnOk result (IsAdded out.old.items (machine_words machine) out.new.items) }
+{
+    match machine {
+        None => Ok(()),
+        Some(machine) => put_known_machine(out, machine),
+    }
+}
+
 /// A replica, in words.
-fn put_replica(out: &mut Vec<u8>, number: usize, shown: &Replica) -> Result<(), AllocError>
-    ensures { OnOk result (IsAdded out.old.items (replica_line (number, shown.now)) out.new.items) }
+fn put_replica(out: &mut Vec<u8>, shown: &Replica) -> Result<(), AllocError>
+    ensures { OnOk result (IsAdded out.old.items (replica_line shown.now) out.new.items) }
 {
     put(out, b"replica ")?;
-    put_number(out, number as u64)?;
+    put_number(out, u64::from(shown.number))?;
     put(out, b": ")?;
     put(out, phase_name(shown.standing.status))?;
     put(out, b", view ")?;
@@ -347,8 +391,8 @@ fn put_replica(out: &mut Vec<u8>, number: usize, shown: &Replica) -> Result<(), 
 fn put_replicas(out: &mut Vec<u8>, replicas: &[Replica]) -> Result<(), AllocError>
     ensures { OnOk result (IsAdded out.old.items (replica_lines replicas.now) out.new.items) }
 {
-    for (number, shown) in replicas.iter().enumerate() {
-        put_replica(out, number, shown)?;
+    for shown in replicas {
+        put_replica(out, shown)?;
     }
     Ok(())
 }
@@ -382,6 +426,7 @@ pub(crate) fn put_page(out: &mut Vec<u8>, reading: &Reading) -> Result<(), Alloc
 {
     put_text(out, HEAD)?;
     put_scans(out, &reading.scans)?;
+    put_machine(out, reading.machine)?;
     put_replicas(out, reading.replicas.as_slice())?;
     put_points(out, reading.inputs.as_slice())?;
     put_points(out, reading.outputs.as_slice())?;

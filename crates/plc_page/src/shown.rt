@@ -5,13 +5,13 @@ use crate::notices::Notices;
 use crate::process::ProcessFiles;
 use crate::service::Page;
 use crate::source::{Source, outputs};
+use crate::whose::Whose;
 use il_lister::list;
 use il_loader::Image;
 use io_image::{Naming, ReleasedReader};
 use io_model::Counted;
 use plc_host::{Failed, Host, ServiceRuntime};
 use plc_listener::Door;
-use plc_settings::Settings;
 use plc_status::StatusReader;
 use std::alloc::{AllocError, Global};
 use std::hash::RandomState;
@@ -38,6 +38,9 @@ pub struct Showing {
 /// What is published of a controller, and from when its moments count.
 #[derive(Drop)]
 pub struct Published<J: Naming> {
+    pub whose: Whose,
+    /// In milliseconds, from one scan to the next.
+    pub period: u32,
     pub status: StatusReader,
     pub released: ReleasedReader<J>,
     pub begun: Instant,
@@ -93,12 +96,10 @@ where
     R: ServiceRuntime + Net<Listener = TcpListener, Stream = TcpStream>,
     J: Naming + Send + Sync + 'static,
 {
-    /// The page of a controller that is served so, for connections at this address. The program is that of the image,
-    /// until it's changed.
+    /// The page of a controller, for connections at this address. The program is that of the image, until it's changed.
     pub fn new(
         host: Host<R>,
         address: SocketAddr,
-        settings: &Settings,
         image: &Image,
         showing: Showing,
         published: Published<J>,
@@ -111,6 +112,8 @@ where
             process,
         } = showing;
         let Published {
+            whose,
+            period,
             status,
             released,
             begun,
@@ -124,9 +127,9 @@ where
             status,
             released,
             outputs: outputs(alloc, image.variables())?,
-            replicas: settings.config.group_size(),
+            whose,
             begun,
-            longest_age: Duration::from_millis(LONGEST_AGE.max(3 * u64::from(settings.period))),
+            longest_age: Duration::from_millis(LONGEST_AGE.max(3 * u64::from(period))),
             has_changed,
             notices,
             process,

@@ -1,18 +1,21 @@
 //! Where what shows is read.
 
-ghost use Rattle.std.specs.Prelude.{◌≡◌, IfOk, map};
+ghost use Rattle.std.specs.Prelude.{◌≡◌, ◌≤◌, ◌+◌, IfOk, map, vec_len};
 ghost use Rattle.std.specs.List.{flat_map};
-ghost use Rattle.plc_page.specs.Sources.{halt_of, point_at, replica_of, shown, value_at, AreOfStatus, IsOfScans};
+ghost use Rattle.plc_page.specs.Sources.{halt_of, point_at, replica_of, shown, shows_outputs, value_at};
+ghost use Rattle.plc_page.specs.Sources.{AreOfStatus, IsOfClients, IsOfScans};
 ghost use Rattle.plc_page.specs.Sources.{named_output, output_of, spelt, spelt_option};
 
 use crate::notices::Notices;
 use crate::process::ProcessFiles;
+use crate::whose::Whose;
 use il_model::{Area, Cells, Loc, Variable};
 use io_image::{Naming, ReleasedReader};
-use plc_figures::{Clients, Halt, Point, Reading, Replica, Scans};
+use plc_figures::{Clients, Halt, Machine, Point, Reading, Replica, Scans};
 use plc_host::Host;
 use plc_status::{ScanStatus, Status, StatusReader};
 use std::alloc::{AllocError, Global};
+use std::ops::Range;
 use std::sync::atomic::{AtomicBool, Ordering};
 use std::sync::{Arc, Wait};
 use std::time::{Clock, Duration, Instant};
@@ -31,8 +34,7 @@ pub(crate) struct Source<J: Naming> {
     pub(crate) status: StatusReader,
     pub(crate) released: ReleasedReader<J>,
     pub(crate) outputs: Vec<Named>,
-    /// How many replicas the group has.
-    pub(crate) replicas: u8,
+    pub(crate) whose: Whose,
     /// From when the moments of the scans count.
     pub(crate) begun: Instant,
     /// So long ago the last release began at most, where nothing is wrong.
@@ -147,26 +149,55 @@ fn microseconds(time: Duration) -> u64 {
     u64::try_from(time.as_micros()).unwrap_or(u64::MAX)
 }
 
-/// What shows of a replica.
-fn replica_of(shown: Shown) -> Replica
-    ensures { result ≡ replica_of shown }
+/// What shows of the replica with this number.
+fn replica_of(number: u8, shown: Shown) -> Replica
+    ensures { result ≡ replica_of number shown }
 {
     Replica {
+        number,
         standing: shown.standing,
         starts: shown.starts,
         has_failed: shown.has_failed,
     }
 }
 
-/// What shows of each of so many replicas, at its number.
-fn replicas_of(alloc: Global, status: &Status, count: u8) -> Result<Vec<Replica>, AllocError>
-    ensures { IfOk result (λ replicas. AreOfStatus status.now replicas.items) }
+/// What shows of each of the replicas from this number on, up to that one, in their order.
+fn replicas_of(
+    alloc: Global,
+    status: &Status,
+    first: u8,
+    end: u8,
+) -> Result<Vec<Replica>, AllocError>
+    requires { first ≤ end }
+    ensures { IfOk result (λ replicas. (first + vec_len replicas ≡ end) × AreOfStatus status.now first replicas.items) }
 {
-    let mut replicas = Vec::with_capacity(alloc, usize::from(count))?;
-    for number in 0..count {
-        replicas.push(replica_of(status.replica(number)))?;
+    let mut replicas = Vec::with_capacity(alloc, usize::from(end - first))?;
+    for number in first..end {
+        replicas.push(replica_of(number, status.replica(number)))?;
     }
     Ok(replicas)
+}
+
+/// What clients did, as it's counted.
+fn clients_of(status: &Status) -> Clients
+    ensures { IsOfClients status.now result }
+{
+    Clients {
+        sessions: status.sessions,
+        open_sessions: status.open_sessions,
+        functions: status.requests.functions,
+        exceptions: status.requests.exceptions,
+    }
+}
+
+/// Whether outputs that were released here are those of the controller: of a machine that stands by they aren't.
+fn shows_outputs(machine: Option<Machine>) -> bool
+    ensures { result ≡ shows_outputs machine }
+{
+    match machine {
+        Some(machine) => machine.is_driving,
+        None => true,
+    }
 }
 
 impl<J: Naming> Source<J> {
@@ -191,7 +222,8 @@ impl<J: Naming> Source<J> {
         let image = self.released.read().image;
         // Behind the image: a program that isn't the first one has released nothing before it's set.
         let is_in_force = !self.has_changed.load(Ordering::SeqCst);
-        let outputs = if is_in_force {
+        let machine = self.whose.machine(status.machine());
+        let outputs = if is_in_force && shows_outputs(machine) {
             points(alloc, self.outputs.as_slice(), &image.cells)?
         } else {
             Vec::new(alloc)
@@ -200,13 +232,12 @@ impl<J: Naming> Source<J> {
             Some(files) => files.read(),
             None => None,
         };
+        let Range { start, end } = self.whose.replicas();
         let reading = Reading {
-            replicas: replicas_of(alloc, &status, self.replicas)?,
+            machine,
+            replicas: replicas_of(alloc, &status, start, end)?,
             scans: scans_of(&scans, self.age(&rt, &scans), self.longest_age),
-            clients: Clients {
-                sessions: status.sessions,
-                requests: status.requests,
-            },
+            clients: clients_of(&status),
             process,
             inputs: Vec::new(alloc),
             outputs,

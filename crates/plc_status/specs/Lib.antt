@@ -1,5 +1,6 @@
 pub mod Halting
 pub mod Journal
+pub mod Machines
 pub mod Notices
 pub mod Published
 pub mod Reports

@@ -10,7 +10,8 @@
 //! Proved: what is put into a journal is added behind what was put, or it's counted as lost where the journal has no
 //! room; what is printed are, in order of each journal and each once, the lines of what was put, and at its end nothing
 //! is left of the driver's (`specs/Journal`). What a status tells of a replica and of the scans is what the writer set and
-//! counted by the publish whose words were read (`specs/Published`, `specs/Scans`).
+//! counted by the publish whose words were read, and what it tells of a machine of a group is what was set last
+//! (`specs/Published`, `specs/Scans`, `specs/Machines`).
 //!
 //! By the code of io_board alone: that what a reader reads is what the writer published, and never half of two.
 //!
@@ -22,6 +23,7 @@ mod deed;
 mod feed;
 mod halting;
 mod journal;
+mod machine;
 mod notice;
 mod printer;
 mod report;
@@ -31,6 +33,7 @@ mod status;
 pub use deed::Deed;
 pub use halting::{halt_in, note_halt};
 pub use journal::{Journal, Journals};
+pub use machine::MachineStatus;
 pub use notice::{Notice, Why, tell_port};
 pub use printer::Printer;
 pub use report::{Counts, ReportFile, open_report, put_report};

@@ -1,16 +1,19 @@
 //! What shows of a served controller, for whoever watches it.
 
-ghost use Rattle.std.specs.Prelude.{◌≡◌, ◌<◌, List, get_or, length, set, IfOk};
+ghost use Rattle.std.specs.Prelude.{◌≡◌, ◌<◌, List, Option, Some, None, get_or, length, set, IfOk};
+ghost use Rattle.plc_status.specs.Machines.{machine_words};
 ghost use Rattle.plc_status.specs.Published.{nothing, status_words, AreOfGroup};
 ghost use Rattle.plc_status.specs.Scans.{after_scan, no_scan, IsPlaced};
+ghost use Rattle.plc_status.specs.declared.machine.MachineStatus.{MachineStatus as Machine};
 ghost use Rattle.plc_status.specs.declared.scans.ScanStatus.{ScanStatus as Scanned};
 ghost use Rattle.vr_shown.specs.Showing.{nothing_shown};
 ghost use Rattle.vr_shown.specs.declared.shown.Shown.{Shown as Replica};
 
-use crate::scans;
+use crate::machine::{MachineStatus, machine_in, machine_words};
 use crate::scans::{BUCKETS, Scan, ScanStatus};
+use crate::{machine, scans};
 use io_board::{BoardReader, BoardWriter};
-use plc_host::Traffic;
+use plc_host::{Requests, Traffic};
 use std::alloc::{AllocError, Global};
 use std::sync::Arc;
 use vr_model::MOST_REPLICAS;
@@ -28,14 +31,20 @@ const INTERVALS: usize = SCANS + scans::WORDS;
 /// So many words a board has.
 const WORDS: usize = INTERVALS + BUCKETS;
 
+/// So many words tell of the machine.
+const MACHINE: usize = machine::WORDS;
+
 /// What shows of a controller at one moment, and what was counted of its clients by then.
 #[derive(Clone, Copy)]
 pub struct Status {
     words: [u64; WORDS],
+    machine: [u64; MACHINE],
     /// How many connections were given a session.
     pub sessions: u64,
-    /// How many requests were answered.
-    pub requests: u64,
+    /// How many of these sessions aren't at their end.
+    pub open_sessions: u64,
+    /// The requests that were answered.
+    pub requests: Requests,
 }
 
 impl Status {
@@ -58,6 +67,13 @@ impl Status {
             → self.now.words ≡ status_words replicas scans → result ≡ scans }
     {
         scans_in(&self.words)
+    }
+
+    /// What shows of the machine; none where the process is no machine of a group, or has told nothing of it yet.
+    pub fn machine(&self) -> Option<MachineStatus>
+        ensures { (machine : Option Machine) → self.now.machine ≡ machine_words machine → result ≡ machine }
+    {
+        machine_in(self.machine)
     }
 }
 
@@ -111,6 +127,8 @@ pub struct StatusWriter {
     scans: ScanStatus,
     words: [u64; WORDS],
     board: BoardWriter<WORDS>,
+    /// It changes apart from the rest, and seldom.
+    machine: BoardWriter<MACHINE>,
     traffic: Arc<Traffic>,
     // What is published next tells of these.
     ghost spelt: { words ≡ status_words replicas scans },
@@ -120,14 +138,16 @@ pub struct StatusWriter {
 #[derive(Drop)]
 pub struct StatusReader {
     board: BoardReader<WORDS>,
+    machine: BoardReader<MACHINE>,
     traffic: Arc<Traffic>,
 }
 
 impl StatusWriter {
-    /// No replica was started, and nothing was scanned.
+    /// No replica was started, nothing was scanned, and the process is no machine of a group.
     pub fn new(alloc: Global) -> Result<StatusWriter, AllocError>
         ensures { IfOk result
-            (λ writer. (writer.replicas ≡ nothing) × (writer.scans ≡ no_scan) × (writer.board ≡ status_words nothing no_scan)) }
+            (λ writer. (writer.replicas ≡ nothing) × (writer.scans ≡ no_scan) × (writer.board ≡ status_words nothing no_scan)
+            × (writer.machine ≡ machine_words None)) }
     {
         let words = [0; WORDS];
         Ok(StatusWriter {
@@ -135,6 +155,7 @@ impl StatusWriter {
             scans: ScanStatus::none(),
             words,
             board: BoardWriter::new(alloc, words)?,
+            machine: BoardWriter::new(alloc, machine_words(None))?,
             traffic: Arc::new(alloc, Traffic::new())?,
         })
     }
@@ -146,10 +167,11 @@ impl StatusWriter {
 
     /// A reader, for any thread.
     pub fn reader(&self) -> Result<StatusReader, AllocError>
-        ensures { IfOk result (λ reader. reader.board ≡ self.now.board) }
+        ensures { IfOk result (λ reader. (reader.board ≡ self.now.board) × (reader.machine ≡ self.now.machine)) }
     {
         Ok(StatusReader {
             board: self.board.reader()?,
+            machine: self.machine.reader()?,
             traffic: self.traffic()?,
         })
     }
@@ -157,7 +179,8 @@ impl StatusWriter {
     /// What shows of a replica is this, from the next publish on. Of one that no group has nothing shows.
     pub fn set_replica(&mut self, number: u8, shown: Shown)
         ensures replicas { self.new.replicas ≡ set self.old.replicas number shown }
-        ensures same { (self.new.scans ≡ self.old.scans) × (self.new.board ≡ self.old.board) }
+        ensures same { (self.new.scans ≡ self.old.scans) × (self.new.board ≡ self.old.board)
+            × (self.new.machine ≡ self.old.machine) }
     {
         let number = usize::from(number);
         if number < MOST_REPLICAS {
@@ -169,7 +192,8 @@ impl StatusWriter {
     /// Counts a scan, which shows from the next publish on.
     pub fn scanned(&mut self, scan: Scan)
         ensures scans { self.new.scans ≡ after_scan self.old.scans scan }
-        ensures same { (self.new.replicas ≡ self.old.replicas) × (self.new.board ≡ self.old.board) }
+        ensures same { (self.new.replicas ≡ self.old.replicas) × (self.new.board ≡ self.old.board)
+            × (self.new.machine ≡ self.old.machine) }
     {
         self.scans.scanned(scan);
         put_scans(&mut self.words, &self.scans);
@@ -178,9 +202,19 @@ impl StatusWriter {
     /// What was set and counted is read from now on.
     pub fn publish(&mut self)
         ensures published { self.new.board ≡ status_words self.old.replicas self.old.scans }
-        ensures same { (self.new.replicas ≡ self.old.replicas) × (self.new.scans ≡ self.old.scans) }
+        ensures same { (self.new.replicas ≡ self.old.replicas) × (self.new.scans ≡ self.old.scans)
+            × (self.new.machine ≡ self.old.machine) }
     {
         self.board.publish(self.words);
+    }
+
+    /// This is read of the machine from now on.
+    pub fn set_machine(&mut self, machine: MachineStatus)
+        ensures published { self.new.machine ≡ machine_words (Some machine) }
+        ensures same { (self.new.replicas ≡ self.old.replicas) × (self.new.scans ≡ self.old.scans)
+            × (self.new.board ≡ self.old.board) }
+    {
+        self.machine.publish(machine_words(Some(machine)));
     }
 }
 
@@ -188,11 +222,14 @@ impl StatusReader {
     /// What shows of the controller now: what was published last. Where publishes crossed each try, it's what this
     /// reader read before.
     pub fn read(&mut self) -> Status
-        ensures { result.words ≡ self.new.board }
+        ensures words { result.words ≡ self.new.board }
+        ensures machine { result.machine ≡ self.new.machine }
     {
         Status {
             words: self.board.read(),
+            machine: self.machine.read(),
             sessions: self.traffic.sessions(),
+            open_sessions: self.traffic.open_sessions(),
             requests: self.traffic.requests(),
         }
     }

@@ -6,7 +6,8 @@ use http::Request;
 use http_server::Response;
 use il_model::{Area, Loc, Stop};
 use plc_figures::{
-    BUCKETS, Clients, Halt, Point, Process, Reading, Replica, Scans, Told, put_metrics, put_state,
+    BUCKETS, Clients, EXCEPTIONS, Halt, Machine, PLACES, Point, Process, Reading, Replica, Scans,
+    Told, put_metrics, put_state,
 };
 use plc_page::{Site, respond};
 use std::alloc::{AllocError, Global};
@@ -21,15 +22,22 @@ fn number(text: &str, key: &str) -> u64 {
     number_of(text, key).unwrap_or(0)
 }
 
+/// A number of a replica or of a machine.
+fn small(number: u64) -> u8 {
+    u8::try_from(number).unwrap_or(u8::MAX)
+}
+
 /// The number behind this key, if it's a position.
 fn position(text: &str, key: &str) -> Option<u16> {
     u16::try_from(number_of(text, key)?).ok()
 }
 
-/// A replica as `replicas=3 normal=2 view=4 starts=1` say: the first ones are normal, and replica 0 is the primary.
+/// A replica as `replicas=3 first=0 normal=2 view=4 starts=1` say: they have the numbers from that on, the first ones are
+/// normal, and the first one is the primary.
 fn replica(text: &str, place: u64) -> Replica {
     let is_normal = place < number(text, "normal=");
     Replica {
+        number: small(number(text, "first=").saturating_add(place)),
         standing: Standing {
             status: if is_normal {
                 Status::Normal
@@ -69,6 +77,52 @@ fn scans(text: &str) -> Scans {
         is_fresh: number(text, "fresh=") == 1,
         halt,
     }
+}
+
+/// What clients did as `sessions=2 open=1 of3=7 of16=2 other=1 exception2=1` say.
+fn clients(text: &str) -> Clients {
+    Clients {
+        sessions: number(text, "sessions="),
+        open_sessions: number(text, "open="),
+        functions: functions(text),
+        exceptions: exceptions(text),
+    }
+}
+
+/// How many requests there were of each function, and of others.
+fn functions(text: &str) -> [u64; PLACES] {
+    [
+        number(text, "of1="),
+        number(text, "of2="),
+        number(text, "of3="),
+        number(text, "of4="),
+        number(text, "of5="),
+        number(text, "of6="),
+        number(text, "of15="),
+        number(text, "of16="),
+        number(text, "of22="),
+        number(text, "of23="),
+        number(text, "other="),
+    ]
+}
+
+/// How many requests were answered by each exception.
+fn exceptions(text: &str) -> [u64; EXCEPTIONS] {
+    [
+        number(text, "exception1="),
+        number(text, "exception2="),
+        number(text, "exception3="),
+        number(text, "exception4="),
+    ]
+}
+
+/// The machine as `machine=2 epoch=3 driving=1` say, if it's of one.
+fn machine(text: &str) -> Option<Machine> {
+    Some(Machine {
+        number: small(number_of(text, "machine=")?),
+        epoch: number(text, "epoch="),
+        is_driving: number(text, "driving=") == 1,
+    })
 }
 
 /// What the process takes as `memory=4194304 processor=1500000` say, if they do.
@@ -111,12 +165,10 @@ fn reading(alloc: Global, text: &str) -> io::Result<Reading> {
         replicas.push(replica(text, place))?;
     }
     Ok(Reading {
+        machine: machine(text),
         replicas,
         scans: scans(text),
-        clients: Clients {
-            sessions: number(text, "sessions="),
-            requests: number(text, "requests="),
-        },
+        clients: clients(text),
         process: process(text),
         inputs: point(alloc, text, "start=", b"START", Loc::Bit(Area::Input, 3))?,
         outputs: point(alloc, text, "level=", b"LEVEL", Loc::Word(Area::Output, 7))?,

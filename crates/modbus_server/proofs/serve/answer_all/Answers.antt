@@ -11,8 +11,8 @@ returns-in_err-write_to-clause-err g c =
     let u = c.request-item.result in
     let more : take (i + 1) requests ≡ take i requests ++ u ∷ [] = take_more requests i u c.loop-request-test.true ∙ ap (λ (a : Adu). take i requests ++ a ∷ []) (sym c.request-item.is) in
     on_err _ c.from_residual.result
-    (answers_more (record { told = g.S.Staging.told c.args.staging.now; seen = c.args.outputs.now.released; limit = c.args.outputs.now.limit }) (record { told = g.S.Staging.told c.loop-request.staging; seen = c.loop-request.outputs.released; limit = c.loop-request.outputs.limit }) (record { told = g.S.Staging.told c.answer.new.staging; seen = c.answer.new.outputs.released; limit = c.answer.new.outputs.limit })
-    requests i u c.answer.result c.args.out.now.items c.loop-request.out.items more c.loop-request.invariant c.answer.ensures.is)
+    (answers_more (record { told = g.S.Staging.told c.args.staging.now; seen = c.args.outputs.now.released; limit = c.args.outputs.now.limit }) (record { told = g.S.Staging.told c.loop-request.staging; seen = c.loop-request.outputs.released; limit = c.loop-request.outputs.limit }) (record { told = g.S.Staging.told c.answer-reply.new.staging; seen = c.answer-reply.new.outputs.released; limit = c.answer-reply.new.outputs.limit })
+    requests i u c.answer-reply.result c.args.out.now.items c.loop-request.out.items c.args.counts.now c.loop-request.counts more c.loop-request.invariant c.answer-reply.ensures.is)
 
 pub loop-request-preserved : goal.loop-request-preserved
 loop-request-preserved g c =
@@ -21,5 +21,5 @@ loop-request-preserved g c =
     let u = c.request-item.result in
     let more : take (i + 1) requests ≡ take i requests ++ u ∷ [] = take_more requests i u c.loop-request-test.true ∙ ap (λ (a : Adu). take i requests ++ a ∷ []) (sym c.request-item.is) in
     rw more
-    (adds_more (record { told = g.S.Staging.told c.args.staging.now; seen = c.args.outputs.now.released; limit = c.args.outputs.now.limit }) (record { told = g.S.Staging.told c.loop-request.staging; seen = c.loop-request.outputs.released; limit = c.loop-request.outputs.limit }) (record { told = g.S.Staging.told c.answer.new.staging; seen = c.answer.new.outputs.released; limit = c.answer.new.outputs.limit })
-    (take i requests) u c.answer.result c.args.out.now.items c.loop-request.out.items c.write_to.new.out.items c.loop-request.invariant c.answer.ensures.is c.in_ok-write_to.ensures)
+    (adds_more (record { told = g.S.Staging.told c.args.staging.now; seen = c.args.outputs.now.released; limit = c.args.outputs.now.limit }) (record { told = g.S.Staging.told c.loop-request.staging; seen = c.loop-request.outputs.released; limit = c.loop-request.outputs.limit }) (record { told = g.S.Staging.told c.answer-reply.new.staging; seen = c.answer-reply.new.outputs.released; limit = c.answer-reply.new.outputs.limit })
+    (take i requests) u c.answer-reply.result c.args.out.now.items c.loop-request.out.items c.write_to.new.out.items c.args.counts.now c.loop-request.counts c.count_reply.new.counts c.loop-request.invariant c.answer-reply.ensures.is c.in_ok-write_to.ensures c.count_reply.ensures)

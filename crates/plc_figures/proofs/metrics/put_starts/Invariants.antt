@@ -1,7 +1,8 @@
+use Rattle.std.proofs.Common.{take}
+use Rattle.std.specs.List.{flat_map}
 use Rattle.plc_figures.specs.Metrics.{starts_line}
-use Rattle.plc_figures.proofs.Numbered.{texts_before}
 use Rattle.plc_figures.specs.Texts.{IsAdded}
 use Rattle.plc_figures.proofs.metrics.put_starts.Given as goal
 
-abbrev pub invariant-loop-number : goal.invariant-loop-number
-invariant-loop-number l = IsAdded l.initial.out.items (texts_before starts_line l.replicas l.number) l.out.items
+abbrev pub invariant-loop-shown : goal.invariant-loop-shown
+invariant-loop-shown l = IsAdded l.initial.out.items (flat_map starts_line (take l.shown-index l.replicas)) l.out.items

@@ -4,11 +4,11 @@ use Rattle.plc_figures.proofs.Chains.{nothing}
 use Rattle.plc_figures.proofs.Numbered.{all, more}
 use Rattle.plc_figures.proofs.state.put_replicas.Goals as goal
 
-pub loop-number-init : goal.loop-number-init
-loop-number-init c = nothing
+pub loop-place-init : goal.loop-place-init
+loop-place-init c = nothing
 
-pub loop-number-preserved : goal.loop-number-preserved
-loop-number-preserved c = more replica_json c.args.replicas.now _ _ (omega arith) c.loop-number.invariant c.in_ok-put_replica.ensures
+pub loop-place-preserved : goal.loop-place-preserved
+loop-place-preserved c = more replica_json c.args.replicas.now _ _ (omega arith) c.loop-place.invariant c.in_ok-put_replica.ensures
 
 pub returns : goal.returns
-returns c = all replica_json c.args.replicas.now _ c.loop-number-test.false c.loop-number.invariant
+returns c = all replica_json c.args.replicas.now _ c.loop-place-test.false c.loop-place.invariant

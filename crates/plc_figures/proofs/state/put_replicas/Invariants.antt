@@ -3,5 +3,5 @@ use Rattle.plc_figures.proofs.Numbered.{texts_before}
 use Rattle.plc_figures.specs.Texts.{IsAdded}
 use Rattle.plc_figures.proofs.state.put_replicas.Given as goal
 
-abbrev pub invariant-loop-number : goal.invariant-loop-number
-invariant-loop-number l = IsAdded l.initial.out.items (texts_before replica_json l.replicas l.number) l.out.items
+abbrev pub invariant-loop-place : goal.invariant-loop-place
+invariant-loop-place l = IsAdded l.initial.out.items (texts_before replica_json l.replicas l.place) l.out.items

@@ -1,0 +1,7 @@
+use Rattle.plc_figures.specs.Metrics.{exception_line}
+use Rattle.plc_figures.proofs.Numbered.{texts_before}
+use Rattle.plc_figures.specs.Texts.{IsAdded}
+use Rattle.plc_figures.proofs.metrics.put_exceptions.Given as goal
+
+abbrev pub invariant-loop-place : goal.invariant-loop-place
+invariant-loop-place l = IsAdded l.initial.out.items (texts_before exception_line l.counts l.place) l.out.items
