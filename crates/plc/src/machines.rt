@@ -2,12 +2,14 @@
 
 ghost use Rattle.std.specs.Prelude.{◌≡◌, IfOk, string_bytes};
 
+use crate::showing::showing_of;
 use crate::stores::{group_at, tell_at, tell_exposed};
 use il_text::{Fault, tell};
 use io_model::CountedWrite;
 use plc_group::Group;
 use plc_host::Failed;
 use plc_member::Unserved;
+use plc_page::Showing;
 use plc_serve::tell_failed;
 
 /// One machine of a group that is to be served.
@@ -16,6 +18,16 @@ pub(crate) struct Machine {
     pub(crate) group: Group,
     /// The directory of its store.
     pub(crate) directory: String,
+    /// What a page shows beside it, if a machine of the group has one.
+    pub(crate) showing: Option<Showing>,
+}
+
+/// Whether a machine of a group has a page.
+fn has_page(group: &Group) -> bool {
+    group
+        .machines
+        .iter()
+        .any(|machine| machine.status.is_some())
 }
 
 impl Machine {
@@ -32,8 +44,16 @@ impl Machine {
         let Ok(directory) = String::from_str(rt.alloc(), directory) else {
             return Err(tell(Fault::Memory, err));
         };
+        let showing = match showing_of(rt, has_page(&group)) {
+            Ok(showing) => showing,
+            Err(failed) => return Err(tell_failed(failed, err)),
+        };
         match tell_exposed(rt, &group, err) {
-            0 => Ok(Machine { group, directory }),
+            0 => Ok(Machine {
+                group,
+                directory,
+                showing,
+            }),
             status => Err(status),
         }
     }

@@ -76,12 +76,19 @@ fn main(rt: HostRuntime) -> ExitCode {
             );
             settled(&rt, status, &report, &mut err)
         }
-        Outcome::ServeMachine(Machine { group, directory }) => {
+        Outcome::ServeMachine(
+            Machine {
+                group,
+                directory,
+                showing,
+            },
+        ) => {
+            let mut err = Counted::new(Telling::new(rt, rt.stderr(), notices_of(&showing)));
             let unserved = match Member::open(host, &group, directory.as_str()) {
                 // The directory is locked to the end.
                 Ok((member, _directory)) => {
                     let list = NewList::new();
-                    ended_by(member.serve::<Brand, _, _>(host, list, &group, &mut err))
+                    ended_by(member.serve::<Brand, _, _>(host, list, &group, showing, &mut err))
                 }
                 Err(unserved) => Some(unserved),
             };

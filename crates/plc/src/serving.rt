@@ -75,7 +75,13 @@ fn opened(
             Some(path) => Some(Report::at(rt, path)?),
             None => None,
         },
-        service: Service::new(host, source, stores, settings, showing_of(rt, &settings)?)?,
+        service: Service::new(
+            host,
+            source,
+            stores,
+            settings,
+            showing_of(rt, settings.status.is_some())?,
+        )?,
     })
 }
 

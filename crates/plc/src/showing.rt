@@ -2,14 +2,13 @@
 
 use plc_host::Failed;
 use plc_page::{Notices, ProcessFiles, Showing};
-use plc_settings::Settings;
 use plc_words::VERSION;
 use std::hash::RandomState;
 use std::sync::Arc;
 
-/// What a page shows beside what is published, if one is asked for.
-pub(crate) fn showing_of(rt: &HostRuntime, settings: &Settings) -> Result<Option<Showing>, Failed> {
-    if settings.status.is_none() {
+/// What a page shows beside what is published, if one is wanted.
+pub(crate) fn showing_of(rt: &HostRuntime, is_wanted: bool) -> Result<Option<Showing>, Failed> {
+    if !is_wanted {
         return Ok(None);
     }
     Ok(Some(Showing {

@@ -94,6 +94,7 @@ where
                     return Some(failed);
                 }
             };
+            self.teller.show_course(shows);
             match port.tended(shows) {
                 Ok((tended, turn)) => {
                     port = tended;

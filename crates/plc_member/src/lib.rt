@@ -1,12 +1,12 @@
 //! The process of one machine of a group: its replica in a thread, the driver that has the group scan while that replica
-//! leads, the port for Modbus clients, which is open only while outputs are shown, and the journal. It joins what
-//! `plc_store` judges, `net_peers` connects, `vr_threads` serves and `plc_machine` decides.
+//! leads, the port for Modbus clients, which is open only while outputs are shown, an operator's console, a page, and
+//! the journal. It joins what `plc_store` judges, `net_peers` connects, `vr_threads` serves and `plc_machine` decides.
 //!
 //! ```rust
 //! let host = Host { rt, alloc };
 //! let (member, directory) = Member::open(host, &group, "store")?; // judged, locked and marked as started
 //! let stop = member.stop()?; // `stop.ask()` ends it, from any thread
-//! let failed = member.serve::<Brand, _, _>(host, NewList::new(), &group, &mut err); // why it ended, if by a fault
+//! let failed = member.serve::<Brand, _, _>(host, NewList::new(), &group, showing, &mut err); // if by a fault
 //! ```
 //!
 //! Proved: a scan is submitted only as of a machine that leads, where one is due, and its inputs are one sample; what is
@@ -22,9 +22,11 @@ mod filling;
 mod neighbours;
 mod opening;
 mod port;
+mod program;
 mod publisher;
 mod requester;
 mod scans;
+mod services;
 mod serving;
 mod stop;
 mod teller;

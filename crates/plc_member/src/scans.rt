@@ -8,6 +8,7 @@ ghost use Rattle.vr_model.specs.Replicas as model;
 ghost use Rattle.vr_replica.specs.Scans.{last_scan_of};
 ghost use Rattle.vr_replica.specs.Standing.{StandsFor};
 
+use crate::program::ProgramWatch;
 use il_model::{Command, InImage};
 use plc_console::SnapshotBoard;
 use plc_host::Host;
@@ -69,6 +70,7 @@ pub(crate) struct ScanGate<R: Wait + Clock + Copy + Drop> {
     board: Arc<ScanBoard>,
     /// For a console of this machine.
     snapshots: Arc<SnapshotBoard>,
+    program: ProgramWatch,
     known: Known,
 }
 
@@ -106,12 +108,14 @@ impl<R: Wait + Clock + Copy + Drop> ScanGate<R> {
         begun: Instant,
         board: Arc<ScanBoard>,
         snapshots: Arc<SnapshotBoard>,
+        program: ProgramWatch,
     ) -> ScanGate<R> {
         ScanGate {
             host,
             begun,
             board,
             snapshots,
+            program,
             known: Known::Nothing,
         }
     }
@@ -174,6 +178,7 @@ impl<R: Wait + Clock + Copy + Drop> Observer for ScanGate<R> {
             (Some(place), Some(scan)) => self.see(place, scan),
             _ => self.see_checkpoint(replica),
         }
+        self.program.look(self.host.alloc, replica);
         self.leave_snapshot(replica);
     }
 }

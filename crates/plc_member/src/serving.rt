@@ -6,13 +6,15 @@ use crate::drive::Drive;
 use crate::neighbours::Machines;
 use crate::opening::Member;
 use crate::port::Port;
+use crate::program::ProgramWatch;
 use crate::publisher::Publisher;
 use crate::requester::{LONGEST_WAIT, Requester};
 use crate::scans::{ScanBoard, ScanGate};
+use crate::services::{Services, ToShow};
 use crate::stop::Stop;
 use crate::teller::{Submitted, Teller};
 use il_loader::Image;
-use io_image::{Naming, NewList, Pen, SharedPen, Stamp, released};
+use io_image::{Naming, NewList, Pen, ReleasedReader, SharedPen, Stage, Stamp, released};
 use io_model::CountedWrite;
 use modbus_server::{Seats, Shown};
 use net_hello::Epoch;
@@ -22,10 +24,12 @@ use plc_group::{Group, Machine as Place};
 use plc_host::{Failed, Host, ServiceRuntime};
 use plc_listener::Door;
 use plc_machine::{MachineDriver, Pace, client_starts};
+use plc_page::{Page, Published, Showing, Whose};
 use plc_status::{Journal, Journals, Printer, StatusReader, StatusWriter};
 use std::alloc::{AllocError, Global};
 use std::net::{Net, SocketAddr, TcpListener, TcpStream};
 use std::sync::Arc;
+use std::sync::atomic::AtomicBool;
 use std::thread;
 use std::time::{Duration, Instant};
 use vr_model::ClientNumber;
@@ -55,6 +59,8 @@ struct Boards {
     scans: Arc<ScanBoard>,
     /// A snapshot of its controller, for a console that wants one.
     snapshots: Arc<SnapshotBoard>,
+    /// That another program may be in force than the one with which the epoch began.
+    has_changed: Arc<AtomicBool>,
 }
 
 impl Boards {
@@ -63,18 +69,23 @@ impl Boards {
         Ok(Boards {
             scans: Arc::new(alloc, ScanBoard::new())?,
             snapshots: Arc::new(alloc, SnapshotBoard::new())?,
+            has_changed: Arc::new(alloc, AtomicBool::new(false))?,
         })
     }
 
-    /// What leaves there what a replica comes to that was not started. Times are told since `begun`.
+    /// What leaves there what a replica comes to that was not started, in an epoch that began with this program. Times
+    /// are told since `begun`.
     fn gate<R: MachineRuntime>(
         &self,
         host: Host<R>,
         begun: Instant,
+        image: &Image,
     ) -> Result<ScanGate<R>, AllocError> {
         let scans = Arc::try_clone(&self.scans)?;
         let snapshots = Arc::try_clone(&self.snapshots)?;
-        Ok(ScanGate::new(host, begun, scans, snapshots))
+        let has_changed = Arc::try_clone(&self.has_changed)?;
+        let program = ProgramWatch::new(host.alloc, image, has_changed)?;
+        Ok(ScanGate::new(host, begun, scans, snapshots, program))
     }
 }
 
@@ -82,6 +93,8 @@ impl Boards {
 #[derive(Drop)]
 struct Running<R: MachineRuntime> {
     number: u8,
+    /// The epoch in which it takes part.
+    epoch: u64,
     /// How often the machine was started, with this time.
     starts: u64,
     exchange: Arc<Exchange>,
@@ -101,6 +114,8 @@ struct Running<R: MachineRuntime> {
 struct Outputs<R: MachineRuntime, J: Naming, P: Pen<J> + Drop> {
     publisher: Publisher<R, J, P>,
     seats: Seats<R, J>,
+    /// For a page.
+    reader: ReleasedReader<J>,
 }
 
 /// Where the replica of each machine listens.
@@ -128,6 +143,11 @@ fn failed_by(error: ClusterError) -> Failed {
 /// Where a machine listens for an operator's console, if it has one.
 fn console_of(group: &Group, number: u8) -> Option<SocketAddr> {
     group.machines.get(usize::from(number))?.console
+}
+
+/// Where it's asked what shows of it, if that's shown.
+fn status_of(group: &Group, number: u8) -> Option<SocketAddr> {
+    group.machines.get(usize::from(number))?.status
 }
 
 /// What a machine knows of its group.
@@ -205,7 +225,7 @@ fn started<R: MachineRuntime, S: Starts + Send + Drop + 'static>(
     let Host { rt, alloc } = host;
     let machine = machine_of(alloc, group, &member)?;
     let boards = Boards::new(alloc)?;
-    let gate = boards.gate(host, begun)?;
+    let gate = boards.gate(host, begun, &member.image)?;
     let Member {
         image,
         store,
@@ -244,6 +264,7 @@ fn started<R: MachineRuntime, S: Starts + Send + Drop + 'static>(
     };
     Ok(Running {
         number: machine.number,
+        epoch: machine.epoch.number,
         starts,
         exchange,
         driver,
@@ -278,10 +299,39 @@ impl<R: MachineRuntime> Running<R> {
             replica: self.number,
         };
         let period = millis(group.period);
-        let desk = Desk::new(host, group.config, client, link, period, journal).among(others);
+        let desk = Desk::new(host, group.config, client, link, period, journal)
+            .among(others)
+            .telling_changes(Arc::try_clone(&self.boards.has_changed)?);
         let idle = Duration::from_secs(u64::from(group.times.idle));
         let console = Console::new(host, door, desk, &self.image, status, idle)?;
         Ok(Some(console))
+    }
+
+    /// The page that shows the machine, if it has one, which nobody is shown yet.
+    fn page<J: Naming + Send + Sync + 'static>(
+        &self,
+        host: Host<R>,
+        group: &Group,
+        begun: Instant,
+        shown: ToShow<J>,
+    ) -> Result<Option<Page<R, J>>, Failed> {
+        let ToShow {
+            status,
+            released,
+            showing,
+        } = shown;
+        let (Some(address), Some(showing)) = (status_of(group, self.number), showing) else {
+            return Ok(None);
+        };
+        let published = Published {
+            whose: Whose::Machine(self.number),
+            period: group.period,
+            status,
+            released,
+            begun,
+            has_changed: Arc::try_clone(&self.boards.has_changed)?,
+        };
+        Ok(Some(Page::new(host, address, &self.image, showing, published)?))
     }
 }
 
@@ -309,7 +359,10 @@ where
     requires { list ≡ J.book }
 {
     let Host { rt, alloc } = host;
-    let Ok((writer, readers)) = released::<J, R>(list, alloc, rt, SESSIONS) else {
+    let Ok((writer, mut readers)) = released::<J, R>(list, alloc, rt, SESSIONS + 1) else {
+        return Err(Failed::Memory);
+    };
+    let Some(reader) = readers.pop() else {
         return Err(Failed::Memory);
     };
     let stamp = Arc::new(alloc, Stamp::new(rt)?)?;
@@ -322,6 +375,7 @@ where
     Ok(Outputs {
         publisher: Publisher { writer, stamp },
         seats: Seats::new(host, shown, idle, status.traffic()?)?,
+        reader,
     })
 }
 
@@ -339,12 +393,14 @@ fn driver_of(group: &Group, number: u8, starts: u64) -> Result<MachineDriver, Fa
 
 impl<S: Starts + Send + Drop + 'static> Member<S> {
     /// Serves the machine until something fails: what; or, with none, until it's asked to stop. `err` has a line for
-    /// each change. It fails at once where something isn't to be had.
+    /// each change; `showing` is what its page shows beside what is published, if one is wanted. It fails at once where
+    /// something isn't to be had.
     pub fn serve<J, R, E: CountedWrite>(
         self,
         host: Host<R>,
         list: NewList,
         group: &Group,
+        showing: Option<Showing>,
         err: &mut E,
     ) -> Option<Failed>
     where
@@ -352,7 +408,7 @@ impl<S: Starts + Send + Drop + 'static> Member<S> {
         R: MachineRuntime,
         requires { list ≡ J.book }
     {
-        match self.run::<J, R, E>(host, list, group, err) {
+        match self.run::<J, R, E>(host, list, group, showing, err) {
             Ok(failed) => failed,
             Err(failed) => Some(failed),
         }
@@ -365,6 +421,7 @@ impl<S: Starts + Send + Drop + 'static> Member<S> {
         host: Host<R>,
         list: NewList,
         group: &Group,
+        showing: Option<Showing>,
         err: &mut E,
     ) -> Result<Option<Failed>, Failed>
     where
@@ -379,64 +436,73 @@ impl<S: Starts + Send + Drop + 'static> Member<S> {
             console,
             mut printer,
         } = Journals::new(host.alloc)?;
-        let outputs = outputs_of::<J, R>(host, list, group, &status)?;
+        let Outputs {
+            publisher,
+            seats,
+            reader: released,
+        } = outputs_of::<J, R>(host, list, group, &status)?;
         let mut running = started(host, group, self, begun)?;
         let console = running.console(host, group, console, status.reader()?)?;
+        let shown = ToShow {
+            status: status.reader()?,
+            released,
+            showing,
+        };
+        let page = running.page(host, group, begun, shown)?;
         let Some(place) = group.machines.get(usize::from(running.number)) else {
             return Err(Failed::Connection);
         };
+        let address = place.modbus;
+        let stage = seats.shared_stage()?;
         let parts = Parts {
-            outputs,
+            publisher,
+            stage,
             running,
             journal,
             status,
         };
-        let (drive, seats) = parts.into_drive(host, group, begun)?;
         let work = Work {
-            drive,
-            address: place.modbus,
+            drive: parts.into_drive(host, group, begun)?,
+            address,
             seats,
         };
-        match console {
-            Some(console) => {
-                let console = console.open()?;
-                let failed = work.done(host.rt, &mut printer, err);
-                console.close();
-                failed
-            }
-            None => work.done(host.rt, &mut printer, err),
-        }
+        let services = Services { console, page }.open()?;
+        let failed = work.done(host.rt, &mut printer, err);
+        services.close();
+        failed
     }
 }
 
 /// What the driver of a machine is made of.
 #[derive(Drop)]
 struct Parts<R: MachineRuntime, J: Naming, P: Pen<J> + Drop> {
-    outputs: Outputs<R, J, P>,
+    publisher: Publisher<R, J, P>,
+    /// The inputs that its clients stage.
+    stage: Arc<Stage>,
     running: Running<R>,
     journal: Journal,
     status: StatusWriter,
 }
 
 impl<R: MachineRuntime, J: Naming, P: Pen<J> + Drop> Parts<R, J, P> {
-    /// The driver, which stands by, and what clients are served with beside it.
+    /// The driver, which stands by.
     fn into_drive(
         self,
         host: Host<R>,
         group: &Group,
         begun: Instant,
-    ) -> Result<(Drive<R, J, P>, Seats<R, J>), Failed> {
+    ) -> Result<Drive<R, J, P>, Failed> {
         let driver = driver_of(group, self.running.number, self.running.starts)?;
-        let stage = self.outputs.seats.shared_stage()?;
         let Parts {
-            outputs,
+            publisher,
+            stage,
             running,
             journal,
             status,
         } = self;
-        let Outputs { publisher, seats } = outputs;
         let Running {
             number,
+            epoch,
             exchange,
             driver: link,
             solo,
@@ -452,7 +518,7 @@ impl<R: MachineRuntime, J: Naming, P: Pen<J> + Drop> Parts<R, J, P> {
             link,
             sent: millis(0),
         };
-        let drive = Drive {
+        Ok(Drive {
             host,
             begun,
             requester,
@@ -460,11 +526,10 @@ impl<R: MachineRuntime, J: Naming, P: Pen<J> + Drop> Parts<R, J, P> {
             board: boards.scans,
             stage,
             publisher,
-            teller: Teller::new(number, exchange, journal, status),
+            teller: Teller::new(number, epoch, exchange, journal, status),
             submitted: Submitted::at_the_start(begun),
             stop,
-        };
-        Ok((drive, seats))
+        })
     }
 }
 

@@ -8,7 +8,7 @@ use crate::port::Turn;
 use crate::watch::{Watch, note, told_of};
 use net_peers::Exchange;
 use plc_host::{Host, ServiceRuntime};
-use plc_status::{Halt, Journal, Notice, Scan, StatusWriter, note_halt};
+use plc_status::{Halt, Journal, MachineStatus, Notice, Scan, StatusWriter, note_halt};
 use std::sync::Arc;
 use std::time::{Duration, Instant};
 use vr_shown::Shown;
@@ -44,6 +44,8 @@ pub(crate) struct Teller {
     watch: Watch,
     journal: Journal,
     status: StatusWriter,
+    /// What shows of the machine.
+    machine: MachineStatus,
     /// By what the last scan was held or stopped, if it was.
     halt: Option<Halt>,
     /// The view in which it was told that the port isn't to be had.
@@ -69,19 +71,26 @@ fn notice_of_port(turn: Turn, view: u64, refused_in: Option<u64>) -> Option<Noti
 }
 
 impl Teller {
-    /// Of this machine. Nothing was told.
+    /// Of this machine, which takes part in this epoch and stands by. Nothing was told.
     pub(crate) fn new(
         number: u8,
+        epoch: u64,
         exchange: Arc<Exchange>,
         journal: Journal,
-        status: StatusWriter,
+        mut status: StatusWriter,
     ) -> Teller {
+        let machine = MachineStatus {
+            epoch,
+            is_driving: false,
+        };
+        status.set_machine(machine);
         Teller {
             number,
             exchange,
             watch: Watch::new(),
             journal,
             status,
+            machine,
             halt: None,
             refused_in: None,
         }
@@ -94,6 +103,16 @@ impl Teller {
         self.watch.look(shown, now, &mut self.journal);
         if shown.has_failed {
             self.journal.put(Notice::Store(self.number));
+        }
+    }
+
+    /// Shows whether the machine drives.
+    pub(crate) fn show_course(&mut self, is_driving: bool)
+        ensures { self.new.machine.is_driving ≡ is_driving }
+    {
+        if self.machine.is_driving != is_driving {
+            self.machine.is_driving = is_driving;
+            self.status.set_machine(self.machine);
         }
     }
 
