@@ -11,7 +11,7 @@ use io_image::{Ages, Naming, NewList, Release, Sample, Stage, StageBook, Staging
 use io_model::Counted;
 use modbus_server::{Outputs, SessionEnd, serve_session};
 use modbus_wire::{Adu, HeaderFault, Session, SessionFault};
-use plc_host::{Host, Traffic};
+use plc_host::{Host, Requests, Traffic};
 use std::alloc::{AllocError, Global};
 use std::io;
 use std::marker::Brand;
@@ -20,12 +20,13 @@ use std::sync::Wait;
 /// What a session wrote, and how it ended.
 type Written = (Vec<u8>, SessionEnd);
 
-/// A session that has ended: what it wrote, how it ended, how many reads and writes it made, how many bytes it left
-/// unread, and the sample behind it.
+/// A session that has ended: what it wrote, how it ended, what was counted of it, how many reads and writes it made, how
+/// many bytes it left unread, and the sample behind it.
 #[derive(Drop)]
 struct Talked {
     written: Vec<u8>,
     end: SessionEnd,
+    counted: Requests,
     reads: usize,
     writes: usize,
     left: usize,
@@ -103,12 +104,13 @@ fn talk<R: Wait, S: Staging, J: Naming>(
         calls: 0,
         taken: Vec::new(alloc),
     };
+    let traffic = Traffic::new();
     let end = {
         let mut reads = Counted::new(&mut pieces);
         let mut counted = Counted::new(&mut writes);
         serve_session(
             &Host { rt, alloc },
-            &Traffic::new(),
+            &traffic,
             &mut reads,
             &mut counted,
             staging,
@@ -118,6 +120,7 @@ fn talk<R: Wait, S: Staging, J: Naming>(
     Talked {
         written: writes.taken,
         end,
+        counted: traffic.requests(),
         reads: pieces.calls,
         writes: writes.calls,
         left: pieces.bytes.len(),
@@ -406,6 +409,7 @@ impl Exchange {
             "written request" => values::written(alloc, cell),
             "read reply" => values::answered(alloc, cell),
             "count of releases" => numbers_shown(rt, alloc, cell),
+            "counted stream" => counted(rt, alloc, cell),
             _ => told(alloc, self.ends(rt, alloc, title, cell)?),
         }
     }
@@ -420,6 +424,22 @@ fn stream<R: Wait>(rt: &R, alloc: Global, text: &str) -> io::Result<&'static str
         replies: bytes_of(alloc, replies)?,
     };
     exchange.end_at_each_cut(rt, alloc)
+}
+
+/// What is counted of a session of these requests: by function, and those of others; then by exception.
+fn counted<R: Wait>(rt: &R, alloc: Global, text: &str) -> io::Result<String> {
+    let requests = bytes_of(alloc, text)?;
+    let whole = cut_at(requests.as_slice(), usize::MAX);
+    let talked = served(rt, alloc, NOTHING, whole, false)?;
+    let mut told = String::from_str(alloc, "by function")?;
+    for count in talked.counted.functions {
+        told.push_str(format!(in alloc; " {count}")?.as_str())?;
+    }
+    told.push_str(", by exception")?;
+    for count in talked.counted.exceptions {
+        told.push_str(format!(in alloc; " {count}")?.as_str())?;
+    }
+    Ok(told)
 }
 
 /// The fault of bytes, which is answered again for each later piece.
