@@ -25,12 +25,12 @@ abbrev pub pulse_of : ℕ → ℕ → Pulse
 pulse_of patience resend = let near = min silence_limit (3 * patience / 5) in
     record { beat = min resend (near / 2); near = near }
 
--- what is to be done now; an end that has sent nothing for so long sends a beat
+-- what is to be done now; an end that has sent nothing for so long sends a beat. Times end with the last of 64 bits.
 abbrev pub duty_at : ℕ → Phase → ℕ → Duty
 duty_at beat (Away due) now = if nat_le due now then Dial else Nothing
 duty_at beat (Joining since) now = if nat_le joining_limit (now - since) then GiveUp else Nothing
 duty_at beat (Open since heard sent) now = if nat_le silence_limit (now - heard) then End
-    else (if nat_le beat (now - sent) then Beat else Nothing)
+    else (if nat_le (min (sent + beat) (2 ^ 64 - 1)) now then Beat else Nothing)
 
 abbrev pub heard_at : Phase → ℕ → Phase
 heard_at (Away due) now = Away due

@@ -74,7 +74,7 @@ impl Course {
             Phase::Away { due } if due <= now => Duty::Dial,
             Phase::Joining { since } if JOINING_LIMIT <= now.saturating_sub(since) => Duty::GiveUp,
             Phase::Open { heard, .. } if SILENCE_LIMIT <= now.saturating_sub(heard) => Duty::End,
-            Phase::Open { sent, .. } if self.pulse.beat <= now.saturating_sub(sent) => Duty::Beat,
+            Phase::Open { sent, .. } if sent.saturating_add(self.pulse.beat) <= now => Duty::Beat,
             _ => Duty::Nothing,
         }
     }
