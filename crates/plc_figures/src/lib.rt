@@ -27,4 +27,4 @@ pub use reading::{
     Reading, Replica, Scans, Told,
 };
 pub use state::put_state;
-pub use text::{put, put_number, put_seconds, put_signed};
+pub use text::{put, put_number, put_seconds, put_signed, put_small_number};

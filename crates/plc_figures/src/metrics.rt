@@ -19,7 +19,7 @@ use crate::names::put_function;
 use crate::reading::{
     BOUNDS, BUCKETS, Clients, EXCEPTIONS, Halt, Machine, PLACES, Process, Reading, Replica, Scans,
 };
-use crate::text::{put, put_number, put_seconds};
+use crate::text::{put, put_number, put_seconds, put_small_number};
 use std::alloc::AllocError;
 
 /// Begins the figures of one name: what they are, and of which type.
@@ -66,7 +66,7 @@ fn put_of_replica(out: &mut Vec<u8>, name: &[u8], number: u8, value: u64) -> Res
 {
     put(out, name)?;
     put(out, b"{replica=\"")?;
-    put_number(out, u64::from(number))?;
+    put_small_number(out, number)?;
     put(out, b"\"} ")?;
     put_number(out, value)?;
     put(out, b"\n")?;

@@ -1,6 +1,6 @@
 //! What shows of a controller as one JSON object.
 
-ghost use Rattle.std.specs.Prelude.{OnOk};
+ghost use Rattle.std.specs.Prelude.{◌<◌, OnOk};
 ghost use Rattle.plc_figures.specs.State.{age_json, clients_json, halt_json, known_process, process_json, why_json};
 ghost use Rattle.plc_figures.specs.State.{exception_json, exceptions_json, function_json, functions_json};
 ghost use Rattle.plc_figures.specs.State.{known_machine, machine_json};
@@ -14,7 +14,7 @@ use crate::names::{phase_name, put_function, put_place, stop_name};
 use crate::reading::{
     Clients, EXCEPTIONS, Halt, Machine, PLACES, Point, Process, Reading, Replica, Scans, Told,
 };
-use crate::text::{put, put_number, put_seconds, put_signed};
+use crate::text::{put, put_number, put_seconds, put_signed, put_small_number};
 use std::alloc::AllocError;
 
 /// A replica, which stands at this place.
@@ -23,7 +23,7 @@ fn put_replica(out: &mut Vec<u8>, place: usize, shown: &Replica) -> Result<(), A
 {
     put_comma(out, place)?;
     put(out, b"{\"replica\":")?;
-    put_number(out, u64::from(shown.number))?;
+    put_small_number(out, shown.number)?;
     put(out, b",\"status\":\"")?;
     put(out, phase_name(shown.standing.status))?;
     put(out, b"\",\"view\":")?;
@@ -110,7 +110,7 @@ fn put_known_machine(out: &mut Vec<u8>, machine: Machine) -> Result<(), AllocErr
     ensures { OnOk result (IsAdded out.old.items (known_machine machine) out.new.items) }
 {
     put(out, b"{\"number\":")?;
-    put_number(out, u64::from(machine.number))?;
+    put_small_number(out, machine.number)?;
     put(out, b",\"epoch\":")?;
     put_number(out, machine.epoch)?;
     put(out, b",\"driving\":")?;

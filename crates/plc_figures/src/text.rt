@@ -24,6 +24,13 @@ pub fn put_number(out: &mut Vec<u8>, number: u64) -> Result<(), AllocError>
     Ok(())
 }
 
+/// Adds a small number in decimal digits.
+pub fn put_small_number(out: &mut Vec<u8>, number: u8) -> Result<(), AllocError>
+    ensures { OnOk result (IsAdded out.old.items (decimal number) out.new.items) }
+{
+    put_number(out, u64::from(number))
+}
+
 /// Adds a number in decimal digits, with its sign where it is below 0.
 pub fn put_signed(out: &mut Vec<u8>, number: i64) -> Result<(), AllocError>
     ensures { OnOk result (IsAdded out.old.items (signed_decimal number) out.new.items) }

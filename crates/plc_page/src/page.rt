@@ -8,7 +8,7 @@ ghost use Rattle.plc_figures.specs.Texts.{IsAdded};
 
 use plc_figures::{
     Halt, Machine, Point, Reading, Replica, Scans, phase_name, put, put_number, put_place,
-    put_seconds, put_signed, stop_name,
+    put_seconds, put_signed, put_small_number, stop_name,
 };
 use std::alloc::AllocError;
 
@@ -355,7 +355,7 @@ fn put_known_machine(out: &mut Vec<u8>, machine: Machine) -> Result<(), AllocErr
     ensures { OnOk result (IsAdded out.old.items (machine_line machine) out.new.items) }
 {
     put(out, b"machine ")?;
-    put_number(out, u64::from(machine.number))?;
+    put_small_number(out, machine.number)?;
     put(out, course_words(machine.is_driving))?;
     put(out, b", epoch ")?;
     put_number(out, machine.epoch)?;
@@ -378,7 +378,7 @@ fn put_replica(out: &mut Vec<u8>, shown: &Replica) -> Result<(), AllocError>
     ensures { OnOk result (IsAdded out.old.items (replica_line shown.now) out.new.items) }
 {
     put(out, b"replica ")?;
-    put_number(out, u64::from(shown.number))?;
+    put_small_number(out, shown.number)?;
     put(out, b": ")?;
     put(out, phase_name(shown.standing.status))?;
     put(out, b", view ")?;

@@ -11,4 +11,4 @@ pub loop-place-preserved : goal.loop-place-preserved
 loop-place-preserved c = more function_line c.args.counts.now _ _ (omega arith) c.loop-place.invariant c.in_ok-put_function_line.ensures
 
 pub returns : goal.returns
-returns c = all function_line c.args.counts.now _ c.loop-place-test.false c.loop-place.invariant
+returns c = all function_line c.args.counts.now _ (omega arith) c.loop-place.invariant
