@@ -99,6 +99,16 @@ impl<L: Relink + Drop> Member<L> {
         self.ordered = self.ordered.saturating_add(1);
         true
     }
+
+    /// Has its thread start it anew, unless an order has not come to its end: one that is up crashes first. Whether that
+    /// is ordered.
+    pub(crate) fn restart<R: Wait>(&mut self, rt: &R) -> bool {
+        if self.is_starting() {
+            return false;
+        }
+        self.cutter.cut();
+        self.order(rt)
+    }
 }
 
 /// A group of replicas, each started and served by a thread of its own, which it keeps. Any thread may have it.
@@ -209,14 +219,10 @@ impl<L: Relink + Send + Drop + 'static> Cluster<L> {
     /// One that is up crashes first. It waits for nothing; where the order before has not come to its end, it does
     /// nothing. Whether it was ordered.
     pub fn restart<R: Wait>(&mut self, rt: &R, number: u8) -> bool {
-        let Some(member) = self.members.get_mut(usize::from(number)) else {
-            return false;
-        };
-        if member.is_starting() {
-            return false;
+        match self.members.get_mut(usize::from(number)) {
+            Some(member) => member.restart(rt),
+            None => false,
         }
-        member.cutter.cut();
-        member.order(rt)
     }
 
     /// Whether an order to start a replica has not come to its end.

@@ -11,8 +11,7 @@ use std::thread::{JoinHandle, Threads};
 use vr_ports::{Cutter, Relink, Timer};
 use vr_shown::Shown;
 
-/// One replica of a group, started and served by a thread of its own, as on a machine that has no other. It is started
-/// once: what ended is started anew with its process.
+/// One replica of a group, started and served by a thread of its own, as on a machine that has no other.
 #[derive(Drop)]
 pub struct Solo<L: Relink + Drop> {
     member: Member<L>,
@@ -59,9 +58,16 @@ impl<L: Relink + Send + Drop + 'static> Solo<L> {
         self.member.look()
     }
 
-    /// Whether its start came to an end and it is not served: it never will be again.
+    /// Whether its start came to an end and it is not served: it will be again by `restart` alone.
     pub fn is_over(&mut self) -> bool {
         self.member.is_idle()
+    }
+
+    /// Has it started anew from its store by its thread, with a start more and its link made anew. One that is up
+    /// crashes first. It waits for nothing; where the order before has not come to its end, it does nothing. Whether it
+    /// was ordered.
+    pub fn restart<R: Wait>(&mut self, rt: &R) -> bool {
+        self.member.restart(rt)
     }
 
     /// Closes its link, which ends its serving.
