@@ -99,6 +99,7 @@ notice_line (notices.Driving view) = view_line (codes "driving") view
 notice_line (notices.StandingBy view) = view_line (codes "standing by") view
 notice_line (notices.Stale view) = view_line (codes "stale") view
 notice_line (notices.NoPort view) = view_line (codes "no port") view
+notice_line notices.NoTrace = codes "no trace\n"
 notice_line (notices.Held position) = numbered_line (codes "held ") position (codes "\n")
 notice_line (notices.Stopped stop position) = stopped_line stop position
 notice_line notices.GoesOn = codes "goes on\n"

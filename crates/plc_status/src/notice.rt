@@ -62,6 +62,8 @@ pub enum Notice {
     Stale(u64),
     /// It drives, and its port can't be opened.
     NoPort(u64),
+    /// Its trace can't be written, and isn't from now on.
+    NoTrace,
     /// A scan was held there, after one that wasn't.
     Held(u16),
     /// A scan stopped there, after one that didn't stop so.
@@ -196,6 +198,7 @@ pub(crate) fn put_line<E: CountedWrite>(err: &mut E, notice: Notice) -> Result<(
         Notice::StandingBy(view) => put_view(err, b"standing by", view),
         Notice::Stale(view) => put_view(err, b"stale", view),
         Notice::NoPort(view) => put_view(err, b"no port", view),
+        Notice::NoTrace => put(err, b"no trace\n"),
         Notice::Held(position) => put_line_of(err, b"held ", usize::from(position), b"\n"),
         Notice::Stopped(stop, position) => put_stopped(err, stop, position),
         Notice::GoesOn => put(err, b"goes on\n"),
