@@ -1,3 +1,4 @@
+mod Lines
 mod Merging
 mod Printing
 mod Putting

@@ -1,5 +1,5 @@
 -- The lines that tell an operator what changed.
-use Rattle.std.specs.Prelude.{◌≡◌, ◌⊎◌, ℕ, List, [], ◌∷◌, ◌++◌, Option, Some, None, codes}
+use Rattle.std.specs.Prelude.{◌≡◌, ◌⊎◌, ◌==◌, if◌then◌else◌, ℕ, List, [], ◌∷◌, ◌++◌, Option, Some, None, codes}
 use Rattle.io_model.specs.declared.counted.CountedWrite.{Ghosts as CountedWriter}
 use Rattle.il_model.specs.declared.command.Command.{Command}
 use Rattle.il_model.specs.declared.command.Command.TheVariants as commands
@@ -48,6 +48,31 @@ refused_line number why = refused_party number ++ (why_name why ++ codes "\n")
 abbrev pub long_line : List ℕ
 long_line = codes "replica not normal for a minute: if most machines have lost their memory, a new epoch is due\n"
 
+-- more than half of a group of 2f+1 machines
+abbrev pub majority_of : ℕ → List ℕ
+majority_of f = if f == 0 then codes "one of one" else (if f == 1 then codes "two of three"
+    else (if f == 2 then codes "three of five" else (if f == 3 then codes "four of seven" else codes "most")))
+
+abbrev pub cold_start_line : ℕ → ℕ → List ℕ
+cold_start_line f epoch =
+    majority_of f ++ numbered_line (codes " have lost their memory: cold start, epoch ") epoch (codes "\n")
+
+abbrev pub waits_line : ℕ → ℕ → List ℕ
+waits_line number epoch =
+    machine_line number (codes " waits") ++ numbered_line (codes " for an epoch after ") epoch (codes "\n")
+
+abbrev pub normal_in_line : Option ℕ → List ℕ
+normal_in_line (Some epoch) = numbered_line (codes ": was normal in ") epoch (codes "\n")
+normal_in_line None = codes "\n"
+
+-- what is told of an epoch
+abbrev pub epoch_text : ℕ → List ℕ → List ℕ
+epoch_text epoch what = numbered_line (codes "epoch ") epoch what
+
+abbrev pub heard_line : ℕ → ℕ → Option ℕ → List ℕ
+heard_line epoch machine normal_in =
+    epoch_text epoch (codes " heard from machine ") ++ (numbered_line [] machine [] ++ normal_in_line normal_in)
+
 -- the line that tells the port at which clients are served
 abbrev pub port_line : ℕ → List ℕ
 port_line port = numbered_line (codes "serving on 127.0.0.1:") port (codes "\n")
@@ -95,6 +120,15 @@ notice_line (notices.MachineRefused number why) = refused_line number why
 notice_line (notices.ReplicaNormalIn view) = view_line (codes "replica normal") view
 notice_line notices.ReplicaNotNormal = codes "replica not normal\n"
 notice_line notices.NotNormalLong = long_line
+notice_line (notices.ColdStart f epoch) = cold_start_line f epoch
+notice_line (notices.WaitsAfter number epoch) = waits_line number epoch
+notice_line (notices.EpochHeard epoch machine normal_in) = heard_line epoch machine normal_in
+notice_line (notices.OtherProgram epoch) =
+    numbered_line (codes "program of epoch ") epoch (codes " is another: format with it\n")
+notice_line (notices.WaitsForOthers epoch) =
+    numbered_line (codes "epoch ") epoch (codes " waits for other machines\n")
+notice_line (notices.ProgramChanged epoch) =
+    numbered_line (codes "program changed in epoch ") epoch (codes ": no cold start by itself\n")
 notice_line (notices.Driving view) = view_line (codes "driving") view
 notice_line (notices.StandingBy view) = view_line (codes "standing by") view
 notice_line (notices.Stale view) = view_line (codes "stale") view

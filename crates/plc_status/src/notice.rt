@@ -1,10 +1,12 @@
 //! What an operator is told of a controller while it is served.
 
-ghost use Rattle.std.specs.Prelude.{◌≡◌};
+ghost use Rattle.std.specs.Prelude.{◌≡◌, ◌++◌, []};
 ghost use Rattle.il_text.specs.Telling.{Sends};
 ghost use Rattle.il_text.specs.Lines.{stop_name};
-ghost use Rattle.plc_status.specs.Notices.{long_line, machine_line, notice_line, numbered_line, refused_line};
-ghost use Rattle.plc_status.specs.Notices.{refused_party, replica_line, stopped_line, view_line, why_name, IsPortTold};
+ghost use Rattle.plc_status.specs.Notices.{IsPortTold, cold_start_line, epoch_text, heard_line, long_line};
+ghost use Rattle.plc_status.specs.Notices.{machine_line, majority_of};
+ghost use Rattle.plc_status.specs.Notices.{normal_in_line, notice_line, numbered_line, refused_line, refused_party};
+ghost use Rattle.plc_status.specs.Notices.{replica_line, stopped_line, view_line, waits_line, why_name};
 
 use crate::deed::{Deed, put_deed};
 use il_model::Stop;
@@ -54,6 +56,23 @@ pub enum Notice {
     ReplicaNotNormal,
     /// It wasn't for a minute.
     NotNormalLong,
+    /// Machines of a group of 2f+1 have lost their memory: f+1 of them, with this one. The next epoch begins, with this
+    /// number.
+    ColdStart(u8, u64),
+    /// This machine's disk was lost. It waits for an epoch after this one.
+    WaitsAfter(u8, u64),
+    /// A machine is in this later epoch. This one was normal in an epoch before, if in any.
+    EpochHeard {
+        epoch: u64,
+        machine: u8,
+        normal_in: Option<u64>,
+    },
+    /// The epoch that this machine is to begin has another program than its store.
+    OtherProgram(u64),
+    /// The epoch that this machine is to begin waits for other machines.
+    WaitsForOthers(u64),
+    /// The program was changed in this epoch: the group doesn't begin anew by itself.
+    ProgramChanged(u64),
     /// This machine drives the plant in this view: its port is open.
     Driving(u64),
     /// Another one drives it.
@@ -176,6 +195,94 @@ fn put_not_normal_long<E: CountedWrite>(err: &mut E) -> Result<(), DeviceFault>
     )
 }
 
+/// More than half of a group of 2f+1 machines.
+fn majority_of(f: u8) -> &'static str
+    ensures { result.now ≡ majority_of f }
+{
+    match f {
+        0 => "one of one",
+        1 => "two of three",
+        2 => "three of five",
+        3 => "four of seven",
+        _ => "most",
+    }
+}
+
+/// What is told of a cold start.
+fn put_cold_start<E: CountedWrite>(err: &mut E, f: u8, epoch: u64) -> Result<(), DeviceFault>
+    ensures { Sends E.CountedWrite (cold_start_line f epoch) err.old err.new result }
+{
+    put(err, majority_of(f).as_bytes())?;
+    put_epoch(
+        err,
+        b" have lost their memory: cold start, epoch ",
+        epoch,
+        b"\n",
+    )
+}
+
+/// A line with the number of an epoch between two texts.
+fn put_epoch<E: CountedWrite>(
+    err: &mut E,
+    before: &[u8],
+    epoch: u64,
+    after: &[u8],
+) -> Result<(), DeviceFault>
+    ensures { Sends E.CountedWrite (numbered_line before.now epoch after.now) err.old err.new result }
+{
+    put_line_of(err, before, epoch as usize, after)
+}
+
+/// What is told of a machine that waits for an epoch.
+fn put_waits<E: CountedWrite>(err: &mut E, number: u8, epoch: u64) -> Result<(), DeviceFault>
+    ensures { Sends E.CountedWrite (waits_line number epoch) err.old err.new result }
+{
+    put_machine(err, number, b" waits")?;
+    put_epoch(err, b" for an epoch after ", epoch, b"\n")
+}
+
+/// What is told of the epoch before, if the machine was normal in one.
+fn put_normal_in<E: CountedWrite>(err: &mut E, epoch: Option<u64>) -> Result<(), DeviceFault>
+    ensures { Sends E.CountedWrite (normal_in_line epoch) err.old err.new result }
+{
+    match epoch {
+        Some(epoch) => put_epoch(err, b": was normal in ", epoch, b"\n"),
+        None => put(err, b"\n"),
+    }
+}
+
+/// What is told of a machine that is in a later epoch.
+fn put_speaker<E: CountedWrite>(
+    err: &mut E,
+    machine: u8,
+    normal_in: Option<u64>,
+) -> Result<(), DeviceFault>
+    ensures { Sends E.CountedWrite (numbered_line [] machine [] ++ normal_in_line normal_in) err.old err.new result }
+{
+    put_line_of(err, b"", usize::from(machine), b"")?;
+    put_normal_in(err, normal_in)
+}
+
+/// What is told of an epoch.
+fn put_epoch_text<E: CountedWrite>(err: &mut E, epoch: u64, what: &[u8]) -> Result<(), DeviceFault>
+    ensures { Sends E.CountedWrite (epoch_text epoch what.now) err.old err.new result }
+{
+    put_line_of(err, b"epoch ", epoch as usize, what)
+}
+
+/// What is told of a later epoch that was heard.
+fn put_heard<E: CountedWrite>(
+    err: &mut E,
+    epoch: u64,
+    machine: u8,
+    normal_in: Option<u64>,
+) -> Result<(), DeviceFault>
+    ensures { Sends E.CountedWrite (heard_line epoch machine normal_in) err.old err.new result }
+{
+    put_epoch_text(err, epoch, b" heard from machine ")?;
+    put_speaker(err, machine, normal_in)
+}
+
 /// Writes the line that tells it. It takes no memory.
 pub(crate) fn put_line<E: CountedWrite>(err: &mut E, notice: Notice) -> Result<(), DeviceFault>
     ensures { Sends E.CountedWrite (notice_line notice) err.old err.new result }
@@ -194,6 +301,32 @@ pub(crate) fn put_line<E: CountedWrite>(err: &mut E, notice: Notice) -> Result<(
         Notice::ReplicaNormalIn(view) => put_view(err, b"replica normal", view),
         Notice::ReplicaNotNormal => put(err, b"replica not normal\n"),
         Notice::NotNormalLong => put_not_normal_long(err),
+        Notice::ColdStart(f, epoch) => put_cold_start(err, f, epoch),
+        Notice::WaitsAfter(number, epoch) => put_waits(err, number, epoch),
+        Notice::EpochHeard {
+            epoch,
+            machine,
+            normal_in,
+        } => put_heard(err, epoch, machine, normal_in),
+        Notice::OtherProgram(epoch) => {
+            put_epoch(
+                err,
+                b"program of epoch ",
+                epoch,
+                b" is another: format with it\n",
+            )
+        }
+        Notice::WaitsForOthers(epoch) => {
+            put_epoch(err, b"epoch ", epoch, b" waits for other machines\n")
+        }
+        Notice::ProgramChanged(epoch) => {
+            put_epoch(
+                err,
+                b"program changed in epoch ",
+                epoch,
+                b": no cold start by itself\n",
+            )
+        }
         Notice::Driving(view) => put_view(err, b"driving", view),
         Notice::StandingBy(view) => put_view(err, b"standing by", view),
         Notice::Stale(view) => put_view(err, b"stale", view),
