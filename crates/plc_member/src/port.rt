@@ -1,15 +1,18 @@
 //! The port of a machine for Modbus clients, which is open only while the machine shows outputs.
 
+ghost use Rattle.std.specs.Prelude.{◌≡◌, IfOk, false, true};
+ghost use Rattle.plc_member.specs.Ports.{is_open, turn_of_port};
+
 use io_image::Naming;
 use modbus_server::{OpenServer, Seats};
 use plc_host::{Failed, ServiceRuntime};
 use plc_listener::Door;
 use std::net::{Net, SocketAddr, TcpListener, TcpStream};
 
-/// What serves clients, at an open port or at none.
-enum Serving<R: ServiceRuntime, J: Naming> {
-    Closed(Seats<R, J>),
-    Open(OpenServer<R, J>),
+/// What serves clients: seats that are taken by none, or a server at an open port.
+enum Serving<C, O> {
+    Closed(C),
+    Open(O),
 }
 
 /// What became of a port by a look at it.
@@ -26,7 +29,7 @@ pub(crate) enum Turn {
 pub(crate) struct Port<R: ServiceRuntime, J: Naming> {
     rt: R,
     address: SocketAddr,
-    serving: Serving<R, J>,
+    serving: Serving<Seats<R, J>, OpenServer<R, J>>,
 }
 
 impl<R, J> Port<R, J>
@@ -35,7 +38,9 @@ where
     J: Naming + Send + Sync + 'static,
 {
     /// It's closed. Clients are served by these seats while it's open.
-    pub(crate) fn new(rt: R, address: SocketAddr, seats: Seats<R, J>) -> Port<R, J> {
+    pub(crate) fn new(rt: R, address: SocketAddr, seats: Seats<R, J>) -> Port<R, J>
+        ensures { is_open result.serving ≡ false }
+    {
         Port {
             rt,
             address,
@@ -44,7 +49,11 @@ where
     }
 
     /// Opens it, or closes it with each of its sessions, by whether it's to be open. Where it fails it's closed.
-    pub(crate) fn tended(self, is_wanted: bool) -> Result<(Port<R, J>, Turn), Failed> {
+    pub(crate) fn tended(self, is_wanted: bool) -> Result<(Port<R, J>, Turn), Failed>
+        ensures closed { IfOk result (λ r. is_wanted ≡ false → is_open r.0.serving ≡ false) }
+        ensures turn { IfOk result (λ r.
+            r.1 ≡ turn_of_port (is_open self.entry.serving) (is_open r.0.serving) is_wanted) }
+    {
         let Port {
             rt,
             address,
@@ -86,10 +95,11 @@ fn opened<R, J>(
     rt: &R,
     address: SocketAddr,
     seats: Seats<R, J>,
-) -> Result<(Serving<R, J>, Turn), Failed>
+) -> Result<(Serving<Seats<R, J>, OpenServer<R, J>>, Turn), Failed>
 where
     R: ServiceRuntime + Net<Listener = TcpListener, Stream = TcpStream>,
     J: Naming + Send + Sync + 'static,
+    ensures { IfOk result (λ r. r.1 ≡ turn_of_port false (is_open r.0) true) }
 {
     match Door::at(rt, address) {
         Ok(door) => Ok((Serving::Open(seats.open(door)?), Turn::Opened)),
