@@ -10,6 +10,7 @@ mod serving;
 mod showing;
 mod stores;
 
+ghost use Rattle.std.specs.Prelude.{IfOk};
 ghost use Rattle.plc.specs.Asked.{IsAsAsked, IsLostAfterAMinute};
 
 use crate::asking::{Asking, Console, ask};
@@ -143,6 +144,7 @@ fn given_words(rt: &HostRuntime) -> Result<Vec<String>, WordsError> {
     Ok(env::args(rt)?.collect(rt.alloc())?)
 }
 
+/// What is to be done for the words of a call: what needs no thread and no socket is done.
 fn perform<W: Write, E: CountedWrite>(
     rt: &HostRuntime,
     words: Words,
@@ -151,7 +153,22 @@ fn perform<W: Write, E: CountedWrite>(
 ) -> Outcome
     ensures { IsAsAsked words.entry result }
 {
-    match words {
+    match prepared(rt, words, out, err) {
+        Ok(outcome) => outcome,
+        Err(status) => Outcome::Done(status),
+    }
+}
+
+/// What is to be done for the words of a call; or the status where it can't be prepared, which is told.
+fn prepared<W: Write, E: CountedWrite>(
+    rt: &HostRuntime,
+    words: Words,
+    out: &mut W,
+    err: &mut E,
+) -> Result<Outcome, u8>
+    ensures { IfOk result (IsAsAsked words.entry) }
+{
+    Ok(match words {
         Words::Asm { source, image } => Outcome::Done(calls::asm(rt, source, image, out, err)),
         Words::List { image } => Outcome::Done(calls::list(rt, image, out, err)),
         Words::Names { source } => Outcome::Done(calls::names(rt, source, out, err)),
@@ -174,38 +191,27 @@ fn perform<W: Write, E: CountedWrite>(
             directory,
         } => Outcome::Done(stores::format(rt, source, group, machine, directory, err)),
         Words::Show { directory } => Outcome::Done(stores::show(rt, directory, out, err)),
-        Words::Field { field, check, once } => match Carrying::of(rt, field, check, once, err) {
-            Ok(carrying) => Outcome::Carry(carrying),
-            Err(status) => Outcome::Done(status),
-        },
+        Words::Field { field, check, once } => {
+            Outcome::Carry(Carrying::of(rt, field, check, once, err)?)
+        }
         Words::Ask {
             port,
             commands,
             timeout,
-        } => match Asking::of_commands(rt, Console { port, timeout }, commands, err) {
-            Ok(asking) => Outcome::Ask(asking),
-            Err(status) => Outcome::Done(status),
-        },
+        } => Outcome::Ask(Asking::of_commands(rt, Console { port, timeout }, commands, err)?),
         Words::Change {
             port,
             source,
             timeout,
-        } => match Asking::of_change(rt, Console { port, timeout }, source, err) {
-            Ok(asking) => Outcome::Ask(asking),
-            Err(status) => Outcome::Done(status),
-        },
-        Words::ServeMachine { group, directory } => match Machine::of(rt, group, directory, err) {
-            Ok(machine) => Outcome::ServeMachine(machine),
-            Err(status) => Outcome::Done(status),
-        },
+        } => Outcome::Ask(Asking::of_change(rt, Console { port, timeout }, source, err)?),
+        Words::ServeMachine { group, directory } => {
+            Outcome::ServeMachine(Machine::of(rt, group, directory, err)?)
+        }
         Words::Serve {
             source,
             stores,
             report,
             settings,
-        } => match Serving::of(rt, source, stores.as_slice(), report, settings, err) {
-            Ok(serving) => Outcome::Serve(serving),
-            Err(status) => Outcome::Done(status),
-        },
-    }
+        } => Outcome::Serve(Serving::of(rt, source, stores.as_slice(), report, settings, err)?),
+    })
 }

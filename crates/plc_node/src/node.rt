@@ -5,7 +5,6 @@ ghost use Rattle.vr_model.specs.Groups.{group_size};
 ghost use Rattle.plc_status.specs.Notices.{IsAtMostServingTold, IsServingTold};
 
 use crate::opening::{Kept, Ready};
-use crate::showing::ToShow;
 use il_loader::Image;
 use io_image::{Naming, NewList};
 use io_model::CountedWrite;
@@ -16,8 +15,6 @@ use plc_settings::Settings;
 use plc_status::{Counts, Journals, StatusWriter};
 use std::net::{Net, TcpListener, TcpStream};
 use std::rt::Files;
-use std::sync::Arc;
-use std::sync::atomic::AtomicBool;
 use std::time::Instant;
 use vr_ports::Relink;
 use vr_threads::Starts;
@@ -87,25 +84,14 @@ impl<S: Starts + Send + Drop + 'static> Node<'_, S> {
             status,
             showing,
         } = self;
-        let Host { rt, alloc } = host;
+        let alloc = host.alloc;
         let Journals {
             driver: journal,
             console,
             printer,
         } = Journals::new(alloc)?;
-        let begun = Instant::now(&rt)?;
-        let shown = ToShow {
-            status: status.reader()?,
-            begun,
-            has_changed: Arc::new(alloc, AtomicBool::new(false))?,
-            showing,
-        };
-        let kept = Kept {
-            traffic: status.traffic()?,
-            console,
-            status: status.reader()?,
-            shown,
-        };
+        let begun = Instant::now(&host.rt)?;
+        let kept = Kept::of(alloc, &status, console, showing, begun)?;
         let (ready, writer) = Ready::<R, L, J>::new(
             host, list, &settings, &image, &mut links, kept,
         )?;
@@ -119,18 +105,24 @@ impl<S: Starts + Send + Drop + 'static> Node<'_, S> {
         };
         let driver = match Driver::start(host, &settings, &image, parts) {
             Ok(driver) => driver,
-            Err(failed) => {
-                directory.clear(rt, alloc);
-                return Err(failed);
-            }
+            Err(failed) => return Err(cleared(host, directory, failed)),
         };
         match ready.open(host, directory) {
-            Ok(open) => open.attend(&rt, driver, printer, err),
+            Ok(open) => open.attend(&host.rt, driver, printer, err),
             Err(failed) => {
-                driver.end(&rt);
-                directory.clear(rt, alloc);
-                Err(failed)
+                driver.end(&host.rt);
+                Err(cleared(host, directory, failed))
             }
         }
     }
+}
+
+/// No file of a replica is left in the directory, since this failed.
+fn cleared<R: ServiceRuntime + Files>(
+    host: Host<R>,
+    directory: Directory<'_>,
+    failed: Failed,
+) -> Failed {
+    directory.clear(host.rt, host.alloc);
+    failed
 }

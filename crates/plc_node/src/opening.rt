@@ -15,13 +15,15 @@ use plc_console::{Console, Desk, DeskClient, OpenConsole};
 use plc_driver::{Directory, Driver, Ended};
 use plc_host::{Failed, Host, ServiceRuntime, Traffic};
 use plc_listener::Door;
-use plc_page::{OpenPage, Page};
+use plc_page::{OpenPage, Page, Showing};
 use plc_settings::Settings;
-use plc_status::{Counts, Journal, Printer, StatusReader, tell_port};
+use plc_status::{Counts, Journal, Printer, StatusReader, StatusWriter, tell_port};
+use std::alloc::{AllocError, Global};
 use std::net::{Net, TcpListener, TcpStream};
 use std::rt::Files;
 use std::sync::Arc;
-use std::time::Duration;
+use std::sync::atomic::AtomicBool;
+use std::time::{Duration, Instant};
 use vr_model::ClientNumber;
 use vr_ports::Relink;
 
@@ -42,6 +44,30 @@ pub(crate) struct Kept {
     pub(crate) console: Journal,
     pub(crate) status: StatusReader,
     pub(crate) shown: ToShow,
+}
+
+impl Kept {
+    /// What is kept of a controller that began then, by what shows of it. It fails only where memory runs out.
+    pub(crate) fn of(
+        alloc: Global,
+        status: &StatusWriter,
+        console: Journal,
+        showing: Option<Showing>,
+        begun: Instant,
+    ) -> Result<Kept, AllocError> {
+        let shown = ToShow {
+            status: status.reader()?,
+            begun,
+            has_changed: Arc::new(alloc, AtomicBool::new(false))?,
+            showing,
+        };
+        Ok(Kept {
+            traffic: status.traffic()?,
+            console,
+            status: status.reader()?,
+            shown,
+        })
+    }
 }
 
 /// What outputs are released to: it marks when.
