@@ -52,7 +52,7 @@ where
     pub(crate) fn tended(self, is_wanted: bool) -> Result<(Port<R, J>, Turn), Failed>
         ensures closed { IfOk result (λ r. is_wanted ≡ false → is_open r.0.serving ≡ false) }
         ensures turn { IfOk result (λ r.
-            r.1 ≡ turn_of_port (is_open self.entry.serving) (is_open r.0.serving) is_wanted) }
+            r.1 ≡ turn_of_port (is_open self.serving) (is_open r.0.serving) is_wanted) }
     {
         let Port {
             rt,
