@@ -1,14 +1,15 @@
 //! What the store of a machine has of epochs.
 
-ghost use Rattle.std.specs.Prelude.{◌≡◌};
+ghost use Rattle.std.specs.Prelude.{◌≡◌, ◌↔◌, IsTrue};
+ghost use Rattle.plc_epochs.specs.GoingOn.{GoesOn};
 ghost use Rattle.plc_epochs.specs.Keeping.{by_hand};
 
-use crate::epoch::next_epoch;
+use crate::epoch::{is_later, is_same, next_epoch};
 use net_hello::Epoch;
 use thiserror::Error;
 
 /// What a store has of epochs.
-#[derive(Clone, Copy)]
+#[derive(Clone, Copy, Debug, PartialEq, Eq)]
 pub enum Kept {
     /// Nothing: the disk of the machine was lost.
     Nothing,
@@ -21,7 +22,7 @@ pub enum Kept {
 }
 
 /// Why a machine isn't put into the next epoch by hand.
-#[derive(Clone, Copy, Debug, Error)]
+#[derive(Clone, Copy, Debug, PartialEq, Eq, Error)]
 pub enum ByHandFault {
     /// Its disk was lost, so it's in no epoch: it waits for one that others are in.
     #[error("waits")]
@@ -42,6 +43,24 @@ impl Kept {
                 Some(next) => Ok(Kept::Entered(next)),
                 None => Err(ByHandFault::LastEpoch),
             },
+        }
+    }
+
+    /// Whether a store that has this may have the other next.
+    pub fn goes_on(&self, next: &Kept) -> bool
+        ensures { IsTrue result ↔ GoesOn self.now next.now }
+    {
+        match (self, next) {
+            (Kept::Nothing, Kept::Nothing | Kept::Above(_)) => true,
+            (Kept::Above(own), Kept::Above(other))
+            | (Kept::Entered(own), Kept::Begun(other))
+            | (Kept::Begun(own), Kept::Begun(other)) => is_same(other, own),
+            (Kept::Above(own), Kept::Entered(other))
+            | (Kept::Begun(own), Kept::Entered(other)) => is_later(other, own),
+            (Kept::Entered(own), Kept::Entered(other)) => {
+                is_same(other, own) || is_later(other, own)
+            }
+            _ => false,
         }
     }
 }

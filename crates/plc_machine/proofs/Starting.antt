@@ -7,24 +7,47 @@ use Rattle.sha2.proofs.Facts256.{length-sha256}
 use Rattle.vr_model.specs.Groups.{group_size}
 use Rattle.net_hello.specs.Identity.{encoded}
 use Rattle.plc_group.specs.declared.group.Group.{Group}
-use Rattle.plc_store.specs.Judging.{judged, judged_store}
+use Rattle.plc_epochs.specs.declared.kept.Kept.{Kept}
+use Rattle.plc_epochs.specs.declared.kept.Kept.TheVariants as keeps
+use Rattle.plc_store.specs.Judging.{by_kept, found_by, judged, judged_store}
 use Rattle.plc_store.specs.Spelling.{Fits, spelling}
-use Rattle.plc_store.specs.declared.judging.Start.TheVariants.{First}
+use Rattle.plc_store.specs.declared.judging.Start.TheVariants.{First, Waits}
 use Rattle.plc_store.proofs.Readings.{read_again}
-use Rattle.plc_machine.specs.Making.{new_saying, terms_of, wanted_by}
+use Rattle.plc_machine.specs.Making.{first_epoch, new_saying, saying_of, terms_of, waiting_saying, wanted_by}
 
-fits : (group : Group) (machine : ℕ) (image : List ℕ) → length image < 2 ^ 32 → Fits (new_saying group machine image)
-fits group machine image short = record {
-  identity = length-sha256 (encoded (terms_of group));
-  epoch = omega arith;
-  program = length-sha256 image;
-  image = short;
-}
+module _ (group : Group) (machine : ℕ) (image : List ℕ) (short : length image < 2 ^ 32) where
+  new_fits : Fits (new_saying group machine image)
+  new_fits = record {
+    identity = length-sha256 (encoded (terms_of group));
+    number = omega arith;
+    begins = length-sha256 image;
+    program = length-sha256 image;
+    image = short;
+  }
 
-pub starts : (group : Group) (machine : ℕ) (image : List ℕ) → machine < group_size group.config.f → length image < 2 ^ 32 → judged (Some (spelling (new_saying group machine image))) [] (wanted_by group) ≡ Ok First
-starts group machine image member short =
-    let said = new_saying group machine image in
+  waiting_fits : Fits (waiting_saying group machine image)
+  waiting_fits = record {
+    identity = length-sha256 (encoded (terms_of group));
+    number = omega arith;
+    begins = refl;
+    program = length-sha256 image;
+    image = short;
+  }
+
+-- what is of this group is judged by what it has of epochs
+judged_by : (group : Group) (machine : ℕ) (kept : Kept) (image : List ℕ) → machine < group_size group.config.f → Fits (saying_of group machine kept image)
+    → judged (Some (spelling (saying_of group machine kept image))) [] (wanted_by group) ≡ by_kept kept machine []
+judged_by group machine kept image member fits =
+    let said = saying_of group machine kept image in
     let wanted = wanted_by group in
     let same : bytes_eq said.header.identity wanted.identity ≡ true = (bytes_eq-Decides said.header.identity said.header.identity).1 refl in
     let is_member : nat_le wanted.machines machine ≡ false = lt-leb (group_size group.config.f) machine member in
-    ap (λ r. judged_store r [] wanted) (read_again said (fits group machine image short)) ∙ rw (same, is_member) refl
+    ap (λ r. judged_store (found_by r) [] wanted) (read_again said fits) ∙ rw (same, is_member) refl
+
+pub starts : (group : Group) (machine : ℕ) (image : List ℕ) → machine < group_size group.config.f → length image < 2 ^ 32 → judged (Some (spelling (new_saying group machine image))) [] (wanted_by group) ≡ Ok First
+starts group machine image member short =
+    judged_by group machine (keeps.Entered (first_epoch image)) image member (new_fits group machine image short)
+
+pub waits : (group : Group) (machine : ℕ) (image : List ℕ) → machine < group_size group.config.f → length image < 2 ^ 32 → judged (Some (spelling (waiting_saying group machine image))) [] (wanted_by group) ≡ Ok Waits
+waits group machine image member short =
+    judged_by group machine keeps.Nothing image member (waiting_fits group machine image short)

@@ -1,8 +1,11 @@
 -- What the store of a machine begins with, and what a start asks of it.
-use Rattle.std.specs.Prelude.{ℕ, List, false, string_bytes}
+use Rattle.std.specs.Prelude.{ℕ, List, string_bytes}
 use Rattle.sha2.specs.Sha256.{sha256}
 use Rattle.vr_model.specs.Groups.{group_size}
 use Rattle.net_hello.specs.Identity.{Terms, identity_of}
+use Rattle.net_hello.specs.declared.hello.Epoch.{Epoch}
+use Rattle.plc_epochs.specs.declared.kept.Kept.{Kept}
+use Rattle.plc_epochs.specs.declared.kept.Kept.TheVariants as keeps
 use Rattle.plc_group.specs.declared.group.Group.{Group}
 use Rattle.plc_store.specs.Spelling.{Saying}
 use Rattle.plc_store.specs.declared.judging.Wanted.{Wanted}
@@ -17,18 +20,29 @@ terms_of group = record {
   fresh = group.times.fresh;
 }
 
--- the first epoch, which begins with this image, and never started
-abbrev pub new_saying : Group → ℕ → List ℕ → Saying
-new_saying group machine image = record {
+-- with this of epochs, and this image
+abbrev pub saying_of : Group → ℕ → Kept → List ℕ → Saying
+saying_of group machine kept image = record {
   header = record {
     identity = identity_of (terms_of group);
-    epoch = 1;
+    kept = kept;
     program = sha256 image;
     machine = machine;
-    is_started = false;
   };
   image = image;
 }
+
+-- the first epoch, which begins with this image
+abbrev pub first_epoch : List ℕ → Epoch
+first_epoch image = record { number = 1; image = sha256 image }
+
+-- that epoch is entered, and not begun
+abbrev pub new_saying : Group → ℕ → List ℕ → Saying
+new_saying group machine image = saying_of group machine (keeps.Entered (first_epoch image)) image
+
+-- no epoch is known: the disk was lost
+abbrev pub waiting_saying : Group → ℕ → List ℕ → Saying
+waiting_saying group machine image = saying_of group machine keeps.Nothing image
 
 abbrev pub wanted_by : Group → Wanted
 wanted_by group = record { identity = identity_of (terms_of group); machines = group_size group.config.f }

@@ -3,12 +3,12 @@
 ghost use Rattle.std.specs.Prelude.{◌≡◌, ◌≤◌, ◌<◌, ◌^◌, ℕ, List, [], Ok, Some, length};
 ghost use Rattle.plc_group.specs.declared.group.Group.{Group};
 ghost use Rattle.plc_machine.specs.Leading.{later_by, moment_at, opens_from};
-ghost use Rattle.plc_machine.specs.Making.{new_saying, wanted_by};
+ghost use Rattle.plc_machine.specs.Making.{new_saying, waiting_saying, wanted_by};
 ghost use Rattle.plc_machine.specs.declared.leading.LastScan.{LastScan};
 ghost use Rattle.vr_model.specs.Groups.{group_size};
 ghost use Rattle.plc_store.specs.Judging.{judged};
 ghost use Rattle.plc_store.specs.Spelling.{spelling};
-ghost use Rattle.plc_store.specs.declared.judging.Start.TheVariants.{First};
+ghost use Rattle.plc_store.specs.declared.judging.Start.TheVariants.{First, Waits};
 
 /// The moments of a machine that leads never go back, and begin at that of the last scan or above it.
 pub fn moments_rise()
@@ -23,10 +23,13 @@ pub fn no_two_show()
         → opens_from came fresh ≤ time → ⊥ }
 {}
 
-/// What is formatted for a machine of a group starts as a new machine of that group, where nothing else was put into
-/// its directory.
+/// What is formatted for a machine of a group starts as a new machine of that group, or waits where it's one whose disk
+/// was lost, if nothing else was put into its directory.
 pub fn what_is_formatted_starts()
-    ensures { (group : Group) (machine : ℕ) (image : List ℕ) → machine < group_size group.config.f
+    ensures new { (group : Group) (machine : ℕ) (image : List ℕ) → machine < group_size group.config.f
         → length image < 2 ^ 32
         → judged (Some (spelling (new_saying group machine image))) [] (wanted_by group) ≡ Ok First }
+    ensures waiting { (group : Group) (machine : ℕ) (image : List ℕ) → machine < group_size group.config.f
+        → length image < 2 ^ 32
+        → judged (Some (spelling (waiting_saying group machine image))) [] (wanted_by group) ≡ Ok Waits }
 {}

@@ -3,10 +3,11 @@
 ghost use Rattle.std.specs.Prelude.{◌≡◌, ◌↔◌, ◌≤◌, ◌<◌, ◌^◌, Err, IfOk, vec_len};
 ghost use Rattle.net_hello.specs.Identity.{identity_of};
 ghost use Rattle.plc_store.specs.Spelling.{saying};
-ghost use Rattle.plc_machine.specs.Making.{new_saying, terms_of, wanted_by};
+ghost use Rattle.plc_machine.specs.Making.{new_saying, saying_of, terms_of, waiting_saying, wanted_by};
 ghost use Rattle.plc_machine.specs.declared.making.NotMade.TheVariants as why;
 
-use net_hello::group_identity;
+use net_hello::{Epoch, group_identity};
+use plc_epochs::Kept;
 use plc_group::Group;
 use plc_store::{Header, Store, Wanted};
 use sha2::{Digest, Sha256};
@@ -28,10 +29,9 @@ pub fn group_identity_of(group: &Group) -> [u8; 32]
     group_identity(name, group.config, group.budget, group.times.fresh)
 }
 
-/// The store of a machine, by its place in the group file: of the group's first epoch, which begins with this image,
-/// and never started.
-pub fn new_store(group: &Group, machine: u8, image: Vec<u8>) -> Result<Store, NotMade>
-    ensures made { IfOk result (λ store. saying store ≡ new_saying group.now machine image.items) }
+/// The store of a machine, by its place in the group file, with this of epochs and this image.
+fn store_of(group: &Group, machine: u8, kept: Kept, image: Vec<u8>) -> Result<Store, NotMade>
+    ensures made { IfOk result (λ store. saying store ≡ saying_of group.now machine kept image.items) }
     ensures no_machine { (result ≡ Err why.NoMachine) ↔ (vec_len group.now.machines ≤ machine) }
     ensures too_long { (result ≡ Err why.TooLong)
         ↔ ((machine < vec_len group.now.machines) × (2 ^ 32 ≤ vec_len image)) }
@@ -41,15 +41,40 @@ pub fn new_store(group: &Group, machine: u8, image: Vec<u8>) -> Result<Store, No
     }
     let header = Header {
         identity: group_identity_of(group),
-        epoch: 1,
+        kept,
         program: Sha256::digest(image.as_slice()),
         machine,
-        is_started: false,
     };
     match Store::new(header, image) {
         Some(store) => Ok(store),
         None => Err(NotMade::TooLong),
     }
+}
+
+/// The store of a new machine, by its place in the group file: it has entered the group's first epoch, which begins with
+/// this image.
+pub fn new_store(group: &Group, machine: u8, image: Vec<u8>) -> Result<Store, NotMade>
+    ensures made { IfOk result (λ store. saying store ≡ new_saying group.now machine image.items) }
+    ensures no_machine { (result ≡ Err why.NoMachine) ↔ (vec_len group.now.machines ≤ machine) }
+    ensures too_long { (result ≡ Err why.TooLong)
+        ↔ ((machine < vec_len group.now.machines) × (2 ^ 32 ≤ vec_len image)) }
+{
+    let epoch = Epoch {
+        number: 1,
+        image: Sha256::digest(image.as_slice()),
+    };
+    store_of(group, machine, Kept::Entered(epoch), image)
+}
+
+/// The store of a machine whose disk was lost, by its place in the group file: it's in no epoch, and waits for one that
+/// others are in.
+pub fn waiting_store(group: &Group, machine: u8, image: Vec<u8>) -> Result<Store, NotMade>
+    ensures made { IfOk result (λ store. saying store ≡ waiting_saying group.now machine image.items) }
+    ensures no_machine { (result ≡ Err why.NoMachine) ↔ (vec_len group.now.machines ≤ machine) }
+    ensures too_long { (result ≡ Err why.TooLong)
+        ↔ ((machine < vec_len group.now.machines) × (2 ^ 32 ≤ vec_len image)) }
+{
+    store_of(group, machine, Kept::Nothing, image)
 }
 
 /// What a start of a machine of this group asks of its store.

@@ -1,4 +1,5 @@
 pub mod Spelling
 pub mod Reading
 pub mod Judging
+pub mod Keeping
 pub mod Showing

@@ -3,6 +3,9 @@ use Rattle.std.specs.Prelude.{◌≡◌, ◌<◌, ◌≤◌, ◌==◌, ◌&&◌,
 use Rattle.std.specs.Prelude.{bytes_eq, nat_le, nat_lt, Option, Some, None, if◌then◌else◌}
 use Rattle.std.specs.Prelude.{[], ◌∷◌, IsTrue, Result, Ok, Err}
 use Rattle.std.specs.Int.{w32, w64, from_be_bytes}
+use Rattle.net_hello.specs.declared.hello.Epoch.{Epoch}
+use Rattle.plc_epochs.specs.declared.kept.Kept.{Kept}
+use Rattle.plc_epochs.specs.declared.kept.Kept.TheVariants as keeps
 use Rattle.plc_store.specs.declared.header.Header.{Header}
 use Rattle.plc_store.specs.declared.header.Store.{Store}
 use Rattle.plc_store.specs.declared.reading.StoreFault.{StoreFault}
@@ -12,36 +15,45 @@ use Rattle.plc_store.specs.Spelling.{Saying, saying, spelling}
 -- it begins as a store does, but for the number of the format
 abbrev pub is_other_format : List ℕ → Bool
 is_other_format bytes = (nat_le 10 (length bytes) && bytes_eq (take 8 bytes) (codes "PLCSTORE"))
-    && not (bytes_eq (take 2 (drop 8 bytes)) (0 ∷ 1 ∷ []))
+    && not (bytes_eq (take 2 (drop 8 bytes)) (0 ∷ 2 ∷ []))
 
 abbrev pub IsOtherFormat : List ℕ → Type 0
 IsOtherFormat bytes = IsTrue (is_other_format bytes)
 
-abbrev pub fields_after : List ℕ → List ℕ → List ℕ → List ℕ → Header
-fields_after identity epoch program rest = record {
+abbrev pub kept_by : ℕ → Epoch → Kept
+kept_by kind epoch = if kind == 0 then keeps.Nothing else (if kind == 1 then keeps.Above epoch
+    else (if kind == 2 then keeps.Entered epoch else keeps.Begun epoch))
+
+-- a number of 8 bytes, and a sum of 32
+abbrev pub epoch_by : List ℕ → List ℕ → Epoch
+epoch_by number image = record { number = from_be_bytes w64 number; image = image }
+
+abbrev pub fields_after : List ℕ → Kept → List ℕ → List ℕ → Header
+fields_after identity kept program rest = record {
   identity = identity;
-  epoch = from_be_bytes w64 epoch;
+  kept = kept;
   program = program;
   machine = slice_index rest 0;
-  is_started = slice_index rest 1 == 1;
 }
 
--- the identity of 32 bytes behind the first ten, the epoch of 8, its program of 32, the machine, and whether it started
+-- the identity of 32 bytes behind the first ten, what it has of epochs in 41, the sum of its image in 32, the machine
 abbrev pub header_of : List ℕ → Header
 header_of bytes =
-    let identity = drop 10 bytes in let epoch = drop 32 identity in let program = drop 8 epoch in
-    fields_after (take 32 identity) (take 8 epoch) (take 32 program) (drop 32 program)
+    let identity = drop 10 bytes in let kind = drop 32 identity in let number = drop 1 kind in
+    let image = drop 8 number in let program = drop 32 image in
+    fields_after (take 32 identity) (kept_by (slice_index kind 0) (epoch_by (take 8 number) (take 32 image)))
+    (take 32 program) (drop 32 program)
 
 abbrev pub length_of : List ℕ → ℕ
-length_of front = from_be_bytes w32 (drop 84 front)
+length_of front = from_be_bytes w32 (drop 116 front)
 
 abbrev pub fields_in : List ℕ → List ℕ → Option Saying
 fields_in front rest = if nat_lt (length rest) (length_of front) then None
-    else Some (record { header = header_of (take 84 front); image = take (length_of front) rest })
+    else Some (record { header = header_of (take 116 front); image = take (length_of front) rest })
 
 -- what stands where the fields do, whatever stands behind
 abbrev pub fields_of : List ℕ → Option Saying
-fields_of bytes = if nat_lt (length bytes) 88 then None else fields_in (take 88 bytes) (drop 88 bytes)
+fields_of bytes = if nat_lt (length bytes) 120 then None else fields_in (take 120 bytes) (drop 120 bytes)
 
 abbrev pub spelled_so : List ℕ → Option Saying → Result Saying StoreFault
 spelled_so bytes None = Err Torn

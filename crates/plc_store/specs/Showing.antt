@@ -2,34 +2,53 @@
 use Rattle.std.specs.Prelude.{◌≡◌, ℕ, Bool, List, ◌++◌, length, codes, Option, Some, if◌then◌else◌}
 use Rattle.std.specs.Fmt.{decimal}
 use Rattle.hex.specs.Hex.{encode_lower}
+use Rattle.plc_epochs.specs.declared.kept.Kept.{Kept}
+use Rattle.plc_epochs.specs.declared.kept.Kept.TheVariants as keeps
 use Rattle.plc_store.specs.declared.header.Header.{Header}
 use Rattle.plc_store.specs.declared.judging.Refusal.{Refusal}
 use Rattle.plc_store.specs.declared.judging.Refusal.TheVariants as refusals
-use Rattle.plc_store.specs.Spelling.{Saying, spelling}
+use Rattle.plc_store.specs.Judging.{is_changed}
+use Rattle.plc_store.specs.Spelling.{Saying, epoch_of, spelling}
 
 abbrev pub word_of : Bool → List ℕ
-word_of is_started = if is_started then codes "yes" else codes "no"
+word_of is_so = if is_so then codes "yes" else codes "no"
 
 -- a head and a value
 abbrev pub line : List ℕ → List ℕ → List ℕ
 line head value = head ++ (value ++ codes "\n")
 
-abbrev pub epoch_lines : Header → List ℕ
-epoch_lines header = line (codes "identity ") (encode_lower header.identity)
-    ++ (line (codes "epoch ") (decimal header.epoch) ++ line (codes "program ") (encode_lower header.program))
+-- how far the machine is
+abbrev pub state_of : Kept → List ℕ
+state_of keeps.Nothing = codes "waits"
+state_of (keeps.Above epoch) = codes "waits above"
+state_of (keeps.Entered epoch) = codes "entered"
+state_of (keeps.Begun epoch) = codes "begun"
 
-abbrev pub machine_lines : Saying → List ℕ
-machine_lines said = line (codes "machine ") (decimal said.header.machine)
-    ++ (line (codes "started ") (word_of said.header.is_started)
-    ++ line (codes "image ") (decimal (length said.image)))
+abbrev pub epoch_line : Kept → List ℕ
+epoch_line kept = line (codes "epoch ") (decimal (epoch_of kept).number)
+
+-- how far, in which epoch, and the sum of the image with which that begins
+abbrev pub epoch_lines : Kept → List ℕ
+epoch_lines kept = line (codes "state ") (state_of kept)
+    ++ (epoch_line kept ++ line (codes "begins with ") (encode_lower (epoch_of kept).image))
+
+abbrev pub image_lines : Saying → List ℕ
+image_lines said = line (codes "program ") (encode_lower said.header.program)
+    ++ line (codes "image ") (decimal (length said.image))
+
+abbrev pub machine_lines : Header → List ℕ
+machine_lines header = line (codes "identity ") (encode_lower header.identity)
+    ++ line (codes "machine ") (decimal header.machine)
 
 -- a line for each part, sums in hexadecimal
-abbrev pub shown : Saying → List ℕ
-shown said = codes "format 1\n" ++ (epoch_lines said.header ++ machine_lines said)
+abbrev pub shown : Saying → Bool → List ℕ
+shown said is_changed = codes "format 2\n" ++ (machine_lines said.header ++ (epoch_lines said.header.kept
+    ++ (image_lines said ++ line (codes "changed ") (word_of is_changed))))
 
--- these are the lines of the store of these bytes
-abbrev pub IsShown : Option (List ℕ) → List ℕ → Type 0
-IsShown group lines = (said : Saying) × (group ≡ Some (spelling said)) × (lines ≡ shown said)
+-- these are the lines of the store of these bytes, beside this mark
+abbrev pub IsShown : Option (List ℕ) → Option (List ℕ) → List ℕ → Type 0
+IsShown group mark lines = (said : Saying) × (group ≡ Some (spelling said))
+    × (lines ≡ shown said (is_changed said.header.kept mark))
 
 abbrev pub refusal_line : Refusal → List ℕ
 refusal_line refusals.NoStore = codes "plc: store missing\n"
@@ -39,6 +58,10 @@ refusal_line refusals.OtherGroup = codes "plc: store of another group\n"
 refusal_line refusals.OtherMachine = codes "plc: store of another machine\n"
 refusal_line refusals.ViewGone = codes "plc: store lost its view\n"
 refusal_line refusals.ViewUnstarted = codes "plc: store has a view and was not started\n"
+refusal_line refusals.Backward = codes "plc: store would go back\n"
+refusal_line refusals.Waits = codes "plc: store waits for its group\n"
+refusal_line refusals.LastEpoch = codes "plc: store in the last epoch\n"
+refusal_line refusals.Changed = codes "plc: store of a program that was changed: give one\n"
 refusal_line refusals.Used = codes "plc: store used\n"
 refusal_line refusals.TooLong = codes "plc: store image too long\n"
 refusal_line refusals.Taken = codes "plc: store taken\n"

@@ -1,9 +1,10 @@
 //! The directory of a machine's store.
 
+use crate::files::{WholeFile, flush, remove};
 use crate::judging::Refusal;
+use crate::marking::MARK;
 use std::alloc::{AllocError, Global};
 use std::fs::{File, OpenFile, TryLockError};
-use std::io::{ErrorKind, Write};
 use std::os::unix::fs::MetadataExt;
 use std::rt::Files;
 use std::{fs, io};
@@ -16,15 +17,18 @@ const OTHERS_WRITE: u32 = 0o002;
 #[derive(Clone, Copy, Debug, PartialEq, Eq)]
 pub struct NotWritten;
 
-/// Where the store of one machine is kept, beside the views of its replica.
+/// Where the store of one machine is kept, beside the views of its replica and the mark of a change.
 pub trait StoreDirectory {
-    ghost use Rattle.std.specs.Prelude.{◌≡◌, ◌⊎◌, ℕ, List, Option, Some, OnErr, OnOk, option_map};
+    ghost use Rattle.std.specs.Prelude.{◌≡◌, ◌⊎◌, ℕ, List, [], Option, None, Some, OnErr, OnOk, option_map};
 
     // The bytes of the store, if there is one.
     ghost group: { Self → Option (List ℕ) };
 
     // The numbers of the replicas that have kept a view there.
     ghost views: { Self → List ℕ };
+
+    // The bytes of the mark, if there is one.
+    ghost mark: { Self → Option (List ℕ) };
 
     /// The bytes of the store, if there is one.
     fn group(&self) -> Option<&[u8]>
@@ -34,25 +38,37 @@ pub trait StoreDirectory {
     fn views(&self) -> &[u8]
         ensures { result.now ≡ views self.now };
 
+    /// The bytes of the mark, if there is one.
+    fn mark(&self) -> Option<&[u8]>
+        ensures { option_map (λ bytes. bytes.now) result ≡ mark self.now };
+
     /// Puts these bytes in the store's place. Where that fails the store is as it was, or these bytes.
     fn put(&mut self, bytes: Vec<u8>) -> Result<(), NotWritten>
         ensures done { OnOk result (group self.new ≡ Some bytes.items) }
         ensures failed { OnErr result ((group self.new ≡ group self.old) ⊎ (group self.new ≡ Some bytes.items)) }
-        ensures views { views self.new ≡ views self.old };
+        ensures views { views self.new ≡ views self.old }
+        ensures mark { mark self.new ≡ mark self.old };
+
+    /// Takes the views away, and the mark. Where that fails some of them may be left.
+    fn forget_views(&mut self) -> Result<(), NotWritten>
+        ensures views { OnOk result (views self.new ≡ []) }
+        ensures mark { OnOk result (mark self.new ≡ None) }
+        ensures group { group self.new ≡ group self.old };
 }
 
 /// A directory of the machine's disk, which one process at a time takes. A store is its file `group`, and a view the
-/// file of a `FileStore`.
+/// file of a `FileStore`; the mark is its file `changed`.
 #[derive(Drop)]
 pub struct FileDirectory<R: Files + Drop> {
     rt: R,
     path: String,
-    store: String,
-    beside: String,
+    store: WholeFile,
+    changed: WholeFile,
     /// Open, and locked until it's closed; none where the directory is only looked at.
     lock: Option<File>,
     group: Option<Vec<u8>>,
     views: Vec<u8>,
+    mark: Option<Vec<u8>>,
 }
 
 impl<R: Files<File = File> + Alloc<A = Global> + Drop> FileDirectory<R> {
@@ -82,49 +98,37 @@ impl<R: Files<File = File> + Alloc<A = Global> + Drop> FileDirectory<R> {
 
     /// Looks at the directory, whoever has it. `NoStore` is answered where it isn't there.
     pub fn look(rt: R, alloc: Global, path: &str) -> Result<FileDirectory<R>, Refusal> {
+        let store = WholeFile::new(alloc, path, "group")?;
+        let changed = WholeFile::new(alloc, path, MARK)?;
         Ok(FileDirectory {
-            group: group_in(&rt, alloc, path)?,
+            group: store.read(&rt)?,
             views: views_in(&rt, alloc, path)?,
-            path: format!(in alloc; "{path}")?,
-            store: format!(in alloc; "{path}/group")?,
-            beside: format!(in alloc; "{path}/group.new")?,
+            mark: changed.read(&rt)?,
+            path: String::from_str(alloc, path)?,
+            store,
+            changed,
             lock: None,
             rt,
         })
     }
 
-    /// Writes these bytes to a new file beside the store, flushes it, and puts it in the store's place.
-    fn write(&self, bytes: &[u8]) -> io::Result<()> {
-        self.clear_beside()?;
-        {
-            let mut file = File::create_new(&self.rt, self.beside.as_str())?;
-            file.write_all(bytes)?;
-            file.sync_all()?;
-        }
-        fs::rename(&self.rt, self.beside.as_str(), self.store.as_str())?;
-        fs::open(&self.rt, self.path.as_str())?.sync_all()
+    /// Looks at it once more: a replica has kept its view there since, or a change was marked.
+    pub fn look_again(&mut self) -> Result<(), Refusal> {
+        self.group = self.store.read(&self.rt)?;
+        self.views = views_in(&self.rt, self.rt.alloc(), self.path.as_str())?;
+        self.mark = self.changed.read(&self.rt)?;
+        Ok(())
     }
 
-    /// Takes away what stands beside the store: a link that was put there leads to another file, which stays as it is.
-    fn clear_beside(&self) -> io::Result<()> {
-        match fs::remove_file(&self.rt, self.beside.as_str()) {
-            Err(error) if error.kind() != ErrorKind::NotFound => Err(error),
-            _ => Ok(()),
+    /// Takes the views away, and the mark, and flushes that.
+    fn clear_views(&self) -> io::Result<()> {
+        let path = self.path.as_str();
+        for replica in 0..MOST_REPLICAS as u8 {
+            let file = format!(in self.rt.alloc(); "{path}/replica-{replica}")?;
+            remove(&self.rt, file.as_str())?;
         }
-    }
-}
-
-/// The bytes of the store in a directory, if there is one.
-fn group_in<R: Files + Alloc<A = Global>>(
-    rt: &R,
-    alloc: Global,
-    path: &str,
-) -> io::Result<Option<Vec<u8>>> {
-    let file = format!(in alloc; "{path}/group")?;
-    match fs::read(rt, file.as_str()) {
-        Ok(bytes) => Ok(Some(bytes)),
-        Err(error) if error.kind() == ErrorKind::NotFound => Ok(None),
-        Err(error) => Err(error),
+        self.changed.remove(&self.rt)?;
+        flush(&self.rt, path)
     }
 }
 
@@ -147,6 +151,8 @@ impl<R: Files<File = File> + Alloc<A = Global> + Drop> StoreDirectory for FileDi
 
     ghost views = { λ d. d.views.items };
 
+    ghost mark = { λ d. option_map (λ bytes. bytes.items) d.mark };
+
     fn group(&self) -> Option<&[u8]> {
         match &self.group {
             Some(bytes) => Some(bytes.as_slice()),
@@ -158,11 +164,27 @@ impl<R: Files<File = File> + Alloc<A = Global> + Drop> StoreDirectory for FileDi
         self.views.as_slice()
     }
 
+    fn mark(&self) -> Option<&[u8]> {
+        match &self.mark {
+            Some(bytes) => Some(bytes.as_slice()),
+            None => None,
+        }
+    }
+
     fn put(&mut self, bytes: Vec<u8>) -> Result<(), NotWritten> {
-        if self.write(bytes.as_slice()).is_err() {
+        if self.store.put(&self.rt, bytes.as_slice()).is_err() {
             return Err(NotWritten);
         }
         self.group = Some(bytes);
+        Ok(())
+    }
+
+    fn forget_views(&mut self) -> Result<(), NotWritten> {
+        if self.clear_views().is_err() {
+            return Err(NotWritten);
+        }
+        self.views.clear();
+        self.mark = None;
         Ok(())
     }
 }

@@ -2,19 +2,19 @@
 
 ghost use Rattle.std.specs.Prelude.{◌<◌, ◌^◌, ◌≡◌, ◌↔◌, IfSome, IsSome, vec_len};
 
+use plc_epochs::Kept;
+
 /// Which store it is.
 #[derive(Clone, Copy, Debug, PartialEq, Eq)]
 pub struct Header {
     /// Of its group: SHA-256 of what its machines have to agree on.
     pub identity: [u8; 32],
-    /// From 1, one more at each cold start of the group.
-    pub epoch: u64,
-    /// SHA-256 of the image with which the epoch began.
+    /// What it has of the group's epochs.
+    pub kept: Kept,
+    /// SHA-256 of the image in this store.
     pub program: [u8; 32],
     /// The machine's place in the group file, from 0.
     pub machine: u8,
-    /// Whether it was started in this epoch.
-    pub is_started: bool,
 }
 
 /// A store: its header, and the image of the program that its machine begins with.

@@ -1,21 +1,29 @@
 //! What a machine may do with what its directory holds.
 
-ghost use Rattle.std.specs.Prelude.{◌≡◌, Ok, true};
-ghost use Rattle.plc_store.specs.Judging.{by_mark, has_view, judgement, refusal_of};
+ghost use Rattle.std.specs.Prelude.{◌≡◌, option_map};
+ghost use Rattle.plc_epochs.specs.declared.kept.ByHandFault.TheVariants as faults;
+ghost use Rattle.plc_store.specs.Judging.{begun, by_kept, entered, has_mark, has_view, is_changed, is_unbegun};
+ghost use Rattle.plc_store.specs.Judging.{judgement, refusal_of};
+ghost use Rattle.plc_store.specs.Keeping.{by_hand_refusal};
 ghost use Rattle.plc_store.specs.declared.judging.Refusal.TheVariants.{Device, Memory};
 
 use crate::directory::NotWritten;
 use crate::header::Header;
+use crate::marking::mark_of;
 use crate::reading::StoreFault;
+use net_hello::Epoch;
+use plc_epochs::{ByHandFault, Kept};
 use std::alloc::{AllocError, AllocFailed};
 use std::io;
 
 /// How a machine starts.
 #[derive(Clone, Copy, Debug, PartialEq, Eq)]
 pub enum Start {
-    /// For the first time since it was formatted: its replica begins normal in view 0.
+    /// It's in no epoch: it waits for one that others are in.
+    Waits,
+    /// For the first time in the epoch that it has entered: as soon as that is begun its replica is normal in view 0.
     First,
-    /// Once more: its replica recovers from the others.
+    /// Once more in the epoch that it has begun: its replica recovers from the others.
     Again,
 }
 
@@ -32,10 +40,18 @@ pub enum Refusal {
     OtherGroup,
     /// Its machine is none of the group file's.
     OtherMachine,
-    /// It was started, and the view that it kept is gone: only an operator may say what becomes of it.
+    /// It has begun its epoch, and the view that it kept there is gone: only an operator may say what becomes of it.
     ViewGone,
-    /// It was never started, and yet there is a view.
+    /// It has begun no epoch yet, and yet there is a view.
     ViewUnstarted,
+    /// It would go back in its epochs.
+    Backward,
+    /// It's in no epoch, so it isn't put into the next one by hand: it waits for one that others are in.
+    Waits,
+    /// There is no epoch behind the one that it's in.
+    LastEpoch,
+    /// The program of its group was changed in its epoch, so which one the next epoch begins with has to be said.
+    Changed,
     /// It holds something of a store, so nothing is formatted there.
     Used,
     /// The image of the program has 4 GiB or more.
@@ -85,6 +101,17 @@ impl From<StoreFault> for Refusal {
     }
 }
 
+impl From<ByHandFault> for Refusal {
+    ghost from_gives = { λ fault e. e ≡ by_hand_refusal fault };
+
+    fn from(fault: ByHandFault) -> Refusal {
+        match fault {
+            ByHandFault::Waits => Refusal::Waits,
+            ByHandFault::LastEpoch => Refusal::LastEpoch,
+        }
+    }
+}
+
 /// What std answers for a directory that isn't there is that there's no store.
 impl From<io::Error> for Refusal {
     fn from(error: io::Error) -> Refusal {
@@ -106,8 +133,7 @@ pub struct Wanted {
 
 /// How a machine starts from a store of this header, in a directory that holds the views of these replicas.
 pub fn judge(header: &Header, views: &[u8], wanted: &Wanted) -> Result<Start, Refusal>
-    ensures judged { result ≡ judgement header.now views.now wanted.now }
-    ensures again { result ≡ Ok Start.Again → header.now.is_started ≡ true }
+    ensures { result ≡ judgement header.now views.now wanted.now }
 {
     if header.identity != wanted.identity {
         return Err(Refusal::OtherGroup);
@@ -115,19 +141,33 @@ pub fn judge(header: &Header, views: &[u8], wanted: &Wanted) -> Result<Start, Re
     if header.machine >= wanted.machines {
         return Err(Refusal::OtherMachine);
     }
-    if header.is_started {
-        again(header.machine, views)
-    } else if views.is_empty() {
+    by_kept(&header.kept, header.machine, views)
+}
+
+fn by_kept(kept: &Kept, machine: u8, views: &[u8]) -> Result<Start, Refusal>
+    ensures { result ≡ by_kept kept.now machine views.now }
+{
+    match kept {
+        Kept::Nothing | Kept::Above(_) => Ok(Start::Waits),
+        Kept::Entered(epoch) => entered(epoch.number, views),
+        Kept::Begun(_) => begun(has_view(views, machine)),
+    }
+}
+
+fn entered(number: u64, views: &[u8]) -> Result<Start, Refusal>
+    ensures { result ≡ entered number views.now }
+{
+    if views.is_empty() || number > 1 {
         Ok(Start::First)
     } else {
         Err(Refusal::ViewUnstarted)
     }
 }
 
-fn again(machine: u8, views: &[u8]) -> Result<Start, Refusal>
-    ensures { result ≡ by_mark true machine views.now }
+fn begun(has_view: bool) -> Result<Start, Refusal>
+    ensures { result ≡ begun has_view }
 {
-    if has_view(views, machine) {
+    if has_view {
         Ok(Start::Again)
     } else {
         Err(Refusal::ViewGone)
@@ -138,4 +178,30 @@ fn has_view(views: &[u8], machine: u8) -> bool
     ensures { result ≡ has_view views.now machine }
 {
     views.iter().any(|view| *view == machine)
+}
+
+/// Whether the machine of a store that has this has begun no epoch yet.
+pub fn is_unbegun(kept: &Kept) -> bool
+    ensures { result ≡ is_unbegun kept.now }
+{
+    !matches!(kept, Kept::Begun(_))
+}
+
+/// Whether a change of the program was marked in the epoch that a store has begun, by what the mark's file has.
+pub fn is_changed(kept: &Kept, mark: Option<&[u8]>) -> bool
+    ensures { result ≡ is_changed kept.now (option_map (λ bytes. bytes.now) mark) }
+{
+    match kept {
+        Kept::Begun(epoch) => has_mark(epoch, mark),
+        _ => false,
+    }
+}
+
+fn has_mark(epoch: &Epoch, mark: Option<&[u8]>) -> bool
+    ensures { result ≡ has_mark epoch.now (option_map (λ bytes. bytes.now) mark) }
+{
+    match mark {
+        Some(bytes) => bytes == mark_of(epoch).as_slice(),
+        None => false,
+    }
 }

@@ -1,7 +1,9 @@
 //! What holds of every store.
 
 ghost use Rattle.std.specs.Prelude.{◌≡◌, ◌≢◌, ◌<◌, ℕ, List, [], Option, Err, None, Ok, Some, length, take};
-ghost use Rattle.plc_store.specs.Judging.{IsUnstarted, judged, started};
+ghost use Rattle.net_hello.specs.declared.hello.Epoch.{Epoch as Numbered};
+ghost use Rattle.plc_epochs.specs.declared.kept.Kept.TheVariants as keeps;
+ghost use Rattle.plc_store.specs.Judging.{HasEntered, judged};
 ghost use Rattle.plc_store.specs.Spelling.{Fits, Saying, spelling};
 ghost use Rattle.plc_store.specs.declared.judging.Refusal.TheVariants.{NoStore};
 ghost use Rattle.plc_store.specs.declared.judging.Start.TheVariants.{First};
@@ -13,13 +15,13 @@ pub fn cut_is_refused()
         → take n (spelling said) ≢ spelling other }
 {}
 
-/// A directory without a store is never a new machine, whatever views it holds; and a store that was started is never
-/// new again, whatever becomes of its view. What is new is a store that was never started, where no replica has kept a
-/// view. So only `format` makes a machine that was never started.
+/// A directory without a store is never a new machine, whatever views it holds; and a store whose machine has begun its
+/// epoch is never new in that again, whatever becomes of its view. What is new is a store whose machine has entered an
+/// epoch and not begun it. So only `format` makes a machine that is new, and `keep` once for each later epoch.
 pub fn a_start_is_new_once()
     ensures blank { (views : List ℕ) (wanted : Wanted) → judged None views wanted ≡ Err NoStore }
-    ensures marked { (said : Saying) (views : List ℕ) (wanted : Wanted) → Fits (started said)
-        → judged (Some (spelling (started said))) views wanted ≢ Ok First }
-    ensures unstarted { (group : Option (List ℕ)) (views : List ℕ) (wanted : Wanted)
-        → judged group views wanted ≡ Ok First → IsUnstarted group × (views ≡ []) }
+    ensures begun { (said : Saying) (epoch : Numbered) (views : List ℕ) (wanted : Wanted) → Fits said
+        → said.header.kept ≡ keeps.Begun epoch → judged (Some (spelling said)) views wanted ≢ Ok First }
+    ensures entered { (group : Option (List ℕ)) (views : List ℕ) (wanted : Wanted)
+        → judged group views wanted ≡ Ok First → HasEntered group }
 {}

@@ -1,26 +1,34 @@
-//! The store of one machine of a group: what `plc format` makes, once, and what each start reads and marks.
+//! The store of one machine of a group: what `plc format` makes, once, what each start reads, and what each epoch of the
+//! group that the machine enters or begins puts in its place.
 //!
 //! ```rust
 //! let store = Store::new(header, image).ok_or(Refusal::TooLong)?;
 //! format(alloc, &mut directory, &store)?; // refused where the directory holds anything of a store
-//! let opened = open(alloc, &mut directory, &wanted)?; // opened.start: First, normal in view 0, but once
+//! let opened = open(alloc, &directory, &wanted)?; // opened.start: First, Again, or Waits
+//! let store = keep(alloc, &mut directory, &Kept::Begun(epoch))?; // it stands there now, and no view does
+//! let store = enter_by_hand(alloc, &mut directory, Some(image))?; // the next epoch, with this image
 //! ```
 //!
 //! Proved: a store has one spelling, which is read as that store; nothing else is read, no file that was cut, and none
 //! of another format. A directory is judged by a total function (`specs/Judging`): a machine starts as new exactly
-//! where it was formatted and never started; where nothing was formatted, where the view of a store that was started is
-//! gone, and where the group file is another's it's refused, with what is wrong. `format` changes only a directory that
-//! holds nothing. What is opened is the store that was there, marked as started before it's answered, and what is
-//! marked is never new again, whatever happens to the view (`a_start_is_new_once`).
+//! where it has entered an epoch and not begun it; where nothing was formatted, where the view of an epoch that was
+//! begun is gone, and where the group file is another's it's refused, with what is wrong. `format` changes only a
+//! directory that holds nothing. What a store has of epochs never goes back; `keep` answers only once the store has it,
+//! and begins an epoch only in a directory from which the views of the one before are gone, so what was begun is never
+//! new again, whatever happens to the view (`a_start_is_new_once`). By hand a store that was marked by a change of the
+//! program goes on only with an image that is given.
 //!
-//! By its code alone: that a file is written beside, flushed and renamed, and that one process at a time has the
-//! directory. That a disk keeps what was flushed is a premise.
+//! By its code alone: that a file is written beside, flushed and renamed, that views are taken away and that is flushed,
+//! and that one process at a time has the directory. That a disk keeps what was flushed is a premise.
 #![tactic(auto)]
 
 mod directory;
+mod files;
 mod header;
 mod judging;
+mod keeping;
 mod laws;
+mod marking;
 mod opening;
 mod reading;
 mod showing;
@@ -28,9 +36,11 @@ mod spelling;
 
 pub use directory::{FileDirectory, NotWritten, StoreDirectory};
 pub use header::{Header, Store};
-pub use judging::{Refusal, Start, Wanted, judge};
+pub use judging::{Refusal, Start, Wanted, is_changed, is_unbegun, judge};
+pub use keeping::{enter_by_hand, keep};
 pub use laws::{a_start_is_new_once, cut_is_refused};
-pub use opening::{Opened, format, open};
+pub use marking::ChangeMark;
+pub use opening::{Opened, format, open, stored_in};
 pub use reading::{StoreFault, read_store};
-pub use showing::{show, show_directory, tell_refusal};
+pub use showing::{epoch_line, show, show_directory, tell_refusal};
 pub use spelling::spell;

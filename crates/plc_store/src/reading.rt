@@ -2,13 +2,15 @@
 
 ghost use Rattle.std.specs.Prelude.{◌≡◌, ◌≢◌, ◌<◌, IfErr, IfOk, length, option_map};
 ghost use Rattle.std.specs.Int.{w32, w64, from_be_bytes};
-ghost use Rattle.plc_store.specs.Reading.{Gives, IsOtherFormat, fields_of, header_of, is_other_format};
-ghost use Rattle.plc_store.specs.Reading.{read_of};
+ghost use Rattle.plc_store.specs.Reading.{Gives, IsOtherFormat, epoch_by, fields_of, header_of, is_other_format};
+ghost use Rattle.plc_store.specs.Reading.{kept_by, read_of};
 ghost use Rattle.plc_store.specs.Spelling.{Fits, Saying, saying, spelling};
 ghost use Rattle.plc_store.specs.declared.reading.StoreFault.TheVariants.{Memory, OtherFormat, Torn};
 
 use crate::header::{Header, Store};
 use crate::spelling::spell;
+use net_hello::Epoch;
+use plc_epochs::Kept;
 use std::alloc::{AllocError, Global};
 
 /// Why bytes are no store.
@@ -31,7 +33,7 @@ impl From<AllocError> for StoreFault {
 }
 
 /// So many bytes stand before the image.
-const FRONT: usize = 88;
+const FRONT: usize = 120;
 
 /// So many bytes begin each store of any format, the last two its number.
 const BEGINNING: usize = 10;
@@ -71,7 +73,7 @@ fn is_other_format(bytes: &[u8]) -> bool
 {
     bytes.len() >= BEGINNING
         && &bytes[..8] == b"PLCSTORE".as_slice()
-        && &bytes[8..10] != [0u8, 1].as_slice()
+        && &bytes[8..10] != [0u8, 2].as_slice()
 }
 
 /// What stands where the fields of a store do; None where it's too short for that.
@@ -93,19 +95,43 @@ fn fields_of(alloc: Global, bytes: &[u8]) -> Result<Option<Store>, AllocError>
 
 /// What stands where the fields of a header do.
 fn header_of(bytes: &[u8]) -> Header
-    requires { length bytes.now ≡ 84 }
+    requires { length bytes.now ≡ 116 }
     ensures { result ≡ header_of bytes.now }
 {
     let (_, rest) = bytes.split_at(BEGINNING);
     let (identity, rest) = rest.split_at(32);
-    let (epoch, rest) = rest.split_at(8);
+    let (kind, rest) = rest.split_at(1);
+    let (number, rest) = rest.split_at(8);
+    let (image, rest) = rest.split_at(32);
     let (program, rest) = rest.split_at(32);
     Header {
         identity: array_of(identity),
-        epoch: long_of(epoch),
+        kept: kept_by(kind[0], epoch_by(number, image)),
         program: array_of(program),
         machine: rest[0],
-        is_started: rest[1] == 1,
+    }
+}
+
+fn epoch_by(number: &[u8], image: &[u8]) -> Epoch
+    requires number { length number.now ≡ 8 }
+    requires image { length image.now ≡ 32 }
+    ensures { result ≡ epoch_by number.now image.now }
+{
+    Epoch {
+        number: long_of(number),
+        image: array_of(image),
+    }
+}
+
+/// What a store has of epochs. A number that is none of the kinds isn't spelled so, so it's refused later.
+fn kept_by(kind: u8, epoch: Epoch) -> Kept
+    ensures { result ≡ kept_by kind epoch }
+{
+    match kind {
+        0 => Kept::Nothing,
+        1 => Kept::Above(epoch),
+        2 => Kept::Entered(epoch),
+        _ => Kept::Begun(epoch),
     }
 }
 

@@ -4,42 +4,62 @@ ghost use Rattle.std.specs.Prelude.{◌≡◌, ◌++◌, IfOk, OnOk, string_byte
 ghost use Rattle.std.specs.Fmt.{decimal};
 ghost use Rattle.hex.specs.Hex.{encode_lower};
 ghost use Rattle.il_text.specs.Telling.{WentOut};
-ghost use Rattle.plc_store.specs.Showing.{IsShown, epoch_lines, line, machine_lines, refusal_line, shown};
-ghost use Rattle.plc_store.specs.Showing.{status_of, word_of};
+ghost use Rattle.plc_store.specs.Showing.{IsShown, epoch_line, epoch_lines, image_lines, line, machine_lines};
+ghost use Rattle.plc_store.specs.Showing.{refusal_line, shown, state_of, status_of, word_of};
 ghost use Rattle.plc_store.specs.Spelling.{saying};
 
 use crate::directory::StoreDirectory;
 use crate::header::{Header, Store};
-use crate::judging::Refusal;
-use crate::reading::read_store;
+use crate::judging::{Refusal, is_changed};
+use crate::opening::stored_in;
+use crate::spelling::epoch_of;
 use il_text::put;
 use io_model::CountedWrite;
+use plc_epochs::Kept;
 use std::alloc::{AllocError, Global};
 
-/// The lines of a store: its format, identity, epoch with the program that it began with, machine, whether it was
-/// started, and how many bytes its image has.
-pub fn show(alloc: Global, store: &Store) -> Result<String, AllocError>
-    ensures { IfOk result (λ lines. string_bytes lines ≡ shown (saying store.now)) }
+/// The lines of a store: its format, identity, machine, state, epoch with the image that this begins with, program with
+/// the number of bytes of its image, and whether the program was changed since.
+pub fn show(alloc: Global, store: &Store, is_changed: bool) -> Result<String, AllocError>
+    ensures { IfOk result (λ lines. string_bytes lines ≡ shown (saying store.now) is_changed) }
 {
-    let mut lines = String::from_str(alloc, "format 1\n")?;
-    put_epoch(alloc, &mut lines, &store.header)?;
-    put_machine(alloc, &mut lines, store)?;
+    let mut lines = String::from_str(alloc, "format 2\n")?;
+    put_machine(alloc, &mut lines, &store.header)?;
+    put_epoch(alloc, &mut lines, &store.header.kept)?;
+    put_image(alloc, &mut lines, store)?;
+    put_line(&mut lines, "changed ", word_of(is_changed))?;
     Ok(lines)
 }
 
-fn put_epoch(alloc: Global, lines: &mut String, header: &Header) -> Result<(), AllocError>
-    ensures { OnOk result (string_bytes lines.new ≡ string_bytes lines.old ++ epoch_lines header.now) }
+fn put_machine(alloc: Global, lines: &mut String, header: &Header) -> Result<(), AllocError>
+    ensures { OnOk result (string_bytes lines.new ≡ string_bytes lines.old ++ machine_lines header.now) }
 {
     put_digest(alloc, lines, "identity ", &header.identity)?;
-    put_number(alloc, lines, "epoch ", header.epoch)?;
-    put_digest(alloc, lines, "program ", &header.program)
+    put_number(alloc, lines, "machine ", u64::from(header.machine))
 }
 
-fn put_machine(alloc: Global, lines: &mut String, store: &Store) -> Result<(), AllocError>
-    ensures { OnOk result (string_bytes lines.new ≡ string_bytes lines.old ++ machine_lines (saying store.now)) }
+fn put_epoch(alloc: Global, lines: &mut String, kept: &Kept) -> Result<(), AllocError>
+    ensures { OnOk result (string_bytes lines.new ≡ string_bytes lines.old ++ epoch_lines kept.now) }
 {
-    put_number(alloc, lines, "machine ", u64::from(store.header.machine))?;
-    put_line(lines, "started ", word_of(store.header.is_started))?;
+    let epoch = epoch_of(kept);
+    put_line(lines, "state ", state_of(kept))?;
+    put_number(alloc, lines, "epoch ", epoch.number)?;
+    put_digest(alloc, lines, "begins with ", &epoch.image)
+}
+
+/// The line of the epoch that a store has: its number.
+pub fn epoch_line(alloc: Global, kept: &Kept) -> Result<String, AllocError>
+    ensures { IfOk result (λ text. string_bytes text ≡ epoch_line kept.now) }
+{
+    let mut lines = String::new(alloc);
+    put_number(alloc, &mut lines, "epoch ", epoch_of(kept).number)?;
+    Ok(lines)
+}
+
+fn put_image(alloc: Global, lines: &mut String, store: &Store) -> Result<(), AllocError>
+    ensures { OnOk result (string_bytes lines.new ≡ string_bytes lines.old ++ image_lines (saying store.now)) }
+{
+    put_digest(alloc, lines, "program ", &store.header.program)?;
     put_number(alloc, lines, "image ", store.image.len() as u64)
 }
 
@@ -74,19 +94,28 @@ fn put_number(alloc: Global, lines: &mut String, head: &str, number: u64) -> Res
 
 /// The lines of the store in a directory, or why there are none.
 pub fn show_directory<D: StoreDirectory>(alloc: Global, directory: &D) -> Result<String, Refusal>
-    ensures { IfOk result (λ lines. IsShown (D.group directory.now) (string_bytes lines)) }
+    ensures { IfOk result (λ lines. IsShown (D.group directory.now) (D.mark directory.now) (string_bytes lines)) }
 {
-    let Some(bytes) = directory.group() else {
-        return Err(Refusal::NoStore);
-    };
-    let store = read_store(alloc, bytes)?;
-    Ok(show(alloc, &store)?)
+    let store = stored_in(alloc, directory)?;
+    let is_changed = is_changed(&store.header.kept, directory.mark());
+    Ok(show(alloc, &store, is_changed)?)
 }
 
-fn word_of(is_started: bool) -> &'static str
-    ensures { result.now ≡ word_of is_started }
+fn word_of(is_so: bool) -> &'static str
+    ensures { result.now ≡ word_of is_so }
 {
-    if is_started { "yes" } else { "no" }
+    if is_so { "yes" } else { "no" }
+}
+
+fn state_of(kept: &Kept) -> &'static str
+    ensures { result.now ≡ state_of kept.now }
+{
+    match kept {
+        Kept::Nothing => "waits",
+        Kept::Above(_) => "waits above",
+        Kept::Entered(_) => "entered",
+        Kept::Begun(_) => "begun",
+    }
 }
 
 /// Tells a refusal by its line, and answers the status: 2 where a disk failed or memory ran out, else 1. It takes no
@@ -114,6 +143,10 @@ fn line_of(refusal: Refusal) -> &'static str
         Refusal::OtherMachine => "plc: store of another machine\n",
         Refusal::ViewGone => "plc: store lost its view\n",
         Refusal::ViewUnstarted => "plc: store has a view and was not started\n",
+        Refusal::Backward => "plc: store would go back\n",
+        Refusal::Waits => "plc: store waits for its group\n",
+        Refusal::LastEpoch => "plc: store in the last epoch\n",
+        Refusal::Changed => "plc: store of a program that was changed: give one\n",
         Refusal::Used => "plc: store used\n",
         Refusal::TooLong => "plc: store image too long\n",
         Refusal::Taken => "plc: store taken\n",

@@ -2,14 +2,16 @@
 
 ghost use Rattle.std.specs.Prelude.{◌≡◌, ◌++◌, IfOk, OnOk, length};
 ghost use Rattle.std.specs.Int.{w16, w32, w64, to_be_bytes};
-ghost use Rattle.plc_store.specs.Spelling.{header_bytes, saying, spelling, started_byte};
+ghost use Rattle.plc_store.specs.Spelling.{epoch_bytes, epoch_of, header_bytes, kind_of, saying, spelling};
 
 use crate::header::{Header, Store};
+use net_hello::Epoch;
+use plc_epochs::Kept;
 use sha2::{Digest, Sha256};
 use std::alloc::{AllocError, Global};
 
-/// The first bytes of each store, in which its format is the last: `PLCSTORE`, and 1.
-pub(crate) const MAGIC: [u8; 10] = *b"PLCSTORE\x00\x01";
+/// The first bytes of each store, in which its format is the last: `PLCSTORE`, and 2.
+pub(crate) const MAGIC: [u8; 10] = *b"PLCSTORE\x00\x02";
 
 /// The bytes of a store, whose last 32 are the SHA-256 of those before.
 pub fn spell(alloc: Global, store: &Store) -> Result<Vec<u8>, AllocError>
@@ -30,15 +32,41 @@ fn put_header(bytes: &mut Vec<u8>, header: &Header) -> Result<(), AllocError>
 {
     bytes.extend_from_slice(MAGIC.as_slice())?;
     bytes.extend_from_slice(header.identity.as_slice())?;
-    bytes.extend_from_slice(header.epoch.to_be_bytes().as_slice())?;
+    bytes.push(kind_of(&header.kept))?;
+    put_epoch(bytes, &epoch_of(&header.kept))?;
     bytes.extend_from_slice(header.program.as_slice())?;
     bytes.push(header.machine)?;
-    bytes.push(started_byte(header.is_started))?;
     Ok(())
 }
 
-fn started_byte(is_started: bool) -> u8
-    ensures { result ≡ started_byte is_started }
+/// Puts the number of an epoch behind others, and the sum of the image with which it begins.
+pub(crate) fn put_epoch(bytes: &mut Vec<u8>, epoch: &Epoch) -> Result<(), AllocError>
+    ensures { OnOk result (bytes.new.items ≡ bytes.old.items ++ epoch_bytes epoch.now) }
 {
-    if is_started { 1 } else { 0 }
+    bytes.extend_from_slice(epoch.number.to_be_bytes().as_slice())?;
+    bytes.extend_from_slice(epoch.image.as_slice())
+}
+
+fn kind_of(kept: &Kept) -> u8
+    ensures { result ≡ kind_of kept.now }
+{
+    match kept {
+        Kept::Nothing => 0,
+        Kept::Above(_) => 1,
+        Kept::Entered(_) => 2,
+        Kept::Begun(_) => 3,
+    }
+}
+
+/// The epoch of which a store has something; one of number 0 where there is none.
+pub(crate) fn epoch_of(kept: &Kept) -> Epoch
+    ensures { result ≡ epoch_of kept.now }
+{
+    match *kept {
+        Kept::Nothing => Epoch {
+            number: 0,
+            image: [0; 32],
+        },
+        Kept::Above(epoch) | Kept::Entered(epoch) | Kept::Begun(epoch) => epoch,
+    }
 }
