@@ -28,7 +28,7 @@ either : (b : Bool) (P Q R : Type 0) → MatchBool b P Q → (b ≡ true → P �
 either true P Q R h f g = f refl h
 either false P Q R h f g = g refl h
 
-same : (k : Kept) → GoesOn k k
+pub same : (k : Kept) → GoesOn k k
 same keeps.Nothing = tt
 same (keeps.Above above) = refl
 same (keeps.Entered epoch) = inl refl

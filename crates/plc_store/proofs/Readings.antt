@@ -6,17 +6,19 @@ use Rattle.std.proofs.lemmas.Bool.{cases_Bool, false≢true}
 use Rattle.std.proofs.lemmas.List.{take-append-drop, length-take-le}
 use Rattle.std.proofs.lemmas.Option.{same_Some}
 use Rattle.std.proofs.lemmas.Slice.Eq.{bytes_eq-Decides}
+use Rattle.net_hello.specs.declared.hello.Epoch.{Epoch}
+use Rattle.plc_epochs.specs.declared.kept.Kept.{Kept}
+use Rattle.plc_epochs.specs.declared.kept.Kept.TheVariants as keeps
 use Rattle.plc_store.specs.declared.header.Header.{Header}
 use Rattle.plc_store.specs.declared.header.Store.{Store}
 use Rattle.plc_store.specs.declared.judging.Refusal.{Refusal}
 use Rattle.plc_store.specs.declared.judging.Refusal.TheVariants as refusals
 use Rattle.plc_store.specs.declared.judging.Start.{Start}
-use Rattle.plc_store.specs.declared.judging.Start.TheVariants.{First, Again}
+use Rattle.plc_store.specs.declared.judging.Start.TheVariants.{Waits, First, Again}
 use Rattle.plc_store.specs.declared.judging.Wanted.{Wanted}
-use Rattle.plc_store.specs.declared.opening.Opened.{Opened}
 use Rattle.plc_store.specs.declared.reading.StoreFault.{StoreFault}
 use Rattle.plc_store.specs.declared.reading.StoreFault.TheVariants.{OtherFormat, Torn, Memory}
-use Rattle.plc_store.specs.Judging.{IsMarked, IsUnstarted, by_mark, has_view, judged, judged_store, judgement, refusal_of, started}
+use Rattle.plc_store.specs.Judging.{HasEntered, begun, by_kept, found_by, has_view, judged, judged_store, judgement, refusal_of}
 use Rattle.plc_store.specs.Reading.{Gives, IsOtherFormat, fields_of, is_other_format, read_of, spelled_so}
 use Rattle.plc_store.specs.Spelling.{Fits, Saying, saying, spelling}
 use Rattle.plc_store.proofs.Fields.{fields_again}
@@ -132,67 +134,51 @@ cut said other n fits others lt is =
     let long : length (take n (spelling said)) ≡ length (spelling said) = ap length (is ∙ ap spelling same) in
     absurd (omega (arith, long, length-take-le n (spelling said) (omega arith), lt))
 
-is_again : Start → Bool
-is_again Again = true
-is_again First = false
+is_first : Start → Bool
+is_first First = true
+is_first Waits = false
+is_first Again = false
 
-marked : (b c d : Bool) → ◌≡◌ {A = Result Start Refusal} (cond b (Err refusals.OtherGroup) (cond c (Err refusals.OtherMachine) (cond d (Ok Again) (Err refusals.ViewGone)))) (Ok First) → ⊥
-unfolding is_again
-marked true c d h = Ok≢Err First refusals.OtherGroup (sym h)
-marked false true d h = Ok≢Err First refusals.OtherMachine (sym h)
-marked false false true h = false≢true (sym (ap is_again (same_Ok Again First h)))
-marked false false false h = Ok≢Err First refusals.ViewGone (sym h)
-
--- a store that was started is never new
-pub never_new : (said : Saying) (views : List ℕ) (wanted : Wanted) → Fits (started said) → judged (Some (spelling (started said))) views wanted ≢ Ok First
-never_new said views wanted fits h =
-    let is : judged (Some (spelling (started said))) views wanted ≡ judgement (started said).header views wanted =
-    ap (λ r. judged_store r views wanted) (read_again (started said) fits) in
-    marked (not (bytes_eq said.header.identity wanted.identity)) (nat_le wanted.machines said.header.machine) (has_view views said.header.machine) (sym is ∙ h)
-
--- ---- what the mark says
-
-never_first : (b : Bool) → ◌≡◌ {A = Result Start Refusal} (cond b (Ok Again) (Err refusals.ViewGone)) (Ok First) → ⊥
-unfolding is_again
-never_first true h = false≢true (sym (ap is_again (same_Ok Again First h)))
-never_first false h = Ok≢Err First refusals.ViewGone (sym h)
-
-first_by : (b : Bool) (machine : ℕ) (views : List ℕ) → by_mark b machine views ≡ Ok First → (b ≡ false) × (views ≡ [])
-first_by true machine views h = absurd (never_first (has_view views machine) h)
-first_by false machine [] h = (refl, refl)
-first_by false machine (view ∷ more) h = Ok≢Err First refusals.ViewUnstarted (sym h)
+other_start : (start : Start) → is_first start ≡ false → ◌≡◌ {A = Result Start Refusal} (Ok start) (Ok First) → ⊥
+unfolding is_first
+other_start start other h = absurd (false≢true (sym other ∙ ap is_first (same_Ok start First h)))
 
 behind_checks : (b c : Bool) (r : Result Start Refusal) (start : Start) → ◌≡◌ {A = Result Start Refusal} (cond b (Err refusals.OtherGroup) (cond c (Err refusals.OtherMachine) r)) (Ok start) → r ≡ Ok start
 behind_checks true c r start h = Ok≢Err start refusals.OtherGroup (sym h)
 behind_checks false true r start h = Ok≢Err start refusals.OtherMachine (sym h)
 behind_checks false false r start h = h
 
-marks : (header : Header) (views : List ℕ) (wanted : Wanted) (start : Start) → judgement header views wanted ≡ Ok start → by_mark header.is_started header.machine views ≡ Ok start
-marks header views wanted start h =
-    behind_checks (not (bytes_eq header.identity wanted.identity)) (nat_le wanted.machines header.machine) (by_mark header.is_started header.machine views) start h
+by_header : (header : Header) (views : List ℕ) (wanted : Wanted) (start : Start) → judgement header views wanted ≡ Ok start → by_kept header.kept header.machine views ≡ Ok start
+by_header header views wanted start h =
+    behind_checks (not (bytes_eq header.identity wanted.identity)) (nat_le wanted.machines header.machine) (by_kept header.kept header.machine views) start h
 
--- one that was started is marked as it is
-pub already : (s : Saying) → s.header.is_started ≡ true → s ≡ started s
-already s h = ap (λ b. record s { header = record s.header { is_started = b } }) h
+-- an epoch that was begun is never new
+begun_again : (b : Bool) → begun b ≡ Ok First → ⊥
+unfolding is_first
+begun_again true h = other_start Again refl h
+begun_again false h = Ok≢Err First refusals.ViewGone (sym h)
 
-pub marked_again : (group : Option (List ℕ)) (s : Saying) → group ≡ Some (spelling s) → s.header.is_started ≡ true → IsMarked group s
-marked_again group s is h = (s, is, already s h)
+pub never_new : (said : Saying) (epoch : Epoch) (views : List ℕ) (wanted : Wanted) → Fits said → said.header.kept ≡ keeps.Begun epoch → judged (Some (spelling said)) views wanted ≢ Ok First
+never_new said epoch views wanted fits is h =
+    let judged_so : judged (Some (spelling said)) views wanted ≡ judgement said.header views wanted =
+    ap (λ r. judged_store (found_by r) views wanted) (read_again said fits) in
+    let by : by_kept said.header.kept said.header.machine views ≡ Ok First = by_header said.header views wanted First (sym judged_so ∙ h) in
+    begun_again (has_view views said.header.machine) (ap (λ k. by_kept k said.header.machine views) (sym is) ∙ by)
 
-pub marked_first : (group after : Option (List ℕ)) (s : Saying) (r : Result Opened Refusal) → group ≡ Some (spelling s) → IfOk r (λ opened. (after ≡ Some (spelling (saying opened.store))) × (saying opened.store ≡ started s)) → IfOk r (λ opened. IsMarked group (saying opened.store))
-marked_first group after s (Ok opened) is h = (s, is, h.1)
-marked_first group after s (Err e) is h = tt
+-- what is new has entered an epoch
+entered_by : (kept : Kept) (machine : ℕ) (views : List ℕ) → by_kept kept machine views ≡ Ok First → (epoch : Epoch) × (kept ≡ keeps.Entered epoch)
+unfolding is_first
+entered_by keeps.Nothing machine views h = absurd (other_start Waits refl h)
+entered_by (keeps.Above epoch) machine views h = absurd (other_start Waits refl h)
+entered_by (keeps.Entered epoch) machine views h = (epoch, refl)
+entered_by (keeps.Begun epoch) machine views h = absurd (begun_again (has_view views machine) h)
 
-pub whole_first : (group after : Option (List ℕ)) (s : Saying) → group ≡ Some (spelling s) → (after ≡ group) ⊎ (after ≡ Some (spelling (started s))) → (after ≡ group) ⊎ ((said : Saying) × IsMarked group said × (after ≡ Some (spelling said)))
-whole_first group after s is (inl same) = inl same
-whole_first group after s is (inr put) = inr (started s, (s, is, refl), put)
-
-new_from : (bytes : List ℕ) (r : Result Saying StoreFault) (views : List ℕ) (wanted : Wanted) → read_of bytes ≡ r → judged_store r views wanted ≡ Ok First → IsUnstarted (Some bytes) × (views ≡ [])
+new_from : (bytes : List ℕ) (r : Result Saying StoreFault) (views : List ℕ) (wanted : Wanted) → read_of bytes ≡ r → judged_store (found_by r) views wanted ≡ Ok First → HasEntered (Some bytes)
 new_from bytes (Ok said) views wanted is h =
-    let by = first_by said.header.is_started said.header.machine views (marks said.header views wanted First h) in
-    ((said, ap Some (read_found bytes said is), by.0), by.1)
+    let by = entered_by said.header.kept said.header.machine views (by_header said.header views wanted First h) in
+    (said, by.0, ap Some (read_found bytes said is), by.1)
 new_from bytes (Err fault) views wanted is h = Ok≢Err First (refusal_of fault) (sym h)
 
--- what is new is a store that was never started, where there are no views
-pub new_unstarted : (group : Option (List ℕ)) (views : List ℕ) (wanted : Wanted) → judged group views wanted ≡ Ok First → IsUnstarted group × (views ≡ [])
-new_unstarted None views wanted h = Ok≢Err First refusals.NoStore (sym h)
-new_unstarted (Some bytes) views wanted h = new_from bytes (read_of bytes) views wanted refl h
+pub new_entered : (group : Option (List ℕ)) (views : List ℕ) (wanted : Wanted) → judged group views wanted ≡ Ok First → HasEntered group
+new_entered None views wanted h = Ok≢Err First refusals.NoStore (sym h)
+new_entered (Some bytes) views wanted h = new_from bytes (read_of bytes) views wanted refl h

@@ -189,7 +189,7 @@ pub fn is_unbegun(kept: &Kept) -> bool
 
 /// Whether a change of the program was marked in the epoch that a store has begun, by what the mark's file has.
 pub fn is_changed(kept: &Kept, mark: Option<&[u8]>) -> bool
-    ensures { result ≡ is_changed kept.now (option_map (λ bytes. bytes.now) mark) }
+    ensures { result ≡ is_changed kept.now (option_map (λ bytes. bytes.now) mark.entry) }
 {
     match kept {
         Kept::Begun(epoch) => has_mark(epoch, mark),
@@ -198,7 +198,7 @@ pub fn is_changed(kept: &Kept, mark: Option<&[u8]>) -> bool
 }
 
 fn has_mark(epoch: &Epoch, mark: Option<&[u8]>) -> bool
-    ensures { result ≡ has_mark epoch.now (option_map (λ bytes. bytes.now) mark) }
+    ensures { result ≡ has_mark epoch.now (option_map (λ bytes. bytes.now) mark.entry) }
 {
     match mark {
         Some(bytes) => bytes == mark_of(epoch).as_slice(),

@@ -1,8 +1,8 @@
-use Rattle.plc_store.proofs.Readings.{never_new, new_unstarted}
+use Rattle.plc_store.proofs.Readings.{never_new, new_entered}
 use Rattle.plc_store.proofs.laws.a_start_is_new_once.Goals as goal
 
-pub returns-clause-marked : goal.returns-clause-marked
-returns-clause-marked c = never_new
+pub returns-clause-begun : goal.returns-clause-begun
+returns-clause-begun c = never_new
 
-pub returns-clause-unstarted : goal.returns-clause-unstarted
-returns-clause-unstarted c = new_unstarted
+pub returns-clause-entered : goal.returns-clause-entered
+returns-clause-entered c = new_entered
