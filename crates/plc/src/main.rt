@@ -18,6 +18,7 @@ use crate::carrying::{Carrying, carried};
 use crate::machines::{Machine, ended_by, tell_unserved};
 use crate::serving::{Report, Serving, settled};
 use crate::showing::notices_of;
+use crate::stores::Formatted;
 use il_text::{Fault, tell};
 use io_image::NewList;
 use io_model::{Counted, CountedWrite};
@@ -188,8 +189,19 @@ fn prepared<W: Write, E: CountedWrite>(
             source,
             group,
             machine,
+            waits,
             directory,
-        } => Outcome::Done(stores::format(rt, source, group, machine, directory, err)),
+        } => {
+            let asked = Formatted {
+                machine,
+                waits,
+                directory,
+            };
+            Outcome::Done(stores::format(rt, source, group, &asked, err))
+        }
+        Words::NextEpoch { source, directory } => {
+            Outcome::Done(stores::enter_next(rt, source, directory, out, err))
+        }
         Words::Show { directory } => Outcome::Done(stores::show(rt, directory, out, err)),
         Words::Field { field, check, once } => {
             Outcome::Carry(Carrying::of(rt, field, check, once, err)?)

@@ -1,6 +1,7 @@
-//! Stores of the machines of a group: made once, and shown.
+//! Stores of the machines of a group: made once, put into the next epoch by hand, and shown.
 
-ghost use Rattle.std.specs.Prelude.{◌≡◌, false};
+ghost use Rattle.std.specs.Prelude.{IsTrue};
+ghost use Rattle.plc_store.specs.Judging.{is_unbegun};
 
 use crate::calls::flushed;
 use crate::files::{file, tell_of, tell_path};
@@ -8,16 +9,20 @@ use il_text::{Fault, image_bytes, put, put_numbered, tell};
 use io_model::{Counted, CountedWrite};
 use plc_group::{Group, exposed_lines, read_group, tell_group_fault};
 use plc_host::Failed;
-use plc_machine::{NotMade, new_store};
+use plc_machine::{NotMade, new_store, waiting_store};
 use plc_serve::tell_failed;
-use plc_store::{FileDirectory, Refusal, Store, show_directory, tell_refusal};
+use plc_store::{
+    FileDirectory, Refusal, Store, enter_by_hand, epoch_line, show_directory, tell_refusal,
+};
 use std::io::Write;
 
 /// The machine whose store is to be made, and where.
 #[derive(Clone, Copy)]
-struct Formatted<'a> {
-    machine: u8,
-    directory: &'a str,
+pub(crate) struct Formatted<'a> {
+    pub(crate) machine: u8,
+    /// Whether its disk was lost, so that it waits for an epoch.
+    pub(crate) waits: bool,
+    pub(crate) directory: &'a str,
 }
 
 /// Makes the store of a machine of a group: the status.
@@ -25,17 +30,15 @@ pub(crate) fn format<E: CountedWrite>(
     rt: &HostRuntime,
     source: &str,
     group: &str,
-    machine: u8,
-    directory: &str,
+    asked: &Formatted,
     err: &mut E,
 ) -> u8 {
     let image = match image_at(rt, source) {
         Ok(image) => image,
         Err(fault) => return tell_of(source, fault, err),
     };
-    let asked = Formatted { machine, directory };
     match group_at(rt, group, err) {
-        Ok(group) => format_of(rt, &asked, &group, image, err),
+        Ok(group) => format_of(rt, asked, &group, image, err),
         Err(status) => status,
     }
 }
@@ -69,7 +72,12 @@ fn format_of<E: CountedWrite>(
     image: Vec<u8>,
     err: &mut E,
 ) -> u8 {
-    match new_store(group, asked.machine, image) {
+    let made = if asked.waits {
+        waiting_store(group, asked.machine, image)
+    } else {
+        new_store(group, asked.machine, image)
+    };
+    match made {
         Ok(store) => match format_in(rt, asked.directory, &store) {
             Ok(()) => tell_exposed(rt, group, err),
             Err(refusal) => tell_at(asked.directory, refusal, err),
@@ -79,12 +87,41 @@ fn format_of<E: CountedWrite>(
     }
 }
 
-/// Makes this store, which was never started, in a directory.
+/// Makes this store, which has begun no epoch, in a directory.
 fn format_in(rt: &HostRuntime, directory: &str, store: &Store) -> Result<(), Refusal>
-    requires { store.now.header.is_started ≡ false }
+    requires { IsTrue (is_unbegun store.now.header.kept) }
 {
     let mut directory = FileDirectory::make(*rt, rt.alloc(), directory)?;
     plc_store::format(rt.alloc(), &mut directory, store)
+}
+
+/// Puts the store of a directory into the next epoch by hand, with the program of a file, or the one that it has, and
+/// prints the epoch: the status.
+pub(crate) fn enter_next<W: Write, E: CountedWrite>(
+    rt: &HostRuntime,
+    source: Option<&str>,
+    directory: &str,
+    out: &mut W,
+    err: &mut E,
+) -> u8 {
+    let Some(source) = source else {
+        return print_lines(entered_in(rt, directory, None), directory, out, err);
+    };
+    match image_at(rt, source) {
+        Ok(image) => print_lines(entered_in(rt, directory, Some(image)), directory, out, err),
+        Err(fault) => tell_of(source, fault, err),
+    }
+}
+
+/// Puts the store of a directory into the next epoch, with this image, or the one that it has: the line of that epoch.
+fn entered_in(
+    rt: &HostRuntime,
+    directory: &str,
+    image: Option<Vec<u8>>,
+) -> Result<String, Refusal> {
+    let mut directory = FileDirectory::take(*rt, rt.alloc(), directory)?;
+    let store = enter_by_hand(rt.alloc(), &mut directory, image)?;
+    Ok(epoch_line(rt.alloc(), &store.header.kept)?)
 }
 
 /// Tells that a group has no such machine, and answers the status.
@@ -113,15 +150,24 @@ pub(crate) fn show<W: Write, E: CountedWrite>(
     out: &mut W,
     err: &mut E,
 ) -> u8 {
-    match shown(rt, directory) {
-        Ok(lines) => {
-            let mut counted = Counted::new(&mut *out);
-            match put(&mut counted, lines.as_str().as_bytes()) {
-                Ok(()) => flushed(0, out, err),
-                Err(_) => tell_failed(Failed::Output, err),
-            }
-        }
-        Err(refusal) => tell_at(directory, refusal, err),
+    print_lines(shown(rt, directory), directory, out, err)
+}
+
+/// Prints what came of a store: the status.
+fn print_lines<W: Write, E: CountedWrite>(
+    lines: Result<String, Refusal>,
+    directory: &str,
+    out: &mut W,
+    err: &mut E,
+) -> u8 {
+    let lines = match lines {
+        Ok(lines) => lines,
+        Err(refusal) => return tell_at(directory, refusal, err),
+    };
+    let mut counted = Counted::new(&mut *out);
+    match put(&mut counted, lines.as_str().as_bytes()) {
+        Ok(()) => flushed(0, out, err),
+        Err(_) => tell_failed(Failed::Output, err),
     }
 }
 

@@ -73,6 +73,12 @@ const GROUP: &str = "group";
 /// The word of the option `--machine`.
 const MACHINE: &str = "machine";
 
+/// The word of the option `--wait`.
+const WAIT: &str = "wait";
+
+/// The word of the option `--next-epoch`.
+const NEXT_EPOCH: &str = "next-epoch";
+
 /// What a group's file has for its machines, or they haven't.
 const SETTINGS: [&str; 13] = [
     SCANS, FAILURES, EVERY, PORT, PERIOD, IDLE, BUDGET, LINKS, CRASH, REPORT, CONSOLE, STALE,
@@ -402,7 +408,14 @@ the machine:
 const FORMATTING: &str = with_source_faults!(
     "Makes the store with which a machine of a group begins: the group, the machine's number, and the
 image of the program. DIR is made where it isn't there; where it holds anything of a store nothing
-changes.
+changes. A new machine enters the group's first epoch. With --wait it's one whose disk was lost: it
+takes no part until its group begins an epoch that it wasn't in.
+
+With --next-epoch the store in DIR is put into the next epoch by hand, and 'epoch N' is printed. Served
+then, the other machines follow it: all that was done since the last cold start is lost. With SOURCE the
+epoch begins with that program; else with the one in the store, which is refused where the program was
+changed since. A machine that has entered an epoch of another program than its store's is given that by
+the same call, and stays in its epoch.
 
 GROUP is the same file on each machine, in TOML. Its keys, and what they are where they're left out:
   name                       1 to 64 visible characters; never left out
@@ -428,15 +441,24 @@ A fault of GROUP or of DIR is one line on standard error. Machines are counted f
   plc: store taken           another process has DIR
   plc: store open to all     all may write to DIR
   plc: store image too long  the image has 4 GiB or more
+Of --next-epoch further, beside those of 'plc show':
+  plc: store waits for its group  the machine is in no epoch: call it at another one
+  plc: store of a program that was changed: give one  SOURCE is wanted
+  plc: store in the last epoch  no number is left
 An address that's no loopback is told, and is no fault:
   ADDRESS: anybody on that network can write here
 "
 );
 
 const SHOWING: &str =
-    "Prints a line for each of these: its format; the identity of its group; its epoch, and the program
-with which that began; the machine's number; whether it was started; how many bytes its image has.
-Identity and program are SHA-256.
+    "Prints a line for each of these: its format; the identity of its group; the machine's number; its
+state; its epoch, and the program with which that begins; the program of the store, and how many bytes
+its image has; whether the program was changed in this epoch. Identity and programs are SHA-256.
+
+States:
+  entered                    the machine has the epoch before it: it begins as soon as most machines do
+  begun                      it takes part in it, or recovers
+  waits, waits above         its disk was lost: it waits for an epoch, or for one above this one
 
 A fault is one line on standard error:
   plc: store missing         nothing was formatted in DIR
@@ -486,6 +508,14 @@ pub enum Words<'a> {
         group: &'a str,
         /// Its place in that file, from 0.
         machine: u8,
+        /// Whether its disk was lost, so that it waits for an epoch.
+        waits: bool,
+        directory: &'a str,
+    },
+    /// Puts the store of a machine into the next epoch by hand.
+    NextEpoch {
+        /// The program with which that begins; without it, the one of the store.
+        source: Option<&'a str>,
         directory: &'a str,
     },
     /// Prints what the store of a machine has.
@@ -621,12 +651,33 @@ fn sim_command<'a>(alloc: Global) -> Result<Command<'a>, AllocError> {
 
 fn format_command<'a>(alloc: Global) -> Result<Command<'a>, AllocError> {
     Command::new(alloc, "format")
-        .about("Makes the store of one machine of a group")
+        .about("Makes the store of one machine of a group, or puts it into the next epoch")
         .after_help(FORMATTING)
-        .arg(file(alloc, "SOURCE").help("The program's text, in Instruction List"))?
-        .arg(group_file(alloc))?
-        .arg(machine(alloc))?
-        .arg(machine_store(alloc))
+        .arg(
+            Arg::new(alloc, "SOURCE")
+                .action(ArgAction::Set)
+                .required_unless_present(NEXT_EPOCH)?
+                .help("The program's text, in Instruction List"),
+        )?
+        .arg(group_file(alloc)?)?
+        .arg(machine(alloc)?)?
+        .arg(machine_store(alloc))?
+        .arg(wait(alloc)?)?
+        .arg(
+            Arg::new(alloc, NEXT_EPOCH)
+                .long(NEXT_EPOCH)
+                .action(ArgAction::SetTrue)
+                .help("Puts the store that is there into the next epoch"),
+        )
+}
+
+/// The option is refused where a store is there already.
+fn wait<'a>(alloc: Global) -> Result<Arg<'a>, AllocError> {
+    Arg::new(alloc, WAIT)
+        .long(WAIT)
+        .action(ArgAction::SetTrue)
+        .help("The machine's disk was lost: it waits for an epoch of its group")
+        .conflicts_with(NEXT_EPOCH)
 }
 
 fn show_command<'a>(alloc: Global) -> Result<Command<'a>, AllocError> {
@@ -777,14 +828,15 @@ fn directory<'a>(alloc: Global) -> Arg<'a> {
         .help("The directory for the stores of the replicas; once, or for each of them")
 }
 
-/// The option is wanted, and refused where it is given twice or empty.
-fn group_file<'a>(alloc: Global) -> Arg<'a> {
+/// The option is wanted for a new store, and refused for one that is there, and where it is given twice or empty.
+fn group_file<'a>(alloc: Global) -> Result<Arg<'a>, AllocError> {
     Arg::new(alloc, GROUP)
         .long(GROUP)
         .value_name("GROUP")
-        .required(true)
         .value_parser(ValueParser::NonEmptyString)
         .help("The file of the group")
+        .required_unless_present(NEXT_EPOCH)?
+        .conflicts_with(NEXT_EPOCH)
 }
 
 /// The text is wanted where no group is given, and refused where one is.
@@ -808,14 +860,16 @@ fn served_group<'a>(alloc: Global) -> Result<Arg<'a>, AllocError> {
     Ok(group)
 }
 
-/// The option is wanted, and refused where it is given twice, or is no number of a machine.
-fn machine<'a>(alloc: Global) -> Arg<'a> {
+/// The option is wanted for a new store, and refused for one that is there, and where it is given twice, or is no number
+/// of a machine.
+fn machine<'a>(alloc: Global) -> Result<Arg<'a>, AllocError> {
     Arg::new(alloc, MACHINE)
         .long(MACHINE)
         .value_name("I")
-        .required(true)
         .value_parser(value_parser!(u8).range(0..=6))
         .help("The machine's place in GROUP, counted from 0")
+        .required_unless_present(NEXT_EPOCH)?
+        .conflicts_with(NEXT_EPOCH)
 }
 
 /// The option is wanted, and refused where it is given twice or empty.
@@ -1040,12 +1094,7 @@ fn worked<'a>(name: &str, inner: &ArgMatches<'a>) -> Option<Words<'a>>
             commands: inner.get_str("COMMANDS")?,
             budget: Budget::new(inner.get_one::<u32>(BUDGET)?)?,
         }),
-        "format" => Some(Words::Format {
-            source: inner.get_str("SOURCE")?,
-            group: inner.get_str(GROUP)?,
-            machine: inner.get_one::<u8>(MACHINE)?,
-            directory: inner.get_str(STORE)?,
-        }),
+        "format" => formatted(inner),
         "show" => Some(Words::Show {
             directory: inner.get_str(DIRECTORY)?,
         }),
@@ -1057,6 +1106,26 @@ fn worked<'a>(name: &str, inner: &ArgMatches<'a>) -> Option<Words<'a>>
         }),
         _ => None,
     }
+}
+
+/// The store that is to be made, or put into the next epoch.
+fn formatted<'a>(inner: &ArgMatches<'a>) -> Option<Words<'a>>
+    ensures { IfSome result IsLostAfterAMinute }
+{
+    let directory = inner.get_str(STORE)?;
+    if inner.get_flag(NEXT_EPOCH) {
+        return Some(Words::NextEpoch {
+            source: inner.get_str("SOURCE"),
+            directory,
+        });
+    }
+    Some(Words::Format {
+        source: inner.get_str("SOURCE")?,
+        group: inner.get_str(GROUP)?,
+        machine: inner.get_one::<u8>(MACHINE)?,
+        waits: inner.get_flag(WAIT),
+        directory,
+    })
 }
 
 /// What is carried: the inputs and outputs of the field of a file.
