@@ -1,24 +1,39 @@
-//! Stores of machines: their bytes, how a machine starts from them, and what `format` and `open` leave.
+//! Stores of machines: their bytes, how a machine starts from them, and what `format`, `keep` and `enter_by_hand` leave.
 
 ghost use Rattle.std.specs.Prelude.{◌<◌, length};
 
+use crate::epochs::{epoch_of, tell_kept};
 use crate::notation::{
-    bytes_of, front, number_of, otherwise, told, told_bytes, unreadable, with_status,
+    behind, bytes_of, cut, front, number_of, otherwise, told, told_bytes, unreadable, with_status,
 };
 use io_model::Counted;
+use net_hello::Epoch;
+use plc_epochs::Kept;
 use plc_store::{
-    Header, NotWritten, Refusal, Start, Store, StoreDirectory, StoreFault, Wanted, format, open,
-    read_store, show, spell, tell_refusal,
+    Header, NotWritten, Refusal, Start, Store, StoreDirectory, StoreFault, Wanted, enter_by_hand,
+    format, is_unbegun, keep, open, read_store, show, show_directory, spell, stored_in,
+    tell_refusal,
 };
+use sha2::{Digest, Sha256};
 use std::alloc::{AllocError, Global};
 use std::io;
 
-/// A directory in memory, whose writes fail where that is asked for.
+/// The image that an operator gives.
+const GIVEN: [u8; 3] = *b"PLI";
+
+/// What a group of three asks of its stores.
+const WANTED: Wanted = Wanted {
+    identity: [11; 32],
+    machines: 3,
+};
+
+/// A directory in memory, of which the machine stops behind so many steps of a write.
 #[derive(Drop)]
 struct MemoryDirectory {
     group: Option<Vec<u8>>,
     views: Vec<u8>,
-    is_failing: bool,
+    mark: Option<Vec<u8>>,
+    steps: u64,
 }
 
 impl StoreDirectory for MemoryDirectory {
@@ -27,6 +42,8 @@ impl StoreDirectory for MemoryDirectory {
     ghost group = { λ d. option_map (λ bytes. bytes.items) d.group };
 
     ghost views = { λ d. d.views.items };
+
+    ghost mark = { λ d. option_map (λ bytes. bytes.items) d.mark };
 
     fn group(&self) -> Option<&[u8]> {
         match &self.group {
@@ -39,11 +56,32 @@ impl StoreDirectory for MemoryDirectory {
         self.views.as_slice()
     }
 
+    fn mark(&self) -> Option<&[u8]> {
+        match &self.mark {
+            Some(bytes) => Some(bytes.as_slice()),
+            None => None,
+        }
+    }
+
     fn put(&mut self, bytes: Vec<u8>) -> Result<(), NotWritten> {
-        if self.is_failing {
+        if self.steps == 0 {
             return Err(NotWritten);
         }
+        self.steps -= 1;
         self.group = Some(bytes);
+        Ok(())
+    }
+
+    fn forget_views(&mut self) -> Result<(), NotWritten> {
+        if self.steps == 0 {
+            return Err(NotWritten);
+        }
+        self.views.clear();
+        if self.steps == 1 {
+            return Err(NotWritten);
+        }
+        self.steps -= 2;
+        self.mark = None;
         Ok(())
     }
 }
@@ -53,7 +91,7 @@ pub fn table(alloc: Global, title: &str, cell: &str) -> io::Result<String> {
     match title {
         "spelt store" => spelt(alloc, cell),
         "read store" => read(alloc, cell),
-        "cut store" => cut(alloc, cell),
+        "cut store" => cut_store(alloc, cell),
         "changed store" => changed(alloc, cell),
         "told refusal" => told_refusal(alloc, cell),
         _ => of_directory(alloc, title, cell),
@@ -64,20 +102,47 @@ fn of_directory(alloc: Global, title: &str, cell: &str) -> io::Result<String> {
     match title {
         "start" => started(alloc, cell),
         "format" => formatted(alloc, cell),
+        "keep" => keeps(alloc, cell),
+        "next epoch by hand of a store" => by_hand(alloc, cell),
+        "shown directory" => shown(alloc, cell),
         _ => Err(unreadable()),
     }
 }
 
-/// The header of these words, as `epoch=1 machine=0 started=0 identity=11 program=22`, in which one byte stands for
-/// each of the 32.
+/// The header of these words, as `identity=11 entered=1.16 program=22 machine=0`, in which one byte stands for each of
+/// the 32 of a sum.
 fn header_of(words: &str) -> Option<Header> {
     Some(Header {
         identity: [byte(words, "identity=")?; 32],
-        epoch: number_of(words, "epoch=")?,
+        kept: kept_of(words)?,
         program: [byte(words, "program=")?; 32],
         machine: byte(words, "machine=")?,
-        is_started: byte(words, "started=")? == 1,
     })
+}
+
+/// What a store has of epochs by these words: nothing where there are none of an epoch.
+fn kept_of(words: &str) -> Option<Kept> {
+    if let Some(epoch) = behind(words, "above=") {
+        return Some(Kept::Above(named_epoch(epoch)?));
+    }
+    if let Some(epoch) = behind(words, "entered=") {
+        return Some(Kept::Entered(named_epoch(epoch)?));
+    }
+    if let Some(epoch) = behind(words, "begun=") {
+        return Some(Kept::Begun(named_epoch(epoch)?));
+    }
+    Some(Kept::Nothing)
+}
+
+/// An epoch, as `2.16`, or as `2.given` where it begins with the image that an operator gives.
+fn named_epoch(text: &str) -> Option<Epoch> {
+    match text.strip_suffix(".given") {
+        Some(number) => Some(Epoch {
+            number: number.parse::<u64>().ok()?,
+            image: Sha256::digest(GIVEN.as_slice()),
+        }),
+        None => epoch_of(text),
+    }
 }
 
 fn byte(words: &str, name: &str) -> Option<u8> {
@@ -119,7 +184,7 @@ fn fault_of(fault: StoreFault) -> &'static str {
 }
 
 fn lines(alloc: Global, store: &Store) -> io::Result<String> {
-    let lines = show(alloc, store)?;
+    let lines = show(alloc, store, false)?;
     Ok(lines.as_str().trim_end().replace(alloc, "\n", ", ")?)
 }
 
@@ -134,7 +199,7 @@ fn is_torn_at_each_cut(alloc: Global, bytes: &[u8]) -> bool {
 }
 
 /// Cuts the bytes of a store at each place: at how many it's torn.
-fn cut(alloc: Global, words: &str) -> io::Result<String> {
+fn cut_store(alloc: Global, words: &str) -> io::Result<String> {
     let bytes = store_bytes(alloc, words)?;
     if is_torn_at_each_cut(alloc, bytes.as_slice()) {
         Ok(format!(in alloc; "torn at {}", bytes.len())?)
@@ -182,18 +247,31 @@ fn changed(alloc: Global, words: &str) -> io::Result<String> {
     Ok(format!(in alloc; "torn {torn}, other format {other}")?)
 }
 
-/// A directory that holds this: `nothing`, or `bytes` and those, or a store's words; and behind `view=` the number of a
-/// replica, if one kept a view there. With `failing` no write goes well.
+/// A directory that holds this: `nothing`, or `bytes` and those, or a store's words; behind `view=` the number of a
+/// replica, if one kept a view there, and behind `marked=` the epoch of a mark. Behind `stops=` stands how many steps of
+/// a write go well.
 fn directory_of(alloc: Global, words: &str) -> io::Result<MemoryDirectory> {
     let mut views = Vec::new(alloc);
     if let Some(view) = byte(words, "view=") {
         views.push(view)?;
     }
+    let mark = match behind(words, "marked=") {
+        Some(epoch) => Some(mark_of(alloc, &named_epoch(epoch).ok_or(unreadable())?)?),
+        None => None,
+    };
     Ok(MemoryDirectory {
         group: group_of(alloc, words)?,
         views,
-        is_failing: words.ends_with("failing"),
+        mark,
+        steps: number_of(words, "stops=").unwrap_or(u64::MAX),
     })
+}
+
+/// The bytes of a mark of this epoch.
+fn mark_of(alloc: Global, epoch: &Epoch) -> Result<Vec<u8>, AllocError> {
+    let mut bytes = Vec::from_slice(alloc, epoch.number.to_be_bytes().as_slice())?;
+    bytes.extend_from_slice(epoch.image.as_slice())?;
+    Ok(bytes)
 }
 
 fn group_of(alloc: Global, words: &str) -> io::Result<Option<Vec<u8>>> {
@@ -211,18 +289,72 @@ fn kept_bytes(alloc: Global, words: &str) -> io::Result<Vec<u8>> {
     }
 }
 
-/// How a machine of a group of three with the identity 11 starts from a directory, and what its store says then.
+/// How a machine of a group of three with the identity 11 starts from a directory.
 fn started(alloc: Global, words: &str) -> io::Result<String> {
-    let mut directory = directory_of(alloc, words)?;
-    let wanted = Wanted {
-        identity: [11; 32],
-        machines: 3,
-    };
-    let came = match open(alloc, &mut directory, &wanted) {
+    told(alloc, starts(alloc, &directory_of(alloc, words)?))
+}
+
+fn starts(alloc: Global, directory: &MemoryDirectory) -> &'static str {
+    match open(alloc, directory, &WANTED) {
         Ok(opened) => start_of(opened.start),
         Err(refusal) => refusal_of(refusal),
+    }
+}
+
+/// What came of a store: what a directory has of epochs then, and how its machine starts from it.
+fn left(alloc: Global, came: &str, directory: &MemoryDirectory) -> io::Result<String> {
+    let kept = match stored_in(alloc, directory) {
+        Ok(store) => tell_kept(alloc, &store.header.kept)?,
+        Err(refusal) => String::from_str(alloc, refusal_of(refusal))?,
     };
-    both(alloc, came, mark_in(alloc, &directory))
+    Ok(format!(in alloc; "{came}, {kept}, {}", starts(alloc, directory))?)
+}
+
+/// A directory whose store is to say of epochs what stands behind `to`: what is answered, and what there is then.
+fn keeps(alloc: Global, words: &str) -> io::Result<String> {
+    let (words, kept) = cut(words, " to ")?;
+    let kept = kept_of(kept).ok_or(unreadable())?;
+    let mut directory = directory_of(alloc, words)?;
+    let came = match keep(alloc, &mut directory, &kept) {
+        Ok(_) => "kept",
+        Err(refusal) => refusal_of(refusal),
+    };
+    left(alloc, came, &directory)
+}
+
+/// A directory whose store is put into the next epoch by hand, with an image where `given` stands: what is answered, and
+/// what there is then.
+fn by_hand(alloc: Global, words: &str) -> io::Result<String> {
+    let mut directory = directory_of(alloc, words)?;
+    let image = if words.ends_with(" given") {
+        Some(Vec::from_slice(alloc, GIVEN.as_slice())?)
+    } else {
+        None
+    };
+    let came = match enter_by_hand(alloc, &mut directory, image) {
+        Ok(store) => image_of(&store),
+        Err(refusal) => refusal_of(refusal),
+    };
+    left(alloc, came, &directory)
+}
+
+/// Which image a store has.
+fn image_of(store: &Store) -> &'static str {
+    let is_given = store.image.as_slice() == GIVEN.as_slice();
+    let is_summed = store.header.program == Sha256::digest(GIVEN.as_slice());
+    match (is_given, is_summed) {
+        (true, true) => "with the one given",
+        (false, false) => "with its own",
+        _ => "with another sum",
+    }
+}
+
+/// What is shown of a directory, with `, ` between the lines.
+fn shown(alloc: Global, words: &str) -> io::Result<String> {
+    match show_directory(alloc, &directory_of(alloc, words)?) {
+        Ok(lines) => Ok(lines.as_str().trim_end().replace(alloc, "\n", ", ")?),
+        Err(refusal) => told(alloc, refusal_of(refusal)),
+    }
 }
 
 /// Two words with `, ` between them.
@@ -232,27 +364,16 @@ fn both(alloc: Global, one: &str, other: &str) -> io::Result<String> {
 
 fn start_of(start: Start) -> &'static str {
     match start {
+        Start::Waits => "waits",
         Start::First => "first",
         Start::Again => "again",
-    }
-}
-
-/// Whether the store of a directory says that it was started.
-fn mark_in(alloc: Global, directory: &MemoryDirectory) -> &'static str {
-    let Some(bytes) = &directory.group else {
-        return "nothing";
-    };
-    match read_store(alloc, bytes.as_slice()) {
-        Ok(store) if store.header.is_started => "started",
-        Ok(_) => "not started",
-        Err(fault) => fault_of(fault),
     }
 }
 
 /// What `format` answers in a directory, and whether it has the new store then.
 fn formatted(alloc: Global, words: &str) -> io::Result<String> {
     let mut directory = directory_of(alloc, words)?;
-    let store = store_of(alloc, "identity=11 epoch=1 program=22 machine=2 started=0")?;
+    let store = store_of(alloc, "identity=11 entered=1.16 program=22 machine=2")?;
     let came = formats(alloc, &mut directory, &store)?;
     let bytes = spell(alloc, &store)?;
     both(alloc, came, store_in(&directory, bytes.as_slice()))
@@ -263,7 +384,7 @@ fn formats(
     directory: &mut MemoryDirectory,
     store: &Store,
 ) -> io::Result<&'static str> {
-    if store.header.is_started {
+    if !is_unbegun(&store.header.kept) {
         return Err(unreadable());
     }
     match format(alloc, directory, store) {
@@ -308,7 +429,7 @@ fn line_of(alloc: Global, refusal: Refusal) -> io::Result<String> {
 }
 
 /// The refusals, with the names that rows give them.
-const REFUSALS: [(Refusal, &str); 13] = [
+const REFUSALS: [(Refusal, &str); 17] = [
     (Refusal::NoStore, "no store"),
     (Refusal::OtherFormat, "other format"),
     (Refusal::Torn, "torn"),
@@ -316,6 +437,10 @@ const REFUSALS: [(Refusal, &str); 13] = [
     (Refusal::OtherMachine, "other machine"),
     (Refusal::ViewGone, "view gone"),
     (Refusal::ViewUnstarted, "view unstarted"),
+    (Refusal::Backward, "backward"),
+    (Refusal::Waits, "waits for its group"),
+    (Refusal::LastEpoch, "last epoch"),
+    (Refusal::Changed, "changed"),
     (Refusal::Used, "used"),
     (Refusal::TooLong, "too long"),
     (Refusal::Taken, "taken"),

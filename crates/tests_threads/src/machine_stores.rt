@@ -1,10 +1,13 @@
 //! The stores of machines, on real files.
 
-ghost use Rattle.std.specs.Prelude.{◌≡◌, IfOk, false};
+ghost use Rattle.std.specs.Prelude.{IfOk, IsTrue};
+ghost use Rattle.plc_store.specs.Judging.{is_unbegun};
 
+use net_hello::Epoch;
+use plc_epochs::Kept;
 use plc_store::{
-    FileDirectory, Header, Opened, Refusal, Start, Store, StoreDirectory, Wanted, format, open,
-    show_directory,
+    ChangeMark, FileDirectory, Header, Refusal, Start, Store, StoreDirectory, Wanted,
+    enter_by_hand, format, keep, open, show_directory,
 };
 use std::alloc::Global;
 use std::fs;
@@ -18,16 +21,21 @@ const WANTED: Wanted = Wanted {
     machines: 3,
 };
 
-/// The store of machine 1, which was never started.
+/// The first epoch.
+const FIRST: Epoch = Epoch {
+    number: 1,
+    image: [22; 32],
+};
+
+/// The store of machine 1, which has entered the first epoch.
 fn new_store(alloc: Global) -> Result<Store, Fail>
-    ensures { IfOk result (λ store. store.header.is_started ≡ false) }
+    ensures { IfOk result (λ store. IsTrue (is_unbegun store.header.kept)) }
 {
     let header = Header {
         identity: [11; 32],
-        epoch: 1,
+        kept: Kept::Entered(FIRST),
         program: [22; 32],
         machine: 1,
-        is_started: false,
     };
     let image = Vec::from_slice(alloc, b"LIP".as_slice())?;
     match Store::new(header, image) {
@@ -46,27 +54,59 @@ fn formatted(rt: HostRuntime, path: &str) -> Result<(), Fail> {
 
 /// How a machine starts from a directory.
 fn started(rt: HostRuntime, path: &str) -> Result<Start, Refusal> {
+    let directory = FileDirectory::take(rt, rt.alloc(), path)?;
+    Ok(open(rt.alloc(), &directory, &WANTED)?.start)
+}
+
+/// Has the store of a directory say this of epochs.
+fn kept(rt: HostRuntime, path: &str, kept: Kept) -> Result<Store, Refusal> {
     let mut directory = FileDirectory::take(rt, rt.alloc(), path)?;
-    let Opened { start, .. } = open(rt.alloc(), &mut directory, &WANTED)?;
-    Ok(start)
+    keep(rt.alloc(), &mut directory, &kept)
 }
 
 #[test]
-fn a_machine_is_new_at_its_first_start_alone(rt: HostRuntime) -> Result<(), Fail> {
+fn a_machine_is_new_once_in_an_epoch(rt: HostRuntime) -> Result<(), Fail> {
     let path = "machine-1";
     formatted(rt, path)?;
     assert_eq!(rt; started(rt, path), Ok(Start::First));
-    // Behind the mark and before the first view an operator has to say what becomes of it.
+    let _ = kept(rt, path, Kept::Begun(FIRST))?;
+    // Behind the begin and before the first view an operator has to say what becomes of it.
     assert_eq!(rt; started(rt, path), Err(Refusal::ViewGone));
     let mut view = FileStore::new(rt, rt.alloc(), path, 1)?;
     let _ = view.begin()?;
     assert_eq!(rt; started(rt, path), Ok(Start::Again));
+    assert_eq!(rt; kept(rt, path, Kept::Entered(FIRST)).err(), Some(Refusal::Backward));
     fs::remove_file(&rt, view.path())?;
     assert_eq!(rt; started(rt, path), Err(Refusal::ViewGone));
     fs::remove_file(&rt, "machine-1/group")?;
     assert_eq!(rt; started(rt, path), Err(Refusal::NoStore));
     fs::remove_dir_all(&rt, path)?;
     assert_eq!(rt; started(rt, path), Err(Refusal::NoStore));
+    Ok(())
+}
+
+#[test]
+fn an_epoch_begins_without_the_views_of_the_one_before(rt: HostRuntime) -> Result<(), Fail> {
+    let path = "machine-4";
+    formatted(rt, path)?;
+    let _ = kept(rt, path, Kept::Begun(FIRST))?;
+    let _ = FileStore::new(rt, rt.alloc(), path, 1)?.begin()?;
+    ChangeMark::new(rt, rt.alloc(), path, &FIRST)?.mark()?;
+    let mut directory = FileDirectory::take(rt, rt.alloc(), path)?;
+    let unnamed = enter_by_hand(rt.alloc(), &mut directory, None);
+    assert_eq!(rt; unnamed.err(), Some(Refusal::Changed));
+    let image = Vec::from_slice(rt.alloc(), b"PLI".as_slice())?;
+    let store = enter_by_hand(rt.alloc(), &mut directory, Some(image))?;
+    drop(directory);
+    assert_eq!(rt; started(rt, path), Ok(Start::First));
+    assert!(rt; fs::exists(&rt, "machine-4/replica-1")?);
+    let Kept::Entered(second) = store.header.kept else {
+        return Err(Refusal::Backward)?;
+    };
+    let _ = kept(rt, path, Kept::Begun(second))?;
+    assert!(rt; !fs::exists(&rt, "machine-4/replica-1")?);
+    assert!(rt; !fs::exists(&rt, "machine-4/changed")?);
+    fs::remove_dir_all(&rt, path)?;
     Ok(())
 }
 
@@ -84,7 +124,7 @@ fn a_store_is_made_once(rt: HostRuntime) -> Result<(), Fail> {
     );
     assert!(rt; !fs::exists(&rt, "machine-2/group.new")?);
     let lines = show_directory(rt.alloc(), &directory)?;
-    assert!(rt; lines.as_str().starts_with("format 1\nidentity 0b0b"));
+    assert!(rt; lines.as_str().starts_with("format 2\nidentity 0b0b"));
     fs::remove_dir_all(&rt, path)?;
     Ok(())
 }

@@ -433,20 +433,66 @@ fn an_address_without_a_port_of_its_own_is_bad(rt: HostRuntime) -> Result<(), Fa
     are_bad(&rt, rt.alloc(), "plc serve a.il --store d --status", &rows)
 }
 
-#[test]
-fn words_ask_for_the_store_of_a_machine(rt: HostRuntime) -> Result<(), Fail> {
-    let format = Words::Format {
+/// What makes the store of a machine, whose disk may have been lost.
+fn format_of(machine: u8, waits: bool) -> Words<'static> {
+    Words::Format {
         source: "a.il",
         group: "g",
-        machine: 6,
+        machine,
+        waits,
         directory: "d",
-    };
+    }
+}
+
+#[test]
+fn words_ask_for_the_next_epoch(rt: HostRuntime) -> Result<(), Fail> {
     let rows: [(&str, Words); 2] = [
-        ("plc format a.il --group g --machine 6 --store d", format),
+        ("plc format --next-epoch --store d", next_epoch(None)),
+        ("plc format --next-epoch a.il --store d", next_epoch(Some("a.il"))),
+    ];
+    ask_for(&rt, rt.alloc(), &rows)?;
+    let rows: [Row; 4] = [
+        (
+            "",
+            "error: the following required arguments were not provided:",
+        ),
+        (
+            "--store d --group g",
+            "error: the argument '--group <GROUP>' cannot be used with '--next-epoch'",
+        ),
+        (
+            "--store d --machine 1",
+            "error: the argument '--machine <I>' cannot be used with '--next-epoch'",
+        ),
+        (
+            "--store d --wait",
+            "error: the argument '--wait' cannot be used with '--next-epoch'",
+        ),
+    ];
+    are_bad(&rt, rt.alloc(), "plc format --next-epoch", &rows)
+}
+
+/// What puts the store of a machine into the next epoch.
+fn next_epoch<'a>(source: Option<&'a str>) -> Words<'a> {
+    Words::NextEpoch {
+        source,
+        directory: "d",
+    }
+}
+
+#[test]
+fn words_ask_for_the_store_of_a_machine(rt: HostRuntime) -> Result<(), Fail> {
+    let rows: [(&str, Words); 3] = [
+        ("plc format a.il --group g --machine 6 --store d", format_of(6, false)),
+        ("plc format a.il --group g --machine 0 --store d --wait", format_of(0, true)),
         ("plc show d", Words::Show { directory: "d" }),
     ];
     ask_for(&rt, rt.alloc(), &rows)?;
-    let rows: [Row; 2] = [
+    let rows: [Row; 3] = [
+        (
+            "--group g --store d",
+            "error: the following required arguments were not provided:",
+        ),
         (
             "--group g --store d --machine 7",
             "error: invalid value '7' for '--machine <I>'",
