@@ -55,8 +55,8 @@ impl Kept {
             (Kept::Above(own), Kept::Above(other))
             | (Kept::Entered(own), Kept::Begun(other))
             | (Kept::Begun(own), Kept::Begun(other)) => is_same(other, own),
-            (Kept::Above(own), Kept::Entered(other))
-            | (Kept::Begun(own), Kept::Entered(other)) => is_later(other, own),
+            (Kept::Above(own), Kept::Entered(other)) | (Kept::Begun(own), Kept::Entered(other)) =>
+                is_later(other, own),
             (Kept::Entered(own), Kept::Entered(other)) => {
                 is_same(other, own) || is_later(other, own)
             }

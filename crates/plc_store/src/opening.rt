@@ -36,7 +36,7 @@ pub fn format<D: StoreDirectory>(
     ensures used { ¬ IsBlank (D.group directory.old) (D.views directory.old) (D.mark directory.old)
         → (result ≡ Err Used) × (D.group directory.new ≡ D.group directory.old) }
     ensures refused { IfErr result (λ e. (e ≡ Used
-            → ¬ IsBlank (D.group directory.old) (D.views directory.old) (D.mark directory.old))
+        → ¬ IsBlank (D.group directory.old) (D.views directory.old) (D.mark directory.old))
         × ((e ≡ Used) ⊎ IsFromOutside e)) }
     ensures whole { (D.group directory.new ≡ D.group directory.old)
         ⊎ (D.group directory.new ≡ Some (spelling (saying store.now))) }

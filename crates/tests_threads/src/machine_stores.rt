@@ -75,7 +75,10 @@ fn a_machine_is_new_once_in_an_epoch(rt: HostRuntime) -> Result<(), Fail> {
     let mut view = FileStore::new(rt, rt.alloc(), path, 1)?;
     let _ = view.begin()?;
     assert_eq!(rt; started(rt, path), Ok(Start::Again));
-    assert_eq!(rt; kept(rt, path, Kept::Entered(FIRST)).err(), Some(Refusal::Backward));
+    assert_eq!(rt;
+        kept(rt, path, Kept::Entered(FIRST)).err(),
+        Some(Refusal::Backward)
+    );
     fs::remove_file(&rt, view.path())?;
     assert_eq!(rt; started(rt, path), Err(Refusal::ViewGone));
     fs::remove_file(&rt, "machine-1/group")?;

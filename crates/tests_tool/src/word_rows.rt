@@ -448,7 +448,10 @@ fn format_of(machine: u8, waits: bool) -> Words<'static> {
 fn words_ask_for_the_next_epoch(rt: HostRuntime) -> Result<(), Fail> {
     let rows: [(&str, Words); 2] = [
         ("plc format --next-epoch --store d", next_epoch(None)),
-        ("plc format --next-epoch a.il --store d", next_epoch(Some("a.il"))),
+        (
+            "plc format --next-epoch a.il --store d",
+            next_epoch(Some("a.il")),
+        ),
     ];
     ask_for(&rt, rt.alloc(), &rows)?;
     let rows: [Row; 4] = [
@@ -483,8 +486,14 @@ fn next_epoch<'a>(source: Option<&'a str>) -> Words<'a> {
 #[test]
 fn words_ask_for_the_store_of_a_machine(rt: HostRuntime) -> Result<(), Fail> {
     let rows: [(&str, Words); 3] = [
-        ("plc format a.il --group g --machine 6 --store d", format_of(6, false)),
-        ("plc format a.il --group g --machine 0 --store d --wait", format_of(0, true)),
+        (
+            "plc format a.il --group g --machine 6 --store d",
+            format_of(6, false),
+        ),
+        (
+            "plc format a.il --group g --machine 0 --store d --wait",
+            format_of(0, true),
+        ),
         ("plc show d", Words::Show { directory: "d" }),
     ];
     ask_for(&rt, rt.alloc(), &rows)?;
