@@ -1,4 +1,5 @@
 pub mod Accepting
 pub mod Courses
+pub mod Heard
 pub mod Passing
 pub mod Sent

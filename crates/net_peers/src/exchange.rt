@@ -1,7 +1,10 @@
 //! The parties of one machine: what waits for each of them, and what is known of the connections to other machines.
 
+use crate::greeting::VISIT;
 use crate::notice::LinkNotice;
+use crate::waiting::Waiting;
 use mio::Waker;
+use net_hello::Epoch;
 use std::alloc::Global;
 use std::sync::atomic::{AtomicU8, Ordering};
 use std::sync::{Arc, Mutex, Wait};
@@ -11,9 +14,6 @@ use vr_ports::Cutter;
 
 /// So many messages may wait for a party of the machine; more are lost.
 const MOST_WAITING: usize = 1024;
-
-/// So many notices may wait to be told; more are lost.
-const MOST_NOTICES: usize = 256;
 
 /// What waits for a party.
 #[derive(Drop)]
@@ -54,7 +54,9 @@ impl Slot {
 #[derive(Drop)]
 pub struct Exchange {
     slots: Vec<Slot>,
-    notices: Mutex<Vec<LinkNotice>>,
+    notices: Waiting<LinkNotice>,
+    hellos: Waiting<(u8, Epoch)>,
+    visits: Waiting<[u8; VISIT]>,
     /// Which replicas are connected to the machine's own, by bits.
     reached: AtomicU8,
     /// From which of them something came just now.
@@ -66,7 +68,9 @@ impl Exchange {
     pub(crate) fn new(alloc: Global) -> Exchange {
         Exchange {
             slots: Vec::new(alloc),
-            notices: Mutex::new(Vec::new(alloc)),
+            notices: Waiting::new(alloc),
+            hellos: Waiting::new(alloc),
+            visits: Waiting::new(alloc),
             reached: AtomicU8::new(0),
             near: AtomicU8::new(0),
         }
@@ -134,17 +138,35 @@ impl Exchange {
 
     /// A notice waits to be told.
     pub(crate) fn note<R: Wait>(&self, rt: &R, notice: LinkNotice) {
-        let mut notices = self.notices.lock(rt);
-        if notices.len() < MOST_NOTICES {
-            // One that there is no memory for is lost.
-            let _ = notices.push(notice);
-        }
+        self.notices.add(rt, notice);
     }
 
-    /// What changed since that was asked last, the earliest first.
+    /// What changed since that was asked last, the earliest first. What is too much to wait is lost, here as below.
     pub fn notices<R: Wait>(&self, rt: &R, alloc: Global) -> Vec<LinkNotice> {
-        let mut notices = self.notices.lock(rt);
-        mem::replace(&mut notices, Vec::new(alloc))
+        self.notices.take(rt, alloc)
+    }
+
+    /// A replica of another machine said hello in this epoch.
+    pub(crate) fn hear<R: Wait>(&self, rt: &R, replica: u8, epoch: Epoch) {
+        self.hellos.add(rt, (replica, epoch));
+    }
+
+    /// The hellos of other machines' replicas since that was asked last, the earliest first: the replica's number, and
+    /// the epoch in which it was said, whether it was accepted or refused. One is said as often as a connection begins,
+    /// whoever dialled it; where connections stay none is.
+    pub fn hellos<R: Wait>(&self, rt: &R, alloc: Global) -> Vec<(u8, Epoch)> {
+        self.hellos.take(rt, alloc)
+    }
+
+    /// A visit came.
+    pub(crate) fn visited<R: Wait>(&self, rt: &R, visit: [u8; VISIT]) {
+        self.visits.add(rt, visit);
+    }
+
+    /// The visits since that was asked last, the earliest first. Of their bytes the first eight alone are known: those
+    /// of a visit.
+    pub fn visits<R: Wait>(&self, rt: &R, alloc: Global) -> Vec<[u8; VISIT]> {
+        self.visits.take(rt, alloc)
     }
 
     /// Shows which replicas are connected to the machine's own, and from which something came just now, by bits.

@@ -1,13 +1,18 @@
 //! A connection whose other end has said no hello yet.
 
-ghost use Rattle.std.specs.Prelude.{◌≡◌, ◌≤◌, take};
-ghost use Rattle.net_hello.specs.Hellos.{IsHello};
-ghost use Rattle.net_peers.specs.declared.greeting.Greeted.TheVariants.{Said};
-ghost use Rattle.net_hello.specs.declared.hello.Hello.{Hello as Whose};
+ghost use Rattle.std.specs.Prelude.{◌≡◌, ◌≤◌};
+ghost use Rattle.net_peers.specs.Heard.{begins_visit, greeted_by, heard_in, visit_front};
 
 use mio::net::TcpStream as Wire;
-use net_hello::{HELLO, Hello, HelloFault};
+use net_hello::{Epoch, HELLO, Hello, HelloFault};
 use std::io::{ErrorKind, Read, Write};
+use vr_model::Party;
+
+/// So many bytes has a visit.
+pub const VISIT: usize = 153;
+
+/// The first bytes of a visit: `PLC-CS`, and the version.
+const VISIT_FRONT: [u8; 8] = [0x50, 0x4C, 0x43, 0x2D, 0x43, 0x53, 0, 1];
 
 /// How far a greeting has come.
 #[derive(Clone, Copy)]
@@ -15,18 +20,55 @@ pub(crate) enum Greeted {
     /// More is to come.
     Waits,
     Said(Hello),
+    /// It's no hello, but a visit, of these bytes.
+    Visits([u8; VISIT]),
     Faulty(HelloFault),
     /// The connection ended or failed.
     Over,
 }
 
-/// A connection, and what came of the other end's hello.
+/// Whether a visit begins so.
+fn begins_visit(bytes: &[u8]) -> bool
+    ensures { result ≡ begins_visit bytes.now }
+{
+    bytes.starts_with(&VISIT_FRONT)
+}
+
+/// What is said in these bytes so far.
+fn greeted_by(bytes: &[u8]) -> Greeted
+    ensures { result ≡ greeted_by bytes.now }
+{
+    if begins_visit(bytes) {
+        return match <[u8; VISIT]>::try_from(bytes) {
+            Ok(visit) => Greeted::Visits(visit),
+            Err(_) => Greeted::Waits,
+        };
+    }
+    match Hello::read(bytes) {
+        Ok(Some(hello)) => Greeted::Said(hello),
+        Ok(None) => Greeted::Waits,
+        Err(fault) => Greeted::Faulty(fault),
+    }
+}
+
+/// The number of the replica of one's own group that says this hello, and the epoch in which it does; `None` where
+/// another group or a client says it.
+pub(crate) fn heard_in(own: &Hello, hello: &Hello) -> Option<(u8, Epoch)>
+    ensures { result ≡ heard_in own.now hello.now }
+{
+    match hello.party {
+        Party::Replica(number) if own.identity == hello.identity => Some((number, hello.epoch)),
+        _ => None,
+    }
+}
+
+/// A connection, and what came of the other end's hello or visit.
 #[derive(Drop)]
 pub(crate) struct Greeting {
     pub(crate) wire: Wire,
-    bytes: [u8; HELLO],
+    bytes: [u8; VISIT],
     count: usize,
-    ghost fits: { count ≤ 90 },
+    ghost fits: { count ≤ 153 },
 }
 
 /// Says hello at once: a new connection takes so few bytes. False where it doesn't.
@@ -42,14 +84,30 @@ impl Greeting {
     pub(crate) fn new(wire: Wire) -> Greeting {
         Greeting {
             wire,
-            bytes: [0; HELLO],
+            bytes: [0; VISIT],
             count: 0,
         }
     }
 
-    /// Reads what is there, once.
+    /// Whether it's a visit, as far as it came.
+    fn is_visit(&self) -> bool {
+        begins_visit(&self.bytes[..self.count])
+    }
+
+    /// So many bytes are read at most: what comes behind a hello isn't.
+    fn end(&self) -> usize
+        ensures { result ≤ 153 }
+    {
+        if self.is_visit() { VISIT } else { HELLO }
+    }
+
+    /// Reads what is there, once. False where the connection is over.
     fn fill(&mut self) -> bool {
-        match self.wire.read(&mut self.bytes[self.count..]) {
+        let end = self.end();
+        if self.count >= end {
+            return true;
+        }
+        match self.wire.read(&mut self.bytes[self.count..end]) {
             Ok(0) => false,
             Ok(count) => {
                 self.count += count;
@@ -59,15 +117,11 @@ impl Greeting {
         }
     }
 
-    /// Reads what is there, and tells what was said.
+    /// Reads what is there, and tells what was said. A visit is read in two pieces: it's longer than a hello.
     pub(crate) fn hear(&mut self) -> Greeted {
-        if self.count < HELLO && !self.fill() {
+        if !self.fill() || (self.is_visit() && !self.fill()) {
             return Greeted::Over;
         }
-        match Hello::read(&self.bytes[..self.count]) {
-            Ok(Some(hello)) => Greeted::Said(hello),
-            Ok(None) => Greeted::Waits,
-            Err(fault) => Greeted::Faulty(fault),
-        }
+        greeted_by(&self.bytes[..self.count])
     }
 }

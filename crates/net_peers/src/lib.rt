@@ -1,10 +1,10 @@
 //! Links of the parties of one machine, in a group whose replicas run on several: frames over connections to the
 //! parties of other machines, and messages of the machine's own parties in memory. Only replicas listen; each
 //! connection begins with a hello (`net_hello`) and goes on with records (`net_records`), so an end that falls silent
-//! is dialled again.
+//! is dialled again. A connection may also be a visit: one frame of another kind, which nobody answers.
 //!
 //! ```rust
-//! use net_peers::{Machine, Pulse, machine_links};
+//! use net_peers::{Machine, Pulse, machine_links, visit};
 //!
 //! let pulse = Pulse::of(100, 25); // a beat each 25 ms; near is of whom something came within 60 ms
 //! let machine = Machine { identity, epoch, starts: 3, number: 0, replicas: addresses, has_console: true, pulse };
@@ -12,6 +12,9 @@
 //! let (exchange, links) = machine_links(rt, alloc, &machine, listener, Duration::from_millis(5))?;
 //! let is_connected = exchange.reached() & 0b10 != 0; // to replica 1; `near`: it was heard of just now
 //! for notice in exchange.notices(&rt, alloc) {} // LinkNotice::Joined(..), Lost(..), Refused(..)
+//! for (replica, epoch) in exchange.hellos(&rt, alloc) {} // said by replicas of other machines, accepted or refused
+//! visit(&rt, address, frame, Duration::from_millis(50)); // at another machine's replica, without a link
+//! for visit in exchange.visits(&rt, alloc) {} // each of VISIT bytes
 //! ```
 //!
 //! Proved: when a connection is dialled, given up after 400 ms, dialled again after 50 to 400 ms, kept alive by a beat,
@@ -42,11 +45,15 @@ mod notice;
 mod peer;
 mod phase;
 mod strangers;
+mod visiting;
+mod waiting;
 
 pub use course::{Course, Pulse};
 pub use exchange::{Exchange, PeerCutter};
+pub use greeting::VISIT;
 pub use laws::only_sent_is_given_in_records;
 pub use link::PeerLink;
 pub use machine::{FIRST_CONSOLE, Machine, machine_links};
 pub use notice::LinkNotice;
 pub use phase::{Duty, Phase};
+pub use visiting::visit;

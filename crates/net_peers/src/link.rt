@@ -9,7 +9,7 @@ ghost use Rattle.net_peers.specs.Passing.{AreTo, CameFrom, IsGiven, is_from};
 use crate::accepted::Accepted;
 use crate::connection::Connection;
 use crate::exchange::{Exchange, PeerCutter};
-use crate::greeting::greet;
+use crate::greeting::{greet, heard_in};
 use crate::machine::EVENTS;
 use crate::notice::{LinkNotice, Told};
 use crate::peer::{Change, Own, Peer};
@@ -221,21 +221,45 @@ where
             return;
         }
         let (party, change) = (peer.party, peer.tend(self.alloc, &self.own, now));
+        if let Some(hello) = peer.take_heard() {
+            self.hear(&hello);
+        }
         self.note(party, change);
     }
 
-    /// Answers what a stranger said, and keeps the connection if its hello is accepted.
+    /// Tells whose hello came, if it's of a replica of this group that this party is connected with.
+    fn hear(&self, hello: &Hello) {
+        if self.place_of(hello.party) == self.peers.len() {
+            return;
+        }
+        if let Some((replica, epoch)) = heard_in(&self.own.hello, hello) {
+            self.exchange.hear(&self.rt, replica, epoch);
+        }
+    }
+
+    /// Answers what a stranger said, and keeps the connection if its hello is accepted. A visit is kept, unanswered.
     fn welcome(&mut self, introduced: Introduced, now: u64)
         ensures { self.new.party ≡ self.old.party }
     {
-        let Introduced { wire, hello } = introduced;
+        match introduced {
+            Introduced::Said(wire, hello) => self.answer(wire, &hello, now),
+            Introduced::OtherVersion(wire) => {
+                let mut wire = wire;
+                greet(&mut wire, self.own.bytes.as_slice());
+                self.refuse(None, Refusal::OtherVersion);
+            }
+            Introduced::Visited(visit) => self.exchange.visited(&self.rt, visit),
+        }
+    }
+
+    /// Answers this hello, and keeps the connection if it's accepted.
+    fn answer(&mut self, wire: Wire, hello: &Hello, now: u64)
+        ensures { self.new.party ≡ self.old.party }
+    {
+        self.hear(hello);
         let mut wire = wire;
-        let is_answered = greet(&mut wire, self.own.bytes.as_slice());
-        let Some(hello) = hello else {
-            return self.refuse(None, Refusal::OtherVersion);
-        };
-        if is_answered {
-            let change = self.join(&hello, wire, now);
+        if greet(&mut wire, self.own.bytes.as_slice()) {
+            let change = self.join(hello, wire, now);
             self.note(hello.party, change);
         }
     }

@@ -67,6 +67,8 @@ pub(crate) struct Peer {
     /// The most starts that it told.
     starts: u64,
     has_joined: bool,
+    /// The last hello that came where it was dialled, until it's asked for.
+    heard: Option<Hello>,
 }
 
 impl Peer {
@@ -79,6 +81,7 @@ impl Peer {
             course: Course::new(pulse, 0),
             starts: 0,
             has_joined: false,
+            heard: None,
         }
     }
 
@@ -88,6 +91,11 @@ impl Peer {
             None => Some(self.starts),
             Some(_) => None,
         }
+    }
+
+    /// The hello that came last where it was dialled, accepted or not, unless that was asked before.
+    pub(crate) fn take_heard(&mut self) -> Option<Hello> {
+        self.heard.take()
     }
 
     /// Whether something came over its connection, and that isn't over.
@@ -214,6 +222,7 @@ impl Peer {
         hello: &Hello,
         now: u64,
     ) -> Change {
+        self.heard = Some(*hello);
         let seen = if hello.party == self.party {
             Some(self.starts)
         } else {

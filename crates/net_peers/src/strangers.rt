@@ -2,7 +2,7 @@
 
 ghost use Rattle.std.specs.Prelude.{◌≤◌, length};
 
-use crate::greeting::{Greeted, Greeting};
+use crate::greeting::{Greeted, Greeting, VISIT};
 use mio::net::{TcpListener as Listener, TcpStream as Wire};
 use mio::{Interest, Registry, Token};
 use net_hello::{Hello, HelloFault};
@@ -24,12 +24,14 @@ struct Stranger {
     since: u64,
 }
 
-/// What a stranger said, and the connection.
+/// What a stranger said, and the connection if it's to be answered.
 #[derive(Drop)]
-pub(crate) struct Introduced {
-    pub(crate) wire: Wire,
-    /// `None`: it's a hello of another version.
-    pub(crate) hello: Option<Hello>,
+pub(crate) enum Introduced {
+    Said(Wire, Hello),
+    /// A hello of another version.
+    OtherVersion(Wire),
+    /// The bytes of a visit, whose connection is closed.
+    Visited([u8; VISIT]),
 }
 
 /// Those whose other ends have said no hello yet, by places.
@@ -94,8 +96,8 @@ impl Strangers {
         self.places.len()
     }
 
-    /// Hears the one at this place. What it said, if it said a hello; one that says something else, or nothing for too
-    /// long, is closed.
+    /// Hears the one at this place. What it said, if it said a hello or left a visit; one that says something else, or
+    /// nothing for too long, is closed.
     pub(crate) fn hear(&mut self, place: usize, now: u64) -> Option<Introduced> {
         let slot = self.places.get_mut(place)?;
         let mut stranger = slot.take()?;
@@ -106,14 +108,11 @@ impl Strangers {
                 }
                 None
             }
-            Greeted::Said(hello) => Some(Introduced {
-                wire: stranger.greeting.wire,
-                hello: Some(hello),
-            }),
-            Greeted::Faulty(HelloFault::OtherVersion) => Some(Introduced {
-                wire: stranger.greeting.wire,
-                hello: None,
-            }),
+            Greeted::Said(hello) => Some(Introduced::Said(stranger.greeting.wire, hello)),
+            Greeted::Faulty(HelloFault::OtherVersion) => {
+                Some(Introduced::OtherVersion(stranger.greeting.wire))
+            }
+            Greeted::Visits(visit) => Some(Introduced::Visited(visit)),
             Greeted::Faulty(HelloFault::NoHello) | Greeted::Over => None,
         }
     }
