@@ -19,11 +19,13 @@
 //!
 //! Proved: when a connection is dialled, given up after 400 ms, dialled again after 50 to 400 ms, kept alive by a beat,
 //! and over after 500 ms of silence, and when its other end is near, as definitions (`Course`, `Pulse`). A message that
-//! a link gives is to its own party, and came from the machine's own parties or over a connection whose other end said a
-//! hello that was accepted, of another party of this group in this epoch, which is the message's sender; then it's no
+//! a link gives is to its own party, and came from the machine's own parties or over a connection whose other end said
+//! a hello that was accepted, of another party of this group in this epoch, which is the message's sender; then it's no
 //! scan. Behind 1 MiB that waits for a party a message to it is lost, whole. A refusal is told once for each cause and
-//! party. Of what was put at the other end since the hello a prefix is given, in order, where TCP gives a prefix of what
-//! was written (`only_sent_is_given_in_records`). Each call is safe and returns, but for the wait of a poll or a lock.
+//! party. Of what was put at the other end since the hello a prefix is given, in order, where TCP gives a prefix of
+//! what was written (`only_sent_is_given_in_records`). What a connection's first bytes say, a hello or a visit, is
+//! exactly `greeted_by`, and of whom a hello is heard `heard_in` (`specs/Heard`). Each call is safe and returns, but
+//! for the wait of a poll or a lock.
 //!
 //! Tested (`peer_rows` of `tests_threads`): each refusal, that it's answered and noticed at both ends, that a higher
 //! start replaces an older one, hello and record cut at each byte, strangers that are let go, a partition that heals,

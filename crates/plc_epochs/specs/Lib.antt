@@ -4,3 +4,5 @@ pub mod Recovering
 pub mod Keeping
 pub mod Table
 pub mod GoingOn
+pub mod Visits
+pub mod VisitReading

@@ -14,6 +14,8 @@
 //!     _ => ..,
 //! }
 //! if machine.takes_answers() { .. } // else no RECOVERYRESPONSE is handed to the replica
+//! let bytes = Visit { identity, epoch, from, word }.spell(alloc)?; // a word, as another machine gets it
+//! let visit = Visit::read(bytes.as_slice()); // `None` where they aren't one
 //! ```
 //!
 //! A machine that recovers, and knows that f others do, too, asks all others to freeze: to take no answer. Of f that do
@@ -40,6 +42,7 @@ mod kept;
 mod laws;
 mod recovery;
 mod told;
+mod visit;
 mod word;
 
 pub use cold_start::{ColdStart, Greeting, Phase, Place, Step};
@@ -48,4 +51,5 @@ pub use kept::{ByHandFault, Kept};
 pub use laws::no_store_goes_back;
 pub use recovery::{BEFORE_FREEZING, FROZEN, Question, Recovery};
 pub use told::{Moment, RECENT, Told};
+pub use visit::{VISIT, Visit};
 pub use word::{Answer, Word};
