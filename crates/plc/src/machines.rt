@@ -59,11 +59,6 @@ impl Machine {
     }
 }
 
-/// Why a machine is served no more, if by a fault.
-pub(crate) fn ended_by(failed: Option<Failed>) -> Option<Unserved> {
-    Some(Unserved::Failed(failed?))
-}
-
 /// Tells why a machine isn't served from a directory, or is no more, if by a fault, and answers the status.
 pub(crate) fn tell_unserved<E: CountedWrite>(
     directory: &str,

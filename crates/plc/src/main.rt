@@ -15,9 +15,9 @@ ghost use Rattle.plc.specs.Asked.{IsAsAsked, IsLostAfterAMinute};
 
 use crate::asking::{Asking, Console, ask};
 use crate::carrying::{Carrying, carried};
-use crate::machines::{Machine, ended_by, tell_unserved};
+use crate::machines::{Machine, tell_unserved};
 use crate::serving::{Report, Serving, settled};
-use crate::showing::notices_of;
+use crate::showing::{another_showing, notices_of};
 use crate::stores::Formatted;
 use il_text::{Fault, tell};
 use io_image::NewList;
@@ -86,14 +86,28 @@ fn main(rt: HostRuntime) -> ExitCode {
             },
         ) => {
             let mut err = Counted::new(Telling::new(rt, rt.stderr(), notices_of(&showing)));
-            let unserved = match Member::open(host, &group, directory.as_str()) {
-                // The directory is locked to the end.
-                Ok((member, _directory)) => {
-                    let list = NewList::new();
-                    ended_by(member.serve::<Brand, _, _>(host, list, &group, showing, &mut err))
+            let (mut unserved, mut ended) = (None, None);
+            match Member::open(host, directory.as_str()) {
+                Ok(mut member) => {
+                    for _ in rt.forever() {
+                        match member.next_life(host, &group, ended, &mut err) {
+                            Ok(Some(begun)) => {
+                                let list = NewList::new();
+                                let shown = another_showing(&rt, &showing);
+                                ended = Some(begun.serve::<Brand, _>(
+                                    host, list, &group, shown, &mut err,
+                                ));
+                            }
+                            Ok(None) => break,
+                            Err(refused) => {
+                                unserved = Some(refused);
+                                break;
+                            }
+                        }
+                    }
                 }
-                Err(unserved) => Some(unserved),
-            };
+                Err(refused) => unserved = Some(refused),
+            }
             tell_unserved(directory.as_str(), unserved, &mut err)
         }
         Outcome::Carry(Carrying { text, mode }) => {

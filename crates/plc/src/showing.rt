@@ -26,3 +26,16 @@ pub(crate) fn notices_of(showing: &Option<Showing>) -> Option<Arc<Notices>> {
         None => None,
     }
 }
+
+/// The same again, of a machine that goes on in a later epoch; none where that isn't to be had.
+pub(crate) fn another_showing(rt: &HostRuntime, showing: &Option<Showing>) -> Option<Showing> {
+    let Some(showing) = showing else {
+        return None;
+    };
+    Some(Showing {
+        version: showing.version,
+        notices: Arc::try_clone(&showing.notices).ok()?,
+        keys: RandomState::new(rt).ok()?,
+        process: ProcessFiles::open(rt).ok(),
+    })
+}

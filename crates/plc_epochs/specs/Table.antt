@@ -70,6 +70,10 @@ abbrev pub question_in : Phase → Option Word
 question_in (Recovering epoch recovery) = question_word recovery.nonce recovery.question
 question_in phase = None
 
+abbrev pub recovers_in : Phase → Bool
+recovers_in (Recovering epoch recovery) = true
+recovers_in phase = false
+
 -- of one that recovers, and isn't frozen
 abbrev pub takes_answers_in : Phase → Bool
 takes_answers_in (Recovering epoch recovery) = not (is_some recovery.frozen)

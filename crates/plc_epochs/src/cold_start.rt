@@ -206,6 +206,13 @@ impl ColdStart {
         }
     }
 
+    /// Whether its replica recovers.
+    pub fn recovers(&self) -> bool
+        ensures { result ≡ table.recovers_in self.now.phase }
+    {
+        matches!(self.phase, Phase::Recovering { .. })
+    }
+
     /// Whether a RECOVERYRESPONSE is handed to its replica.
     pub fn takes_answers(&self) -> bool
         ensures { result ≡ table.takes_answers_in self.now.phase }

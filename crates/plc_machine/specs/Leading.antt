@@ -35,13 +35,14 @@ opens_from came fresh = later_by came fresh
 abbrev pub moment_at : LastScan → ℕ → ℕ
 moment_at from now = min (from.moment + (now - as_nanos from.came) / 1_000_000) (2 ^ 64 - 1)
 
--- a machine leads this view from now on, with the last scan of its log, if there is one
+-- a machine leads this view from now on, with the last scan of its log, if there is one; where there is none whoever led
+-- in the epoch before may show outputs until they are no longer fresh
 abbrev pub Begins : ℕ → Option LastScan → Duration → Pace → Lead → Type 0
 Begins view (Some last) now pace lead = (lead.view ≡ view) × (lead.from ≡ last)
     × (as_nanos lead.due ≡ starts_from (as_nanos last.came) (as_nanos now) (as_nanos pace.period))
     × (as_nanos lead.opens ≡ opens_from (as_nanos last.came) (as_nanos pace.fresh))
 Begins view None now pace lead = (lead.view ≡ view) × (lead.from ≡ record { moment = 0; came = now })
-    × (lead.due ≡ now) × (lead.opens ≡ now)
+    × (lead.due ≡ now) × (as_nanos lead.opens ≡ opens_from (as_nanos now) (as_nanos pace.fresh))
 
 abbrev pub BeginsAs : ℕ → Option LastScan → Duration → Pace → Course → Type 0
 BeginsAs view last now pace StandingBy = ⊥

@@ -83,7 +83,8 @@ fn due_from(last: LastScan, now: Duration, period: Duration) -> Duration
 impl Lead {
     /// It begins to lead this view now, with the last scan of its log, if there is one: moments go on from that scan's,
     /// the next scan is due a period behind it, and nothing is shown before whoever led until now shows nothing any
-    /// more.
+    /// more. In an epoch that has no scan yet that may be who led in the one before it: so it's as behind a scan that
+    /// came in now.
     fn begin(view: u64, last: Option<LastScan>, now: Duration, pace: Pace) -> Lead
         ensures { Begins view last now pace result }
     {
@@ -101,7 +102,7 @@ impl Lead {
                     came: now,
                 },
                 due: now,
-                opens: now,
+                opens: now.saturating_add(pace.fresh),
             },
         }
     }

@@ -1,3 +1,5 @@
 pub mod Driving
 pub mod Ports
+pub mod Holding
+pub mod Keeping
 pub mod Watching

@@ -11,6 +11,8 @@ ghost use Rattle.plc_machine.specs.declared.leading.LastScan.{LastScan as Last};
 ghost use Rattle.plc_member.specs.Driving.{MayScan, Publishes};
 
 use crate::filling::fill;
+use crate::held_link::HeldLink;
+use crate::keeper::{Keeper, Leaving};
 use crate::port::{Port, Turn};
 use crate::publisher::Publisher;
 use crate::requester::Requester;
@@ -18,7 +20,7 @@ use crate::scans::ScanBoard;
 use crate::stop::Stop;
 use crate::teller::{Submitted, Teller};
 use io_image::{Naming, Pen, Stage, StageError};
-use net_peers::PeerLink;
+use plc_epochs::Kept;
 use plc_host::{Failed, Host, ServiceRuntime};
 use plc_machine::{Course, led_view};
 use plc_status::halt_in;
@@ -40,7 +42,8 @@ where
     /// Since when its times are told.
     pub(crate) begun: Instant,
     pub(crate) requester: Requester<R>,
-    pub(crate) solo: Solo<PeerLink<R>>,
+    pub(crate) solo: Solo<HeldLink<R>>,
+    pub(crate) keeper: Keeper<R>,
     pub(crate) board: Arc<ScanBoard>,
     pub(crate) stage: Arc<Stage>,
     pub(crate) publisher: Publisher<R, J, P>,
@@ -49,6 +52,16 @@ where
     pub(crate) submitted: Submitted,
     /// What ends it.
     pub(crate) stop: Stop,
+}
+
+/// How a machine ends that has begun an epoch.
+#[derive(Clone, Copy)]
+pub enum Ended {
+    /// It was asked to.
+    Stopped,
+    Failed(Failed),
+    /// It leaves its epoch, and its store is to have this.
+    Leaves(Kept),
 }
 
 /// The view that a machine leads, if it leads.
@@ -70,28 +83,29 @@ where
     J: Naming + Send + Sync + 'static,
     P: Pen<J> + Drop,
 {
-    /// Drives while the machine leads, and stands by else, until something fails: what; or, with none, until it's asked
-    /// to stop. The port is open while outputs are shown, and closed at the end. Then nothing more is noted.
-    pub(crate) fn run(mut self, port: Port<R, J>) -> Option<Failed> {
-        let failed = self.go_on(port);
+    /// Drives while the machine leads, and stands by else, until something fails, it's asked to stop, or it leaves its
+    /// epoch. The port is open while outputs are shown, and closed at the end with each of its sessions: so nothing of
+    /// the epoch is shown any more before anything is said in a later one. Then nothing more is noted.
+    pub(crate) fn run(mut self, port: Port<R, J>) -> Ended {
+        let ended = self.go_on(port);
         self.solo.cut();
         self.teller.end();
-        failed
+        ended
     }
 
-    /// Turn by turn, until something fails or it's asked to stop.
-    fn go_on(&mut self, mut port: Port<R, J>) -> Option<Failed> {
+    /// Turn by turn, until it ends.
+    fn go_on(&mut self, mut port: Port<R, J>) -> Ended {
         let rt = self.host.rt;
         for _ in rt.forever() {
-            if self.stop.is_asked() {
+            if let Some(ended) = self.ends() {
                 port.close();
-                return None;
+                return ended;
             }
             let shows = match self.turn() {
                 Ok(shows) => shows,
                 Err(failed) => {
                     port.close();
-                    return Some(failed);
+                    return Ended::Failed(failed);
                 }
             };
             self.teller.show_course(shows);
@@ -100,11 +114,23 @@ where
                     port = tended;
                     self.note_port(turn);
                 }
-                Err(failed) => return Some(failed),
+                Err(failed) => return Ended::Failed(failed),
             }
         }
         port.close();
         unreachable!()
+    }
+
+    /// How it ends now, if it does: it's asked to stop, or leaves its epoch.
+    fn ends(&mut self) -> Option<Ended> {
+        if self.stop.is_asked() {
+            return Some(Ended::Stopped);
+        }
+        let Leaving { kept, notice } = self.keeper.attend(&mut self.solo)?;
+        if let Some(notice) = notice {
+            self.teller.note(notice);
+        }
+        Some(Ended::Leaves(kept))
     }
 
     /// Looks at the replica, submits a scan where one is due, and takes one message at most. Whether outputs are shown
@@ -137,12 +163,13 @@ where
         }
     }
 
-    /// Looks at the replica, and follows what it shows. It fails where the replica's store did, or its thread ended.
+    /// Looks at the replica, and follows what it shows. It fails where the replica's store did, where its store couldn't
+    /// be marked, or where its thread ended.
     fn look(&mut self) -> Result<(), Failed> {
         let now = self.elapsed()?;
         let shown = self.solo.look();
         self.teller.look(shown, now);
-        if shown.has_failed {
+        if shown.has_failed || self.keeper.terms.hold.is_dead() {
             return Err(Failed::Store(self.requester.number));
         }
         if self.solo.is_over() {

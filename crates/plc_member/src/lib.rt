@@ -17,8 +17,14 @@
 //! and times are joined; that the port is open only while outputs are shown.
 #![tactic(auto)]
 
+mod antechamber;
+mod begun;
 mod drive;
 mod filling;
+mod freezing;
+mod held_link;
+mod keeper;
+mod links;
 mod neighbours;
 mod opening;
 mod port;
@@ -28,12 +34,16 @@ mod requester;
 mod scans;
 mod services;
 mod serving;
+mod speaker;
 mod stop;
 mod teller;
 mod unserved;
 mod watch;
 
+pub use begun::Begun;
+pub use drive::Ended;
 pub use opening::Member;
+pub use program::Marks;
 pub use serving::MachineRuntime;
 pub use stop::Stop;
 pub use unserved::Unserved;

@@ -1,8 +1,12 @@
 //! Whether the program in force is still the one with which the epoch began.
 
+use crate::held_link::Hold;
 use il_loader::Image;
 use il_model::Command;
+use plc_store::{ChangeMark, NotWritten};
 use std::alloc::{AllocError, Global};
+use std::fs::File;
+use std::rt::Files;
 use std::sync::Arc;
 use std::sync::atomic::{AtomicBool, Ordering};
 use vr_model::Request;
@@ -19,13 +23,51 @@ enum Told {
     NotKept,
 }
 
-/// Tells that another program may be in force, before any of its outputs can be released: a change is an entry of the
-/// log of each replica that leads, before it's carried out.
+/// What marks the store of a machine by a change of its program.
+pub trait Marks {
+    /// Has it marked, on disk, before it's answered. It fails only where that can't be written.
+    fn mark(&self) -> Result<(), NotWritten>;
+}
+
+impl<R: Files<File = File> + Drop> Marks for ChangeMark<R> {
+    fn mark(&self) -> Result<(), NotWritten> {
+        ChangeMark::mark(self)
+    }
+}
+
+/// What a change of the program is kept by, so that no cold start brings back the program before it by itself.
 #[derive(Drop)]
-pub(crate) struct ProgramWatch {
+pub(crate) struct Marking<M> {
+    /// That another program may be in force, for others of the machine.
+    pub(crate) has_changed: Arc<AtomicBool>,
+    /// Marks the store; none where it's marked already.
+    pub(crate) mark: Option<M>,
+    /// Ends the replica's link where the store can't be marked.
+    pub(crate) hold: Arc<Hold>,
+}
+
+impl<M: Marks + Drop> Marking<M> {
+    /// A change is in the log of the machine's own replica, and no message that was sent tells of it yet. The store is
+    /// marked, on disk, before any does: so f+1 stores are marked before the change is committed, and of each f+1
+    /// machines that lost their memory one doesn't begin anew by itself with the program before. Where the store can't
+    /// be marked nothing is sent any more.
+    fn change(&mut self) {
+        self.has_changed.store(true, Ordering::SeqCst);
+        if let Some(mark) = self.mark.take() {
+            if mark.mark().is_err() {
+                self.hold.end();
+            }
+        }
+    }
+}
+
+/// Tells that another program may be in force, before any of its outputs can be released, and marks the store: a change
+/// is an entry of the log of each replica that leads, before it's carried out.
+#[derive(Drop)]
+pub(crate) struct ProgramWatch<M> {
     /// The image with which the epoch began.
     image: Vec<u8>,
-    has_changed: Arc<AtomicBool>,
+    marking: Marking<M>,
     /// So many entries were looked at that won't be others.
     seen: u64,
 }
@@ -48,16 +90,16 @@ fn told_behind(replica: &Replica, seen: u64) -> Told {
     Told::Same
 }
 
-impl ProgramWatch {
+impl<M: Marks + Drop> ProgramWatch<M> {
     /// Of a replica that was not started, in an epoch that began with this program.
     pub(crate) fn new(
         alloc: Global,
         image: &Image,
-        has_changed: Arc<AtomicBool>,
-    ) -> Result<ProgramWatch, AllocError> {
+        marking: Marking<M>,
+    ) -> Result<ProgramWatch<M>, AllocError> {
         Ok(ProgramWatch {
             image: Vec::from_slice(alloc, image.bytes())?,
-            has_changed,
+            marking,
             seen: 0,
         })
     }
@@ -78,7 +120,7 @@ impl ProgramWatch {
             Told::NotKept => self.has_other(alloc, replica),
         };
         if is_other {
-            self.has_changed.store(true, Ordering::SeqCst);
+            self.marking.change();
         }
         self.seen = replica.commit();
     }

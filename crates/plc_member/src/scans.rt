@@ -8,7 +8,7 @@ ghost use Rattle.vr_model.specs.Replicas as model;
 ghost use Rattle.vr_replica.specs.Scans.{last_scan_of};
 ghost use Rattle.vr_replica.specs.Standing.{StandsFor};
 
-use crate::program::ProgramWatch;
+use crate::program::{Marks, ProgramWatch};
 use il_model::{Command, InImage};
 use plc_console::SnapshotBoard;
 use plc_host::Host;
@@ -64,13 +64,13 @@ enum Known {
 
 /// Leaves the last scan of its replica's log on a board, behind each step that brings another one.
 #[derive(Drop)]
-pub(crate) struct ScanGate<R: Wait + Clock + Copy + Drop> {
+pub(crate) struct ScanGate<R: Wait + Clock + Copy + Drop, M> {
     host: Host<R>,
     begun: Instant,
     board: Arc<ScanBoard>,
     /// For a console of this machine.
     snapshots: Arc<SnapshotBoard>,
-    program: ProgramWatch,
+    program: ProgramWatch<M>,
     known: Known,
 }
 
@@ -101,15 +101,15 @@ fn last_of(replica: &Replica) -> Option<ScanInputs>
     replica.last_scan()
 }
 
-impl<R: Wait + Clock + Copy + Drop> ScanGate<R> {
+impl<R: Wait + Clock + Copy + Drop, M: Marks + Drop> ScanGate<R, M> {
     /// Of a replica that was not started. Times are told since `begun`.
     pub(crate) fn new(
         host: Host<R>,
         begun: Instant,
         board: Arc<ScanBoard>,
         snapshots: Arc<SnapshotBoard>,
-        program: ProgramWatch,
-    ) -> ScanGate<R> {
+        program: ProgramWatch<M>,
+    ) -> ScanGate<R, M> {
         ScanGate {
             host,
             begun,
@@ -166,13 +166,13 @@ impl<R: Wait + Clock + Copy + Drop> ScanGate<R> {
     }
 }
 
-impl<R: Wait + Clock + Copy + Drop> Gate for ScanGate<R> {
+impl<R: Wait + Clock + Copy + Drop, M: Marks + Drop> Gate for ScanGate<R, M> {
     fn before(&mut self, _call: u64) {}
 
     fn after(&mut self, _call: u64, _standing: Standing) {}
 }
 
-impl<R: Wait + Clock + Copy + Drop> Observer for ScanGate<R> {
+impl<R: Wait + Clock + Copy + Drop, M: Marks + Drop> Observer for ScanGate<R, M> {
     fn observe(&mut self, replica: &Replica) {
         match (place_of_last(replica), last_of(replica)) {
             (Some(place), Some(scan)) => self.see(place, scan),

@@ -2,13 +2,16 @@
 
 ghost use Rattle.std.specs.Prelude.{◌≡◌};
 
-use crate::drive::Drive;
+use crate::begun::Begun;
+use crate::drive::{Drive, Ended};
+use crate::held_link::{HeldLink, Hold};
+use crate::keeper::Keeper;
+use crate::links::{Linked, console_of};
 use crate::neighbours::Machines;
-use crate::opening::Member;
 use crate::port::Port;
-use crate::program::ProgramWatch;
+use crate::program::{Marking, Marks, ProgramWatch};
 use crate::publisher::Publisher;
-use crate::requester::{LONGEST_WAIT, Requester};
+use crate::requester::Requester;
 use crate::scans::{ScanBoard, ScanGate};
 use crate::services::{Services, ToShow};
 use crate::stop::Stop;
@@ -17,15 +20,14 @@ use il_loader::Image;
 use io_image::{Naming, NewList, Pen, ReleasedReader, SharedPen, Stage, Stamp, released};
 use io_model::CountedWrite;
 use modbus_server::{Seats, Shown};
-use net_hello::Epoch;
-use net_peers::{Exchange, FIRST_CONSOLE, Machine, PeerLink, Pulse, machine_links};
+use net_peers::{Exchange, FIRST_CONSOLE, PeerLink};
 use plc_console::{Console, Desk, DeskClient, Others, SnapshotBoard};
-use plc_group::{Group, Machine as Place};
+use plc_group::Group;
 use plc_host::{Failed, Host, ServiceRuntime};
 use plc_listener::Door;
 use plc_machine::{MachineDriver, Pace, client_starts};
 use plc_page::{Page, Published, Showing, Whose};
-use plc_status::{Journal, Journals, Printer, StatusReader, StatusWriter};
+use plc_status::{Journal, Journals, Notice, Printer, StatusReader, StatusWriter};
 use std::alloc::{AllocError, Global};
 use std::net::{Net, SocketAddr, TcpListener, TcpStream};
 use std::sync::Arc;
@@ -33,7 +35,7 @@ use std::sync::atomic::AtomicBool;
 use std::thread;
 use std::time::{Duration, Instant};
 use vr_model::ClientNumber;
-use vr_threads::{ClusterConfig, ClusterError, GroupTimer, Seat, Solo, Starts};
+use vr_threads::{ClusterConfig, ClusterError, GroupTimer, Seat, Solo, SoloThread, Starts};
 
 /// So many sessions of Modbus clients are served at once.
 const SESSIONS: usize = 16;
@@ -42,15 +44,6 @@ const SESSIONS: usize = 16;
 pub trait MachineRuntime: ServiceRuntime + Net<Listener = TcpListener, Stream = TcpStream> {}
 
 impl<R: ServiceRuntime + Net<Listener = TcpListener, Stream = TcpStream>> MachineRuntime for R {}
-
-/// The links of a machine's own parties, and what they share.
-#[derive(Drop)]
-struct Linked<R: MachineRuntime> {
-    exchange: Arc<Exchange>,
-    replica: PeerLink<R>,
-    driver: PeerLink<R>,
-    console: Option<PeerLink<R>>,
-}
 
 /// Where the thread of a replica leaves what the others of its machine look at.
 #[derive(Drop)]
@@ -73,18 +66,28 @@ impl Boards {
         })
     }
 
-    /// What leaves there what a replica comes to that was not started, in an epoch that began with this program. Times
-    /// are told since `begun`.
-    fn gate<R: MachineRuntime>(
+    /// What keeps a change of the program: with what marks the store, and what ends the replica's link.
+    fn marking<M: Marks + Drop>(
+        &self,
+        mark: Option<M>,
+        hold: &Arc<Hold>,
+    ) -> Result<Marking<M>, AllocError> {
+        Ok(Marking {
+            has_changed: Arc::try_clone(&self.has_changed)?,
+            mark,
+            hold: Arc::try_clone(hold)?,
+        })
+    }
+
+    /// What leaves there what a replica comes to that was not started. Times are told since `begun`.
+    fn gate<R: MachineRuntime, M: Marks + Drop>(
         &self,
         host: Host<R>,
         begun: Instant,
-        image: &Image,
-    ) -> Result<ScanGate<R>, AllocError> {
+        program: ProgramWatch<M>,
+    ) -> Result<ScanGate<R, M>, AllocError> {
         let scans = Arc::try_clone(&self.scans)?;
         let snapshots = Arc::try_clone(&self.snapshots)?;
-        let has_changed = Arc::try_clone(&self.has_changed)?;
-        let program = ProgramWatch::new(host.alloc, image, has_changed)?;
         Ok(ScanGate::new(host, begun, scans, snapshots, program))
     }
 }
@@ -99,7 +102,10 @@ struct Running<R: MachineRuntime> {
     starts: u64,
     exchange: Arc<Exchange>,
     driver: PeerLink<R>,
-    solo: Solo<PeerLink<R>>,
+    solo: Solo<HeldLink<R>>,
+    /// Of the replica. It ends once the link is cut and `solo` is let go of.
+    thread: SoloThread,
+    keeper: Keeper<R>,
     boards: Boards,
     /// The link of its console, if it has one.
     console: Option<PeerLink<R>>,
@@ -118,15 +124,6 @@ struct Outputs<R: MachineRuntime, J: Naming, P: Pen<J> + Drop> {
     reader: ReleasedReader<J>,
 }
 
-/// Where the replica of each machine listens.
-fn addresses(alloc: Global, machines: &[Place]) -> Result<Vec<SocketAddr>, AllocError> {
-    let mut addresses = Vec::with_capacity(alloc, machines.len())?;
-    for machine in machines {
-        addresses.push(machine.replica)?;
-    }
-    Ok(addresses)
-}
-
 /// A time of so many milliseconds.
 fn millis(time: u32) -> Duration {
     Duration::from_millis(u64::from(time))
@@ -140,59 +137,9 @@ fn failed_by(error: ClusterError) -> Failed {
     }
 }
 
-/// Where a machine listens for an operator's console, if it has one.
-fn console_of(group: &Group, number: u8) -> Option<SocketAddr> {
-    group.machines.get(usize::from(number))?.console
-}
-
 /// Where it's asked what shows of it, if that's shown.
 fn status_of(group: &Group, number: u8) -> Option<SocketAddr> {
     group.machines.get(usize::from(number))?.status
-}
-
-/// What a machine knows of its group.
-fn machine_of<S: Drop>(
-    alloc: Global,
-    group: &Group,
-    member: &Member<S>,
-) -> Result<Machine, AllocError> {
-    let header = member.header;
-    Ok(Machine {
-        identity: header.identity,
-        epoch: Epoch {
-            number: header.epoch,
-            image: header.program,
-        },
-        starts: member.starts,
-        number: header.machine,
-        replicas: addresses(alloc, group.machines.as_slice())?,
-        has_console: console_of(group, header.machine).is_some(),
-        pulse: Pulse::of(group.times.patience, group.times.resend),
-    })
-}
-
-/// The links of a machine, whose replica listens here.
-fn links_of<R: MachineRuntime>(
-    host: Host<R>,
-    machine: &Machine,
-    listener: TcpListener,
-) -> Result<Linked<R>, Failed> {
-    let wait = Duration::from_millis(LONGEST_WAIT);
-    let (exchange, mut links) = machine_links(host.rt, host.alloc, machine, listener, wait)?;
-    let console = if machine.has_console {
-        links.pop()
-    } else {
-        None
-    };
-    let (Some(driver), Some(replica)) = (links.pop(), links.pop()) else {
-        return Err(Failed::Connection);
-    };
-    Ok(Linked {
-        exchange,
-        replica,
-        driver,
-        console,
-    })
 }
 
 /// What says when the replica of this machine is late.
@@ -215,60 +162,63 @@ fn config_of(group: &Group) -> ClusterConfig {
     }
 }
 
-/// Starts the replica of a machine that is ready, in a thread of its own.
-fn started<R: MachineRuntime, S: Starts + Send + Drop + 'static>(
+/// Starts the replica of a machine that has begun its epoch, in a thread of its own.
+fn started<R, S, M>(
     host: Host<R>,
     group: &Group,
-    member: Member<S>,
-    begun: Instant,
-) -> Result<Running<R>, Failed> {
+    begun: Begun<R, S, M>,
+) -> Result<Running<R>, Failed>
+where
+    R: MachineRuntime,
+    S: Starts + Send + Drop + 'static,
+    M: Marks + Send + Drop + 'static,
+{
     let Host { rt, alloc } = host;
-    let machine = machine_of(alloc, group, &member)?;
-    let boards = Boards::new(alloc)?;
-    let gate = boards.gate(host, begun, &member.image)?;
-    let Member {
+    let Begun {
+        number,
+        epoch,
+        starts,
         image,
         store,
-        starts,
-        listener,
+        mark,
+        linked,
+        keeper,
         stop,
-        ..
-    } = member;
+    } = begun;
     let Linked {
         exchange,
         replica: link,
         driver,
         console,
-    } = links_of(host, &machine, listener)?;
+    } = linked;
+    let boards = Boards::new(alloc)?;
+    let hold = &keeper.terms.hold;
+    let program = ProgramWatch::new(alloc, &image, boards.marking(mark, hold)?)?;
     let machines = Machines {
         exchange: Arc::try_clone(&exchange)?,
     };
-    let timer = timer_of(rt, group, machine.number, machines);
     let seat = Seat {
-        link,
+        link: HeldLink {
+            link,
+            hold: Arc::try_clone(hold)?,
+        },
         store,
-        timer,
-        gate,
+        timer: timer_of(rt, group, number, machines),
+        gate: boards.gate(host, keeper.begun, program)?,
     };
-    // Its thread ends with the process.
-    let (solo, _thread) = match Solo::start(
-        &rt,
-        alloc,
-        config_of(group),
-        machine.number,
-        &image,
-        seat,
-    ) {
+    let (solo, thread) = match Solo::start(&rt, alloc, config_of(group), number, &image, seat) {
         Ok(started) => started,
         Err(error) => return Err(failed_by(error)),
     };
     Ok(Running {
-        number: machine.number,
-        epoch: machine.epoch.number,
+        number,
+        epoch: epoch.number,
         starts,
         exchange,
         driver,
         solo,
+        thread,
+        keeper,
         boards,
         console,
         image,
@@ -391,57 +341,67 @@ fn driver_of(group: &Group, number: u8, starts: u64) -> Result<MachineDriver, Fa
     Ok(MachineDriver::new(&group.config, client, starts, pace))
 }
 
-impl<S: Starts + Send + Drop + 'static> Member<S> {
-    /// Serves the machine until something fails: what; or, with none, until it's asked to stop. `err` has a line for
-    /// each change; `showing` is what its page shows beside what is published, if one is wanted. It fails at once where
-    /// something isn't to be had.
-    pub fn serve<J, R, E: CountedWrite>(
+impl<R, S, M> Begun<R, S, M>
+where
+    R: MachineRuntime,
+    S: Starts + Send + Drop + 'static,
+    M: Marks + Send + Drop + 'static,
+{
+    /// Serves the machine until something fails, it's asked to stop, or it leaves its epoch. Then nothing of it is left:
+    /// port and sessions are closed, and its replica's thread has ended, unless it hangs behind a stop or a failure.
+    /// `err` has a line for each change; `showing` is what its page shows beside what is published, if one is wanted.
+    pub fn serve<J, E: CountedWrite>(
         self,
         host: Host<R>,
         list: NewList,
         group: &Group,
         showing: Option<Showing>,
         err: &mut E,
-    ) -> Option<Failed>
+    ) -> Ended
     where
         J: Naming + Send + Sync + 'static,
-        R: MachineRuntime,
         requires { list ≡ J.book }
     {
-        match self.run::<J, R, E>(host, list, group, showing, err) {
-            Ok(failed) => failed,
-            Err(failed) => Some(failed),
+        match self.run::<J, E>(host, list, group, showing, err) {
+            Ok(ended) => ended,
+            Err(failed) => Ended::Failed(failed),
         }
     }
 
-    /// Runs it until something fails: what; or, with none, until it's asked to stop. An error is something that isn't to
-    /// be had at its start.
-    fn run<J, R, E: CountedWrite>(
+    /// Notes that the program was changed in its epoch before it started.
+    fn note_change(&self, journal: &mut Journal) {
+        if self.mark.is_none() {
+            journal.put(Notice::ProgramChanged(self.epoch.number));
+        }
+    }
+
+    /// Runs it until it ends. An error is something that isn't to be had at its start.
+    fn run<J, E: CountedWrite>(
         self,
         host: Host<R>,
         list: NewList,
         group: &Group,
         showing: Option<Showing>,
         err: &mut E,
-    ) -> Result<Option<Failed>, Failed>
+    ) -> Result<Ended, Failed>
     where
         J: Naming + Send + Sync + 'static,
-        R: MachineRuntime,
         requires { list ≡ J.book }
     {
-        let begun = Instant::now(&host.rt)?;
+        let begun = self.keeper.begun;
         let status = StatusWriter::new(host.alloc)?;
         let Journals {
-            driver: journal,
+            driver: mut journal,
             console,
             mut printer,
         } = Journals::new(host.alloc)?;
+        self.note_change(&mut journal);
         let Outputs {
             publisher,
             seats,
             reader: released,
         } = outputs_of::<J, R>(host, list, group, &status)?;
-        let mut running = started(host, group, self, begun)?;
+        let mut running = started(host, group, self)?;
         let console = running.console(host, group, console, status.reader()?)?;
         let shown = ToShow {
             status: status.reader()?,
@@ -461,15 +421,21 @@ impl<S: Starts + Send + Drop + 'static> Member<S> {
             journal,
             status,
         };
+        let (drive, thread) = parts.into_drive(host, group, begun)?;
         let work = Work {
-            drive: parts.into_drive(host, group, begun)?,
+            drive,
             address,
             seats,
         };
         let services = Services { console, page }.open()?;
-        let failed = work.done(host.rt, &mut printer, err);
+        let ended = work.done(host.rt, &mut printer, err);
         services.close();
-        failed
+        let ended = ended?;
+        // Whoever leaves an epoch says nothing in a later one before its replica, its links and its listener are gone.
+        if let Ended::Leaves(_) = ended {
+            thread.join(&host.rt);
+        }
+        Ok(ended)
     }
 }
 
@@ -485,13 +451,13 @@ struct Parts<R: MachineRuntime, J: Naming, P: Pen<J> + Drop> {
 }
 
 impl<R: MachineRuntime, J: Naming, P: Pen<J> + Drop> Parts<R, J, P> {
-    /// The driver, which stands by.
+    /// The driver, which stands by, and the thread of the replica.
     fn into_drive(
         self,
         host: Host<R>,
         group: &Group,
         begun: Instant,
-    ) -> Result<Drive<R, J, P>, Failed> {
+    ) -> Result<(Drive<R, J, P>, SoloThread), Failed> {
         let driver = driver_of(group, self.running.number, self.running.starts)?;
         let Parts {
             publisher,
@@ -506,6 +472,8 @@ impl<R: MachineRuntime, J: Naming, P: Pen<J> + Drop> Parts<R, J, P> {
             exchange,
             driver: link,
             solo,
+            thread,
+            keeper,
             boards,
             stop,
             ..
@@ -518,18 +486,20 @@ impl<R: MachineRuntime, J: Naming, P: Pen<J> + Drop> Parts<R, J, P> {
             link,
             sent: millis(0),
         };
-        Ok(Drive {
+        let drive = Drive {
             host,
             begun,
             requester,
             solo,
+            keeper,
             board: boards.scans,
             stage,
             publisher,
             teller: Teller::new(number, epoch, exchange, journal, status),
             submitted: Submitted::at_the_start(begun),
             stop,
-        })
+        };
+        Ok((drive, thread))
     }
 }
 
@@ -547,14 +517,13 @@ where
     J: Naming + Send + Sync + 'static,
     P: Pen<J> + Send + Drop + 'static,
 {
-    /// Has it done in a thread of its own, and prints what is noted meanwhile, until something fails: what; or, with none,
-    /// until it's asked to stop.
+    /// Has it done in a thread of its own, and prints what is noted meanwhile, until it ends.
     fn done<E: CountedWrite>(
         self,
         rt: R,
         printer: &mut Printer,
         err: &mut E,
-    ) -> Result<Option<Failed>, Failed> {
+    ) -> Result<Ended, Failed> {
         let Work {
             drive,
             address,

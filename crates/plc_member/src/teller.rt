@@ -123,6 +123,11 @@ impl Teller {
         }
     }
 
+    /// Notes this.
+    pub(crate) fn note(&mut self, notice: Notice) {
+        self.journal.put(notice);
+    }
+
     /// Notes what became of the port of a machine that leads this view.
     pub(crate) fn note_port(&mut self, turn: Turn, view: u64)
         ensures { IsNoted (notice_of_port turn view self.old.refused_in) self.old.journal self.new.journal }

@@ -1,0 +1,28 @@
+//! A machine that has begun its epoch, and whose replica is not started.
+
+use crate::keeper::Keeper;
+use crate::links::Linked;
+use crate::serving::MachineRuntime;
+use crate::stop::Stop;
+use il_loader::Image;
+use net_hello::Epoch;
+
+/// A machine that has begun its epoch, as its store says, and is to be served in it: its links are up, and its replica is
+/// not started.
+#[derive(Drop)]
+pub struct Begun<R: MachineRuntime, S: Drop, M: Drop> {
+    pub(crate) number: u8,
+    pub(crate) epoch: Epoch,
+    /// How many starts there are in its epoch with this one.
+    pub(crate) starts: u64,
+    /// Of the program with which the epoch began.
+    pub(crate) image: Image,
+    /// Of the replica's view.
+    pub(crate) store: S,
+    /// Marks the machine's store by a change of the program; none where it's marked.
+    pub(crate) mark: Option<M>,
+    pub(crate) linked: Linked<R>,
+    pub(crate) keeper: Keeper<R>,
+    /// What ends it.
+    pub(crate) stop: Stop,
+}

@@ -1,0 +1,179 @@
+//! The link of a machine's own replica, which can be held: while it is, no answer to its RECOVERY reaches the replica.
+
+ghost use Rattle.std.specs.Prelude.{◌≡◌, None};
+ghost use Rattle.plc_member.specs.Holding.{is_answer, let_through, recovering_in};
+
+use net_peers::{PeerCutter, PeerLink};
+use std::alloc::AllocError;
+use std::net::{Net, TcpListener, TcpStream};
+use std::sync::atomic::{AtomicBool, AtomicU64, Ordering};
+use std::sync::{Arc, Wait};
+use std::time::Clock;
+use vr_model::{Body, Message, Party};
+use vr_ports::{Input, Link, Relink, Unlinked};
+
+/// Holds the link of a replica, from another thread than its own.
+#[derive(Drop)]
+pub(crate) struct Hold {
+    is_held: AtomicBool,
+    /// So often it was asked to be held.
+    asked: AtomicU64,
+    /// How often it had been when the replica's thread began its last receive.
+    seen: AtomicU64,
+    /// Whose RECOVERY came since that was asked last, by bits.
+    recoveries: AtomicU64,
+    /// Nothing is given nor sent any more.
+    is_dead: AtomicBool,
+}
+
+/// Whether a message is an answer to a RECOVERY.
+fn is_answer(message: &Message) -> bool
+    ensures { result ≡ is_answer message.now }
+{
+    matches!(message.body, Body::RecoveryResponse { .. })
+}
+
+/// What is given of a message that came. No answer that comes while the link is held reaches the replica: it's lost.
+fn let_through(message: Message, is_held: bool) -> Input
+    ensures { result ≡ let_through message is_held }
+{
+    if is_held && is_answer(&message) {
+        Input::Nothing
+    } else {
+        Input::Message(message)
+    }
+}
+
+/// The replica whose RECOVERY a message is, if it's one.
+fn recovering_in(message: &Message) -> Option<u8>
+    ensures { result ≡ recovering_in message.now }
+{
+    match (&message.body, message.from) {
+        (Body::Recovery { .. }, Party::Replica(number)) => Some(number),
+        _ => None,
+    }
+}
+
+impl Hold {
+    /// Of a link that isn't held.
+    pub(crate) fn new() -> Hold {
+        Hold {
+            is_held: AtomicBool::new(false),
+            asked: AtomicU64::new(0),
+            seen: AtomicU64::new(0),
+            recoveries: AtomicU64::new(0),
+            is_dead: AtomicBool::new(false),
+        }
+    }
+
+    /// Holds the link from now on. An answer that it gave before may still be under way in a step of the replica, as
+    /// long as `is_taken_up` is false.
+    pub(crate) fn hold(&self) {
+        self.is_held.store(true, Ordering::SeqCst);
+        let _ = self.asked.fetch_add(1, Ordering::SeqCst);
+    }
+
+    /// Whether the replica has begun a receive since the link was held last: so each step that an answer was given to
+    /// has come to its end, and none is given until the link is let go.
+    pub(crate) fn is_taken_up(&self) -> bool {
+        self.seen.load(Ordering::SeqCst) == self.asked.load(Ordering::SeqCst)
+    }
+
+    /// Lets the link go.
+    pub(crate) fn let_go(&self) {
+        self.is_held.store(false, Ordering::SeqCst);
+    }
+
+    /// From now on the link gives and sends nothing: what its machine has to keep couldn't be written.
+    pub(crate) fn end(&self) {
+        self.is_dead.store(true, Ordering::SeqCst);
+    }
+
+    /// Whether that is so.
+    pub(crate) fn is_dead(&self) -> bool {
+        self.is_dead.load(Ordering::SeqCst)
+    }
+
+    /// Whose RECOVERY came since this was asked last: bit k stands for replica k.
+    pub(crate) fn recoveries(&self) -> u64 {
+        self.recoveries.swap(0, Ordering::SeqCst)
+    }
+
+    /// The replica begins a receive.
+    fn take_up(&self) {
+        self.seen
+            .store(self.asked.load(Ordering::SeqCst), Ordering::SeqCst);
+    }
+
+    /// Notes whose RECOVERY this is, if it's one.
+    fn note(&self, message: &Message) {
+        if let Some(number) = recovering_in(message)
+            && number < 64
+        {
+            let _ = self.recoveries.fetch_or(1u64 << number, Ordering::SeqCst);
+        }
+    }
+}
+
+/// The link of a machine's own replica. It gives what its own link gives, but for answers while it's held.
+#[derive(Drop)]
+pub(crate) struct HeldLink<R: Wait + Drop> {
+    pub(crate) link: PeerLink<R>,
+    pub(crate) hold: Arc<Hold>,
+}
+
+impl<R> Link for HeldLink<R>
+where
+    R: Wait + Clock + Net<Listener = TcpListener, Stream = TcpStream> + Copy + Drop,
+{
+    ghost inputs = { λ _. None };
+
+    ghost sent = { λ _. None };
+
+    fn recv(&mut self) -> Input {
+        if self.hold.is_dead() {
+            return Input::Closed;
+        }
+        // Each step that came of the receive before has come to its end.
+        self.hold.take_up();
+        match self.link.recv() {
+            Input::Message(message) => {
+                self.hold.note(&message);
+                // Looked at behind `take_up`: whoever held the link before that is heeded.
+                let_through(message, self.hold.is_held.load(Ordering::SeqCst))
+            }
+            input => input,
+        }
+    }
+
+    fn send(&mut self, message: Message) {
+        if !self.hold.is_dead() {
+            self.link.send(message);
+        }
+    }
+
+    fn frameless(&self) -> u64 {
+        self.link.frameless()
+    }
+}
+
+impl<R> Relink for HeldLink<R>
+where
+    R: Wait
+        + Clock
+        + Net<Listener = TcpListener, Stream = TcpStream>
+        + Copy
+        + Send
+        + Drop
+        + 'static,
+{
+    type Cutter = PeerCutter<R>;
+
+    fn cutter(&self) -> Result<PeerCutter<R>, AllocError> {
+        self.link.cutter()
+    }
+
+    fn renew(&mut self) -> Result<(), Unlinked> {
+        self.link.renew()
+    }
+}

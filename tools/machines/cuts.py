@@ -1,0 +1,131 @@
+"""Machines of a group that lose their memory together, as by a power cut: that they begin a later epoch by themselves,
+once, or wait for a person, and how long it takes."""
+import os
+import random
+import signal
+import subprocess
+import time
+
+from group import Group, now
+
+LONGEST = 4.0           # seconds from the last machine's start to a port that answers
+
+
+def cut(machines):
+    """Ends these at once."""
+    for machine in machines:
+        machine.send(signal.SIGKILL)
+    for machine in machines:
+        machine.process.wait(10)
+        machine.reader.join(10)
+
+
+def started(machines, gaps):
+    """Starts these, one after the other: when the last one was."""
+    for machine, gap in zip(machines, gaps):
+        time.sleep(gap)
+        machine.start()
+    return machines[-1].started
+
+
+def begun(group, epoch):
+    """Which machines told that this epoch begins, or that they heard of it."""
+    lines = [(machine.number, line) for machine in group.machines for line in machine.since(0)]
+    return sorted({number for number, line in lines
+                   if line.endswith(f'cold start, epoch {epoch}') or line.startswith(f'epoch {epoch} heard')})
+
+
+def is_normal_again(machines, since):
+    """Whether each of these is normal behind that moment, within ten seconds."""
+    return all(machine.told('replica normal', since, 10) is not None for machine in machines)
+
+
+def epochs(group):
+    """What the stores of the machines say of epochs."""
+    told = []
+    for machine in range(group.size):
+        shown = subprocess.run([group.plc, 'show', '--store', group.store(machine)], capture_output=True, text=True)
+        told.append(tuple(line for line in shown.stdout.split('\n') if line.startswith('epoch')))
+    return told
+
+
+def middle(times):
+    times = sorted(times)
+    return f'{times[len(times) // 2]:.2f} s in the middle, {times[-1]:.2f} at most, of {len(times)}'
+
+
+def power_cut(options):
+    """All are killed at once and started again, in another order each time: a later epoch begins by itself, once, and
+    a port answers soon behind the last one's start."""
+    with Group(options) as group:
+        right, took, chance = group.begin(), [], random.Random(options.seed)
+        group.is_over = True        # what was read is of one epoch
+        for epoch in range(2, 2 + options.cuts):
+            cut(group.machines)
+            order = chance.sample(group.machines, group.size)
+            last = started(order, [chance.uniform(0, 0.3) for _ in order])
+            drives = group.driving(20)
+            took.append(now() - last)
+            is_well = drives is not None and is_normal_again(group.machines, last)
+            told = begun(group, epoch)
+            if not is_well or told != list(range(group.size)) or len(set(epochs(group))) != 1:
+                print(f'  epoch {epoch}: {drives} drives, told by {told}, {epochs(group)}')
+                print('\n'.join(f'    {line}' for line in group.since(last - 1)))
+                return False
+            time.sleep(chance.uniform(0, 1))
+        print(f'  from the last start to a port that answers {middle(took)}')
+        return right and max(took) <= LONGEST
+
+
+def most_lose_their_memory(options):
+    """f+1 are killed at once and started again while the others are normal: those leave their epoch, too."""
+    with Group(options) as group:
+        right, took = group.begin(), []
+        group.is_over = True
+        for epoch in range(2, 5):
+            some = [group.machines[(epoch + it) % group.size] for it in range(group.size // 2 + 1)]
+            cut(some)
+            last = started(some, [0.1] * len(some))
+            right = is_normal_again(group.machines, last) and group.driving(20) is not None and right
+            took.append(now() - last)
+            right = begun(group, epoch) == list(range(group.size)) and right
+        if not right:
+            print('\n'.join(f'    {line}' for line in group.since(last - 1)))
+        print(f'  from the last start until all are normal {middle(took)}')
+        return right
+
+
+def one_of_them_recovers(options):
+    """One is killed and started again: it recovers, and no epoch begins."""
+    with Group(options) as group:
+        right = group.begin()
+        for machine in group.machines:
+            machine.kill()
+            time.sleep(0.5)
+            machine.start()
+            right = machine.is_normal(20) and right
+            time.sleep(1)
+        return right and begun(group, 2) == [] and len(set(epochs(group))) == 1
+
+
+def by_hand_alone(options):
+    """A group that begins anew by hand: nothing begins by itself, and `plc format --next-epoch` on one machine has all
+    begin."""
+    with Group(options, cold_start='"by hand"') as group:
+        right = group.begin()
+        group.is_over = True
+        cut(group.machines)
+        last = started(group.machines, [0.1] * group.size)
+        time.sleep(8)
+        right = begun(group, 2) == [] and group.driving(0.5) is None and right
+        group.machines[1].kill()
+        status, line = group.run('format', '--next-epoch', '--store', group.store(1))
+        group.machines[1].start()
+        right = status == 0 and is_normal_again(group.machines, last) and group.driving(20) is not None and right
+        if not right:
+            print(f'  {status} {line}')
+            print('\n'.join(f'    {line}' for line in group.since(last - 1)))
+        return right and begun(group, 2) == [0, 2][:group.size - 1]
+
+
+TRIES = [power_cut, most_lose_their_memory, one_of_them_recovers, by_hand_alone]
