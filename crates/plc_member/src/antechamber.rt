@@ -52,7 +52,14 @@ fn waited_for(kept: Kept, program: &[u8; 32], number: u8) -> Option<Notice>
 {
     match kept {
         Kept::Above(epoch) => Some(Notice::WaitsAfter(number, epoch.number)),
-        Kept::Entered(epoch) if &epoch.image != program => Some(Notice::OtherProgram(epoch.number)),
+        Kept::Entered(epoch) => {
+            let image = epoch.image;
+            if &image == program {
+                None
+            } else {
+                Some(Notice::OtherProgram(epoch.number))
+            }
+        }
         _ => None,
     }
 }

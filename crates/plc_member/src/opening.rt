@@ -165,7 +165,8 @@ impl<R: MachineRuntime + Files<File = File> + Alloc<A = Global>> Member<R> {
         if !self.goes_on(host, ended)? {
             return Ok(None);
         }
-        for _ in host.rt.forever() {
+        let rt = host.rt;
+        for _ in rt.forever() {
             match self.enter(host, group, err)? {
                 Entered::Begun(begun) => return Ok(Some(begun)),
                 Entered::Left => {}
