@@ -1,5 +1,6 @@
 -- When a life of a machine ends for another epoch, and what is told of it.
-use Rattle.std.specs.Prelude.{ℕ, Bool, true, false, not, List, bytes_eq, replicate, Option, Some, None, ◌&&◌, if◌then◌else◌}
+use Rattle.std.specs.Prelude.{ℕ, Bool, true, false, not, ◌&&◌, List, bytes_eq, replicate, Option, Some, None}
+use Rattle.std.specs.Prelude.{if◌then◌else◌}
 use Rattle.net_hello.specs.declared.hello.Epoch.{Epoch}
 use Rattle.plc_epochs.specs.declared.cold_start.Step.{Step}
 use Rattle.plc_epochs.specs.declared.cold_start.Step.TheVariants as steps
@@ -26,8 +27,8 @@ leaving_by (steps.Hears epoch) kept heard =
 leaving_by (steps.WaitsAbove epoch) kept heard = leaving_with kept None
 leaving_by step kept heard = None
 
--- what a machine that has begun no epoch waits for, where that may take a person: for an epoch above one that others are
--- in, and for a store with the program of its epoch
+-- what a machine that has begun no epoch waits for, where that may take a person: for an epoch above one that others
+-- are in, and for a store with the program of its epoch
 abbrev pub waited_for : Kept → List ℕ → ℕ → Option Notice
 waited_for (keeps.Above epoch) program number = Some (notices.WaitsAfter number epoch.number)
 waited_for (keeps.Entered epoch) program number =

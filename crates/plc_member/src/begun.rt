@@ -7,8 +7,8 @@ use crate::stop::Stop;
 use il_loader::Image;
 use net_hello::Epoch;
 
-/// A machine that has begun its epoch, as its store says, and is to be served in it: its links are up, and its replica is
-/// not started.
+/// A machine that has begun its epoch, as its store says, and is to be served in it: its links are up, and its replica
+/// is not started.
 #[derive(Drop)]
 pub struct Begun<R: MachineRuntime, S: Drop, M: Drop> {
     pub(crate) number: u8,

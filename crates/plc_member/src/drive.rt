@@ -163,8 +163,8 @@ where
         }
     }
 
-    /// Looks at the replica, and follows what it shows. It fails where the replica's store did, where its store couldn't
-    /// be marked, or where its thread ended.
+    /// Looks at the replica, and follows what it shows. It fails where the replica's store did, where the machine's
+    /// couldn't be marked, or where the replica's thread ended.
     fn look(&mut self) -> Result<(), Failed> {
         let now = self.elapsed()?;
         let shown = self.solo.look();

@@ -1,20 +1,31 @@
-//! The process of one machine of a group: its replica in a thread, the driver that has the group scan while that replica
-//! leads, the port for Modbus clients, which is open only while outputs are shown, an operator's console, a page, and
-//! the journal. It joins what `plc_store` judges, `net_peers` connects, `vr_threads` serves and `plc_machine` decides.
+//! The process of one machine of a group, from epoch to epoch: its replica in a thread, the driver that has the group
+//! scan while that replica leads, the port for Modbus clients, which is open only while outputs are shown, an
+//! operator's console, a page, and the journal. It joins what `plc_store` keeps, `plc_epochs` says, `net_peers`
+//! connects, `vr_threads` serves and `plc_machine` decides.
 //!
 //! ```rust
-//! let host = Host { rt, alloc };
-//! let (member, directory) = Member::open(host, &group, "store")?; // judged, locked and marked as started
+//! let mut member = Member::open(host, "store")?; // locked
 //! let stop = member.stop()?; // `stop.ask()` ends it, from any thread
-//! let failed = member.serve::<Brand, _, _>(host, NewList::new(), &group, showing, &mut err); // if by a fault
+//! let mut ended = None;
+//! while let Some(begun) = member.next_life(host, &group, ended, &mut err)? { // waits until its epoch may be begun
+//!     ended = Some(begun.serve::<Brand, _>(host, NewList::new(), &group, showing, &mut err)); // until it's left
+//! }
 //! ```
 //!
-//! Proved: a scan is submitted only as of a machine that leads, where one is due, and its inputs are one sample; what is
-//! published is what a reply released; where a machine begins to lead, its stage has the inputs of the last scan that
-//! its replica's log kept.
+//! A life of a machine begins from its store, as a process does, and ends where its epoch is left: then all of it is
+//! closed, and the store has the later epoch before the next life begins.
 //!
-//! By its code alone, and tested (`machine_rows` of `tests_threads`, `tools/try-machines`): how threads, locks, sockets
-//! and times are joined; that the port is open only while outputs are shown.
+//! Proved: a scan is submitted only as of a machine that leads, where one is due, and its inputs are one sample; what
+//! is published is what a reply released; where a machine begins to lead, its stage has the inputs of the last scan
+//! that its replica's log kept. A held link gives no answer to a RECOVERY (`let_through`); a life ends for another epoch
+//! by the steps that say so alone (`leaving_by`); no machine begins anew by itself whose program was changed
+//! (`is_automatic`).
+//!
+//! By its code alone, and tested (`tests_machines`, `tools/try-machines`): how threads, locks, sockets and times are
+//! joined; that the port is open only while outputs are shown; that no answer is under way in the replica of a machine
+//! that freezes; that the store has an epoch as begun before its replica says a word; that nothing is said in a later
+//! epoch before port, sessions and links of the earlier one are closed; that a store is marked before a message tells
+//! of a change of the program.
 #![tactic(auto)]
 
 mod antechamber;

@@ -152,9 +152,10 @@ impl<R: MachineRuntime + Files<File = File> + Alloc<A = Global>> Member<R> {
         self.stop.another()
     }
 
-    /// The next life of the machine, behind one that ended so, if there was one: once it has begun an epoch, in which it's
-    /// to be served. From its store on it goes on with its epoch, or waits for others until that may be begun. None where
-    /// it was asked to stop. `err` has a line for each change meanwhile. A store that is refused stays as it is.
+    /// The next life of the machine, behind one that ended so, if there was one: once it has begun an epoch, in which
+    /// it's to be served. From its store on it goes on with its epoch, or waits for others until that may be begun.
+    /// None where it was asked to stop. `err` has a line for each change meanwhile. A store that is refused stays as
+    /// it is.
     pub fn next_life<E: CountedWrite>(
         &mut self,
         host: Host<R>,

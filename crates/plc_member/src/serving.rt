@@ -347,9 +347,10 @@ where
     S: Starts + Send + Drop + 'static,
     M: Marks + Send + Drop + 'static,
 {
-    /// Serves the machine until something fails, it's asked to stop, or it leaves its epoch. Then nothing of it is left:
-    /// port and sessions are closed, and its replica's thread has ended, unless it hangs behind a stop or a failure.
-    /// `err` has a line for each change; `showing` is what its page shows beside what is published, if one is wanted.
+    /// Serves the machine until something fails, it's asked to stop, or it leaves its epoch. Then nothing of it is
+    /// left: port and sessions are closed, and its replica's thread has ended, unless that hangs behind a stop or a
+    /// failure. `err` has a line for each change; `showing` is what its page shows beside what is published, if one is
+    /// wanted.
     pub fn serve<J, E: CountedWrite>(
         self,
         host: Host<R>,
