@@ -27,11 +27,13 @@ said_in_hello (Ok (Some hello)) = greeted.Said hello
 said_in_hello (Ok None) = greeted.Waits
 said_in_hello (Err fault) = greeted.Faulty fault
 
--- what is said so far: a visit once it's whole, or else what a hello says
+-- a visit, once it's whole
+abbrev pub visited_by : List ℕ → Greeted
+visited_by bytes = if length bytes == visit_length then greeted.Visits bytes else greeted.Waits
+
+-- what is said so far
 abbrev pub greeted_by : List ℕ → Greeted
-greeted_by bytes = if begins_visit bytes
-    then (if length bytes == visit_length then greeted.Visits bytes else greeted.Waits)
-    else said_in_hello (hello_of bytes)
+greeted_by bytes = if begins_visit bytes then visited_by bytes else said_in_hello (hello_of bytes)
 
 abbrev pub replica_in : Party → Epoch → Option (ℕ × Epoch)
 replica_in (Replica number) epoch = Some (number, epoch)

@@ -1,7 +1,7 @@
 //! A connection whose other end has said no hello yet.
 
-ghost use Rattle.std.specs.Prelude.{◌≡◌, ◌≤◌};
-ghost use Rattle.net_peers.specs.Heard.{begins_visit, greeted_by, heard_in, visit_front};
+ghost use Rattle.std.specs.Prelude.{◌≡◌, ◌≤◌, length};
+ghost use Rattle.net_peers.specs.Heard.{begins_visit, greeted_by, heard_in, visited_by};
 
 use mio::net::TcpStream as Wire;
 use net_hello::{Epoch, HELLO, Hello, HelloFault};
@@ -34,15 +34,34 @@ fn begins_visit(bytes: &[u8]) -> bool
     bytes.starts_with(&VISIT_FRONT)
 }
 
+/// These bytes as an array.
+fn array_of(bytes: &[u8]) -> [u8; VISIT]
+    requires { length bytes.now ≡ 153 }
+    ensures { result ≡ bytes.now }
+{
+    match <[u8; VISIT]>::try_from(bytes) {
+        Ok(array) => array,
+        Err(_) => unreachable!(),
+    }
+}
+
+/// The visit that these bytes begin, once it's whole.
+fn visited_by(bytes: &[u8]) -> Greeted
+    ensures { result ≡ visited_by bytes.now }
+{
+    if bytes.len() == VISIT {
+        Greeted::Visits(array_of(bytes))
+    } else {
+        Greeted::Waits
+    }
+}
+
 /// What is said in these bytes so far.
 fn greeted_by(bytes: &[u8]) -> Greeted
     ensures { result ≡ greeted_by bytes.now }
 {
     if begins_visit(bytes) {
-        return match <[u8; VISIT]>::try_from(bytes) {
-            Ok(visit) => Greeted::Visits(visit),
-            Err(_) => Greeted::Waits,
-        };
+        return visited_by(bytes);
     }
     match Hello::read(bytes) {
         Ok(Some(hello)) => Greeted::Said(hello),
@@ -56,9 +75,12 @@ fn greeted_by(bytes: &[u8]) -> Greeted
 pub(crate) fn heard_in(own: &Hello, hello: &Hello) -> Option<(u8, Epoch)>
     ensures { result ≡ heard_in own.now hello.now }
 {
+    if own.identity != hello.identity {
+        return None;
+    }
     match hello.party {
-        Party::Replica(number) if own.identity == hello.identity => Some((number, hello.epoch)),
-        _ => None,
+        Party::Replica(number) => Some((number, hello.epoch)),
+        Party::Client(_) => None,
     }
 }
 

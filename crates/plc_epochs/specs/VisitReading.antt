@@ -1,5 +1,5 @@
 -- Reading a visit: the inverse of its spelling.
-use Rattle.std.specs.Prelude.{ℕ, suc, ◌+◌, ◌*◌, ◌==◌, not, Bool, List, [], ◌∷◌, length, take, drop, slice_index}
+use Rattle.std.specs.Prelude.{ℕ, zero, suc, ◌+◌, ◌*◌, ◌==◌, not, Bool, List, [], ◌∷◌, length, take, drop, slice_index}
 use Rattle.std.specs.Prelude.{Option, Some, None, if◌then◌else◌}
 use Rattle.std.specs.List.{list_all}
 use Rattle.std.specs.Int.{w64, from_be_bytes}
@@ -17,8 +17,8 @@ is_zero byte = byte == 0
 
 -- from a kind, and eight bytes
 abbrev pub nonce_by : ℕ → List ℕ → Option (Option ℕ)
-nonce_by kind nonce = if kind == 0 then (if list_all is_zero nonce then Some None else None)
-    else (if kind == 1 then Some (Some (from_be_bytes w64 nonce)) else None)
+nonce_by kind rest = if kind == 0 then (if list_all is_zero rest then Some None else None)
+    else (if kind == 1 then Some (Some (from_be_bytes w64 rest)) else None)
 
 -- what one machine told, from nine bytes
 abbrev pub nonce_of : List ℕ → Option (Option ℕ)
@@ -26,15 +26,15 @@ nonce_of bytes = nonce_by (slice_index bytes 0) (drop 1 bytes)
 
 abbrev pub with_nonce : Option (Option ℕ) → Option (List (Option ℕ)) → Option (List (Option ℕ))
 with_nonce None others = None
-with_nonce (Some nonce) None = None
-with_nonce (Some nonce) (Some others) = Some (nonce ∷ others)
+with_nonce (Some told) None = None
+with_nonce (Some told) (Some others) = Some (told ∷ others)
 
 -- what so many machines told, one behind the other
 abbrev pub nonces_of : ℕ → List ℕ → Option (List (Option ℕ))
-nonces_of 0 bytes = Some []
+nonces_of zero bytes = Some []
 nonces_of (suc n) bytes = with_nonce (nonce_of (take 9 bytes)) (nonces_of n (drop 9 bytes))
 
-abbrev pub told_of : List ℕ → Option (List (Option ℕ))
+unfoldable pub told_of : List ℕ → Option (List (Option ℕ))
 told_of bytes = nonces_of most_replicas bytes
 
 -- ---- words
@@ -66,7 +66,7 @@ word_by kind question rest = if kind == 0 then freeze_of question rest
     else (if kind == 3 then still_frozen_by (answer_of question rest) else None)))
 
 -- from 72 bytes
-abbrev pub word_of : List ℕ → Option Word
+unfoldable pub word_of : List ℕ → Option Word
 word_of bytes = word_by (slice_index bytes 0) (from_be_bytes w64 (take 8 (drop 1 bytes))) (drop 8 (drop 1 bytes))
 
 -- ---- visits
@@ -86,10 +86,10 @@ said_behind identity number rest =
     said_with (word_of (drop 1 (drop 32 rest))) identity number (take 32 rest) (slice_index (drop 32 rest) 0)
 
 -- what is said, in 145 bytes
-abbrev pub said_of : List ℕ → Option Visit
+unfoldable pub said_of : List ℕ → Option Visit
 said_of bytes = said_behind (take 32 bytes) (take 8 (drop 32 bytes)) (drop 8 (drop 32 bytes))
 
 -- the visit that these bytes are, if they are one
-abbrev pub visit_of : List ℕ → Option Visit
+unfoldable pub visit_of : List ℕ → Option Visit
 visit_of bytes = if not (length bytes == 153) then None
     else (if not (from_be_bytes w64 (take 8 bytes) == 65536 * magic + version) then None else said_of (drop 8 bytes))

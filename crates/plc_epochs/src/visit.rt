@@ -63,7 +63,7 @@ fn put_nonce(out: &mut Vec<u8>, nonce: Option<u64>) -> Result<(), AllocError>
     }
 }
 
-fn put_told(out: &mut Vec<u8>, told: &Told) -> Result<(), AllocError>
+fn put_told(out: &mut Vec<u8>, told: &[Option<u64>]) -> Result<(), AllocError>
     ensures bytes { OnOk result (out.new.items ≡ out.old.items ++ flat_map nonce_bytes told.now) }
     ensures fits { OnOk result (AllByRecursion FitsNonce told.now) }
 {
@@ -121,8 +121,8 @@ fn nonce_of(bytes: &[u8]) -> Option<Option<u64>>
     requires { length bytes.now ≡ 9 }
     ensures { result ≡ nonce_of bytes.now }
 {
-    let (kind, nonce) = bytes.split_at(1);
-    match kind[0] {
+    let (_, nonce) = bytes.split_at(1);
+    match bytes[0] {
         0 if are_zeros(nonce) => Some(None),
         1 => Some(Some(BigEndian::read_u64(nonce))),
         _ => None,
@@ -176,13 +176,14 @@ fn word_by(kind: u8, question: u64, rest: &[u8]) -> Option<Word>
     }
 }
 
+#[tactic(auto, unfolding(crate::specs::VisitReading::word_of))]
 fn word_of(bytes: &[u8]) -> Option<Word>
     requires { length bytes.now ≡ 72 }
     ensures { result ≡ word_of bytes.now }
 {
-    let (kind, rest) = bytes.split_at(1);
+    let (_, rest) = bytes.split_at(1);
     let (question, rest) = rest.split_at(8);
-    word_by(kind[0], BigEndian::read_u64(question), rest)
+    word_by(bytes[0], BigEndian::read_u64(question), rest)
 }
 
 /// These bytes as an array.
@@ -197,6 +198,7 @@ fn array_of(bytes: &[u8]) -> [u8; 32]
 }
 
 /// What is said behind the magic and the version.
+#[tactic(auto, unfolding(crate::specs::VisitReading::said_of))]
 fn said_of(bytes: &[u8]) -> Option<Visit>
     requires { length bytes.now ≡ 145 }
     ensures { result ≡ said_of bytes.now }
@@ -204,7 +206,7 @@ fn said_of(bytes: &[u8]) -> Option<Visit>
     let (identity, rest) = bytes.split_at(32);
     let (number, rest) = rest.split_at(8);
     let (image, rest) = rest.split_at(32);
-    let (from, word) = rest.split_at(1);
+    let (_, word) = rest.split_at(1);
     let word = word_of(word)?;
     Some(Visit {
         identity: array_of(identity),
@@ -212,11 +214,12 @@ fn said_of(bytes: &[u8]) -> Option<Visit>
             number: BigEndian::read_u64(number),
             image: array_of(image),
         },
-        from: from[0],
+        from: rest[0],
         word,
     })
 }
 
+#[tactic(auto, unfolding(crate::specs::VisitReading::visit_of))]
 fn visit_of(bytes: &[u8]) -> Option<Visit>
     ensures { result ≡ visit_of bytes.now }
 {

@@ -1,10 +1,11 @@
 //! Machines of a group behind a power cut: what each does about the epochs of the group, by what comes.
 
 use crate::notation::{
-    behind, front, hexadecimal, lines_of, number_of, put_made, told, unreadable,
+    behind, bytes_of, front, hexadecimal, lines_of, number_of, otherwise, put_made, told,
+    unreadable,
 };
 use net_hello::Epoch;
-use plc_epochs::{Answer, ColdStart, Greeting, Kept, Moment, Place, Step, Told, Word};
+use plc_epochs::{Answer, ColdStart, Greeting, Kept, Moment, Place, Step, Told, Visit, Word};
 use std::alloc::{AllocError, Global};
 use std::io;
 use vr_model::{Config, MOST_REPLICAS};
@@ -197,14 +198,40 @@ fn tell_greeting(alloc: Global, machine: &ColdStart) -> Result<String, AllocErro
 
 /// What comes out of a cell in a table of this title.
 pub fn table(alloc: Global, title: &str, cell: &str) -> io::Result<String> {
-    if title != "next epoch by hand" {
-        return Err(unreadable());
+    match title {
+        "next epoch by hand" => next_by_hand(alloc, cell),
+        "visit" => visit(alloc, cell),
+        _ => Err(unreadable()),
     }
-    let (kept, image) = by_hand(cell).ok_or(unreadable())?;
+}
+
+fn next_by_hand(alloc: Global, text: &str) -> io::Result<String> {
+    let (kept, image) = by_hand(text).ok_or(unreadable())?;
     match kept.by_hand(image) {
         Ok(kept) => Ok(tell_kept(alloc, &kept)?),
         Err(fault) => Ok(format!(in alloc; "{fault}")?),
     }
+}
+
+/// What a visit says, which is spelled as these bytes.
+fn visit(alloc: Global, text: &str) -> io::Result<String> {
+    let bytes = bytes_of(alloc, text)?;
+    let Some(visit) = Visit::read(bytes.as_slice()) else {
+        return told(alloc, "no visit");
+    };
+    if visit.spell(alloc)?.as_slice() == bytes.as_slice() {
+        Ok(tell_visit(alloc, &visit)?)
+    } else {
+        Err(otherwise())
+    }
+}
+
+/// Who says what, as `R1 in 2.11 FREEZE 1.0`.
+fn tell_visit(alloc: Global, visit: &Visit) -> Result<String, AllocError> {
+    let epoch = tell_epoch(alloc, "in", &visit.epoch)?;
+    let word = tell_word(alloc, Some(visit.word))?;
+    let from = visit.from;
+    format!(in alloc; "R{from} {epoch}{word}")
 }
 
 /// What a store has, and the image with which its machine is to begin.

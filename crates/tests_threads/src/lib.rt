@@ -11,6 +11,8 @@ mod clients;
 #[cfg(test)]
 mod cluster_rows;
 #[cfg(test)]
+mod cold_rows;
+#[cfg(test)]
 mod console_rows;
 #[cfg(test)]
 mod failing_rows;

@@ -17,21 +17,21 @@ use std::time::{Clock, Duration, Instant};
 use vr_model::{Body, ClientNumber, Message, Party, Request};
 use vr_ports::{Cutter, Input, Link, Relink};
 
-const EPOCH: Epoch = Epoch {
+pub(crate) const EPOCH: Epoch = Epoch {
     number: 7,
     image: [2; 32],
 };
 
 /// The replica of a machine, and what it shows.
 #[derive(Drop)]
-struct Seat<R: Wait + Drop> {
-    rt: R,
-    exchange: Arc<Exchange>,
+pub(crate) struct Seat<R: Wait + Drop> {
+    pub(crate) rt: R,
+    pub(crate) exchange: Arc<Exchange>,
     link: PeerLink<R>,
 }
 
 /// What a party of the group says.
-fn hello_of(party: Party, starts: u64) -> Hello {
+pub(crate) fn hello_of(party: Party, starts: u64) -> Hello {
     Hello {
         identity: [1; 32],
         epoch: EPOCH,
@@ -41,7 +41,7 @@ fn hello_of(party: Party, starts: u64) -> Hello {
 }
 
 /// A listener at a port of this machine, and its address.
-fn listening<R>(rt: &R) -> Result<(TcpListener, SocketAddr), Fail>
+pub(crate) fn listening<R>(rt: &R) -> Result<(TcpListener, SocketAddr), Fail>
 where
     R: Net<Listener = TcpListener, Stream = TcpStream>,
 {
@@ -51,7 +51,7 @@ where
 }
 
 /// A machine of three, started 3 times, which knows the replicas at these addresses.
-fn machine_of(alloc: Global, number: u8, at: &[SocketAddr]) -> Result<Machine, Fail> {
+pub(crate) fn machine_of(alloc: Global, number: u8, at: &[SocketAddr]) -> Result<Machine, Fail> {
     Ok(Machine {
         identity: [1; 32],
         epoch: EPOCH,
@@ -64,7 +64,7 @@ fn machine_of(alloc: Global, number: u8, at: &[SocketAddr]) -> Result<Machine, F
 }
 
 /// The replica of a machine. Its receives wait for 1 ms.
-fn seat_of<R>(
+pub(crate) fn seat_of<R>(
     rt: R,
     alloc: Global,
     machine: &Machine,
@@ -79,7 +79,7 @@ where
 }
 
 /// Replica 0, alone, and its address.
-fn alone<R>(rt: R, alloc: Global) -> Result<(Seat<R>, SocketAddr), Fail>
+pub(crate) fn alone<R>(rt: R, alloc: Global) -> Result<(Seat<R>, SocketAddr), Fail>
 where
     R: Wait + Clock + Net<Listener = TcpListener, Stream = TcpStream> + Copy + Drop,
 {
@@ -133,7 +133,7 @@ where
     R: Wait + Clock + Net<Listener = TcpListener, Stream = TcpStream> + Copy + Drop,
 {
     /// It goes on for so long, in milliseconds, and for ten receives at least; the numbers that came are added up.
-    fn run(&mut self, milliseconds: u64) -> Result<u64, Fail> {
+    pub(crate) fn run(&mut self, milliseconds: u64) -> Result<u64, Fail> {
         let begun = Instant::now(&self.rt)?;
         let mut sum = 0u64;
         for round in 1..u32::MAX {
@@ -154,7 +154,7 @@ where
 }
 
 /// A connection of someone who sends these bytes, and gives up waiting after a second.
-fn stranger<R>(rt: &R, at: SocketAddr, bytes: &[u8]) -> Result<TcpStream, Fail>
+pub(crate) fn stranger<R>(rt: &R, at: SocketAddr, bytes: &[u8]) -> Result<TcpStream, Fail>
 where
     R: Net<Listener = TcpListener, Stream = TcpStream>,
 {
