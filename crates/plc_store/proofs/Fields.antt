@@ -16,7 +16,7 @@ module _ (id number image program : List ℕ) (kind machine : ℕ) (id_long : le
   front = magic ++ (id ++ (kind ∷ ((number ++ image) ++ (program ++ (machine ∷ [])))))
 
   header_again : header_of front ≡ record { identity = id; kept = kept_by kind (epoch_by number image); program = program; machine = machine }
-  unfolding front
+  unfolding front header_of
   header_again =
       rw (
         take_at id (kind ∷ ((number ++ image) ++ (program ++ (machine ∷ [])))) 32 id_long,

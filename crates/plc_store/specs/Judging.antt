@@ -1,6 +1,6 @@
 -- What a machine may do with what its directory holds: the bytes of its store, if there are any, the views of
 -- replicas, and the mark of a change.
-use Rattle.std.specs.Prelude.{◌≡◌, ◌==◌, ⊤, ℕ, Bool, true, false, not, List, [], ◌∷◌, bytes_eq, nat_le, Option, Some}
+use Rattle.std.specs.Prelude.{◌≡◌, ◌==◌, ◌⊎◌, ⊤, ℕ, Bool, true, false, not, List, [], ◌∷◌, bytes_eq, nat_le, Option, Some}
 use Rattle.std.specs.Prelude.{None, Result, Ok, Err, if◌then◌else◌}
 use Rattle.std.specs.List.{list_any}
 use Rattle.net_hello.specs.declared.hello.Epoch.{Epoch}
@@ -72,6 +72,10 @@ abbrev pub IsFromOutside : Refusal → Type 0
 IsFromOutside refusals.Memory = ⊤
 IsFromOutside refusals.Device = ⊤
 IsFromOutside e = ⊥
+
+-- there is no store to be read, or that's from outside
+abbrev pub IsUnread : Option (List ℕ) → Refusal → Type 0
+IsUnread group refusal = IsFromOutside refusal ⊎ (found_in group ≡ Err refusal)
 
 -- the machine has begun no epoch yet
 abbrev pub is_unbegun : Kept → Bool

@@ -1,5 +1,5 @@
 -- How a store goes on from epoch to epoch.
-use Rattle.std.specs.Prelude.{◌≡◌, ◌≤◌, ◌^◌, ◌&&◌, ℕ, Bool, true, false, not, List, bytes_eq, length, Option, Some, None}
+use Rattle.std.specs.Prelude.{◌≡◌, ◌⊎◌, ◌≤◌, ◌^◌, ◌&&◌, ℕ, Bool, true, false, not, List, bytes_eq, length, Option, Some, None}
 use Rattle.std.specs.Prelude.{Result, Ok, Err, IfSome, if◌then◌else◌}
 use Rattle.sha2.specs.Sha256.{sha256}
 use Rattle.net_hello.specs.declared.hello.Epoch.{Epoch}
@@ -29,11 +29,9 @@ abbrev pub IsNext : Option (List ℕ) → Kept → Saying → Type 0
 IsNext group kept said = (found : Saying) × (found_in group ≡ Ok found) × GoesOn found.header.kept kept
     × (said ≡ with_kept found kept)
 
--- why the store of these bytes doesn't get that: it would go back, or there is none
-abbrev pub IsRefusedNext : Option (List ℕ) → Kept → Refusal → Type 0
-IsRefusedNext group kept refusals.Backward =
-    (found : Saying) × (found_in group ≡ Ok found) × (GoesOn found.header.kept kept → ⊥)
-IsRefusedNext group kept refusal = found_in group ≡ Err refusal
+-- the store of these bytes would go back
+abbrev pub WouldGoBack : Option (List ℕ) → Kept → Type 0
+WouldGoBack group kept = (found : Saying) × (found_in group ≡ Ok found) × (GoesOn found.header.kept kept → ⊥)
 
 abbrev pub lacks : Kept → List ℕ → List ℕ → Bool
 lacks (keeps.Entered epoch) own program = bytes_eq epoch.image program && not (bytes_eq own program)
@@ -60,14 +58,12 @@ abbrev pub IsFaultByHand : Option (List ℕ) → Option (List ℕ) → ByHandFau
 IsFaultByHand group image fault = (found : Saying) × (found_in group ≡ Ok found)
     × (kept_by_hand found.header (with_image found image).header.program ≡ Err fault)
 
--- why the store of these bytes isn't put into the next epoch by hand, with this mark beside it
-abbrev pub IsRefusedByHand : Option (List ℕ) → Option (List ℕ) → Option (List ℕ) → Refusal → Type 0
-IsRefusedByHand group mark image refusals.Changed = IsProgramWanted group mark image
-IsRefusedByHand group mark image refusals.TooLong = IfSome image (λ bytes. 2 ^ 32 ≤ length bytes)
-IsRefusedByHand group mark image refusals.Waits = IsFaultByHand group image faults.Waits
-IsRefusedByHand group mark image refusals.LastEpoch = IsFaultByHand group image faults.LastEpoch
-IsRefusedByHand group mark image refusal = found_in group ≡ Err refusal
-
 abbrev pub by_hand_refusal : ByHandFault → Refusal
 by_hand_refusal faults.Waits = refusals.Waits
 by_hand_refusal faults.LastEpoch = refusals.LastEpoch
+
+-- why a store that is read isn't put into the next epoch by hand, with this mark beside it
+abbrev pub IsRefusedByHand : Option (List ℕ) → Option (List ℕ) → Option (List ℕ) → Refusal → Type 0
+IsRefusedByHand group mark image refusal = ((refusal ≡ refusals.Changed) × IsProgramWanted group mark image)
+    ⊎ (((refusal ≡ refusals.TooLong) × IfSome image (λ bytes. 2 ^ 32 ≤ length bytes))
+    ⊎ ((fault : ByHandFault) × (refusal ≡ by_hand_refusal fault) × IsFaultByHand group image fault))

@@ -37,7 +37,7 @@ fields_after identity kept program rest = record {
 }
 
 -- the identity of 32 bytes behind the first ten, what it has of epochs in 41, the sum of its image in 32, the machine
-abbrev pub header_of : List ℕ → Header
+unfoldable pub header_of : List ℕ → Header
 header_of bytes =
     let identity = drop 10 bytes in let kind = drop 32 identity in let number = drop 1 kind in
     let image = drop 8 number in let program = drop 32 image in

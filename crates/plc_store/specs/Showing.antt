@@ -37,13 +37,19 @@ image_lines said = line (codes "program ") (encode_lower said.header.program)
     ++ line (codes "image ") (decimal (length said.image))
 
 abbrev pub machine_lines : Header → List ℕ
-machine_lines header = line (codes "identity ") (encode_lower header.identity)
-    ++ line (codes "machine ") (decimal header.machine)
+machine_lines header = line (codes "machine ") (decimal header.machine)
+    ++ line (codes "identity ") (encode_lower header.identity)
+
+abbrev pub header_lines : Header → List ℕ
+header_lines header = machine_lines header ++ epoch_lines header.kept
+
+-- and whether the program was changed since
+abbrev pub program_lines : Saying → Bool → List ℕ
+program_lines said is_changed = image_lines said ++ line (codes "changed ") (word_of is_changed)
 
 -- a line for each part, sums in hexadecimal
 abbrev pub shown : Saying → Bool → List ℕ
-shown said is_changed = codes "format 2\n" ++ (machine_lines said.header ++ (epoch_lines said.header.kept
-    ++ (image_lines said ++ line (codes "changed ") (word_of is_changed))))
+shown said is_changed = codes "format 2\n" ++ (header_lines said.header ++ program_lines said is_changed)
 
 -- these are the lines of the store of these bytes, beside this mark
 abbrev pub IsShown : Option (List ℕ) → Option (List ℕ) → List ℕ → Type 0

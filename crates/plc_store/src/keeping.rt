@@ -3,11 +3,11 @@
 ghost use Rattle.std.specs.Prelude.{◌≡◌, ◌≤◌, ◌^◌, ◌⊎◌, IfErr, IfOk, IfSome, OnOk, Some, None, [], option_map, length};
 ghost use Rattle.net_hello.specs.declared.hello.Epoch.{Epoch as Numbered};
 ghost use Rattle.plc_epochs.specs.declared.kept.Kept.TheVariants as keeps;
-ghost use Rattle.plc_store.specs.Judging.{IsFromOutside};
-ghost use Rattle.plc_store.specs.Keeping.{IsByHand, IsNext, IsProgramWanted, IsRefusedByHand, IsRefusedNext};
+ghost use Rattle.plc_store.specs.Judging.{IsFromOutside, IsUnread};
+ghost use Rattle.plc_store.specs.Keeping.{IsByHand, IsNext, IsProgramWanted, IsRefusedByHand, WouldGoBack};
 ghost use Rattle.plc_store.specs.Keeping.{kept_by_hand, lacks, with_image, with_kept};
 ghost use Rattle.plc_store.specs.Spelling.{Saying, saying, spelling};
-ghost use Rattle.plc_store.specs.declared.judging.Refusal.TheVariants.{TooLong};
+ghost use Rattle.plc_store.specs.declared.judging.Refusal.TheVariants.{Backward, TooLong};
 
 use crate::directory::StoreDirectory;
 use crate::header::{Header, Store};
@@ -94,7 +94,8 @@ pub fn keep<D: StoreDirectory>(
     ensures begun { (epoch : Numbered) → kept.now ≡ keeps.Begun epoch
         → (D.group directory.new ≡ D.group directory.old)
         ⊎ ((D.views directory.new ≡ []) × (D.mark directory.new ≡ None)) }
-    ensures refused { IfErr result (λ e. IsFromOutside e ⊎ IsRefusedNext (D.group directory.old) kept.now e) }
+    ensures refused { IfErr result (λ e. IsUnread (D.group directory.old) e
+        ⊎ ((e ≡ Backward) × WouldGoBack (D.group directory.old) kept.now)) }
     ensures whole { (D.group directory.new ≡ D.group directory.old) ⊎ (said : Saying)
         × IsNext (D.group directory.old) kept.now said × (D.group directory.new ≡ Some (spelling said)) }
 {
@@ -159,7 +160,7 @@ pub fn enter_by_hand<D: StoreDirectory>(
     ensures entered { IfOk result (λ store.
         IsByHand (D.group directory.old) (option_map (λ v. v.items) image) (saying store)) }
     ensures kept { IfOk result (λ store. D.group directory.new ≡ Some (spelling (saying store))) }
-    ensures refused { IfErr result (λ e. IsFromOutside e
+    ensures refused { IfErr result (λ e. IsUnread (D.group directory.old) e
         ⊎ IsRefusedByHand (D.group directory.old) (D.mark directory.old) (option_map (λ v. v.items) image) e) }
     ensures changed { OnOk result
         (¬ IsProgramWanted (D.group directory.old) (D.mark directory.old) (option_map (λ v. v.items) image)) }

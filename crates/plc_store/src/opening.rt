@@ -1,7 +1,7 @@
 //! A store is made once, and opened at each start.
 
 ghost use Rattle.std.specs.Prelude.{◌≡◌, ◌⊎◌, IfErr, IfOk, IsTrue, OnOk, Ok, Err, Some};
-ghost use Rattle.plc_store.specs.Judging.{IsBlank, IsFromOutside, found_in, is_unbegun, judged};
+ghost use Rattle.plc_store.specs.Judging.{IsBlank, IsFromOutside, IsUnread, found_in, is_unbegun, judged};
 ghost use Rattle.plc_store.specs.Spelling.{saying, spelling};
 ghost use Rattle.plc_store.specs.declared.judging.Refusal.TheVariants.{Used};
 
@@ -16,7 +16,7 @@ use std::alloc::Global;
 pub fn stored_in<D: StoreDirectory>(alloc: Global, directory: &D) -> Result<Store, Refusal>
     ensures found { IfOk result (λ store. found_in (D.group directory.now) ≡ Ok (saying store)) }
     ensures spelled { IfOk result (λ store. D.group directory.now ≡ Some (spelling (saying store))) }
-    ensures refused { IfErr result (λ e. IsFromOutside e ⊎ (found_in (D.group directory.now) ≡ Err e)) }
+    ensures refused { IfErr result (IsUnread (D.group directory.now)) }
 {
     let Some(bytes) = directory.group() else {
         return Err(Refusal::NoStore);

@@ -4,8 +4,9 @@ ghost use Rattle.std.specs.Prelude.{◌≡◌, ◌++◌, IfOk, OnOk, string_byte
 ghost use Rattle.std.specs.Fmt.{decimal};
 ghost use Rattle.hex.specs.Hex.{encode_lower};
 ghost use Rattle.il_text.specs.Telling.{WentOut};
-ghost use Rattle.plc_store.specs.Showing.{IsShown, epoch_line, epoch_lines, image_lines, line, machine_lines};
-ghost use Rattle.plc_store.specs.Showing.{refusal_line, shown, state_of, status_of, word_of};
+ghost use Rattle.plc_store.specs.Showing.{IsShown, epoch_line, epoch_lines, header_lines, image_lines, line};
+ghost use Rattle.plc_store.specs.Showing.{machine_lines, program_lines, refusal_line, shown, state_of, status_of};
+ghost use Rattle.plc_store.specs.Showing.{word_of};
 ghost use Rattle.plc_store.specs.Spelling.{saying};
 
 use crate::directory::StoreDirectory;
@@ -18,24 +19,42 @@ use io_model::CountedWrite;
 use plc_epochs::Kept;
 use std::alloc::{AllocError, Global};
 
-/// The lines of a store: its format, identity, machine, state, epoch with the image that this begins with, program with
+/// The lines of a store: its format, machine, identity, state, epoch with the image that this begins with, program with
 /// the number of bytes of its image, and whether the program was changed since.
 pub fn show(alloc: Global, store: &Store, is_changed: bool) -> Result<String, AllocError>
     ensures { IfOk result (λ lines. string_bytes lines ≡ shown (saying store.now) is_changed) }
 {
     let mut lines = String::from_str(alloc, "format 2\n")?;
-    put_machine(alloc, &mut lines, &store.header)?;
-    put_epoch(alloc, &mut lines, &store.header.kept)?;
-    put_image(alloc, &mut lines, store)?;
-    put_line(&mut lines, "changed ", word_of(is_changed))?;
+    put_header(alloc, &mut lines, &store.header)?;
+    put_program(alloc, &mut lines, store, is_changed)?;
     Ok(lines)
+}
+
+fn put_header(alloc: Global, lines: &mut String, header: &Header) -> Result<(), AllocError>
+    ensures { OnOk result (string_bytes lines.new ≡ string_bytes lines.old ++ header_lines header.now) }
+{
+    put_machine(alloc, lines, header)?;
+    put_epoch(alloc, lines, &header.kept)
+}
+
+fn put_program(
+    alloc: Global,
+    lines: &mut String,
+    store: &Store,
+    is_changed: bool,
+) -> Result<(), AllocError>
+    ensures { OnOk result
+        (string_bytes lines.new ≡ string_bytes lines.old ++ program_lines (saying store.now) is_changed) }
+{
+    put_image(alloc, lines, store)?;
+    put_line(lines, "changed ", word_of(is_changed))
 }
 
 fn put_machine(alloc: Global, lines: &mut String, header: &Header) -> Result<(), AllocError>
     ensures { OnOk result (string_bytes lines.new ≡ string_bytes lines.old ++ machine_lines header.now) }
 {
-    put_digest(alloc, lines, "identity ", &header.identity)?;
-    put_number(alloc, lines, "machine ", u64::from(header.machine))
+    put_number(alloc, lines, "machine ", u64::from(header.machine))?;
+    put_digest(alloc, lines, "identity ", &header.identity)
 }
 
 fn put_epoch(alloc: Global, lines: &mut String, kept: &Kept) -> Result<(), AllocError>

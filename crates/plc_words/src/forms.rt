@@ -451,7 +451,7 @@ An address that's no loopback is told, and is no fault:
 );
 
 const SHOWING: &str =
-    "Prints a line for each of these: its format; the identity of its group; the machine's number; its
+    "Prints a line for each of these: its format; the machine's number; the identity of its group; its
 state; its epoch, and the program with which that begins; the program of the store, and how many bytes
 its image has; whether the program was changed in this epoch. Identity and programs are SHA-256.
 

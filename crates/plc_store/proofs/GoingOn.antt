@@ -1,0 +1,22 @@
+-- What is left of a store that goes on.
+use Rattle.std.proofs.Common.{◌≡◌, ℕ, List, Option, Some, Result, Ok, ◌⊎◌, inl, inr, refl}
+use Rattle.plc_epochs.specs.GoingOn.{GoesOn}
+use Rattle.plc_epochs.specs.declared.kept.Kept.{Kept}
+use Rattle.plc_store.specs.Judging.{found_in}
+use Rattle.plc_store.specs.Keeping.{IsByHand, IsNext, kept_by_hand, with_image, with_kept}
+use Rattle.plc_store.specs.Spelling.{Saying, spelling}
+
+-- the store before, or the next one
+pub next_or_before : (before after : Option (List ℕ)) (found : Saying) (kept : Kept) → found_in before ≡ Ok found → GoesOn found.header.kept kept
+    → (after ≡ before) ⊎ (after ≡ Some (spelling (with_kept found kept)))
+    → (after ≡ before) ⊎ ((said : Saying) × IsNext before kept said × (after ≡ Some (spelling said)))
+next_or_before before after found kept is on (inl same) = inl same
+next_or_before before after found kept is on (inr put) = inr (with_kept found kept, (found, is, on, refl), put)
+
+-- the store before, or that of the next epoch
+pub by_hand_or_before : (before after image : Option (List ℕ)) (found put : Saying) (kept : Kept) → found_in before ≡ Ok found
+    → kept_by_hand found.header (with_image found image).header.program ≡ Ok kept → put ≡ with_kept (with_image found image) kept
+    → (after ≡ before) ⊎ (after ≡ Some (spelling put))
+    → (after ≡ before) ⊎ ((said : Saying) × IsByHand before image said × (after ≡ Some (spelling said)))
+by_hand_or_before before after image found put kept is by same (inl stays) = inl stays
+by_hand_or_before before after image found put kept is by same (inr stands) = inr (put, (found, kept, is, by, same), stands)
