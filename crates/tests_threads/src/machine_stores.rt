@@ -127,7 +127,11 @@ fn a_store_is_made_once(rt: HostRuntime) -> Result<(), Fail> {
     );
     assert!(rt; !fs::exists(&rt, "machine-2/group.new")?);
     let lines = show_directory(rt.alloc(), &directory)?;
-    assert!(rt; lines.as_str().starts_with("format 2\nmachine 1\nidentity 0b0b"));
+    assert!(rt;
+        lines
+            .as_str()
+            .starts_with("format 2\nmachine 1\nidentity 0b0b")
+    );
     fs::remove_dir_all(&rt, path)?;
     Ok(())
 }
