@@ -1,11 +1,12 @@
 """Machines of a group that lose their memory together, as by a power cut: that they begin a later epoch by themselves,
 once, or wait for a person, and how long it takes."""
-import os
 import random
+import shutil
 import signal
 import subprocess
 import time
 
+import console
 from group import Group, now
 
 LONGEST = 4.0           # seconds from the last machine's start to a port that answers
@@ -128,4 +129,83 @@ def by_hand_alone(options):
         return right and begun(group, 2) == [0, 2][:group.size - 1]
 
 
-TRIES = [power_cut, most_lose_their_memory, one_of_them_recovers, by_hand_alone]
+def cut_while_it_begins(options):
+    """All are killed once more while a cold start is under way, at random moments of it: it begins by itself all the
+    same."""
+    with Group(options) as group:
+        right, took, chance = group.begin(), [], random.Random(options.seed)
+        group.is_over = True
+        for _ in range(options.cuts):
+            cut(group.machines)
+            last = started(group.machines, [0.02] * group.size)
+            time.sleep(chance.uniform(0.9, 1.6))
+            cut(group.machines)
+            last = started(group.machines, [0.02] * group.size)
+            if group.driving(20) is None or not is_normal_again(group.machines, last):
+                print('\n'.join(f'    {line}' for line in group.since(last - 3)))
+                return False
+            took.append(now() - last)
+        print(f'  from the last start until all are normal {middle(took)}')
+        return right and len(set(epochs(group))) == 1
+
+
+def by_hand_with(group, machine, *words):
+    """Puts a machine into the next epoch by hand: whether that's done."""
+    machine.kill()
+    status, line = group.run('format', '--next-epoch', *words, '--store', group.store(machine.number))
+    machine.start()
+    if status:
+        print(f'  {line}')
+    return status == 0
+
+
+def a_changed_program_waits_for_a_person(options):
+    """The program was changed over a console before all are killed: nothing begins by itself, and each tells why. By
+    hand all begin with the program that's given."""
+    with Group(options) as group:
+        right, operator = group.begin(), console.Operator(group, random.Random(1))
+        with console.Console(group.network.console(0)) as session:
+            right = session.ask({'change': operator.images[1]}) == 'done' and right
+        time.sleep(0.5)
+        group.is_over = True
+        cut(group.machines)
+        last = started(group.machines, [0.1] * group.size)
+        told = [machine.told('program changed in epoch 1', last - 1, 5) for machine in group.machines]
+        time.sleep(5)
+        right = None not in told and begun(group, 2) == [] and group.driving(0.5) is None and right
+        for machine in group.machines:
+            right = by_hand_with(group, machine, group.path('text-1.il')) and right
+        last = group.machines[-1].started
+        right = group.driving(20) is not None and is_normal_again(group.machines[-1:], last) and right
+        if not right or len(set(epochs(group))) != 1:
+            print(f'  {told} {epochs(group)}')
+            print('\n'.join(f'    {line}' for line in group.since(last - 9)))
+            return False
+        return right
+
+
+def a_lost_disk_waits(options):
+    """A machine whose disk is lost takes part in no epoch that it may have had part in, and in the next one."""
+    with Group(options) as group:
+        right, lost = group.begin(), group.machines[-1]
+        group.is_over = True
+        lost.kill()
+        shutil.rmtree(group.store(lost.number))
+        own = ('--group', group.file(lost.number), '--store', group.store(lost.number))
+        right = group.run('format', group.source, '--wait', '--machine', str(lost.number), *own)[0] == 0 and right
+        lost.start()
+        right = lost.told(f'machine {lost.number} waits for an epoch after 1', lost.started, 5) is not None and right
+        time.sleep(3)
+        right = group.driving(1) is not None and begun(group, 2) == [] and right
+        right = by_hand_with(group, group.machines[0]) and right
+        last = group.machines[0].started
+        right = is_normal_again(group.machines, last) and group.driving(20) is not None and right
+        if not right or len(set(epochs(group))) != 1:
+            print(f'  {epochs(group)}')
+            print('\n'.join(f'    {line}' for line in group.since(lost.started)))
+            return False
+        return right
+
+
+TRIES = [power_cut, cut_while_it_begins, most_lose_their_memory, one_of_them_recovers, by_hand_alone,
+         a_changed_program_waits_for_a_person, a_lost_disk_waits]
