@@ -1,5 +1,5 @@
 -- What is heard at the beginning of a connection: a hello or a visit, and of whom a hello is.
-use Rattle.std.specs.Prelude.{ℕ, ◌==◌, ◌×◌, Bool, List, ◌∷◌, [], length, bytes_eq, nat_eq, Option, Some, None}
+use Rattle.std.specs.Prelude.{ℕ, ◌==◌, Bool, List, ◌∷◌, [], length, bytes_eq, nat_eq, Option, Some, None}
 use Rattle.std.specs.Prelude.{Result, Ok, Err, if◌then◌else◌}
 use Rattle.std.specs.List.{starts_with}
 use Rattle.vr_model.specs.declared.message.Party.{Party}
