@@ -6,6 +6,7 @@ use crate::serving::MachineRuntime;
 use crate::stop::Stop;
 use il_loader::Image;
 use net_hello::Epoch;
+use plc_trace::{Started, Trace};
 
 /// A machine that has begun its epoch, as its store says, and is to be served in it: its links are up, and its replica
 /// is not started.
@@ -25,4 +26,22 @@ pub struct Begun<R: MachineRuntime, S: Drop, M: Drop> {
     pub(crate) keeper: Keeper<R>,
     /// What ends it.
     pub(crate) stop: Stop,
+    /// Where what it releases is put, if that's wanted.
+    pub(crate) trace: Option<Trace>,
+}
+
+impl<R: MachineRuntime, S: Drop, M: Drop> Begun<R, S, M> {
+    /// The same, which puts what it releases into a trace.
+    pub fn traced(mut self, trace: Trace) -> Begun<R, S, M> {
+        self.trace = Some(trace);
+        self
+    }
+
+    /// Which machine it is, and how often it was started in its epoch, with this time.
+    pub fn started(&self) -> Started {
+        Started {
+            machine: self.number,
+            starts: self.starts,
+        }
+    }
 }

@@ -9,6 +9,8 @@ ghost use Rattle.io_driver.specs.Driver.{release_by};
 ghost use Rattle.plc_machine.specs.Driving.{Looks, Shows};
 ghost use Rattle.plc_machine.specs.declared.leading.LastScan.{LastScan as Last};
 ghost use Rattle.plc_member.specs.Driving.{MayScan, Publishes};
+ghost use Rattle.plc_member.specs.Tracing.{TracesRelease, traced_by};
+ghost use Rattle.plc_member.specs.declared.scans.Entered.{Entered};
 
 use crate::filling::fill;
 use crate::held_link::HeldLink;
@@ -16,9 +18,10 @@ use crate::keeper::{Keeper, Leaving};
 use crate::port::{Port, Turn};
 use crate::publisher::Publisher;
 use crate::requester::Requester;
-use crate::scans::ScanBoard;
+use crate::scans::{Entered, ScanBoard};
 use crate::stop::Stop;
 use crate::teller::{Submitted, Teller};
+use crate::tracer::Tracer;
 use io_image::{Naming, Pen, Stage, StageError};
 use plc_epochs::Kept;
 use plc_host::{Failed, Host, ServiceRuntime};
@@ -48,6 +51,7 @@ where
     pub(crate) stage: Arc<Stage>,
     pub(crate) publisher: Publisher<R, J, P>,
     pub(crate) teller: Teller,
+    pub(crate) tracer: Tracer,
     /// The last scan that was submitted.
     pub(crate) submitted: Submitted,
     /// What ends it.
@@ -140,6 +144,7 @@ where
     {
         self.look()?;
         self.teller.note_links(&self.host);
+        self.teller.note_trace(self.tracer.has_failed());
         self.scan()?;
         self.receive()?;
         let now = self.elapsed()?;
@@ -246,11 +251,21 @@ where
         }
     }
 
-    /// Takes a message of the group. Where it's the reply that is waited for, what it releases is published.
+    /// Where the last scan of the own log stands, if that is known.
+    fn last_entered(&self) -> Option<Entered> {
+        self.board.read(&self.host.rt)?.entered
+    }
+
+    /// Takes a message of the group. Where it's the reply that is waited for, what it releases is published, and put into
+    /// the trace.
     fn take(&mut self, message: &Message) -> Result<(), Failed>
         ensures published { OnOk result ((log : List (Entry Asked))
             → Publishes (release_by self.old.requester.driver.driver.state (body_with log message.now.body))
             self.old.publisher.writer self.new.publisher.writer) }
+        ensures traced { OnOk result ((log : List (Entry Asked)) → (entered : Option Entered)
+            × TracesRelease (release_by self.old.requester.driver.driver.state (body_with log message.now.body))
+            (traced_by self.old.tracer.number self.old.tracer.epoch entered (body_with log message.now.body))
+            self.old.tracer.trace self.new.tracer.trace) }
     {
         let was_waiting = self.requester.driver.is_waiting();
         let release = self.requester.driver.on_reply(message);
@@ -258,8 +273,12 @@ where
             self.teller
                 .count(self.submitted, halt_in(message), release.is_some());
         }
+        let entered = self.last_entered();
         match release {
-            Some(release) => self.publisher.publish(release, self.submitted.at),
+            Some(release) => {
+                self.tracer.put(message, entered);
+                self.publisher.publish(release, self.submitted.at)
+            }
             None => Ok(()),
         }
     }

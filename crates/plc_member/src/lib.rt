@@ -16,10 +16,10 @@
 //! closed, and the store has the later epoch before the next life begins.
 //!
 //! Proved: a scan is submitted only as of a machine that leads, where one is due, and its inputs are one sample; what
-//! is published is what a reply released; where a machine begins to lead, its stage has the inputs of the last scan
-//! that its replica's log kept. A held link gives no answer to a RECOVERY (`let_through`); a life ends for another epoch
-//! by the steps that say so alone (`leaving_by`); no machine begins anew by itself whose program was changed
-//! (`is_automatic`).
+//! is published is what a reply released, and that reply is put into the trace, if there is one; where a machine begins
+//! to lead, its stage has the inputs of the last scan that its replica's log kept. A held link gives no answer to a
+//! RECOVERY (`let_through`); a life ends for another epoch by the steps that say so alone (`leaving_by`); no machine
+//! begins anew by itself whose program was changed (`is_automatic`).
 //!
 //! By its code alone, and tested (`tests_machines`, `tools/try-machines`): how threads, locks, sockets and times are
 //! joined; that the port is open only while outputs are shown; that no answer is under way in the replica of a machine
@@ -48,6 +48,7 @@ mod serving;
 mod speaker;
 mod stop;
 mod teller;
+mod tracer;
 mod unserved;
 mod watch;
 

@@ -297,6 +297,7 @@ impl<R: MachineRuntime + Files<File = File> + Alloc<A = Global>> Member<R> {
             linked,
             keeper,
             stop: self.stop.another()?,
+            trace: None,
         }))
     }
 }

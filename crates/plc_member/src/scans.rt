@@ -20,11 +20,23 @@ use vr_ports::Gate;
 use vr_replica::{Replica, ScanInputs};
 use vr_threads::Observer;
 
-/// The last scan of a log: its inputs, its moment, and when it came in.
+/// Where a scan stands in a log, from 0, by whom it was submitted, under which number, and at which moment; and the view
+/// in which that was seen.
+#[derive(Clone, Copy, Debug, PartialEq, Eq)]
+pub(crate) struct Entered {
+    pub(crate) place: u64,
+    pub(crate) client: u8,
+    pub(crate) number: u64,
+    pub(crate) moment: u64,
+    pub(crate) view: u64,
+}
+
+/// The last scan of a log: its inputs, its moment, when it came in, and where it stands, if that is known.
 #[derive(Clone, Copy)]
 pub(crate) struct SeenScan {
     pub(crate) last: LastScan,
     pub(crate) inputs: InImage,
+    pub(crate) entered: Option<Entered>,
 }
 
 /// Where the thread of a replica leaves the last scan of its log. Whoever holds it holds it for a moment.
@@ -74,20 +86,26 @@ pub(crate) struct ScanGate<R: Wait + Clock + Copy + Drop, M> {
     known: Known,
 }
 
-/// The place of the last scan among the entries that a replica keeps, from 0.
-fn place_of_last(replica: &Replica) -> Option<u64> {
+/// Where the last scan stands among the entries that a replica keeps.
+fn last_entered(replica: &Replica) -> Option<Entered> {
     let count = replica.op_number();
     for behind in 0..count {
         let place = count - 1 - behind;
-        match replica.entry(place) {
-            None => return None,
-            Some(
-                Request {
-                    command: Command::Scan { .. },
-                    ..
-                },
-            ) => return Some(place),
-            Some(_) => {}
+        match replica.entry(place)? {
+            Request {
+                client,
+                number,
+                command: Command::Scan { moment, .. },
+            } => {
+                return Some(Entered {
+                    place,
+                    client: client.number,
+                    number: *number,
+                    moment: *moment,
+                    view: replica.standing().view,
+                });
+            }
+            _ => {}
         }
     }
     None
@@ -132,20 +150,25 @@ impl<R: Wait + Clock + Copy + Drop, M: Marks + Drop> ScanGate<R, M> {
     }
 
     /// A scan of these inputs and this moment came in just now. Where the time can't be read it's left out.
-    fn leave(&self, inputs: InImage, moment: u64) {
+    fn leave(&self, inputs: InImage, moment: u64, entered: Option<Entered>) {
         if let Ok(now) = Instant::now(&self.host.rt) {
             let came = now.saturating_duration_since(self.begun);
             let last = LastScan { moment, came };
-            self.board.put(&self.host.rt, SeenScan { last, inputs });
+            let seen = SeenScan {
+                last,
+                inputs,
+                entered,
+            };
+            self.board.put(&self.host.rt, seen);
         }
     }
 
-    /// The last scan is at this place.
-    fn see(&mut self, place: u64, scan: ScanInputs) {
-        let known = Known::At(place, scan);
+    /// The last scan stands there.
+    fn see(&mut self, entered: Entered, scan: ScanInputs) {
+        let known = Known::At(entered.place, scan);
         if self.known != known {
             self.known = known;
-            self.leave(scan.inputs, scan.moment);
+            self.leave(scan.inputs, scan.moment, Some(entered));
         }
     }
 
@@ -161,7 +184,7 @@ impl<R: Wait + Clock + Copy + Drop, M: Marks + Drop> ScanGate<R, M> {
             let inputs = InImage {
                 cells: snapshot.input,
             };
-            self.leave(inputs, snapshot.moment);
+            self.leave(inputs, snapshot.moment, None);
         }
     }
 }
@@ -174,8 +197,8 @@ impl<R: Wait + Clock + Copy + Drop, M: Marks + Drop> Gate for ScanGate<R, M> {
 
 impl<R: Wait + Clock + Copy + Drop, M: Marks + Drop> Observer for ScanGate<R, M> {
     fn observe(&mut self, replica: &Replica) {
-        match (place_of_last(replica), last_of(replica)) {
-            (Some(place), Some(scan)) => self.see(place, scan),
+        match (last_entered(replica), last_of(replica)) {
+            (Some(entered), Some(scan)) => self.see(entered, scan),
             _ => self.see_checkpoint(replica),
         }
         self.program.look(self.host.alloc, replica);

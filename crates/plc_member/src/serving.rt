@@ -16,6 +16,7 @@ use crate::scans::{ScanBoard, ScanGate};
 use crate::services::{Services, ToShow};
 use crate::stop::Stop;
 use crate::teller::{Submitted, Teller};
+use crate::tracer::Tracer;
 use il_loader::Image;
 use io_image::{Naming, NewList, Pen, ReleasedReader, SharedPen, Stage, Stamp, released};
 use io_model::CountedWrite;
@@ -28,6 +29,7 @@ use plc_listener::Door;
 use plc_machine::{MachineDriver, Pace, client_starts};
 use plc_page::{Page, Published, Showing, Whose};
 use plc_status::{Journal, Journals, Notice, Printer, StatusReader, StatusWriter};
+use plc_trace::Trace;
 use std::alloc::{AllocError, Global};
 use std::net::{Net, SocketAddr, TcpListener, TcpStream};
 use std::sync::Arc;
@@ -113,6 +115,8 @@ struct Running<R: MachineRuntime> {
     image: Image,
     /// What ends it.
     stop: Stop,
+    /// Where what it releases is put, if that's wanted.
+    trace: Option<Trace>,
 }
 
 /// What the outputs are released to, and what clients are shown them by.
@@ -184,6 +188,7 @@ where
         linked,
         keeper,
         stop,
+        trace,
     } = begun;
     let Linked {
         exchange,
@@ -223,6 +228,7 @@ where
         console,
         image,
         stop,
+        trace,
     })
 }
 
@@ -477,6 +483,7 @@ impl<R: MachineRuntime, J: Naming, P: Pen<J> + Drop> Parts<R, J, P> {
             keeper,
             boards,
             stop,
+            trace,
             ..
         } = running;
         let requester = Requester {
@@ -497,6 +504,11 @@ impl<R: MachineRuntime, J: Naming, P: Pen<J> + Drop> Parts<R, J, P> {
             stage,
             publisher,
             teller: Teller::new(number, epoch, exchange, journal, status),
+            tracer: Tracer {
+                number,
+                epoch,
+                trace,
+            },
             submitted: Submitted::at_the_start(begun),
             stop,
         };

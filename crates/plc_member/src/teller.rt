@@ -50,6 +50,8 @@ pub(crate) struct Teller {
     halt: Option<Halt>,
     /// The view in which it was told that the port isn't to be had.
     refused_in: Option<u64>,
+    /// It was told that the trace can't be written.
+    is_untraced: bool,
 }
 
 /// A time in whole microseconds.
@@ -93,6 +95,7 @@ impl Teller {
             machine,
             halt: None,
             refused_in: None,
+            is_untraced: false,
         }
     }
 
@@ -126,6 +129,14 @@ impl Teller {
     /// Notes this.
     pub(crate) fn note(&mut self, notice: Notice) {
         self.journal.put(notice);
+    }
+
+    /// Notes once that the trace can't be written, where that is so.
+    pub(crate) fn note_trace(&mut self, has_failed: bool) {
+        if has_failed && !self.is_untraced {
+            self.is_untraced = true;
+            self.journal.put(Notice::NoTrace);
+        }
     }
 
     /// Notes what became of the port of a machine that leads this view.
