@@ -25,4 +25,4 @@ as_asked (words.Show directory) (outcomes.Serve serving) minute serves = absurd 
 as_asked (words.Ask port commands timeout) (outcomes.Serve serving) minute serves = absurd serves
 as_asked (words.Field field check once) (outcomes.Serve serving) minute serves = absurd serves
 as_asked (words.Change port source timeout) (outcomes.Serve serving) minute serves = absurd serves
-as_asked (words.ServeMachine group directory) (outcomes.Serve serving) minute serves = absurd serves
+as_asked (words.ServeMachine group directory trace) (outcomes.Serve serving) minute serves = absurd serves

@@ -35,7 +35,7 @@ AsksToChange console asking = (asking.console ≡ console)
 abbrev pub IsAsAsked : Words → Outcome → Type 0
 IsAsAsked asked (outcomes.Done status) = Unit {0}
 IsAsAsked (words.Serve source stores report settings) (outcomes.Serve serving) = serving.service.settings ≡ settings
-IsAsAsked (words.ServeMachine group directory) (outcomes.ServeMachine machine) =
+IsAsAsked (words.ServeMachine group directory trace) (outcomes.ServeMachine machine) =
     string_bytes machine.directory ≡ directory.now
 IsAsAsked (words.Field field check once) (outcomes.Carry carrying) = carrying.mode ≡ mode_of check once
 IsAsAsked (words.Ask port commands timeout) (outcomes.Ask asking) =

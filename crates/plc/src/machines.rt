@@ -11,6 +11,7 @@ use plc_host::Failed;
 use plc_member::Unserved;
 use plc_page::Showing;
 use plc_serve::tell_failed;
+use std::alloc::{AllocError, Global};
 
 /// One machine of a group that is to be served.
 #[derive(Drop)]
@@ -20,6 +21,8 @@ pub(crate) struct Machine {
     pub(crate) directory: String,
     /// What a page shows beside it, if a machine of the group has one.
     pub(crate) showing: Option<Showing>,
+    /// The file of its trace, if one is wanted.
+    pub(crate) trace: Option<String>,
 }
 
 /// Whether a machine of a group has a page.
@@ -30,18 +33,30 @@ fn has_page(group: &Group) -> bool {
         .any(|machine| machine.status.is_some())
 }
 
+/// A copy of a text, if there is one.
+fn copied(alloc: Global, text: Option<&str>) -> Result<Option<String>, AllocError> {
+    match text {
+        Some(text) => Ok(Some(String::from_str(alloc, text)?)),
+        None => Ok(None),
+    }
+}
+
 impl Machine {
     /// Of the group of this file, from this directory; or the status where it can't be, which is told.
     pub(crate) fn of<E: CountedWrite>(
         rt: &HostRuntime,
         group: &str,
         directory: &str,
+        trace: Option<&str>,
         err: &mut E,
     ) -> Result<Machine, u8>
         ensures { IfOk result (λ machine. string_bytes machine.directory ≡ directory.now) }
     {
         let group = group_at(rt, group, err)?;
         let Ok(directory) = String::from_str(rt.alloc(), directory) else {
+            return Err(tell(Fault::Memory, err));
+        };
+        let Ok(trace) = copied(rt.alloc(), trace) else {
             return Err(tell(Fault::Memory, err));
         };
         let showing = match showing_of(rt, has_page(&group)) {
@@ -53,6 +68,7 @@ impl Machine {
                 group,
                 directory,
                 showing,
+                trace,
             }),
             status => Err(status),
         }

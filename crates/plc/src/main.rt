@@ -9,6 +9,7 @@ mod machines;
 mod serving;
 mod showing;
 mod stores;
+mod tracing;
 
 ghost use Rattle.std.specs.Prelude.{IfOk};
 ghost use Rattle.plc.specs.Asked.{IsAsAsked, IsLostAfterAMinute};
@@ -19,6 +20,7 @@ use crate::machines::{Machine, tell_unserved};
 use crate::serving::{Report, Serving, settled};
 use crate::showing::{another_showing, notices_of};
 use crate::stores::Formatted;
+use crate::tracing::{Life, close, next_life};
 use il_text::{Fault, tell};
 use io_image::NewList;
 use io_model::{Counted, CountedWrite};
@@ -83,6 +85,7 @@ fn main(rt: HostRuntime) -> ExitCode {
                 group,
                 directory,
                 showing,
+                trace,
             },
         ) => {
             let mut err = Counted::new(Telling::new(rt, rt.stderr(), notices_of(&showing)));
@@ -90,13 +93,14 @@ fn main(rt: HostRuntime) -> ExitCode {
             match Member::open(host, directory.as_str()) {
                 Ok(mut member) => {
                     for _ in rt.forever() {
-                        match member.next_life(host, &group, ended, &mut err) {
-                            Ok(Some(begun)) => {
+                        match next_life(&mut member, host, &group, &trace, ended, &mut err) {
+                            Ok(Some(Life { begun, writer })) => {
                                 let list = NewList::new();
                                 let shown = another_showing(&rt, &showing);
                                 ended = Some(begun.serve::<Brand, _>(
                                     host, list, &group, shown, &mut err,
                                 ));
+                                close(&rt, writer);
                             }
                             Ok(None) => break,
                             Err(refused) => {
@@ -230,9 +234,11 @@ fn prepared<W: Write, E: CountedWrite>(
             source,
             timeout,
         } => Outcome::Ask(Asking::of_change(rt, Console { port, timeout }, source, err)?),
-        Words::ServeMachine { group, directory } => {
-            Outcome::ServeMachine(Machine::of(rt, group, directory, err)?)
-        }
+        Words::ServeMachine {
+            group,
+            directory,
+            trace,
+        } => Outcome::ServeMachine(Machine::of(rt, group, directory, trace, err)?),
         Words::Serve {
             source,
             stores,

@@ -70,6 +70,9 @@ const STALE: &str = "stale";
 /// The word of the option `--group`.
 const GROUP: &str = "group";
 
+/// The word of the option `--trace`.
+const TRACE: &str = "trace";
+
 /// The word of the option `--machine`.
 const MACHINE: &str = "machine";
 
@@ -325,6 +328,7 @@ lines above it tells those of scans and of a console, and of machines, counted f
   standing by view V         another one does
   stale view V               it leads, and released nothing for as long as outputs are shown
   no port view V             it leads, and its port isn't to be had
+  no trace                   the file of --trace can't be written, and isn't until another start
   machine J joined           there's a connection with machine J
   machine J lost             there's none any more
   machine J refused: WHY     it's no machine of this group as it's here: another version, group, epoch or
@@ -332,6 +336,11 @@ lines above it tells those of scans and of a console, and of machines, counted f
   replica normal view V      the replica of this machine takes part
   replica not normal         it learns what it missed, or the group has no majority; after a minute that's
                              told once more
+With --trace FILE, for trials, a line goes to the end of FILE for each start, 'machine I start N', and
+for each release: the epoch, the place of its scan in the list of the group's commands, from 0, the
+number of the scan's request, the scan's moment, how many lines were left out before this one, since
+FILE took them too slowly, and the outputs, as 'plc run' prints them. A dash stands for a place or a
+moment that the machine's own replica didn't have.
 Where GROUP or DIR is refused, it's told as by 'plc format', and nothing has started. Further:
   plc: store missing         nothing was formatted in DIR
   plc: store of another group  GROUP isn't the file with which DIR was formatted
@@ -536,6 +545,8 @@ pub enum Words<'a> {
         /// The file of its group.
         group: &'a str,
         directory: &'a str,
+        /// The file of its trace, if one is wanted.
+        trace: Option<&'a str>,
     },
     /// Sends the commands of a file to the console at a port, and prints what it answers.
     Ask {
@@ -695,6 +706,7 @@ fn serve_command<'a>(alloc: Global) -> Result<Command<'a>, AllocError> {
         .after_help(SERVING)
         .arg(served_source(alloc)?.help("The program's text, in Instruction List"))?
         .arg(served_group(alloc)?)?
+        .arg(trace(alloc)?)?
         .arg(directory(alloc))?
         .arg(count(alloc, SCANS, "N").help(
             "After how many scans it ends; without it, it goes on until it's interrupted",
@@ -858,6 +870,16 @@ fn served_group<'a>(alloc: Global) -> Result<Arg<'a>, AllocError> {
         group = group.conflicts_with(setting)?;
     }
     Ok(group)
+}
+
+/// The option is refused where it is given twice or empty, or beside a text.
+fn trace<'a>(alloc: Global) -> Result<Arg<'a>, AllocError> {
+    Arg::new(alloc, TRACE)
+        .long(TRACE)
+        .value_name("FILE")
+        .value_parser(ValueParser::NonEmptyString)
+        .help("Where what the machine releases is written, for trials")
+        .conflicts_with("SOURCE")
 }
 
 /// The option is wanted for a new store, and refused for one that is there, and where it is given twice, or is no number
@@ -1048,7 +1070,11 @@ fn served_machine<'a>(
 {
     let stores = directories(alloc, inner)?;
     match stores.as_slice() {
-        [directory] => Ok(Some(Words::ServeMachine { group, directory })),
+        [directory] => Ok(Some(Words::ServeMachine {
+            group,
+            directory,
+            trace: inner.get_str(TRACE),
+        })),
         _ => Err(WordsError::Bad(String::from_str(alloc, NO_STORE)?)),
     }
 }

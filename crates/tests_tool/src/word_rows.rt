@@ -395,7 +395,7 @@ fn words_of_serve_out_of_range_are_bad(rt: HostRuntime) -> Result<(), Fail> {
 
 #[test]
 fn missing_words_of_serve_are_bad(rt: HostRuntime) -> Result<(), Fail> {
-    let rows: [Row; 5] = [
+    let rows: [Row; 6] = [
         (
             "--store d --store e",
             "error: --store is given once, or once for each of the 2F+1 replicas",
@@ -415,6 +415,10 @@ fn missing_words_of_serve_are_bad(rt: HostRuntime) -> Result<(), Fail> {
         (
             "--store d --scans 1 --report ''",
             "error: a value is required for '--report <FILE>' but none was supplied",
+        ),
+        (
+            "--store d --trace t",
+            "error: the argument '--trace <FILE>' cannot be used with '[SOURCE]'",
         ),
     ];
     are_bad(&rt, rt.alloc(), "plc serve a.il", &rows)
@@ -519,11 +523,20 @@ fn words_ask_to_serve_a_machine(rt: HostRuntime) -> Result<(), Fail> {
     let machine = Words::ServeMachine {
         group: "g",
         directory: "d",
+        trace: None,
+    };
+    let traced = Words::ServeMachine {
+        group: "g",
+        directory: "d",
+        trace: Some("t"),
     };
     ask_for(
         &rt,
         rt.alloc(),
-        &[("plc serve --group g --store d", machine)],
+        &[
+            ("plc serve --group g --store d", machine),
+            ("plc serve --group g --store d --trace t", traced),
+        ],
     )?;
     let rows: [Row; 4] = [
         (
