@@ -188,6 +188,7 @@ class Round:
         down = {it.machine for it in self.faults if isinstance(it, Kill) and it.is_down}
         for machine in self.group.machines:
             if not machine.is_up() and machine.number not in down and now() > machine.started + ANEW:
+                machine.ends.append(now())
                 told = machine.since(machine.started)
                 self.ended_by_themselves.append((machine.number, machine.process.returncode, told))
                 machine.start()

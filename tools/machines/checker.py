@@ -1,5 +1,6 @@
-"""What all clients of a group read and wrote, with its times, and what would be wrong with it. By these alone, whatever
-machines, threads and networks were between: so it's tried itself, by histories that are made up (histories.py).
+"""What all clients of a group read and wrote, with its times, what its machines released, by their traces, and what
+would be wrong with it. By these alone, whatever machines, threads and networks were between: so it's tried itself, by
+histories that are made up (histories.py).
 
 Times are those of one clock, in seconds. A read that began before another one ended may have been answered after it."""
 import bisect
@@ -11,6 +12,7 @@ from program import GREATEST, TEXTS, TOLD, Outputs, mark_after
 
 DENSE = 0.03            # seconds from read to read at one machine, at most, where nothing is missed between two of them
 CALM = 1.0              # seconds behind a fault until all is as before
+LOST = 0.5              # seconds before the end of a machine in which it may release what it doesn't trace any more
 OPEN = 8.0              # seconds in which a command that wasn't answered may be done still
 MOST_WAYS = 20000       # that scans which nobody read may have gone
 
@@ -49,6 +51,8 @@ class History(NamedTuple):
     writes: list = ()
     commands: list = ()
     faults: list = ()       # times in which there was any, as (begun, ended)
+    releases: list = ()     # of each machine in the order of its trace (traces.py)
+    ends: dict = {}         # when each machine was killed, by its number
 
     def in_time(self):
         return sorted(self.reads, key=lambda it: it.ended)
@@ -127,8 +131,8 @@ def changing(before, after, missed, is_quiet):
 
 
 def between(before, after, is_quiet):
-    """What the scans had that were missed between two: their outputs, with marks of which that of the other one follows;
-    None if there are none, and () if there are too many ways to tell."""
+    """What the scans had that were missed between two: their outputs, with marks of which that of the other one
+    follows; None if there are none, and () if there are too many ways to tell."""
     missed = after.count - before.count - 1
     some_words, words = rising(before, after, missed)
     some_others, others = changing(before, after, missed, is_quiet)
@@ -167,16 +171,23 @@ def judged(history):
     return len(told) - told.count(()), told.count(())
 
 
+def all_outputs(history):
+    """What was read or released of each scan of which there is something, in their order."""
+    found = {it.outputs.count: it.outputs for it in history.reads}
+    found.update((outputs.count, outputs) for outputs in (it.outputs() for it in history.releases))
+    return [found[count] for count in sorted(found)]
+
+
 def all_scans(history):
-    """The outputs of each scan from the first on, those that nobody read by what follows from them; until one that
-    can't be told."""
-    found, start = [], Outputs(0, 0, 0, 0, TEXTS[0])
-    reads = history.by_count()
-    first = between(start, reads[0].outputs, True) if reads else ()
-    for more in itertools.chain([first], (it for _, _, it in told_of(history))):
+    """The outputs of each scan from the first on, those that nobody read and no machine released by what follows from
+    them; until one that can't be told."""
+    found, last = [], Outputs(0, 0, 0, 0, TEXTS[0])
+    for outputs in all_outputs(history):
+        more = between(last, outputs, False)
         if not more:
             break
         found += more
+        last = outputs
     return found
 
 
@@ -211,7 +222,8 @@ def loses_an_input(history):
 
 def is_open(history, since, until):
     """Whether a command that wasn't answered may be done in this time."""
-    return any(it.is_force and not it.is_done and it.begun <= until and since <= it.ended + OPEN for it in history.commands)
+    return any(it.is_force and not it.is_done and it.begun <= until and since <= it.ended + OPEN
+               for it in history.commands)
 
 
 def breaks_a_force(history, command, until):
@@ -294,13 +306,111 @@ def does_one_twice(history):
     return None
 
 
+def by_place(history):
+    """The releases whose place is known, in the order of the list of commands."""
+    return sorted((it for it in history.releases if it.place is not None), key=lambda it: it.at())
+
+
+def has_two_releases(history):
+    """A place of the list that was released twice: whoever submitted its scan releases it, once."""
+    for before, after in itertools.pairwise(by_place(history)):
+        if before.at() == after.at():
+            return f'{before} and {after}'
+    return None
+
+
+def has_two_lists(history):
+    """Places of one list whose counts or moments don't rise with them, or that have more scans than commands."""
+    for before, after in itertools.pairwise(by_place(history)):
+        if before.epoch == after.epoch:
+            scans = after.outputs().count - before.outputs().count
+            if not 1 <= scans <= after.place - before.place or after.moment < before.moment:
+                return f'{before}, and then {after}'
+    return None
+
+
+def releases_out_of_order(history):
+    """A machine that released a scan behind one that it submitted later, or that stands later in the list."""
+    last = {}
+    for it in history.releases:
+        before = last.get(it.machine)
+        if before and before.epoch == it.epoch:
+            places = [other.place for other in (before, it) if other.place is not None]
+            if before.number >= it.number or places != sorted(set(places)):
+                return f'{before}, and then {it}'
+        last[it.machine] = it
+    return None
+
+
+def leaves_a_release_out(history):
+    """A scan between those of two requests of a machine, one behind the other, with no fault near: nobody asked for
+    it."""
+    shown, noise = {it.outputs.count: it for it in history.by_count()}, history.noise()
+    for before, after in itertools.pairwise(history.releases):
+        is_next = before[:3] == after[:3] and before.number + 1 == after.number
+        counts = before.outputs().count, after.outputs().count
+        if is_next and counts[1] != counts[0] + 1:
+            reads = [shown[it] for it in counts if it in shown]
+            if len(reads) < 2 or is_calm(noise, reads[0].begun, reads[1].ended):
+                return f'{before}, and then {after}'
+    return None
+
+
+def releases_differ_from_the_table(history):
+    """A release whose mark doesn't follow from that of the release before it, of its epoch."""
+    for epoch in sorted({it.epoch for it in history.releases}):
+        found = {outputs.count: outputs for outputs in (it.outputs() for it in history.releases if it.epoch == epoch)}
+        for before, after in itertools.pairwise(found[count] for count in sorted(found)):
+            if between(before, after, False) is None:
+                return f'{after} behind {before}, in epoch {epoch}'
+    return None
+
+
+def shows_what_it_did_not_release(history):
+    """A read at a machine whose trace has no such release. The last lines of one that is killed may be missing."""
+    if not history.releases:
+        return None
+    own = {(it.machine, it.outputs()) for it in history.releases}
+    for read in history.in_time():
+        if (read.machine, read.outputs) not in own and not ends_soon(history, read):
+            return f'machine {read.machine} shows {read.outputs} at {read.ended:.3f}'
+    return None
+
+
+def ends_soon(history, read):
+    """Whether a machine was killed soon behind a read."""
+    return any(read.begun - history.period <= it <= read.ended + LOST for it in history.ends.get(read.machine, ()))
+
+
+def releases_without_an_input(history):
+    """An input that was acknowledged, and isn't in the release after the next one of its machine, though its connection
+    stood until then. (The next one's scan may have been under way.)"""
+    reads, own = by_session(history), {}
+    for it in history.releases:
+        own.setdefault(it.machine, []).append(it.outputs())
+    for write in history.writes:
+        session, shown = reads.get(write.session, []), own.get(write.machine, [])
+        first = bisect.bisect_left(session, write.ended, key=lambda it: it.begun)
+        if first == len(session):
+            continue
+        place = bisect.bisect_left(shown, session[first].outputs.count + 2, key=lambda it: it.count)
+        if place < len(shown) and shown[place].count <= session[-1].outputs.count:
+            if is_before(shown[place].word, write.value):
+                return f'machine {write.machine} had {write.value} at {write.ended:.3f}, and released {shown[place]}'
+    return None
+
+
+RELEASES = [has_two_releases, has_two_lists, releases_out_of_order, leaves_a_release_out,
+            releases_differ_from_the_table]
 CHECKS = [goes_back, has_two_answers, differs_from_the_table, inputs_go_back, loses_an_input, loses_a_command, two_show,
-          has_too_many, leaves_one_out, does_one_twice]
+          has_too_many, leaves_one_out, does_one_twice, *RELEASES, shows_what_it_did_not_release,
+          releases_without_an_input]
 
 
-def faults_of(history):
-    """What is wrong of all that, each with its name; nothing is wanted."""
-    found = {check.__name__.replace('_', ' '): check(history) for check in CHECKS}
+def faults_of(history, checks=tuple(CHECKS)):
+    """What is wrong of all that, each with its name; nothing is wanted. RELEASES are the checks of what machines
+    released, in whatever epochs; all others are of one epoch."""
+    found = {check.__name__.replace('_', ' '): check(history) for check in checks}
     return {name: fault for name, fault in found.items() if fault}
 
 

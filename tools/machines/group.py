@@ -12,6 +12,7 @@ import time
 import checker
 import disk
 import network
+import traces
 from checker import History, Read, Write
 from modbus import Modbus
 from program import GREATEST, source
@@ -31,6 +32,7 @@ class Machine:
     def __init__(self, number, words):
         self.number, self.words, self.process, self.lines, self.started = number, words, None, [], 0.0
         self.noise = []     # when it was started, stopped or killed, as faults of a history
+        self.ends = []      # when it was killed
 
     def start(self):
         self.started = now()
@@ -50,6 +52,7 @@ class Machine:
 
     def kill(self, what=signal.SIGKILL):
         """Ends it: its status."""
+        self.ends.append(now())
         self.send(what)
         status = self.process.wait(10)
         self.reader.join(10)
@@ -87,10 +90,10 @@ class Machine:
 class Group:
     """The machines of a group, what they are made of, and what clients read and wrote."""
 
-    def __init__(self, options, size=None, over=None, has_disks=False, folder=None, **keys):
+    def __init__(self, options, size=None, over=None, has_disks=False, folder=None, has_traces=True, **keys):
         self.plc, self.period, self.size = options.plc, options.period / 1000, size or options.machines
         self.fresh, self.work = self.period + 0.04, tempfile.mkdtemp(prefix='machines-', dir=folder)
-        self.disks, self.network = [], None
+        self.disks, self.network, self.has_traces = [], None, has_traces
         self.reads, self.writes, self.commands, self.faults = [], [], [], []
         self.is_over, self.threads, self.sessions = False, [], itertools.count()
         try:
@@ -111,7 +114,8 @@ class Group:
         self.machines, self.formats = [], []
         for machine in range(self.size):
             own = ('--group', self.file(machine), '--store', self.store(machine))
-            self.machines.append(Machine(machine, self.words(machine, 'serve', *own)))
+            traced = ('--trace', self.trace(machine)) if self.has_traces else ()
+            self.machines.append(Machine(machine, self.words(machine, 'serve', *own, *traced)))
             self.formats.append(self.run('format', self.source, '--machine', str(machine), *own))
 
     def __enter__(self):
@@ -139,6 +143,9 @@ class Group:
 
     def file(self, machine):
         return self.path(f'group-{machine}.toml')
+
+    def trace(self, machine):
+        return self.path(f'trace-{machine}')
 
     def store(self, machine):
         return self.disks[machine].store if self.disks else self.path(f'store-{machine}')
@@ -258,10 +265,13 @@ class Group:
 
     def history(self):
         faults = self.faults + [it for machine in self.machines for it in machine.noise]
-        return History(self.period, self.fresh, list(self.reads), list(self.writes), list(self.commands), faults)
+        releases = [it for machine in range(self.size) for it in traces.read(self.trace(machine))]
+        ends = {machine.number: list(machine.ends) for machine in self.machines}
+        return History(self.period, self.fresh, list(self.reads), list(self.writes), list(self.commands), faults,
+                       releases, ends)
 
     def longest(self, since, until):
-        return checker.longest(self.history(), since, until)
+        return checker.longest(History(self.period, self.fresh, list(self.reads)), since, until)
 
     def since(self, moment):
         """The lines of all machines, in the order of time, as seconds behind a moment."""

@@ -5,6 +5,7 @@ import functools
 
 from checker import Command, History, Read, Write, faults_of
 from program import GREATEST, TOLD, Outputs, mark_after
+from traces import Release, line_of
 
 PERIOD, FRESH = 0.1, 0.14
 SCANS = 160
@@ -87,8 +88,15 @@ def reads(found):
     return told
 
 
+def releases(found):
+    """What the machines traced of these: each by a request of its own, every other place of the list."""
+    return [Release(it.machine, 1, 1, 2 * it.outputs.count, (1 << 48) + it.outputs.count, round(it.at * 1000), 0,
+                    line_of(it.outputs)) for it in sorted(found, key=lambda it: it.machine)]
+
+
 def history(found=None, **changed):
-    made = History(PERIOD, FRESH, reads(found or scans()), writes(), commands())
+    found = found or scans()
+    made = History(PERIOD, FRESH, reads(found), writes(), commands(), releases=releases(found))
     return made._replace(**changed)
 
 
@@ -217,11 +225,90 @@ def scans_in_a_hurry():
     return 'has too many', history([Scan(it.at * 0.95, it.machine, it.outputs) for it in scans()])
 
 
+def with_releases(change):
+    """A good history but for the releases, which are a list."""
+    made = history()
+    return made._replace(releases=change(made.releases))
+
+
+def one_output_changed_in_a_trace():
+    def change(found):
+        wrong = found[50].outputs()._replace(word=0)
+        return found[:50] + [found[50]._replace(line=line_of(wrong))] + found[51:]
+
+    return 'shows what it did not release', with_releases(change)
+
+
+def one_output_changed_that_nobody_read():
+    made = with_releases(lambda found: found[:50] + [found[50]._replace(
+        line=line_of(found[50].outputs()._replace(word=0)))] + found[51:])
+    count = made.releases[50].outputs().count
+    return 'releases differ from the table', made._replace(reads=[it for it in made.reads if it.outputs.count != count])
+
+
+def a_release_left_out_of_a_trace():
+    return 'shows what it did not release', with_releases(lambda found: found[:50] + found[51:])
+
+
+def a_scan_that_nobody_asked_for():
+    """Its request's number is the next one's, too."""
+    def change(found):
+        return found[:50] + [it._replace(number=it.number - 1) if it.machine == 0 else it for it in found[51:]]
+
+    return 'leaves a release out', with_releases(change)
+
+
+def one_place_released_twice():
+    """By the machine that submitted its scan, and by another one, with the same outputs."""
+    def change(found):
+        return found + [found[50]._replace(machine=2)]
+
+    return 'has two releases', with_releases(change)
+
+
+def one_place_with_two_outputs():
+    def change(found):
+        return found + [found[50]._replace(machine=2, line=line_of(found[50].outputs()._replace(word=9999)))]
+
+    return 'has two releases', with_releases(change)
+
+
+def two_lists():
+    """The next machine goes on with a list that lacks the last scans of the first one."""
+    def change(found):
+        return [it._replace(place=it.place - 12) if it.machine == 1 else it for it in found]
+
+    return 'has two lists', with_releases(change)
+
+
+def a_moment_that_goes_back():
+    def change(found):
+        return [it._replace(moment=it.moment - 500) if it.machine == 1 else it for it in found]
+
+    return 'has two lists', with_releases(change)
+
+
+def two_releases_in_turn():
+    """A machine releases what it submitted later before what it submitted first."""
+    def change(found):
+        return found[:50] + [found[51], found[50]] + found[52:]
+
+    return 'releases out of order', with_releases(change)
+
+
+def an_input_that_is_lost_in_a_release():
+    name, made = an_input_that_is_lost()
+    return 'releases without an input', made
+
+
 WRONG = [one_output_changed, one_scan_changed, another_mark_from_there_on, a_release_left_out,
          a_scan_left_out_of_the_table, one_scan_twice, one_scan_twice_in_the_mark, one_release_twice,
          two_histories, a_read_that_goes_back,
          two_that_show_at_a_time, an_input_that_is_lost, an_input_that_goes_back, empty_inputs, a_command_that_is_lost,
-         scans_in_a_hurry]
+         scans_in_a_hurry, one_output_changed_in_a_trace, one_output_changed_that_nobody_read,
+         a_release_left_out_of_a_trace, a_scan_that_nobody_asked_for, one_place_released_twice,
+         one_place_with_two_outputs, two_lists, a_moment_that_goes_back, two_releases_in_turn,
+         an_input_that_is_lost_in_a_release]
 
 
 def tried():

@@ -1,4 +1,5 @@
 """The networks that machines of a group are on: where each is reached, and what can be made to fail of it."""
+import itertools
 import json
 import os
 import socket
@@ -9,6 +10,7 @@ from modbus import connection
 
 HERE = os.path.dirname(os.path.abspath(__file__))
 REPLICA, MODBUS, CONSOLE = 7600, 7650, 7680     # where a machine has an address of its own
+TAGS = 250              # so many runs of the tool may be under way at once
 
 
 def free_ports(count):
@@ -135,14 +137,27 @@ class Namespaces(Failing):
     pause = 0.004
 
     def __init__(self, size):
-        self.size, self.tag = size, os.getpid() % 1000
-        self.bridge, self.plant = f'pb{self.tag}', f'10.78.{self.tag % 250}'
+        self.size, self.tag = size, self.free_tag()
+        self.bridge, self.plant = f'pb{self.tag}', f'10.78.{self.tag}'
         try:
             self.make()
             self.begin(Carrier('switch.py', [self.group_end(it) for it in range(size)]))
         except BaseException:
             self.close()
             raise
+
+    @staticmethod
+    def free_tag():
+        """A number for names and addresses that no other run of this tool has: its bridge is made by it."""
+        first = os.getpid() % TAGS
+        for tag in itertools.chain(range(first, TAGS), range(first)):
+            if not os.path.exists(f'/sys/class/net/pb{tag}'):
+                try:
+                    run(f'ip link add pb{tag} type bridge')
+                    return tag
+                except subprocess.CalledProcessError:
+                    pass        # another run was faster, or there are no bridges here
+        raise RuntimeError('no bridge')
 
     def space(self, machine):
         return f'plc{self.tag}n{machine}'
@@ -154,7 +169,6 @@ class Namespaces(Failing):
         return f'pp{self.tag}n{machine}'
 
     def make(self):
-        run(f'ip link add {self.bridge} type bridge')
         run(f'ip addr add {self.plant}.100/24 dev {self.bridge}')
         run(f'ip link set {self.bridge} up')
         for machine in range(self.size):

@@ -1,39 +1,39 @@
-"""The table itself as the judge of a history: `plc run` over the scans that clients saw, in one controller."""
+"""The table itself as the judge of a history: `plc run` over the scans that clients saw and machines released, in one
+controller."""
 import json
-import re
 import subprocess
 
 from checker import all_scans
-from program import TEXTS, TOLD, Outputs
+from program import TEXTS, TOLD
+from traces import outputs_of
 
 
-def commands(scans, images):
-    """The list of commands that come to these outputs: each scan by its inputs, and changes between them."""
-    text, found = TEXTS[0], []
+def commands(scans, images, moments):
+    """The list of commands that come to these outputs: each scan by its inputs and its moment, if that is known, and
+    changes between them."""
+    text, moment, found = TEXTS[0], 0, []
     for outputs in scans:
         if outputs.text != text:
             text = outputs.text
             found.append({'change': images[text]})
         bits = [2] if outputs.bits & TOLD else []
-        found.append({'scan': {'ix': bits, 'iw': [[0, outputs.word]], 'moment': outputs.count}})
+        moment = moments.get(outputs.count, moment)
+        found.append({'scan': {'ix': bits, 'iw': [[0, outputs.word]], 'moment': moment}})
     return found
 
 
-def outputs_of(line):
-    """The outputs of a line of `plc run`."""
-    words = {int(place): int(value) for place, value in re.findall(r'QW(\d+)=(-?\d+)', line)}
-    text, mark, high, word, bits, count = (words.get(place, 0) for place in range(58, 64))
-    return Outputs(high * 10000 + count, word, bits, mark, text)
-
-
-def judge(group, images):
-    """How many scans, from the first on, one controller was asked for; and the first with other outputs there."""
-    scans = all_scans(group.history())
+def judge(history, group, images):
+    """How many scans, from the first on, one controller was asked for; how many releases of traces are among them; and
+    what has other outputs there, if anything."""
+    scans, releases = all_scans(history), {it.outputs().count: it for it in history.releases}
+    moments = {count: it.moment for count, it in releases.items() if it.moment is not None}
     path = group.path('commands.json')
     with open(path, 'w') as file:
-        json.dump(commands(scans, images), file)
+        json.dump(commands(scans, images, moments), file)
     told = subprocess.run([group.plc, 'run', group.source, path], capture_output=True, text=True, check=True).stdout
-    lines = [outputs_of(line) for line in told.split('\n') if line.startswith('outputs ')]
+    lines = [line for line in told.split('\n') if line.startswith('outputs ')]
+    held = [(releases[scan.count].line, line) for scan, line in zip(scans, lines) if scan.count in releases]
     if len(lines) != len(scans):
-        return len(scans), f'{len(lines)} scans released outputs of {len(scans)}'
-    return len(scans), next((f'{ours} and {its}' for ours, its in zip(scans, lines) if ours != its), None)
+        return len(scans), len(held), f'{len(lines)} scans released outputs of {len(scans)}'
+    held_all = held + [(scan, outputs_of(line)) for scan, line in zip(scans, lines)]
+    return len(scans), len(held), next((f'{ours} and {its}' for ours, its in held_all if ours != its), None)
