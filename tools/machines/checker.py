@@ -343,15 +343,16 @@ def releases_out_of_order(history):
 
 
 def leaves_a_release_out(history):
-    """A scan between those of two requests of a machine, one behind the other, with no fault near: nobody asked for
-    it."""
+    """A scan between those of two requests of a machine, one behind the other, that no machine released, with no fault
+    near: nobody asked for it. (Where the lead changes, the last one of who led before may be committed by the next.)"""
     shown, noise = {it.outputs.count: it for it in history.by_count()}, history.noise()
+    released = {(it.epoch, it.outputs().count) for it in history.releases}
     for before, after in itertools.pairwise(history.releases):
         is_next = before[:3] == after[:3] and before.number + 1 == after.number
         counts = before.outputs().count, after.outputs().count
-        if is_next and counts[1] != counts[0] + 1:
+        if is_next and any((before.epoch, it) not in released for it in range(counts[0] + 1, counts[1])):
             reads = [shown[it] for it in counts if it in shown]
-            if len(reads) < 2 or is_calm(noise, reads[0].begun, reads[1].ended):
+            if len(reads) == 2 and is_calm(noise, reads[0].begun, reads[1].ended):
                 return f'{before}, and then {after}'
     return None
 
