@@ -20,8 +20,9 @@ pub struct Begun<R: MachineRuntime, S: Drop, M: Drop> {
     pub(crate) image: Image,
     /// Of the replica's view.
     pub(crate) store: S,
-    /// Marks the machine's store by a change of the program; none where it's marked.
-    pub(crate) mark: Option<M>,
+    pub(crate) marks: M,
+    /// Whether its store is marked by a change of the program.
+    pub(crate) is_marked: bool,
     pub(crate) linked: Linked<R>,
     pub(crate) keeper: Keeper<R>,
     /// What ends it.

@@ -29,6 +29,7 @@
 #![tactic(auto)]
 
 mod antechamber;
+mod beginning;
 mod begun;
 mod drive;
 mod filling;
@@ -52,10 +53,11 @@ mod tracer;
 mod unserved;
 mod watch;
 
+pub use beginning::Beginning;
 pub use begun::Begun;
 pub use drive::Ended;
 pub use opening::Member;
-pub use program::Marks;
+pub use program::{Marker, Marks};
 pub use serving::MachineRuntime;
 pub use stop::Stop;
 pub use unserved::Unserved;

@@ -4,11 +4,13 @@ ghost use Rattle.std.specs.Prelude.{◌≡◌};
 ghost use Rattle.plc_member.specs.Keeping.{begins_by_itself};
 
 use crate::antechamber::{Antechamber, Gone};
+use crate::beginning::Beginning;
 use crate::begun::Begun;
 use crate::drive::Ended;
 use crate::held_link::Hold;
 use crate::keeper::{Keeper, Terms};
 use crate::links::{Linked, hello_of, links_of, machine_of};
+use crate::program::Marker;
 use crate::serving::MachineRuntime;
 use crate::stop::Stop;
 use crate::unserved::Unserved;
@@ -16,13 +18,13 @@ use il_loader::{Image, load};
 use io_model::CountedWrite;
 use net_hello::Epoch;
 use plc_epochs::{ColdStart, Kept, Place};
-use plc_group::{ColdStart as Beginning, Group};
+use plc_group::{ColdStart as Manner, Group};
 use plc_host::{Failed, Host};
 use plc_machine::wanted;
 use plc_status::Journals;
 use plc_store::{
     ChangeMark, FileDirectory, Header, Opened, Refusal, Start, Store, StoreDirectory, is_changed,
-    keep, open,
+    keep, open, stored_in,
 };
 use std::alloc::{AllocError, Global};
 use std::fs::File;
@@ -38,6 +40,7 @@ use vr_threads::{FileStore, JudgedStarts};
 pub struct Member<R: Files + Drop> {
     directory: FileDirectory<R>,
     path: String,
+    beginning: Beginning<R>,
     /// What ends it.
     stop: Stop,
 }
@@ -97,7 +100,7 @@ fn starts_in<R: Files + Copy + Drop>(host: Host<R>, path: &str, number: u8) -> R
 fn is_automatic(group: &Group, is_marked: bool) -> bool
     ensures { result ≡ begins_by_itself group.now.cold_start is_marked }
 {
-    matches!(group.cold_start, Beginning::Auto) && !is_marked
+    matches!(group.cold_start, Manner::Auto) && !is_marked
 }
 
 /// What a machine is to the protocol of its group, as it starts from its store.
@@ -143,6 +146,7 @@ impl<R: MachineRuntime + Files<File = File> + Alloc<A = Global>> Member<R> {
         Ok(Member {
             directory: FileDirectory::take(host.rt, host.alloc, path)?,
             path: String::from_str(host.alloc, path)?,
+            beginning: Beginning::new(host.rt, host.alloc, path)?,
             stop: Stop::new(host.alloc)?,
         })
     }
@@ -162,7 +166,7 @@ impl<R: MachineRuntime + Files<File = File> + Alloc<A = Global>> Member<R> {
         group: &Group,
         ended: Option<Ended>,
         err: &mut E,
-    ) -> Result<Option<Begun<R, JudgedStarts<FileStore<R>>, ChangeMark<R>>>, Unserved> {
+    ) -> Result<Option<Begun<R, JudgedStarts<FileStore<R>>, Marker<R>>>, Unserved> {
         if !self.goes_on(host, ended)? {
             return Ok(None);
         }
@@ -202,23 +206,26 @@ impl<R: MachineRuntime + Files<File = File> + Alloc<A = Global>> Member<R> {
         host: Host<R>,
         group: &Group,
         err: &mut E,
-    ) -> Result<Entered<R, JudgedStarts<FileStore<R>>, ChangeMark<R>>, Unserved> {
+    ) -> Result<Entered<R, JudgedStarts<FileStore<R>>, Marker<R>>, Unserved> {
         let origin = self.origin(host, group)?;
         let Some(place) = group.machines.get(usize::from(origin.header.machine)) else {
             return Err(Unserved::Refused(Refusal::OtherMachine));
         };
-        let start = origin.start;
+        let (start, kept) = (origin.start, origin.header.kept);
         let life = life_of(host, group, origin, place.replica)?;
-        match start {
-            Start::Again => self.go_on(host, life, false),
-            Start::First | Start::Waits => self.wait(host, life, err),
+        match kept {
+            Kept::Begun(_) => self.go_on(host, life, start == Start::First),
+            _ => self.wait(host, life, err),
         }
     }
 
     /// What a life begins with.
     fn origin(&mut self, host: Host<R>, group: &Group) -> Result<Origin, Unserved> {
         self.directory.look_again()?;
-        let Opened { store, start } = open(host.alloc, &self.directory, &wanted(group))?;
+        let Opened { store, start } = match open(host.alloc, &self.directory, &wanted(group)) {
+            Err(Refusal::ViewGone) => self.opened_beginning(host)?,
+            opened => opened?,
+        };
         let Store { header, image } = store;
         let starts = match start {
             Start::Again => starts_in(host, self.path.as_str(), header.machine)?,
@@ -233,13 +240,26 @@ impl<R: MachineRuntime + Files<File = File> + Alloc<A = Global>> Member<R> {
         })
     }
 
+    /// A store that has its epoch as begun, and no view of its replica, where the machine stopped as it began the
+    /// epoch: its replica, which has said nothing there, starts as new.
+    fn opened_beginning(&self, host: Host<R>) -> Result<Opened, Refusal> {
+        let store = stored_in(host.alloc, &self.directory)?;
+        match store.header.kept {
+            Kept::Begun(epoch) if self.beginning.is_of(&epoch) => Ok(Opened {
+                store,
+                start: Start::First,
+            }),
+            _ => Err(Refusal::ViewGone),
+        }
+    }
+
     /// Waits until its epoch may be begun, and begins it; or ends before that.
     fn wait<E: CountedWrite>(
         &mut self,
         host: Host<R>,
         life: Life<R>,
         err: &mut E,
-    ) -> Result<Entered<R, JudgedStarts<FileStore<R>>, ChangeMark<R>>, Unserved> {
+    ) -> Result<Entered<R, JudgedStarts<FileStore<R>>, Marker<R>>, Unserved> {
         let (gone, life) = waited(host, life, self.stop.another()?, err)?;
         match gone {
             Gone::Stopped => Ok(Entered::Stopped),
@@ -262,9 +282,12 @@ impl<R: MachineRuntime + Files<File = File> + Alloc<A = Global>> Member<R> {
         host: Host<R>,
         life: Life<R>,
         epoch: Epoch,
-    ) -> Result<Entered<R, JudgedStarts<FileStore<R>>, ChangeMark<R>>, Unserved> {
+    ) -> Result<Entered<R, JudgedStarts<FileStore<R>>, Marker<R>>, Unserved> {
         let mut life = life;
         let kept = Kept::Begun(epoch);
+        // Before the views go: so a machine that stops between that and its replica's first start can be told from one
+        // that has lost its view.
+        self.beginning.put(&epoch).map_err(Refusal::from)?;
         self.keep(host, &kept)?;
         let _ = life.keeper.cold_start.stored(&kept);
         self.go_on(host, life, true)
@@ -276,7 +299,7 @@ impl<R: MachineRuntime + Files<File = File> + Alloc<A = Global>> Member<R> {
         host: Host<R>,
         life: Life<R>,
         is_first: bool,
-    ) -> Result<Entered<R, JudgedStarts<FileStore<R>>, ChangeMark<R>>, Unserved> {
+    ) -> Result<Entered<R, JudgedStarts<FileStore<R>>, Marker<R>>, Unserved> {
         let Life {
             origin,
             linked,
@@ -291,7 +314,11 @@ impl<R: MachineRuntime + Files<File = File> + Alloc<A = Global>> Member<R> {
             number,
             epoch,
             starts: origin.starts,
-            mark: mark_of(host, path, &epoch, origin.is_marked)?,
+            marks: Marker {
+                change: ChangeMark::new(host.rt, host.alloc, path, &epoch)?,
+                beginning: Beginning::new(host.rt, host.alloc, path)?,
+            },
+            is_marked: origin.is_marked,
             image: origin.image,
             store: JudgedStarts::new(store, is_first),
             linked,
@@ -300,19 +327,6 @@ impl<R: MachineRuntime + Files<File = File> + Alloc<A = Global>> Member<R> {
             trace: None,
         }))
     }
-}
-
-/// What marks a store by a change of the program in this epoch, unless it's marked.
-fn mark_of<R: Files<File = File> + Copy + Drop>(
-    host: Host<R>,
-    path: &str,
-    epoch: &Epoch,
-    is_marked: bool,
-) -> Result<Option<ChangeMark<R>>, AllocError> {
-    if is_marked {
-        return Ok(None);
-    }
-    Ok(Some(ChangeMark::new(host.rt, host.alloc, path, epoch)?))
 }
 
 /// Waits until a life comes to its epoch's begin, or ends before that: what becomes of it. `err` has a line for each

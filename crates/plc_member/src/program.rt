@@ -1,5 +1,6 @@
 //! Whether the program in force is still the one with which the epoch began.
 
+use crate::beginning::Beginning;
 use crate::held_link::Hold;
 use il_loader::Image;
 use il_model::Command;
@@ -9,7 +10,7 @@ use std::fs::File;
 use std::rt::Files;
 use std::sync::Arc;
 use std::sync::atomic::{AtomicBool, Ordering};
-use vr_model::Request;
+use vr_model::{Request, Status};
 use vr_replica::Replica;
 
 /// What the entries of a log tell of the program.
@@ -23,15 +24,30 @@ enum Told {
     NotKept,
 }
 
-/// What marks the store of a machine by a change of its program.
+/// What the replica of a machine has its directory keep. Each call is on disk before it's answered, and fails only
+/// where that can't be written.
 pub trait Marks {
-    /// Has it marked, on disk, before it's answered. It fails only where that can't be written.
+    /// Its program was changed.
     fn mark(&self) -> Result<(), NotWritten>;
+
+    /// It has counted a start in its epoch.
+    fn count(&self) -> Result<(), NotWritten>;
 }
 
-impl<R: Files<File = File> + Drop> Marks for ChangeMark<R> {
+/// The files by which a directory keeps that.
+#[derive(Drop)]
+pub struct Marker<R: Files + Drop> {
+    pub(crate) change: ChangeMark<R>,
+    pub(crate) beginning: Beginning<R>,
+}
+
+impl<R: Files<File = File> + Drop> Marks for Marker<R> {
     fn mark(&self) -> Result<(), NotWritten> {
-        ChangeMark::mark(self)
+        self.change.mark()
+    }
+
+    fn count(&self) -> Result<(), NotWritten> {
+        self.beginning.end()
     }
 }
 
@@ -40,9 +56,10 @@ impl<R: Files<File = File> + Drop> Marks for ChangeMark<R> {
 pub(crate) struct Marking<M> {
     /// That another program may be in force, for others of the machine.
     pub(crate) has_changed: Arc<AtomicBool>,
-    /// Marks the store; none where it's marked already.
-    pub(crate) mark: Option<M>,
-    /// Ends the replica's link where the store can't be marked.
+    pub(crate) marks: M,
+    /// Whether the store is marked.
+    pub(crate) is_marked: bool,
+    /// Ends the replica's link where something can't be written.
     pub(crate) hold: Arc<Hold>,
 }
 
@@ -53,10 +70,19 @@ impl<M: Marks + Drop> Marking<M> {
     /// be marked nothing is sent any more.
     fn change(&mut self) {
         self.has_changed.store(true, Ordering::SeqCst);
-        if let Some(mark) = self.mark.take() {
-            if mark.mark().is_err() {
+        if !self.is_marked {
+            self.is_marked = true;
+            if self.marks.mark().is_err() {
                 self.hold.end();
             }
+        }
+    }
+
+    /// The replica has counted a start, and has said nothing yet. From now on it isn't new in its epoch: where that
+    /// can't be written it says nothing.
+    fn count(&self) {
+        if self.marks.count().is_err() {
+            self.hold.end();
         }
     }
 }
@@ -68,6 +94,8 @@ pub(crate) struct ProgramWatch<M> {
     /// The image with which the epoch began.
     image: Vec<u8>,
     marking: Marking<M>,
+    /// Whether the replica has counted a start.
+    is_counted: bool,
     /// So many entries were looked at that won't be others.
     seen: u64,
 }
@@ -100,6 +128,7 @@ impl<M: Marks + Drop> ProgramWatch<M> {
         Ok(ProgramWatch {
             image: Vec::from_slice(alloc, image.bytes())?,
             marking,
+            is_counted: false,
             seen: 0,
         })
     }
@@ -112,8 +141,17 @@ impl<M: Marks + Drop> ProgramWatch<M> {
         }
     }
 
-    /// Looks at the entries of the replica's log that may be new.
+    /// Looks at whether the replica has counted a start: it's up then.
+    fn count(&mut self, replica: &Replica) {
+        if !self.is_counted && replica.standing().status != Status::Down {
+            self.is_counted = true;
+            self.marking.count();
+        }
+    }
+
+    /// Looks at the replica, and at the entries of its log that may be new.
     pub(crate) fn look(&mut self, alloc: Global, replica: &Replica) {
+        self.count(replica);
         let is_other = match told_behind(replica, self.seen) {
             Told::Same => false,
             Told::Changed => true,

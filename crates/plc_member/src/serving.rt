@@ -71,12 +71,14 @@ impl Boards {
     /// What keeps a change of the program: with what marks the store, and what ends the replica's link.
     fn marking<M: Marks + Drop>(
         &self,
-        mark: Option<M>,
+        marks: M,
+        is_marked: bool,
         hold: &Arc<Hold>,
     ) -> Result<Marking<M>, AllocError> {
         Ok(Marking {
             has_changed: Arc::try_clone(&self.has_changed)?,
-            mark,
+            marks,
+            is_marked,
             hold: Arc::try_clone(hold)?,
         })
     }
@@ -184,7 +186,8 @@ where
         starts,
         image,
         store,
-        mark,
+        marks,
+        is_marked,
         linked,
         keeper,
         stop,
@@ -198,7 +201,8 @@ where
     } = linked;
     let boards = Boards::new(alloc)?;
     let hold = &keeper.terms.hold;
-    let program = ProgramWatch::new(alloc, &image, boards.marking(mark, hold)?)?;
+    let marking = boards.marking(marks, is_marked, hold)?;
+    let program = ProgramWatch::new(alloc, &image, marking)?;
     let machines = Machines {
         exchange: Arc::try_clone(&exchange)?,
     };
@@ -377,7 +381,7 @@ where
 
     /// Notes that the program was changed in its epoch before it started.
     fn note_change(&self, journal: &mut Journal) {
-        if self.mark.is_none() {
+        if self.is_marked {
             journal.put(Notice::ProgramChanged(self.epoch.number));
         }
     }
