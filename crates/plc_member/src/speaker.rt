@@ -7,6 +7,7 @@ use std::alloc::Global;
 use std::net::{Net, SocketAddr, TcpListener, TcpStream};
 use std::sync::Wait;
 use std::time::{Clock, Duration};
+use vr_model::MOST_REPLICAS;
 
 /// In milliseconds: a machine that isn't reached within that isn't told a word.
 const REACHING: u64 = 20;
@@ -48,9 +49,9 @@ where
 
     /// Says a word to each other machine, in this epoch.
     pub(crate) fn say_to_all(&self, epoch: Epoch, word: Word) {
-        for machine in 0..self.addresses.len() {
-            if machine != usize::from(self.number) {
-                self.say(machine as u8, epoch, word);
+        for machine in 0..MOST_REPLICAS as u8 {
+            if machine != self.number {
+                self.say(machine, epoch, word);
             }
         }
     }
