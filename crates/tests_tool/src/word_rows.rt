@@ -465,15 +465,15 @@ fn words_ask_for_the_next_epoch(rt: HostRuntime) -> Result<(), Fail> {
         ),
         (
             "--store d --group g",
-            "error: the argument '--group <GROUP>' cannot be used with '--next-epoch'",
+            "error: the argument '--next-epoch' cannot be used with '--group <GROUP>'",
         ),
         (
             "--store d --machine 1",
-            "error: the argument '--machine <I>' cannot be used with '--next-epoch'",
+            "error: the argument '--next-epoch' cannot be used with '--machine <I>'",
         ),
         (
             "--store d --wait",
-            "error: the argument '--wait' cannot be used with '--next-epoch'",
+            "error: the argument '--next-epoch' cannot be used with '--wait'",
         ),
     ];
     are_bad(&rt, rt.alloc(), "plc format --next-epoch", &rows)
