@@ -96,7 +96,7 @@ class Operator:
             self.open = now()
         self.wait(self.chance.uniform(0.1, 0.6))
         self.go_on()
-        self.group.faults.append((begun, now()))
+        self.group.holds.append((begun, now()))
 
     def go_on(self):
         self.insist({'clear': HELD_AT}, 'continue')

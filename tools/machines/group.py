@@ -94,7 +94,7 @@ class Group:
         self.plc, self.period, self.size = options.plc, options.period / 1000, size or options.machines
         self.fresh, self.work = self.period + 0.04, tempfile.mkdtemp(prefix='machines-', dir=folder)
         self.disks, self.network, self.has_traces = [], None, has_traces
-        self.reads, self.writes, self.commands, self.faults = [], [], [], []
+        self.reads, self.writes, self.commands, self.faults, self.holds = [], [], [], [], []
         self.is_over, self.threads, self.sessions = False, [], itertools.count()
         try:
             keys = {'name': '"tried"', 'period': options.period, **keys}
@@ -264,7 +264,7 @@ class Group:
         return False
 
     def history(self):
-        faults = self.faults + [it for machine in self.machines for it in machine.noise]
+        faults = self.faults + self.holds + [it for machine in self.machines for it in machine.noise]
         releases = [it for machine in range(self.size) for it in traces.read(self.trace(machine))]
         ends = {machine.number: list(machine.ends) for machine in self.machines}
         return History(self.period, self.fresh, list(self.reads), list(self.writes), list(self.commands), faults,
