@@ -16,9 +16,14 @@ use std::{fs, thread};
 use vr_model::{ClientNumber, Party, Standing, Status};
 use vr_ports::{OpenGate, Relink, Tick};
 use vr_threads::{
-    ClusterConfig, FileStore, GroupPatience, GroupTimer, GroupTimes, JudgedStarts, Neighbours,
-    Seat, Solo, SoloThread, Starts, Switchboard,
+    ChannelLink, ClusterConfig, FileStore, GroupPatience, GroupTimer, GroupTimes, JudgedStarts,
+    Neighbours, Seat, Solo, SoloThread, Starts, Switchboard,
 };
+
+/// A runtime that machines run on.
+trait Runtime: Alloc<A = Global> + Threads + Wait + Clock + Copy + Send + Drop + 'static {}
+
+impl<R: Alloc<A = Global> + Threads + Wait + Clock + Copy + Send + Drop + 'static> Runtime for R {}
 
 /// Over channels everybody is there, always.
 #[derive(Drop)]
@@ -122,6 +127,18 @@ fn store_of<R: Files + Alloc<A = Global> + Copy + Drop>(
     Ok(JudgedStarts::new(store, is_first))
 }
 
+/// The stores of three replicas, which are judged so.
+fn stores<R: Files + Alloc<A = Global> + Copy + Drop>(
+    rt: R,
+    is_first: bool,
+) -> Result<Vec<JudgedStarts<FileStore<R>>>, Fail> {
+    let mut stores = Vec::new(rt.alloc());
+    for number in 0..3u8 {
+        stores.push(store_of(rt, number, is_first)?)?;
+    }
+    Ok(stores)
+}
+
 /// An empty directory for the files of stores.
 fn clear<R: Files + Alloc>(rt: &R) -> Result<(), Fail> {
     let _ = fs::remove_dir_all(rt, "machines");
@@ -129,75 +146,153 @@ fn clear<R: Files + Alloc>(rt: &R) -> Result<(), Fail> {
     Ok(())
 }
 
+/// Machines over channels, those that run since the beginning and those that came back, and a client of them.
+#[derive(Drop)]
+struct Joined<R: Runtime> {
+    rt: R,
+    board: Arc<Switchboard>,
+    client: ClientNumber,
+    link: ChannelLink<R>,
+    /// The first machine is the last.
+    machines: Vec<Running<ChannelLink<R>>>,
+    back: Vec<Running<ChannelLink<R>>>,
+}
+
+impl<R: Runtime> Joined<R> {
+    /// No machine was started.
+    fn new(rt: R) -> Result<Joined<R>, Fail> {
+        let alloc = rt.alloc();
+        let client = ClientNumber::new(0).ok_or("no client")?;
+        let board = Arc::new(alloc, Switchboard::new(alloc, 3, 1)?)?;
+        Ok(Joined {
+            rt,
+            client,
+            link: link_of(rt, alloc, &board, Party::Client(client))?,
+            board,
+            machines: Vec::new(alloc),
+            back: Vec::new(alloc),
+        })
+    }
+
+    /// A machine that was started from this store.
+    fn started<S>(&self, number: u8, store: S) -> Result<Running<ChannelLink<R>>, Fail>
+    where
+        S: Starts + Send + Drop + 'static,
+    {
+        let party = Party::Replica(number);
+        let link = link_of(self.rt, self.rt.alloc(), &self.board, party)?;
+        Running::start(self.rt, number, store, link, AllThere)
+    }
+
+    /// Starts a machine from each of these stores: whether a request is answered.
+    fn start_all<S>(&mut self, mut stores: Vec<S>) -> Result<bool, Fail>
+    where
+        S: Starts + Send + Drop + 'static,
+    {
+        for number in [2, 1, 0u8] {
+            let store = stores.pop().ok_or("no store")?;
+            let machine = self.started(number, store)?;
+            self.machines.push(machine)?;
+        }
+        Ok(is_answered(&mut self.link, self.client, 1))
+    }
+
+    /// Ends the first machine of those that run since the beginning: whether the others answer this request.
+    fn go_on_without_first(&mut self, request: u64) -> bool {
+        if let Some(machine) = self.machines.pop() {
+            machine.end(&self.rt);
+        }
+        is_answered(&mut self.link, self.client, request)
+    }
+
+    /// Starts a machine again: whether it comes to be normal, started twice.
+    fn comes_back<S>(&mut self, number: u8, store: S) -> Result<bool, Fail>
+    where
+        S: Starts + Send + Drop + 'static,
+    {
+        let mut machine = self.started(number, store)?;
+        let is_normal = machine.comes_to(&self.rt, Sought::Normal);
+        let starts = machine.solo.look().starts;
+        self.back.push(machine)?;
+        Ok(is_normal && starts == 2)
+    }
+
+    /// Ends each machine and starts it again, from one of these stores: whether the others answer meanwhile, and each
+    /// comes back.
+    fn each_comes_back<S>(&mut self, stores: Vec<S>) -> Result<bool, Fail>
+    where
+        S: Starts + Send + Drop + 'static,
+    {
+        let mut is_well = true;
+        for (number, store) in (0..3u8).zip(stores) {
+            is_well = is_well && self.go_on_without_first(2 + u64::from(number));
+            is_well = self.comes_back(number, store)? && is_well;
+        }
+        Ok(is_well)
+    }
+
+    /// Ends those that came back.
+    fn end(self) {
+        let Joined { rt, back, .. } = self;
+        for machine in back {
+            machine.end(&rt);
+        }
+    }
+}
+
 /// A machine that ends does so while the others go on, and comes back from its file.
 #[test]
 fn each_machine_crashes_and_comes_back(rt: HostRuntime) -> Result<(), Fail> {
-    let alloc = rt.alloc();
     clear(&rt)?;
-    let client = ClientNumber::new(0).ok_or("no client")?;
-    let board = Arc::new(alloc, Switchboard::new(alloc, 3, 1)?)?;
-    let (mut machines, mut back) = (Vec::new(alloc), Vec::new(alloc));
-    for number in 0..3u8 {
-        let link = link_of(rt, alloc, &board, Party::Replica(number))?;
-        machines.push(Running::start(rt, number, store_of(rt, number, true)?, link, AllThere)?)?;
-    }
-    let mut link = link_of(rt, alloc, &board, Party::Client(client))?;
-    assert!(rt; is_answered(&mut link, client, 1));
-    for (number, machine) in (0..3u8).zip(machines) {
-        machine.end(&rt);
-        assert!(rt; is_answered(&mut link, client, 2 + u64::from(number)));
-        let own = link_of(rt, alloc, &board, Party::Replica(number))?;
-        let mut machine = Running::start(rt, number, store_of(rt, number, false)?, own, AllThere)?;
-        assert!(rt; machine.comes_to(&rt, Sought::Normal));
-        assert_eq!(rt; machine.solo.look().starts, 2);
-        back.push(machine)?;
-    }
-    for machine in back {
-        machine.end(&rt);
-    }
+    let (first, again) = (stores(rt, true)?, stores(rt, false)?);
+    let mut joined = Joined::new(rt)?;
+    assert!(rt; joined.start_all(first)?);
+    assert!(rt; joined.each_comes_back(again)?);
+    joined.end();
     Ok(fs::remove_dir_all(&rt, "machines")?)
+}
+
+/// Whether a replica whose start was judged wrongly is down, with a store that failed, until it's cut, and then over.
+fn is_left_down<R: Runtime, S: Starts + Send + Drop + 'static>(
+    rt: R,
+    store: S,
+) -> Result<bool, Fail> {
+    let alloc = rt.alloc();
+    let board = Arc::new(alloc, Switchboard::new(alloc, 3, 1)?)?;
+    let link = link_of(rt, alloc, &board, Party::Replica(1))?;
+    let mut machine = Running::start(rt, 1, store, link, AllThere)?;
+    let is_served = machine.comes_to(&rt, Sought::Served);
+    let shown = machine.solo.look();
+    let is_down = shown.has_failed && shown.standing.status == Status::Down;
+    let is_over_early = machine.solo.is_over();
+    machine.solo.cut();
+    let is_over = machine.comes_to(&rt, Sought::Ended) && machine.solo.is_over();
+    machine.end(&rt);
+    Ok(is_served && is_down && !is_over_early && is_over)
 }
 
 /// A start that is another one than was judged leaves the replica down, whether its file is gone or was there.
 #[test]
 fn no_file_makes_a_machine_new(rt: HostRuntime) -> Result<(), Fail> {
-    let alloc = rt.alloc();
-    let board = Arc::new(alloc, Switchboard::new(alloc, 3, 1)?)?;
     for is_first in [false, true] {
         clear(&rt)?;
         if is_first {
-            let _ = FileStore::new(rt, alloc, "machines", 1)?.begin()?;
+            let _ = FileStore::new(rt, rt.alloc(), "machines", 1)?.begin()?;
         }
-        let link = link_of(rt, alloc, &board, Party::Replica(1))?;
-        let mut machine = Running::start(rt, 1, store_of(rt, 1, is_first)?, link, AllThere)?;
-        assert!(rt; machine.comes_to(&rt, Sought::Served));
-        let shown = machine.solo.look();
-        assert!(rt; shown.has_failed && shown.standing.status == Status::Down);
-        assert!(rt; !machine.solo.is_over());
-        machine.solo.cut();
-        assert!(rt; machine.comes_to(&rt, Sought::Ended) && machine.solo.is_over());
-        machine.end(&rt);
+        assert!(rt; is_left_down(rt, store_of(rt, 1, is_first)?)?);
     }
     Ok(fs::remove_dir_all(&rt, "machines")?)
 }
 
 /// The machine of this number, started so often, of three at these addresses: who is there, and the links of its
 /// replica and of its driver.
-fn machine_at<R>(
+fn machine_at<R: Runtime + Net<Listener = TcpListener, Stream = TcpStream>>(
     rt: R,
     number: u8,
     starts: u64,
     at: &[SocketAddr],
     listener: TcpListener,
-) -> Result<(Connected, PeerLink<R>, PeerLink<R>), Fail>
-where
-    R: Alloc<A = Global>
-        + Wait
-        + Clock
-        + Net<Listener = TcpListener, Stream = TcpStream>
-        + Copy
-        + Drop,
-{
+) -> Result<(Connected, PeerLink<R>, PeerLink<R>), Fail> {
     let alloc = rt.alloc();
     let machine = Machine {
         identity: [1; 32],
@@ -219,40 +314,108 @@ where
     Ok((Connected { exchange }, replica, driver))
 }
 
+/// Machines at addresses of their own, and the links of their drivers. The first machine is the last.
+#[derive(Drop)]
+struct Apart<R: Runtime + Net<Listener = TcpListener, Stream = TcpStream>> {
+    rt: R,
+    at: Vec<SocketAddr>,
+    listeners: Vec<TcpListener>,
+    machines: Vec<Running<PeerLink<R>>>,
+    drivers: Vec<PeerLink<R>>,
+}
+
+impl<R: Runtime + Net<Listener = TcpListener, Stream = TcpStream>> Apart<R> {
+    /// They listen, and no machine was started.
+    fn new(rt: R) -> Result<Apart<R>, Fail> {
+        let (mut listeners, mut at) = (Vec::new(rt.alloc()), Vec::new(rt.alloc()));
+        for _ in 0..3u8 {
+            let listener = TcpListener::bind(&rt, ("127.0.0.1", 0))?;
+            at.push(listener.local_addr()?)?;
+            listeners.push(listener)?;
+        }
+        Ok(Apart {
+            rt,
+            at,
+            listeners,
+            machines: Vec::new(rt.alloc()),
+            drivers: Vec::new(rt.alloc()),
+        })
+    }
+
+    /// Starts a machine by the last listener, which was started so often with this time.
+    fn start<S>(&mut self, number: u8, starts: u64, store: S) -> Result<(), Fail>
+    where
+        S: Starts + Send + Drop + 'static,
+    {
+        let listener = self.listeners.pop().ok_or("no listener")?;
+        let at = self.at.as_slice();
+        let (there, link, driver) = machine_at(self.rt, number, starts, at, listener)?;
+        self.drivers.push(driver)?;
+        let machine = Running::start(self.rt, number, store, link, there)?;
+        self.machines.push(machine)?;
+        Ok(())
+    }
+
+    /// Starts a machine from each of these stores: whether the group answers the first driver.
+    fn start_all<S>(&mut self, mut stores: Vec<S>) -> Result<bool, Fail>
+    where
+        S: Starts + Send + Drop + 'static,
+    {
+        for number in [2, 1, 0u8] {
+            let store = stores.pop().ok_or("no store")?;
+            self.start(number, 1, store)?;
+        }
+        self.is_answered(0)
+    }
+
+    /// Whether the group answers the last driver, which goes then.
+    fn is_answered(&mut self, number: u8) -> Result<bool, Fail> {
+        let client = ClientNumber::new(number).ok_or("no client")?;
+        let mut driver = self.drivers.pop().ok_or("no driver")?;
+        Ok(is_answered(&mut driver, client, 1))
+    }
+
+    /// Ends the first machine: whether the group answers the second driver.
+    fn goes_on_without_first(&mut self) -> Result<bool, Fail> {
+        if let Some(machine) = self.machines.pop() {
+            machine.end(&self.rt);
+        }
+        self.is_answered(1)
+    }
+
+    /// Starts the first machine again, at its address: whether it comes back.
+    fn comes_back<S>(&mut self, store: S) -> Result<bool, Fail>
+    where
+        S: Starts + Send + Drop + 'static,
+    {
+        let address = *self.at.first().ok_or("no address")?;
+        self.listeners.push(TcpListener::bind(&self.rt, address)?)?;
+        self.start(0, 2, store)?;
+        match self.machines.last_mut() {
+            Some(machine) => Ok(machine.comes_to(&self.rt, Sought::Normal)),
+            None => Ok(false),
+        }
+    }
+
+    /// Ends all.
+    fn end(self) {
+        let Apart { rt, machines, .. } = self;
+        for machine in machines {
+            machine.end(&rt);
+        }
+    }
+}
+
 /// The machine that drives ends, another one goes on, and the first comes back at its address.
 #[test]
 fn a_machine_ends_and_is_connected_again(rt: HostRuntime) -> Result<(), Fail> {
-    let alloc = rt.alloc();
     clear(&rt)?;
-    let (mut listeners, mut at) = (Vec::new(alloc), Vec::new(alloc));
-    for _ in 0..3u8 {
-        let listener = TcpListener::bind(&rt, ("127.0.0.1", 0))?;
-        at.push(listener.local_addr()?)?;
-        listeners.push(listener)?;
-    }
-    let (mut machines, mut drivers) = (Vec::new(alloc), Vec::new(alloc));
-    for (number, listener) in (0..3u8).zip(listeners) {
-        let (there, link, driver) = machine_at(rt, number, 1, at.as_slice(), listener)?;
-        machines.push(Running::start(rt, number, store_of(rt, number, true)?, link, there)?)?;
-        drivers.push(driver)?;
-    }
-    let (mut machines, mut drivers) = (machines.into_iter(), drivers.into_iter());
-    let first = machines.next().ok_or("no machine")?;
-    let mut driver = drivers.next().ok_or("no driver")?;
-    assert!(rt; is_answered(&mut driver, ClientNumber::new(0).ok_or("no client")?, 1));
-    drop(driver);
-    first.end(&rt);
-    let mut driver = drivers.next().ok_or("no driver")?;
-    assert!(rt; is_answered(&mut driver, ClientNumber::new(1).ok_or("no client")?, 1));
-    let address = *at.first().ok_or("no address")?;
-    let listener = TcpListener::bind(&rt, address)?;
-    let (there, link, _driver) = machine_at(rt, 0, 2, at.as_slice(), listener)?;
-    let mut back = Running::start(rt, 0, store_of(rt, 0, false)?, link, there)?;
-    assert!(rt; back.comes_to(&rt, Sought::Normal));
-    back.end(&rt);
-    for machine in machines {
-        machine.end(&rt);
-    }
+    let (stores, again) = (stores(rt, true)?, store_of(rt, 0, false)?);
+    let mut apart = Apart::new(rt)?;
+    assert!(rt; apart.start_all(stores)?);
+    assert!(rt; apart.goes_on_without_first()?);
+    assert!(rt; apart.comes_back(again)?);
+    apart.end();
     Ok(fs::remove_dir_all(&rt, "machines")?)
 }
 
