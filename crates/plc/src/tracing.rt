@@ -3,8 +3,7 @@
 use io_model::{Counted, CountedWrite};
 use plc_group::Group;
 use plc_host::{Failed, Host};
-use plc_member::{Begun, Ended, MachineRuntime, Member, Unserved};
-use plc_store::ChangeMark;
+use plc_member::{Begun, Ended, MachineRuntime, Marker, Member, Unserved};
 use plc_trace::OpenTraceWriter;
 use std::alloc::Global;
 use std::fs::File;
@@ -13,7 +12,7 @@ use vr_threads::{FileStore, JudgedStarts};
 
 /// A life of a machine that is to be served, and what writes its trace, if one is wanted.
 pub(crate) struct Life<R: MachineRuntime + Files<File = File>> {
-    pub(crate) begun: Begun<R, JudgedStarts<FileStore<R>>, ChangeMark<R>>,
+    pub(crate) begun: Begun<R, JudgedStarts<FileStore<R>>, Marker<R>>,
     pub(crate) writer: Option<OpenTraceWriter>,
 }
 
@@ -46,7 +45,7 @@ where
 /// A life with its trace.
 fn traced<R>(
     host: Host<R>,
-    begun: Begun<R, JudgedStarts<FileStore<R>>, ChangeMark<R>>,
+    begun: Begun<R, JudgedStarts<FileStore<R>>, Marker<R>>,
     path: &str,
 ) -> Result<Life<R>, Failed>
 where
