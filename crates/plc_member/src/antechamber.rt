@@ -7,10 +7,11 @@ use crate::keeper::{Keeper, Leaving, Waited};
 use crate::links::Linked;
 use crate::stop::Stop;
 use crate::watch::note;
+use io_model::CountedWrite;
 use net_hello::Epoch;
 use plc_epochs::Kept;
 use plc_host::{Failed, ServiceRuntime};
-use plc_status::{Journal, Notice};
+use plc_status::{Journal, Notice, Printer};
 use std::net::{Net, TcpListener, TcpStream};
 use std::time::{Duration, Instant};
 use vr_ports::{Input, Link};
@@ -68,19 +69,20 @@ impl<R> Antechamber<R>
 where
     R: ServiceRuntime + Net<Listener = TcpListener, Stream = TcpStream>,
 {
-    /// Waits until its machine may begin an epoch, or its life ends otherwise. Then nothing more is noted. Beside what
-    /// becomes of it, itself.
-    pub(crate) fn waited(mut self) -> (Gone, Antechamber<R>) {
+    /// Waits until its machine may begin an epoch, or its life ends otherwise. What is noted meanwhile is printed to
+    /// `err` by this printer of its journal.
+    pub(crate) fn waited<E: CountedWrite>(&mut self, printer: &mut Printer, err: &mut E) -> Gone {
         self.note_origin();
-        let gone = self.go_on();
-        self.journal.end();
-        (gone, self)
+        let gone = self.go_on(printer, err);
+        printer.print(err);
+        gone
     }
 
     /// Turn by turn, until its machine may begin an epoch, or its life ends otherwise.
-    fn go_on(&mut self) -> Gone {
+    fn go_on<E: CountedWrite>(&mut self, printer: &mut Printer, err: &mut E) -> Gone {
         let rt = self.keeper.host.rt;
         for _ in rt.forever() {
+            printer.print(err);
             if self.stop.is_asked() {
                 return Gone::Stopped;
             }

@@ -31,7 +31,6 @@ use std::fs::File;
 use std::net::{Net, SocketAddr, TcpListener, TcpStream};
 use std::rt::Files;
 use std::sync::Arc;
-use std::thread;
 use vr_replica::ViewStore;
 use vr_threads::{FileStore, JudgedStarts};
 
@@ -348,7 +347,7 @@ fn waited<R: MachineRuntime, E: CountedWrite>(
         mut printer,
     } = Journals::new(host.alloc)?;
     let program = origin.header.program;
-    let antechamber = Antechamber {
+    let mut antechamber = Antechamber {
         linked,
         keeper,
         journal,
@@ -356,11 +355,7 @@ fn waited<R: MachineRuntime, E: CountedWrite>(
         program,
         is_told_long: false,
     };
-    let Ok(thread) = thread::spawn(&host.rt, move || antechamber.waited()) else {
-        return Err(Failed::Thread);
-    };
-    printer.attend(&host.rt, err);
-    let (gone, antechamber) = thread.join(&host.rt);
+    let gone = antechamber.waited(&mut printer, err);
     let Antechamber { linked, keeper, .. } = antechamber;
     let life = Life {
         origin,
