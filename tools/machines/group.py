@@ -20,6 +20,7 @@ from program import GREATEST, source
 LIMIT = 0.4             # seconds that a client waits for anything
 PIECE = 0.004           # seconds from read to read
 WRITES = 0.03           # and from write to write
+WRITTEN = 0.5           # seconds until what was read is in a trace
 
 
 def now():
@@ -264,11 +265,13 @@ class Group:
         return False
 
     def history(self):
+        reads, writes, commands = list(self.reads), list(self.writes), list(self.commands)
+        if self.has_traces:
+            time.sleep(WRITTEN)
         faults = self.faults + self.holds + [it for machine in self.machines for it in machine.noise]
         releases = [it for machine in range(self.size) for it in traces.read(self.trace(machine))]
         ends = {machine.number: list(machine.ends) for machine in self.machines}
-        return History(self.period, self.fresh, list(self.reads), list(self.writes), list(self.commands), faults,
-                       releases, ends)
+        return History(self.period, self.fresh, reads, writes, commands, faults, releases, ends)
 
     def longest(self, since, until):
         return checker.longest(History(self.period, self.fresh, list(self.reads)), since, until)
