@@ -6,6 +6,7 @@ import signal
 import subprocess
 import time
 
+import checker
 import console
 from group import Group, now
 
@@ -50,6 +51,16 @@ def epochs(group):
     return told
 
 
+def has_one_list_each(group):
+    """Whether what the machines released in each epoch stands in one list."""
+    history = group.history()
+    wrong = checker.faults_of(history, checker.RELEASES)
+    print(f'  {len(history.releases)} releases in {len({it.epoch for it in history.releases})} epochs')
+    for name, fault in wrong.items():
+        print(f'  {name}: {fault}')
+    return not wrong
+
+
 def middle(times):
     times = sorted(times)
     return f'{times[len(times) // 2]:.2f} s in the middle, {times[-1]:.2f} at most, of {len(times)}'
@@ -75,7 +86,7 @@ def power_cut(options):
                 return False
             time.sleep(chance.uniform(0, 1))
         print(f'  from the last start to a port that answers {middle(took)}')
-        return right and max(took) <= LONGEST
+        return right and max(took) <= LONGEST and has_one_list_each(group)
 
 
 def most_lose_their_memory(options):
