@@ -160,6 +160,25 @@ def cut_while_it_begins(options):
         return right and len(set(epochs(group))) == 1
 
 
+def one_is_dead_for_good(options):
+    """All but f+1 are off, and one of those was killed and started again: it doesn't recover, and nothing begins by
+    itself. By hand those that are there begin."""
+    with Group(options) as group:
+        right, there = group.begin(), group.machines[:group.size // 2 + 1]
+        group.is_over = True
+        cut(group.machines[len(there):])
+        there[-1].kill()
+        there[-1].start()
+        time.sleep(6)
+        right = begun(group, 2) == [] and group.driving(0.5) is None and right
+        right = by_hand_with(group, there[-1]) and right
+        last = there[-1].started
+        right = is_normal_again(there, last) and group.driving(20) is not None and right
+        if not right:
+            print('\n'.join(f'    {line}' for line in group.since(last - 8)))
+        return right
+
+
 def by_hand_with(group, machine, *words):
     """Puts a machine into the next epoch by hand: whether that's done."""
     machine.kill()
@@ -218,5 +237,5 @@ def a_lost_disk_waits(options):
         return right
 
 
-TRIES = [power_cut, cut_while_it_begins, most_lose_their_memory, one_of_them_recovers, by_hand_alone,
-         a_changed_program_waits_for_a_person, a_lost_disk_waits]
+TRIES = [power_cut, cut_while_it_begins, most_lose_their_memory, one_of_them_recovers, one_is_dead_for_good,
+         by_hand_alone, a_changed_program_waits_for_a_person, a_lost_disk_waits]
