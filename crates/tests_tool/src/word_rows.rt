@@ -418,7 +418,7 @@ fn missing_words_of_serve_are_bad(rt: HostRuntime) -> Result<(), Fail> {
         ),
         (
             "--store d --trace t",
-            "error: the argument '--trace <FILE>' cannot be used with '[SOURCE]'",
+            "error: the argument '[SOURCE]' cannot be used with '--trace <FILE>'",
         ),
     ];
     are_bad(&rt, rt.alloc(), "plc serve a.il", &rows)
