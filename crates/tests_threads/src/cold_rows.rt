@@ -73,7 +73,9 @@ fn a_visit_comes_however_it_is_cut(rt: HostRuntime) -> Result<(), Fail> {
 fn no_other_visit_comes(rt: HostRuntime) -> Result<(), Fail> {
     let alloc = rt.alloc();
     let (mut seat, at) = alone(rt, alloc)?;
-    drop(stranger(&rt, at, &frame_of(1)[..152])?);
+    let frame = frame_of(1);
+    let (front, _) = frame.as_slice().split_at(VISIT - 1);
+    drop(stranger(&rt, at, front)?);
     let _other = stranger(&rt, at, b"PLC-CS\0\x02")?;
     seat.run(20)?;
     assert!(rt; seat.exchange.visits(&rt, alloc).is_empty());
