@@ -24,7 +24,7 @@ use Rattle.plc_epochs.specs.declared.cold_start.Step.{Step}
 use Rattle.plc_epochs.specs.declared.cold_start.ColdStart.{ColdStart}
 
 -- one of two
-either : (b : Bool) (P Q R : Type 0) → MatchBool b P Q → (b ≡ true → P → R) → (b ≡ false → Q → R) → R
+pub either : (b : Bool) (P Q R : Type 0) → MatchBool b P Q → (b ≡ true → P → R) → (b ≡ false → Q → R) → R
 either true P Q R h f g = f refl h
 either false P Q R h f g = g refl h
 
@@ -142,7 +142,7 @@ next_is_later epoch next image true h =
     subst (λ (x : Epoch). is_later x epoch ≡ true) (ap (λ o. unwrap_or o next) h) (higher epoch.number image epoch.image)
 next_is_later epoch next image false h = absurd (false≢true (ap is_some h))
 
-behind_is_later : (epoch next : Epoch) (image : List ℕ) (b : Bool) → (if b then next_epoch epoch image else None) ≡ Some next → is_later next epoch ≡ true
+pub behind_is_later : (epoch next : Epoch) (image : List ℕ) (b : Bool) → (if b then next_epoch epoch image else None) ≡ Some next → is_later next epoch ≡ true
 behind_is_later epoch next image true h = next_is_later epoch next image (nat_lt (epoch.number + 1) last_number) h
 behind_is_later epoch next image false h = absurd (false≢true (ap is_some h))
 

@@ -1,3 +1,4 @@
 pub mod GoingOn
 pub mod Nonces
 pub mod VisitReadings
+pub mod StayingFrozen

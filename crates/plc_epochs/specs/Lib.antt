@@ -6,3 +6,4 @@ pub mod Table
 pub mod GoingOn
 pub mod Visits
 pub mod VisitReading
+pub mod StayingFrozen

@@ -30,10 +30,11 @@
 //! second also only of a machine that was asked, under the nonce that it told first. An epoch is begun only once the
 //! store has it as begun, f others said hello in it, and the image in force here is its image. By hand a store goes to
 //! the next epoch exactly where it has one. No step lets a store go back: an epoch that was begun is left for a later
-//! one alone, and never entered again (`no_store_goes_back`).
+//! one alone, and never entered again (`no_store_goes_back`). A machine that is frozen stays so, and doesn't recover,
+//! until it recovers anew under a nonce that it never used, or leaves its epoch (`who_is_frozen_stays_so`).
 //!
 //! That the protocol keeps what it promises is no theorem here: `tools/check-cold-start` looks at all states of a model
-//! of it, within bounds. Rows of `tests_bytes` have who says what in which order. No program uses it yet.
+//! of it, within bounds. Rows of `tests_bytes` have who says what in which order.
 #![tactic(auto)]
 
 mod cold_start;
@@ -48,7 +49,7 @@ mod word;
 pub use cold_start::{ColdStart, Greeting, Phase, Place, Step};
 pub use epoch::is_later;
 pub use kept::{ByHandFault, Kept};
-pub use laws::no_store_goes_back;
+pub use laws::{no_store_goes_back, who_is_frozen_stays_so};
 pub use recovery::{BEFORE_FREEZING, FROZEN, Question, Recovery};
 pub use told::{Moment, RECENT, Told};
 pub use visit::{VISIT, Visit};
