@@ -40,7 +40,7 @@ const REQUEST: [u8; 12] = [0, 7, 0, 0, 0, 6, 1, 1, 0, 0, 0, 2];
 const REPLY: [u8; 10] = [0, 7, 0, 0, 0, 4, 1, 1, 1, 0];
 
 /// Sends a request, and reads a reply of as many bytes.
-fn reply_to<const N: usize>(stream: &mut TcpStream, request: [u8; 12]) -> io::Result<[u8; N]> {
+pub fn reply_to<const N: usize>(stream: &mut TcpStream, request: [u8; 12]) -> io::Result<[u8; N]> {
     stream.write_all(request.as_slice())?;
     let mut reply = [0; N];
     stream.read_exact(reply.as_mut_slice())?;
@@ -53,7 +53,7 @@ fn is_answered(stream: &mut TcpStream) -> io::Result<bool> {
 }
 
 /// The request of a function, at an address, with a value or a quantity.
-fn request(function: u8, address: u8, value: u16) -> [u8; 12] {
+pub fn request(function: u8, address: u8, value: u16) -> [u8; 12] {
     let [high, low] = value.to_be_bytes();
     [0, 7, 0, 0, 0, 6, 1, function, 0, address, high, low]
 }
@@ -87,13 +87,17 @@ fn are_outputs<R: Clock>(rt: &R, stream: &mut TcpStream, wanted: (u8, u16)) -> i
     Ok(false)
 }
 
+/// Whether a step goes as it should.
+fn is_followed<R: Clock>(rt: &R, stream: &mut TcpStream, step: Step) -> io::Result<bool> {
+    let (function, address, value, wanted) = step;
+    Ok(is_written(stream, function, address, value)? && are_outputs(rt, stream, wanted)?)
+}
+
 /// How many of these steps went as they should, one after another.
 fn stepped<R: Clock>(rt: &R, stream: &mut TcpStream, steps: &[Step]) -> io::Result<u8> {
     let mut count = 0u8;
-    for (function, address, value, wanted) in steps {
-        if is_written(stream, *function, *address, *value)? && are_outputs(rt, stream, *wanted)? {
-            count = count.saturating_add(1);
-        }
+    for step in steps {
+        count = count.saturating_add(u8::from(is_followed(rt, stream, *step)?));
     }
     Ok(count)
 }
@@ -102,9 +106,7 @@ fn stepped<R: Clock>(rt: &R, stream: &mut TcpStream, steps: &[Step]) -> io::Resu
 fn answered(clients: &mut [TcpStream]) -> io::Result<u8> {
     let mut count = 0u8;
     for client in clients.iter_mut() {
-        if is_answered(client)? {
-            count = count.saturating_add(1);
-        }
+        count = count.saturating_add(u8::from(is_answered(client)?));
     }
     Ok(count)
 }
@@ -116,6 +118,38 @@ pub fn connect<R: Net<Listener = TcpListener, Stream = TcpStream>>(
     TcpStream::connect(rt, ("127.0.0.1", port))
 }
 
+/// A client that is silent after half a request.
+fn half_asking<R: Net<Listener = TcpListener, Stream = TcpStream>>(
+    rt: &R,
+    port: u16,
+) -> io::Result<TcpStream> {
+    let mut client = connect(rt, port)?;
+    client.write_all(&REQUEST[..5])?;
+    Ok(client)
+}
+
+/// So many clients, of whom none has asked.
+fn newcomers<R: Net<Listener = TcpListener, Stream = TcpStream>>(
+    rt: &R,
+    alloc: Global,
+    port: u16,
+) -> io::Result<Vec<TcpStream>> {
+    let mut clients = Vec::new(alloc);
+    for _ in 0..CROWD {
+        clients.push(connect(rt, port)?)?;
+    }
+    Ok(clients)
+}
+
+/// Whether a client that comes now is answered.
+fn is_let_in<R: Net<Listener = TcpListener, Stream = TcpStream>>(
+    rt: &R,
+    port: u16,
+) -> io::Result<bool> {
+    let mut client = connect(rt, port)?;
+    Ok(matches!(is_answered(&mut client), Ok(true)))
+}
+
 /// Sixteen clients that stay, the first of which is silent after half a request, and one more, which is not answered:
 /// how many went so.
 fn crowd<R: Net<Listener = TcpListener, Stream = TcpStream>>(
@@ -123,16 +157,10 @@ fn crowd<R: Net<Listener = TcpListener, Stream = TcpStream>>(
     alloc: Global,
     port: u16,
 ) -> io::Result<u8> {
-    let mut half = connect(rt, port)?;
-    half.write_all(&REQUEST[..5])?;
-    let mut clients = Vec::new(alloc);
-    for _ in 0..CROWD {
-        clients.push(connect(rt, port)?)?;
-    }
+    let _half = half_asking(rt, port)?;
+    let mut clients = newcomers(rt, alloc, port)?;
     let count = answered(clients.as_mut_slice())?;
-    let mut late = connect(rt, port)?;
-    let is_answered = matches!(is_answered(&mut late), Ok(true));
-    Ok(count.saturating_add(u8::from(!is_answered)))
+    Ok(count.saturating_add(u8::from(!is_let_in(rt, port)?)))
 }
 
 /// How many clients are answered, one behind another. A place may come free late.
@@ -142,9 +170,10 @@ fn queue<R: Net<Listener = TcpListener, Stream = TcpStream> + Clock>(
 ) -> io::Result<u8> {
     let mut count = 0u8;
     for _ in 0..1000u32 {
-        match is_answered(&mut connect(rt, port)?) {
-            Ok(true) => count = count.saturating_add(1),
-            _ => thread::sleep(rt, Duration::from_millis(1)),
+        if is_let_in(rt, port)? {
+            count = count.saturating_add(1);
+        } else {
+            thread::sleep(rt, Duration::from_millis(1));
         }
         if count == QUEUE {
             break;
@@ -239,25 +268,45 @@ fn go_on(guests: &mut [Guest], now: Duration) -> bool {
     are_gone
 }
 
+/// Two that come at once, one of each manner.
+fn guests<R: Net<Listener = TcpListener, Stream = TcpStream>>(
+    rt: &R,
+    port: u16,
+) -> io::Result<[Guest; 2]> {
+    let silent = Guest::new(rt, port, Manner::Silent)?;
+    let slow = Guest::new(rt, port, Manner::Slow)?;
+    Ok([silent, slow])
+}
+
+/// Goes on with these, who came then, a moment each time, until each is let go.
+fn stay<R: Clock>(rt: &R, guests: &mut [Guest], came: Instant) -> io::Result<()> {
+    for _ in 0..80u8 {
+        thread::sleep(rt, Duration::from_millis(MOMENT));
+        if go_on(guests, Instant::now(rt)?.saturating_duration_since(came)) {
+            break;
+        }
+    }
+    Ok(())
+}
+
+/// How many of these were let go after two seconds, and not before.
+fn count_let_go(guests: &[Guest]) -> u8 {
+    let mut count = 0u8;
+    for guest in guests {
+        count = count.saturating_add(u8::from(guest.was_let_go()));
+    }
+    count
+}
+
 /// How many are let go after two seconds, and not before, of two that come at once.
 fn let_go<R: Net<Listener = TcpListener, Stream = TcpStream> + Clock>(
     rt: &R,
     port: u16,
 ) -> io::Result<u8> {
-    let begun = Instant::now(rt)?;
-    let mut guests = [
-        Guest::new(rt, port, Manner::Silent)?,
-        Guest::new(rt, port, Manner::Slow)?,
-    ];
-    for _ in 0..80u8 {
-        thread::sleep(rt, Duration::from_millis(MOMENT));
-        let now = Instant::now(rt)?.saturating_duration_since(begun);
-        if go_on(&mut guests, now) {
-            break;
-        }
-    }
-    let count = guests.iter().filter(|guest| guest.was_let_go()).count();
-    Ok(u8::try_from(count).unwrap_or(0))
+    let came = Instant::now(rt)?;
+    let mut guests = guests(rt, port)?;
+    stay(rt, &mut guests, came)?;
+    Ok(count_let_go(&guests))
 }
 
 /// Whether an operator whose command is never answered is let go at the end.
@@ -266,6 +315,19 @@ fn is_cut<R: Net<Listener = TcpListener, Stream = TcpStream>>(rt: &R, port: u16)
     console.write_all(b"\"cr\"\n")?;
     let came = console.read(&mut [0; 1]);
     Ok(u8::from(!matches!(came, Ok(1))))
+}
+
+/// A crowd, those who come one behind another, those who are let go, and a client with these steps: how many went so.
+fn all_kinds<R: Net<Listener = TcpListener, Stream = TcpStream> + Clock>(
+    rt: &R,
+    alloc: Global,
+    port: u16,
+    steps: &[Step],
+) -> io::Result<u8> {
+    let together = crowd(rt, alloc, port)?;
+    let count = together.saturating_add(queue(rt, port)?);
+    let count = count.saturating_add(let_go(rt, port)?);
+    Ok(count.saturating_add(stepped(rt, &mut connect(rt, port)?, steps)?))
 }
 
 fn made_visit<R: Net<Listener = TcpListener, Stream = TcpStream> + Clock>(
@@ -278,11 +340,7 @@ fn made_visit<R: Net<Listener = TcpListener, Stream = TcpStream> + Clock>(
         Visit::Nothing => Ok(0),
         Visit::Steps(steps) => stepped(rt, &mut connect(rt, port)?, steps),
         Visit::Operator(console) => is_cut(rt, console),
-        Visit::All(steps) => {
-            let count = crowd(rt, alloc, port)?.saturating_add(queue(rt, port)?);
-            let count = count.saturating_add(let_go(rt, port)?);
-            Ok(count.saturating_add(stepped(rt, &mut connect(rt, port)?, steps)?))
-        }
+        Visit::All(steps) => all_kinds(rt, alloc, port, steps),
     }
 }
 

@@ -1,7 +1,7 @@
 //! A group of three, each replica in a thread of its own.
 ghost use Rattle.std.specs.Prelude.{None};
 
-use crate::shelf::{Shelf, WIRE, group_of_three};
+use crate::shelf::{CLIENT, Shelf, WIRE, group_of_three};
 use il_loader::{Image, load};
 use il_model::{Answer, Command, InImage};
 use net_links::links;
@@ -18,14 +18,49 @@ use vr_ports::{Gate, Input, Link, OpenGate, Relink, Tick, Timer};
 use vr_replica::{StoreFault, ViewStore};
 use vr_shown::Shown;
 use vr_threads::{
-    ChannelLink, Cluster, ClusterConfig, MachineTimer, Observer, Seat, Starts, Switchboard,
+    ChannelLink, Cluster, ClusterConfig, ClusterThreads, MachineTimer, Observer, Seat, Starts,
+    Switchboard,
 };
 
-pub fn wire(alloc: Global) -> Result<Image, Fail> {
-    match load(alloc, WIRE) {
-        Ok(image) => Ok(image),
-        Err(_) => Err("no image")?,
+/// What a group of three runs, and for how many turns it's served.
+#[derive(Drop)]
+pub struct Plan {
+    pub config: ClusterConfig,
+    pub image: Image,
+}
+
+impl Plan {
+    pub fn new(alloc: Global, turns: u64) -> Result<Plan, Fail> {
+        let (group, budget) = group_of_three()?;
+        Ok(Plan {
+            config: ClusterConfig {
+                group,
+                budget,
+                turns,
+            },
+            image: load(alloc, WIRE)?,
+        })
     }
+}
+
+/// The replicas of this plan in these seats, started, and their threads.
+fn started<R, L, S, T, G>(
+    rt: &R,
+    alloc: Global,
+    plan: &Plan,
+    seats: Vec<Seat<L, S, T, G>>,
+) -> Result<(Cluster<L>, ClusterThreads), Fail>
+where
+    R: Threads + Wait + Copy + Send + 'static,
+    L: Relink + Send + Drop + 'static,
+    S: Starts + Send + Drop + 'static,
+    T: Timer + Send + Drop + 'static,
+    G: Observer + Send + Drop + 'static,
+{
+    if seats.len() != usize::from(plan.config.group.group_size()) {
+        return Err(Fail::new("another number of seats"));
+    }
+    Ok(Cluster::start(rt, alloc, plan.config, &plan.image, seats)?)
 }
 
 /// A timer that says Resend once.
@@ -102,6 +137,19 @@ fn meeting_seat<R: time::Clock + Drop, L: Drop>(
     })
 }
 
+/// The parties of a group of three with a client, who is the last.
+const PARTIES: [Party; 4] = [
+    Party::Replica(0),
+    Party::Replica(1),
+    Party::Replica(2),
+    Party::Client(CLIENT),
+];
+
+/// What joins three replicas and a client.
+pub fn switchboard(alloc: Global) -> Result<Arc<Switchboard>, AllocError> {
+    Ok(Arc::new(alloc, Switchboard::new(alloc, 3, 1)?)?)
+}
+
 /// The link of a party.
 pub fn link_of<R: Wait + time::Clock + Copy + Drop>(
     rt: R,
@@ -146,43 +194,32 @@ where
     R: Threads + Wait + time::Clock + Copy + Send + Drop + 'static,
     L: Relink + Send + Drop + 'static,
 {
-    let (config, budget) = group_of_three()?;
+    let plan = Plan::new(alloc, 3)?;
     let met = Arc::new(alloc, AtomicU64::new(0))?;
     let seats = meeting(rt, alloc, links, &met)?;
-    if seats.len() != usize::from(config.group_size()) {
-        return Err("another number of seats")?;
-    }
-    let common = ClusterConfig {
-        group: config,
-        budget,
-        turns: 3,
-    };
-    match Cluster::start(&rt, alloc, common, &wire(alloc)?, seats) {
-        Ok((cluster, threads)) => {
-            drop(cluster);
-            threads.join(&rt);
-        }
-        Err(_) => return Err("no cluster")?,
-    }
+    let (cluster, threads) = started(&rt, alloc, &plan, seats)?;
+    drop(cluster);
+    threads.join(&rt);
     Ok(met.load(Ordering::SeqCst))
 }
 
-/// The links of three replicas over channels.
+/// The links of these parties over channels.
 fn channel_links<R: Wait + time::Clock + Copy + Drop>(
     rt: R,
     alloc: Global,
+    parties: &[Party],
 ) -> Result<Vec<ChannelLink<R>>, AllocError> {
-    let board = Arc::new(alloc, Switchboard::new(alloc, 3, 0)?)?;
+    let board = switchboard(alloc)?;
     let mut links = Vec::new(alloc);
-    for replica in 0..3u8 {
-        links.push(link_of(rt, alloc, &board, Party::Replica(replica))?)?;
+    for party in parties {
+        links.push(link_of(rt, alloc, &board, *party)?)?;
     }
     Ok(links)
 }
 
 #[test]
 fn replicas_run_at_once(rt: HostRuntime) -> Result<(), Fail> {
-    let links = channel_links(rt, rt.alloc())?;
+    let links = channel_links(rt, rt.alloc(), &PARTIES[..3])?;
     assert_eq!(rt; meet(rt, rt.alloc(), links)?, 2);
     Ok(())
 }
@@ -261,25 +298,39 @@ fn request(client: ClientNumber, number: u64, replica: u8) -> Message {
     }
 }
 
+/// Asks each of three replicas for a scan.
+fn ask_all<L: Link>(link: &mut L, client: ClientNumber, number: u64) {
+    for replica in 0..3u8 {
+        link.send(request(client, number, replica));
+    }
+}
+
+/// Whether a message tells the outputs of this request's scan.
+fn answers(message: &Message, request: u64) -> bool {
+    match &message.body {
+        Body::Reply { number, answer, .. } => {
+            *number == request && matches!(answer, Answer::Outputs { .. })
+        }
+        _ => false,
+    }
+}
+
+/// Whether an answer to this request comes now.
+fn hears_answer<L: Link>(link: &mut L, request: u64) -> bool {
+    match link.recv() {
+        Input::Message(message) => answers(&message, request),
+        _ => false,
+    }
+}
+
 /// Whether its answer comes, however often it has to be asked for.
 pub fn is_answered<L: Link>(link: &mut L, client: ClientNumber, number: u64) -> bool {
     for turn in 0..10_000u32 {
         if turn % 100 == 0 {
-            for replica in 0..3u8 {
-                link.send(request(client, number, replica));
-            }
+            ask_all(link, client, number);
         }
-        if let Input::Message(message) = link.recv() {
-            if let Body::Reply {
-                number: answered,
-                answer: Answer::Outputs { .. },
-                ..
-            } = message.body
-            {
-                if answered == number {
-                    return true;
-                }
-            }
+        if hears_answer(link, number) {
+            return true;
         }
     }
     false
@@ -322,13 +373,7 @@ type Seen = ([Shown; 4], [bool; 9]);
 
 /// What is seen of a group whose primary crashes and comes back. It shows before the first step of each of its starts,
 /// while it is down, and at the end. A request is answered before the crash, after it, and once the replica is back.
-fn seen_of_a_crash<R, L>(
-    rt: &R,
-    cluster: &mut Cluster<L>,
-    link: &mut L,
-    client: ClientNumber,
-    goes: &AtomicBool,
-) -> Seen
+fn seen_of_a_crash<R, L>(rt: &R, cluster: &mut Cluster<L>, link: &mut L, goes: &AtomicBool) -> Seen
 where
     R: Threads + Wait + time::Clock + Copy + Send + Drop + 'static,
     L: Relink + Send + Drop + 'static,
@@ -336,19 +381,19 @@ where
     let started = comes_to(rt, cluster, 0, Sought::Served);
     let early = cluster.shown(0);
     goes.store(true, Ordering::SeqCst);
-    let answered = is_answered(link, client, 1);
+    let answered = is_answered(link, CLIENT, 1);
     let recovered = comes_to(rt, cluster, 2, Sought::Normal);
     cluster.crash(0);
     let ended = comes_to(rt, cluster, 0, Sought::Ended);
     let down = cluster.shown(0);
-    let answered_without = is_answered(link, client, 2);
+    let answered_without = is_answered(link, CLIENT, 2);
     goes.store(false, Ordering::SeqCst);
     let restarted = cluster.restart(rt, 0);
     let held_in_time = comes_to(rt, cluster, 0, Sought::Served);
     let held = cluster.shown(0);
     goes.store(true, Ordering::SeqCst);
     let back = comes_to(rt, cluster, 0, Sought::Normal);
-    let answered_again = is_answered(link, client, 3);
+    let answered_again = is_answered(link, CLIENT, 3);
     let unknown = cluster.shown(3);
     (
         [early, down, held, unknown],
@@ -410,23 +455,12 @@ where
     R: Threads + Wait + time::Clock + Copy + Send + Drop + 'static,
     L: Relink + Send + Drop + 'static,
 {
-    let (config, budget) = group_of_three()?;
-    let client = ClientNumber::new(0).ok_or("no client")?;
+    let plan = Plan::new(alloc, u64::MAX)?;
     let goes = Arc::new(alloc, AtomicBool::new(false))?;
     let mut link = links.pop().ok_or("no link")?;
     let seats = holding(rt, alloc, links, &goes)?;
-    if seats.len() != usize::from(config.group_size()) {
-        return Err("another number of seats")?;
-    }
-    let common = ClusterConfig {
-        group: config,
-        budget,
-        turns: u64::MAX,
-    };
-    let Ok((mut cluster, threads)) = Cluster::start(&rt, alloc, common, &wire(alloc)?, seats) else {
-        return Err("no cluster")?;
-    };
-    let seen = seen_of_a_crash(&rt, &mut cluster, &mut link, client, &goes);
+    let (mut cluster, threads) = started(&rt, alloc, &plan, seats)?;
+    let seen = seen_of_a_crash(&rt, &mut cluster, &mut link, &goes);
     cluster.cut();
     drop(cluster);
     threads.join(&rt);
@@ -436,13 +470,7 @@ where
 #[test]
 fn a_group_goes_on_while_its_primary_crashes(rt: HostRuntime) -> Result<(), Fail> {
     let alloc = rt.alloc();
-    let client = ClientNumber::new(0).ok_or("no client")?;
-    let board = Arc::new(alloc, Switchboard::new(alloc, 3, 1)?)?;
-    let mut over_channels = Vec::new(alloc);
-    for replica in 0..3u8 {
-        over_channels.push(link_of(rt, alloc, &board, Party::Replica(replica))?)?;
-    }
-    over_channels.push(link_of(rt, alloc, &board, Party::Client(client))?)?;
+    let over_channels = channel_links(rt, alloc, &PARTIES)?;
     assert_eq!(rt; crashed(rt, alloc, over_channels)?, wanted());
     let over_tcp = links(rt, alloc, 3, 1, Duration::from_millis(5))?;
     assert_eq!(rt; crashed(rt, alloc, over_tcp)?, wanted());
@@ -499,24 +527,23 @@ impl<R: time::Clock + Drop> Starts for HangingShelf<R> {
     }
 }
 
+type HangingSeat<R> = Seat<ChannelLink<R>, HangingShelf<R>, MachineTimer<R>, OpenGate>;
+
 /// Three replicas on the machine's time. The last one's store hangs until it's let go.
-fn hanging<R: time::Clock + Copy + Drop>(
+fn hanging<R: Wait + time::Clock + Copy + Drop>(
     rt: R,
     alloc: Global,
-    board: &Arc<Switchboard>,
+    links: Vec<ChannelLink<R>>,
     goes: &Arc<AtomicBool>,
-) -> Result<Vec<Seat<ChannelLink<R>, HangingShelf<R>, MachineTimer<R>, OpenGate>>, Fail>
-where
-    R: Wait,
-{
+) -> Result<Vec<HangingSeat<R>>, Fail> {
     let (config, _) = group_of_three()?;
     let (patience, pause) = (Duration::from_millis(500), Duration::from_millis(20));
     let always = Arc::new(alloc, AtomicBool::new(true))?;
     let mut seats = Vec::new(alloc);
-    for number in 0..3u8 {
+    for (number, link) in links.into_iter().enumerate() {
         let flag = if number == 2 { goes } else { &always };
         seats.push(Seat {
-            link: link_of(rt, alloc, board, Party::Replica(number))?,
+            link,
             store: HangingShelf {
                 rt,
                 shelf: Shelf::new(0),
@@ -529,38 +556,52 @@ where
     Ok(seats)
 }
 
+/// Which of the things asked of a group went well whose last replica's disk hangs, and then goes on: the group answers
+/// meanwhile, an order to start that replica anew does nothing, it isn't up; then it comes up, and once it's cut, it
+/// ends and is idle.
+fn seen_of_a_hang<R, L>(
+    rt: &R,
+    cluster: &mut Cluster<L>,
+    link: &mut L,
+    goes: &AtomicBool,
+) -> [bool; 6]
+where
+    R: Threads + Wait + time::Clock + Copy + Send + Drop + 'static,
+    L: Relink + Send + Drop + 'static,
+{
+    let is_answered = is_answered(link, CLIENT, 1);
+    let is_ordered_once = cluster.is_starting(2) && !cluster.restart(rt, 2);
+    let is_down = !cluster.shown(2).is_normal() && !cluster.is_idle(2);
+    goes.store(true, Ordering::SeqCst);
+    let comes_up = comes_to(rt, cluster, 2, Sought::Normal);
+    cluster.cut();
+    let ends = comes_to(rt, cluster, 2, Sought::Ended);
+    let is_idle = cluster.is_idle(2);
+    [
+        is_answered,
+        is_ordered_once,
+        is_down,
+        comes_up,
+        ends,
+        is_idle,
+    ]
+}
+
 /// A replica whose disk hangs holds up nobody: the others are served, an order to start it anew waits for nothing, and
 /// it comes up once the disk goes on.
 #[test]
 fn a_disk_that_hangs_holds_up_its_replica_alone(rt: HostRuntime) -> Result<(), Fail> {
     let alloc = rt.alloc();
-    let (group, budget) = group_of_three()?;
-    let client = ClientNumber::new(0).ok_or("no client")?;
+    let plan = Plan::new(alloc, u64::MAX)?;
     let goes = Arc::new(alloc, AtomicBool::new(false))?;
-    let board = Arc::new(alloc, Switchboard::new(alloc, 3, 1)?)?;
-    let seats = hanging(rt, alloc, &board, &goes)?;
-    let mut link = link_of(rt, alloc, &board, Party::Client(client))?;
-    if seats.len() != usize::from(group.group_size()) {
-        return Err("another number of seats")?;
-    }
-    let common = ClusterConfig {
-        group,
-        budget,
-        turns: u64::MAX,
-    };
-    let Ok((mut cluster, threads)) = Cluster::start(&rt, alloc, common, &wire(alloc)?, seats) else {
-        return Err("no cluster")?;
-    };
-    assert!(rt; is_answered(&mut link, client, 1));
-    assert!(rt; cluster.is_starting(2) && !cluster.restart(&rt, 2));
-    assert!(rt; !cluster.shown(2).is_normal() && !cluster.is_idle(2));
-    goes.store(true, Ordering::SeqCst);
-    assert!(rt; comes_to(&rt, &mut cluster, 2, Sought::Normal));
-    cluster.cut();
-    assert!(rt; comes_to(&rt, &mut cluster, 2, Sought::Ended));
-    assert!(rt; cluster.is_idle(2));
+    let mut links = channel_links(rt, alloc, &PARTIES)?;
+    let mut link = links.pop().ok_or("no link")?;
+    let seats = hanging(rt, alloc, links, &goes)?;
+    let (mut cluster, threads) = started(&rt, alloc, &plan, seats)?;
+    let seen = seen_of_a_hang(&rt, &mut cluster, &mut link, &goes);
     drop(cluster);
     threads.join(&rt);
+    assert_eq!(rt; seen, [true; 6]);
     Ok(())
 }
 
@@ -568,12 +609,11 @@ fn a_disk_that_hangs_holds_up_its_replica_alone(rt: HostRuntime) -> Result<(), F
 #[test]
 fn what_waits_for_a_party_is_bounded(rt: HostRuntime) -> Result<(), Fail> {
     let alloc = rt.alloc();
-    let client = ClientNumber::new(0).ok_or("no client")?;
-    let board = Arc::new(alloc, Switchboard::new(alloc, 3, 1)?)?;
-    let mut busy = link_of(rt, alloc, &board, Party::Client(client))?;
+    let board = switchboard(alloc)?;
+    let mut busy = link_of(rt, alloc, &board, Party::Client(CLIENT))?;
     let mut stalled = link_of(rt, alloc, &board, Party::Replica(1))?;
     for number in 0..5000u64 {
-        busy.send(request(client, number, 1));
+        busy.send(request(CLIENT, number, 1));
     }
     let mut count = 0u32;
     for _ in 0..5000u32 {

@@ -1,15 +1,13 @@
 //! What is heard of other epochs over connections of this machine, and visits, as before a cold start.
 
-use crate::peer_rows::{EPOCH, Seat, alone, hello_of, listening, machine_of, seat_of, stranger};
+use crate::peer_rows::{EPOCH, Seat, alone, dialling, hello_of, listening, seat_of};
+use crate::shelf::Runtime;
 use net_hello::{Epoch, Hello};
 use net_peers::{FIRST_CONSOLE, VISIT, visit};
-use std::alloc::Global;
 use std::io::{Read, Write};
-use std::net::{Net, SocketAddr, TcpListener, TcpStream};
 use std::process::Abort;
-use std::sync::Wait;
 use std::test::Fail;
-use std::time::{Clock, Duration};
+use std::time::Duration;
 use vr_model::{ClientNumber, Party};
 
 const LATER: Epoch = Epoch {
@@ -31,39 +29,31 @@ fn frame_of(byte: u8) -> [u8; VISIT] {
 }
 
 /// How many visits came of bytes that are cut there, and whose second part is sent later; whether they are this one.
-fn came_of<R>(
+fn came_of<R: Runtime>(
     seat: &mut Seat<R>,
-    alloc: Global,
-    at: SocketAddr,
     frame: &[u8; VISIT],
     cut: usize,
-) -> Result<(usize, bool), Fail>
-where
-    R: Wait + Clock + Net<Listener = TcpListener, Stream = TcpStream> + Copy + Drop,
-{
+) -> Result<(usize, bool), Fail> {
     let cut = cut.min(VISIT);
-    let mut stream = stranger(&seat.rt, at, &frame[..cut])?;
-    seat.run(5)?;
+    let mut stream = seat.meet(&frame[..cut], 5)?;
     stream.write_all(&frame[cut..])?;
     seat.run(20)?;
-    let visits = seat.exchange.visits(&seat.rt, alloc);
+    let visits = seat.exchange.visits(&seat.rt, seat.rt.alloc());
     Ok((visits.len(), visits.iter().all(|visit| visit == frame)))
 }
 
 /// Nobody answers it, and it's given once.
 #[test]
 fn a_visit_comes_however_it_is_cut(rt: HostRuntime) -> Result<(), Fail> {
-    let alloc = rt.alloc();
-    let (mut seat, at) = alone(rt, alloc)?;
-    assert!(rt; visit(&rt, at, &frame_of(1), Duration::from_millis(1000)));
+    let mut seat = alone(rt)?;
+    assert!(rt; visit(&rt, seat.at, &frame_of(1), Duration::from_millis(1000)));
     seat.run(20)?;
-    assert!(rt; seat.exchange.visits(&rt, alloc).as_slice() == [frame_of(1)].as_slice());
+    assert!(rt; seat.exchange.visits(&rt, rt.alloc()).as_slice() == [frame_of(1)].as_slice());
     for cut in [1usize, 7, 8, 9, 89, 90, 91, 152, 153] {
-        let came = came_of(&mut seat, alloc, at, &frame_of(2), cut)?;
+        let came = came_of(&mut seat, &frame_of(2), cut)?;
         assert_eq!(rt; (cut, came), (cut, (1, true)));
     }
-    let mut silent = stranger(&rt, at, &frame_of(3))?;
-    seat.run(20)?;
+    let mut silent = seat.meet(&frame_of(3), 20)?;
     assert_eq!(rt; silent.read(&mut [0u8; 1])?, 0);
     Ok(())
 }
@@ -71,17 +61,15 @@ fn a_visit_comes_however_it_is_cut(rt: HostRuntime) -> Result<(), Fail> {
 /// Neither one that is cut off, nor one of another version, and nobody where no replica listens.
 #[test]
 fn no_other_visit_comes(rt: HostRuntime) -> Result<(), Fail> {
-    let alloc = rt.alloc();
-    let (mut seat, at) = alone(rt, alloc)?;
+    let mut seat = alone(rt)?;
     let frame = frame_of(1);
     let (front, _) = frame.as_slice().split_at(VISIT - 1);
-    drop(stranger(&rt, at, front)?);
-    let _other = stranger(&rt, at, b"PLC-CS\0\x02")?;
-    seat.run(20)?;
-    assert!(rt; seat.exchange.visits(&rt, alloc).is_empty());
-    let (listener, nobody) = listening(&rt)?;
+    drop(seat.meet(front, 1)?);
+    let _other = seat.meet(b"PLC-CS\0\x02", 20)?;
+    assert!(rt; seat.exchange.visits(&rt, rt.alloc()).is_empty());
+    let (listener, nobody) = listening(rt)?;
     drop(listener);
-    assert!(rt; !visit(&rt, nobody, &frame_of(1), Duration::from_millis(1000)));
+    assert!(rt; !visit(&rt, nobody, &frame, Duration::from_millis(1000)));
     Ok(())
 }
 
@@ -113,11 +101,10 @@ fn all_hellos() -> Result<[Hello; 7], Fail> {
 #[test]
 fn replicas_are_heard_in_whatever_epoch(rt: HostRuntime) -> Result<(), Fail> {
     let alloc = rt.alloc();
-    let (mut seat, at) = alone(rt, alloc)?;
+    let mut seat = alone(rt)?;
     for hello in all_hellos()? {
         let bytes = hello.spell(alloc)?;
-        let _stream = stranger(&rt, at, bytes.as_slice())?;
-        seat.run(20)?;
+        let _stream = seat.meet(bytes.as_slice(), 20)?;
     }
     let heard = seat.exchange.hellos(&rt, alloc);
     assert!(rt; heard.as_slice() == [(1u8, LATER), (2, NONE), (1, EPOCH)].as_slice());
@@ -125,25 +112,33 @@ fn replicas_are_heard_in_whatever_epoch(rt: HostRuntime) -> Result<(), Fail> {
     Ok(())
 }
 
-/// Two machines in different epochs hear each other again and again, whichever of them dials.
-#[test]
-fn both_ends_hear_each_other(rt: HostRuntime) -> Result<(), Fail> {
-    let alloc = rt.alloc();
-    let (mut seat, at) = alone(rt, alloc)?;
-    let (listener, beside) = listening(&rt)?;
-    let mut machine = machine_of(alloc, 1, &[at, beside, beside])?;
-    machine.epoch = LATER;
-    let mut other = seat_of(rt, alloc, &machine, listener)?;
-    let (mut near, mut far) = (Vec::new(alloc), Vec::new(alloc));
+/// What two in different epochs hear of one another, each: twice at least.
+fn heard_by_both<R: Runtime>(
+    rt: R,
+    seat: &mut Seat<R>,
+    other: &mut Seat<R>,
+) -> Result<(Vec<(u8, Epoch)>, Vec<(u8, Epoch)>), Fail> {
+    let (mut near, mut far) = (Vec::new(rt.alloc()), Vec::new(rt.alloc()));
     for _ in 0..1000u32 {
         seat.run(5)?;
         other.run(5)?;
-        near.append(&mut seat.exchange.hellos(&rt, alloc))?;
-        far.append(&mut other.exchange.hellos(&rt, alloc))?;
+        near.append(&mut seat.exchange.hellos(&rt, rt.alloc()))?;
+        far.append(&mut other.exchange.hellos(&rt, rt.alloc()))?;
         if near.len() >= 2 && far.len() >= 2 {
             break;
         }
     }
+    Ok((near, far))
+}
+
+/// Two machines in different epochs hear each other again and again, whichever of them dials.
+#[test]
+fn both_ends_hear_each_other(rt: HostRuntime) -> Result<(), Fail> {
+    let mut seat = alone(rt)?;
+    let (mut machine, listener) = dialling(rt, seat.at)?;
+    machine.epoch = LATER;
+    let mut other = seat_of(rt, &machine, listener)?;
+    let (near, far) = heard_by_both(rt, &mut seat, &mut other)?;
     assert!(rt; near.len() >= 2 && near.iter().all(|heard| *heard == (1, LATER)));
     assert!(rt; far.len() >= 2 && far.iter().all(|heard| *heard == (0, EPOCH)));
     Ok(())

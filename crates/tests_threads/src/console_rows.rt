@@ -1,31 +1,24 @@
 //! An operator's console on a served controller: what is answered while scans run, stop and are held, and where the
 //! program is changed, also while the primary crashes.
 
-ghost use Rattle.std.specs.Prelude.{◌≡◌};
-
-use crate::clients::free_port;
+use crate::clients::{connect, free_port};
+use crate::controllers::{ended, file_stores, service_of};
+use crate::shelf::Runtime;
 use il_model::Budget;
-use io_image::NewList;
 use io_model::Counted;
 use plc_console::send_commands;
 use plc_host::Host;
 use plc_json::command_texts;
-use plc_serve::{Service, serve};
 use plc_settings::{Links, Settings};
-use plc_status::StatusWriter;
 use plc_tool::change_to;
 use std::alloc::Global;
+use std::io;
 use std::io::{Read, Write};
-use std::marker::Brand;
-use std::net::{Net, TcpListener, TcpStream};
+use std::net::TcpStream;
 use std::process::Abort;
-use std::rt::Files;
-use std::sync::Wait;
 use std::test::Fail;
 use std::time::Duration;
-use std::{fs, io};
 use vr_model::Config;
-use vr_threads::FileStore;
 
 /// What an operator asks of the console.
 #[derive(Clone, Copy)]
@@ -123,11 +116,49 @@ const BAD_LINES: &[u8] =
 const BAD_ANSWERS: &[u8] =
     b"plc: commands\nplc: commands\nplc: commands\nplc: commands\nplc: commands\nrefused 1\n";
 
-/// A line may have so many bytes, and this has one more; a command behind spaces is the longest that is taken.
+/// A line may have so many bytes.
 const LONGEST: usize = 131_072;
 
-/// The longest image that a change may have, and one that is longer by a byte, which is no command.
+/// The longest image that a change may have.
 const IMAGE_BYTES: usize = 32_768;
+
+/// A long line: what it begins with, the byte that comes so often behind that, what it ends with, and its answer.
+#[derive(Clone, Copy)]
+struct LongLine {
+    front: &'static [u8],
+    filled: (u8, usize),
+    end: &'static [u8],
+    answer: &'static [u8],
+}
+
+/// A command behind spaces that is as long as a line may be, and one longer by a byte, which is no command; a change to
+/// as many bytes as may be, which are no image, and one to a byte more, which is no command.
+const LONG_LINES: [LongLine; 4] = [
+    LongLine {
+        front: b"",
+        filled: (b' ', LONGEST - 4),
+        end: b"\"cr\"\n",
+        answer: b"refused 1\n",
+    },
+    LongLine {
+        front: b"",
+        filled: (b' ', LONGEST - 3),
+        end: b"\"cr\"\n",
+        answer: b"plc: commands\n",
+    },
+    LongLine {
+        front: b"{\"change\":\"",
+        filled: (b'0', 2 * IMAGE_BYTES),
+        end: b"\"}\n",
+        answer: b"refused 6\n",
+    },
+    LongLine {
+        front: b"{\"change\":\"",
+        filled: (b'0', 2 * IMAGE_BYTES + 2),
+        end: b"\"}\n",
+        answer: b"plc: commands\n",
+    },
+];
 
 /// In milliseconds: so the operator has the time to ask before the next scan.
 const PERIOD: u32 = 300;
@@ -145,9 +176,8 @@ const FLOOD: usize = 1 << 22;
 
 /// What takes the lines on standard error of a controller, and has an operator at its console.
 #[derive(Drop)]
-struct Operator<R: Drop> {
+struct Operator<R: Runtime> {
     rt: R,
-    alloc: Global,
     port: u16,
     /// Whether others come before, of whom this one takes the console over, and this one reads nothing in the end.
     has_others: bool,
@@ -159,15 +189,16 @@ struct Operator<R: Drop> {
 }
 
 /// Sends bytes to a console, and reads as many in answer as are wanted: whether they are those.
-fn is_answered(stream: &mut TcpStream, sent: &[u8], wanted: &[u8]) -> io::Result<bool> {
+fn is_answered(
+    alloc: Global,
+    stream: &mut TcpStream,
+    sent: &[u8],
+    wanted: &[u8],
+) -> io::Result<bool> {
     stream.write_all(sent)?;
-    let mut are_same = true;
-    for byte in wanted {
-        let mut came = [0; 1];
-        stream.read_exact(&mut came)?;
-        are_same = are_same && came[0] == *byte;
-    }
-    Ok(are_same)
+    let mut came = Vec::from_elem(alloc, 0u8, wanted.len())?;
+    stream.read_exact(came.as_mut_slice())?;
+    Ok(came.as_slice() == wanted)
 }
 
 /// How many digits these bytes begin with.
@@ -207,69 +238,54 @@ fn change(alloc: Global) -> Option<Vec<u8>> {
 fn texts(alloc: Global, asked: Asked) -> Option<Vec<Vec<u8>>> {
     match asked {
         Asked::Commands(commands) => command_texts(alloc, commands).ok(),
-        Asked::Change => {
-            let mut texts = Vec::new(alloc);
-            texts.push(change(alloc)?).ok()?;
-            Some(texts)
-        }
+        Asked::Change => vec![in alloc; change(alloc)?].ok(),
     }
 }
 
-/// Whether commands that are asked as `plc ask` does are answered so.
-fn is_asked<R: Wait + Copy>(
-    host: &Host<R>,
-    stream: &TcpStream,
-    asked: Asked,
-    wanted: &[u8],
-) -> bool {
-    let Some(texts) = texts(host.alloc, asked) else {
-        return false;
-    };
+/// What is printed where this is asked as `plc ask` does; none where it isn't answered.
+fn printed<R: Runtime>(host: &Host<R>, stream: &TcpStream, texts: &[Vec<u8>]) -> Option<Vec<u8>> {
     let mut printed = Vec::new(host.alloc);
     let sent = send_commands(
         host,
-        texts.as_slice(),
+        texts,
         &mut Counted::new(stream),
         &mut Counted::new(stream),
         &mut Counted::new(&mut printed),
     );
-    sent.is_ok() && is_like(printed.as_slice(), wanted)
+    if sent.is_ok() { Some(printed) } else { None }
 }
 
-/// Whether a line of so many bytes, a command behind spaces, is answered so.
-fn is_long_answered(
-    alloc: Global,
-    stream: &mut TcpStream,
-    length: usize,
-    wanted: &[u8],
-) -> io::Result<bool> {
-    let mut line = Vec::from_elem(alloc, b' ', length.saturating_sub(4))?;
-    line.extend_from_slice(b"\"cr\"\n")?;
-    is_answered(stream, line.as_slice(), wanted)
+/// Whether commands that are asked as `plc ask` does are answered so.
+fn is_asked<R: Runtime>(rt: R, stream: &TcpStream, asked: Asked, wanted: &[u8]) -> bool {
+    let host = Host {
+        rt,
+        alloc: rt.alloc(),
+    };
+    let Some(texts) = texts(host.alloc, asked) else {
+        return false;
+    };
+    match printed(&host, stream, texts.as_slice()) {
+        Some(printed) => is_like(printed.as_slice(), wanted),
+        None => false,
+    }
 }
 
-/// Whether a change to so many bytes that are no image is answered so.
-fn is_change_answered(
-    alloc: Global,
-    stream: &mut TcpStream,
-    length: usize,
-    wanted: &[u8],
-) -> io::Result<bool> {
-    let mut line = b"{\"change\":\"".to_vec(alloc)?;
-    line.extend_from_slice(Vec::from_elem(alloc, b'0', length.saturating_add(length))?.as_slice())?;
-    line.extend_from_slice(b"\"}\n")?;
-    is_answered(stream, line.as_slice(), wanted)
+/// Whether a long line is answered as it wants.
+fn is_line_answered(alloc: Global, stream: &mut TcpStream, line: &LongLine) -> io::Result<bool> {
+    let (byte, count) = line.filled;
+    let filler = Vec::from_elem(alloc, byte, count)?;
+    stream.write_all(line.front)?;
+    stream.write_all(filler.as_slice())?;
+    is_answered(alloc, stream, line.end, line.answer)
 }
 
 /// Whether lines that are no command are answered as such, and others behind them as ever.
 fn refuses(alloc: Global, stream: &mut TcpStream) -> io::Result<bool> {
-    Ok(
-        is_answered(stream, BAD_LINES, BAD_ANSWERS)?
-            && is_long_answered(alloc, stream, LONGEST, b"refused 1\n")?
-            && is_long_answered(alloc, stream, LONGEST + 1, b"plc: commands\n")?
-            && is_change_answered(alloc, stream, IMAGE_BYTES, b"refused 6\n")?
-            && is_change_answered(alloc, stream, IMAGE_BYTES + 1, b"plc: commands\n")?,
-    )
+    let mut are_answered = is_answered(alloc, stream, BAD_LINES, BAD_ANSWERS)?;
+    for line in LONG_LINES.iter() {
+        are_answered = are_answered && is_line_answered(alloc, stream, line)?;
+    }
+    Ok(are_answered)
 }
 
 /// Sends empty lines until none is taken any more, and reads nothing.
@@ -280,24 +296,39 @@ fn flood(alloc: Global, stream: &mut TcpStream) -> io::Result<()> {
     Ok(())
 }
 
-impl<R: Net<Listener = TcpListener, Stream = TcpStream> + Wait + Copy + Drop> Operator<R> {
+/// Whether a client reads nothing more: its connection is closed.
+fn is_over(stream: &mut TcpStream) -> bool {
+    matches!(stream.read(&mut [0; 1]), Ok(0))
+}
+
+impl<R: Runtime> Operator<R> {
     /// A connection to the console.
     fn connection(&self) -> io::Result<TcpStream> {
-        let stream = TcpStream::connect(&self.rt, ("127.0.0.1", self.port))?;
+        let stream = connect(&self.rt, self.port)?;
         stream.set_read_timeout(Some(Duration::from_secs(PATIENCE)))?;
         Ok(stream)
     }
 
     /// Whether a client that says nothing is closed.
     fn is_closed(&self) -> io::Result<bool> {
-        Ok(matches!(self.connection()?.read(&mut [0; 1]), Ok(0)))
+        Ok(is_over(&mut self.connection()?))
+    }
+
+    /// A connection to the console by which bad lines are seen to be refused: none where they aren't.
+    fn tried_connection(&self) -> io::Result<Option<TcpStream>> {
+        let mut stream = self.connection()?;
+        if refuses(self.rt.alloc(), &mut stream)? {
+            Ok(Some(stream))
+        } else {
+            Ok(None)
+        }
     }
 
     /// Takes the console over from another operator, who is told: none where that one isn't told.
     fn take_over(&self, mut other: TcpStream) -> io::Result<Option<TcpStream>> {
         let stream = self.connection()?;
-        let is_told = is_answered(&mut other, b"", TAKEN_OVER)?;
-        if is_told && matches!(other.read(&mut [0; 1]), Ok(0)) {
+        let is_told = is_answered(self.rt.alloc(), &mut other, b"", TAKEN_OVER)?;
+        if is_told && is_over(&mut other) {
             Ok(Some(stream))
         } else {
             Ok(None)
@@ -306,46 +337,57 @@ impl<R: Net<Listener = TcpListener, Stream = TcpStream> + Wait + Copy + Drop> Op
 
     /// Comes to the console, and sees that bad lines are refused. Where others come, the first is silent until it's
     /// closed, and another one takes the console over.
-    fn connect(&self) -> io::Result<Option<TcpStream>> {
-        if self.has_others && !self.is_closed()? {
+    fn first_connection(&self) -> io::Result<Option<TcpStream>> {
+        if !self.has_others {
+            return self.tried_connection();
+        }
+        if !self.is_closed()? {
             return Ok(None);
         }
-        let mut stream = self.connection()?;
-        if !refuses(self.alloc, &mut stream)? {
-            return Ok(None);
-        }
-        if self.has_others {
-            self.take_over(stream)
-        } else {
-            Ok(Some(stream))
+        match self.tried_connection()? {
+            Some(other) => self.take_over(other),
+            None => Ok(None),
         }
     }
 
-    /// Does what one row says. Behind the last one, if others come, this client sends on and never reads: the controller
-    /// goes on, and ends.
+    /// Comes to the console, if this operator isn't there.
+    fn come(&mut self) -> io::Result<()> {
+        if self.stream.is_none() {
+            self.stream = match self.done {
+                0 => self.first_connection()?,
+                _ => Some(self.connection()?),
+            };
+        }
+        Ok(())
+    }
+
+    /// Asks what a row says: whether that is answered as it wants.
+    fn asks(&self, row: &Row) -> bool {
+        match &self.stream {
+            Some(stream) => is_asked(self.rt, stream, row.asked, row.printed),
+            None => false,
+        }
+    }
+
+    /// Sends on and never reads: the controller goes on, and ends.
+    fn flood(&mut self) -> io::Result<()> {
+        match &mut self.stream {
+            Some(stream) => flood(self.rt.alloc(), stream),
+            None => Ok(()),
+        }
+    }
+
+    /// Does what one row says. Behind the last one, if others come, this operator sends on and never reads.
     fn work(&mut self, row: &Row) -> io::Result<()> {
         if row.comes_again {
             self.stream = None;
         }
-        if self.stream.is_none() {
-            self.stream = match self.done {
-                0 => self.connect()?,
-                _ => Some(self.connection()?),
-            };
-        }
-        let host = Host {
-            rt: self.rt,
-            alloc: self.alloc,
-        };
-        let Some(stream) = &mut self.stream else {
-            return Ok(());
-        };
-        if !is_asked(&host, stream, row.asked, row.printed) {
-            return Ok(());
-        }
-        self.done = self.done.saturating_add(1);
-        if self.has_others && self.done == ROWS.len() {
-            flood(self.alloc, stream)?;
+        self.come()?;
+        if self.asks(row) {
+            self.done = self.done.saturating_add(1);
+            if self.has_others && self.done == ROWS.len() {
+                self.flood()?;
+            }
         }
         Ok(())
     }
@@ -370,8 +412,7 @@ impl<R: Net<Listener = TcpListener, Stream = TcpStream> + Wait + Copy + Drop> Op
     }
 }
 
-impl<R: Net<Listener = TcpListener, Stream = TcpStream> + Wait + Copy + Drop> Write
-    for Operator<R> {
+impl<R: Runtime> Write for Operator<R> {
     fn write(&mut self, bytes: &[u8]) -> io::Result<usize> {
         self.line.extend_from_slice(bytes)?;
         if bytes.ends_with(b"\n") {
@@ -409,63 +450,39 @@ fn settings(console: u16, links: Links, crash: Option<u32>) -> Option<Settings> 
     })
 }
 
-/// The stores of three replicas, in files of a directory.
-fn stores<R: Files + Alloc<A = Global> + Copy + Drop>(
-    rt: R,
-    alloc: Global,
-    directory: &str,
-) -> Result<Vec<FileStore<R>>, Fail> {
-    let _ = fs::remove_dir_all(&rt, directory);
-    let mut stores = Vec::new(alloc);
-    for number in 0..3u8 {
-        stores.push(FileStore::new(rt, alloc, directory, number)?)?;
-    }
-    Ok(stores)
-}
-
 /// Where the stores are, how messages go, and after how many releases a replica crashes each time, if one does.
-const CASES: [(&str, Links, Option<u32>); 2] = [
+type Case = (&'static str, Links, Option<u32>);
+
+const CASES: [Case; 2] = [
     ("console", Links::Channels, None),
     ("console_crash", Links::Tcp, Some(2)),
 ];
 
+/// Serves a controller with an operator at its console: its status, and how many rows came to pass.
+fn operated<R: Runtime>(rt: R, case: Case) -> Result<(u8, usize), Fail> {
+    let (directory, links, crash) = case;
+    let port = free_port(&rt)?;
+    let settings = settings(port, links, crash).ok_or("no settings")?;
+    let stores = file_stores(rt, directory)?;
+    let source = SOURCE.to_vec(rt.alloc())?;
+    let service = service_of(rt.alloc(), source, directory, stores, settings)?;
+    let mut operator = Operator {
+        rt,
+        port,
+        has_others: crash.is_none(),
+        stream: None,
+        done: 0,
+        line: Vec::new(rt.alloc()),
+    };
+    let ended = ended(rt, service, &mut operator);
+    Ok((ended.status, operator.done))
+}
+
 /// The same answers with a crash and without, behind which the controller ends well.
 #[test]
 fn an_operator_is_answered_the_same_over_a_crash(rt: HostRuntime) -> Result<(), Fail> {
-    let alloc = rt.alloc();
-    for case in CASES.iter() {
-        let (directory, links, crash) = *case;
-        let port = free_port(&rt)?;
-        let settings = settings(port, links, crash).ok_or("no settings")?;
-        let stores = stores(rt, alloc, directory)?;
-        if stores.len() != usize::from(settings.config.group_size()) {
-            return Err("another number of stores")?;
-        }
-        let mut operator = Operator {
-            rt,
-            alloc,
-            port,
-            has_others: crash.is_none(),
-            stream: None,
-            done: 0,
-            line: Vec::new(alloc),
-        };
-        let status = serve::<Brand, _, _, _, _, _>(
-            Host { rt, alloc },
-            NewList::new(),
-            Service {
-                source: SOURCE.to_vec(alloc)?,
-                directories: vec![in alloc; String::from_str(alloc, directory)?]?,
-                stores,
-                settings,
-                status: StatusWriter::new(alloc)?,
-                showing: None,
-            },
-            &mut Counted::new(Vec::new(alloc)),
-            &mut Vec::new(alloc),
-            &mut Counted::new(&mut operator),
-        );
-        assert_eq!(rt; (status, operator.done), (0, ROWS.len()), "in {directory}");
+    for case in CASES {
+        assert_eq!(rt; operated(rt, case)?, (0, ROWS.len()), "in {}", case.0);
     }
     Ok(())
 }

@@ -1,40 +1,26 @@
 //! A served controller whose replicas crash in turn: what sixteen clients see of it, and its report.
-ghost use Rattle.std.specs.Prelude.{◌≡◌};
 
-use crate::clients::told_port;
+use crate::clients::{connect, reply_to, request, told_port};
+use crate::controllers::{Ended, Lines, ended, file_stores, service_of};
+use crate::shelf::Runtime;
 use il_model::Budget;
-use io_image::NewList;
-use io_model::Counted;
-use plc_host::Host;
-use plc_serve::{Service, serve};
+use plc_serve::Service;
 use plc_settings::{Links, Settings};
-use plc_status::{StatusReader, StatusWriter};
-use std::alloc::Global;
+use plc_status::StatusReader;
+use std::alloc::{AllocError, Global};
 use std::io::{Read, Write};
-use std::marker::Brand;
-use std::net::{Net, TcpListener, TcpStream};
+use std::net::TcpStream;
 use std::process::Abort;
-use std::rt::Files;
 use std::sync::Arc;
-use std::sync::atomic::{AtomicU64, Ordering};
+use std::sync::atomic::AtomicU64;
 use std::test::Fail;
-use std::thread::{JoinHandle, Threads};
-use std::time::Clock;
-use std::{fs, io, str, thread};
+use std::thread::JoinHandle;
+use std::{io, str, thread};
 use vr_model::Config;
 use vr_threads::FileStore;
 
 /// So many clients come at once.
 const CLIENTS: u8 = 16;
-
-/// What a client saw.
-#[derive(Clone, Copy, Debug, PartialEq, Eq)]
-struct Seen {
-    /// So many times it wrote, read back, and read the outputs.
-    rounds: u64,
-    is_mixed: bool,
-    goes_back: bool,
-}
 
 /// Write 64 equal words to `%IW0`.
 fn write_request(value: u16) -> [u8; 141] {
@@ -52,21 +38,25 @@ fn write_request(value: u16) -> [u8; 141] {
     bytes
 }
 
-/// Read 64 words by this function: 3 is `%IW0` on, 4 is `%QW0` on.
-const fn read_request(function: u8) -> [u8; 12] {
-    [0, 0, 0, 0, 0, 6, 1, function, 0, 0, 0, 64]
-}
-
-/// The 64 words of a reply.
-fn read_words(stream: &mut TcpStream, function: u8) -> io::Result<[u16; 64]> {
-    stream.write_all(read_request(function).as_slice())?;
-    let mut reply = [0u8; 137];
-    stream.read_exact(&mut reply)?;
+/// The 64 words of a reply, behind its head.
+fn words_of(reply: &[u8; 137]) -> [u16; 64] {
     let mut words = [0u16; 64];
     for k in 0..64usize {
         words[k] = u16::from_be_bytes([reply[9 + 2 * k], reply[10 + 2 * k]]);
     }
-    Ok(words)
+    words
+}
+
+/// Reads 64 words by this function: 3 is `%IW0` on, 4 is `%QW0` on.
+fn read_words(stream: &mut TcpStream, function: u8) -> io::Result<[u16; 64]> {
+    let reply = reply_to::<137>(stream, request(function, 0, 64))?;
+    Ok(words_of(&reply))
+}
+
+/// Writes 64 words of this value.
+fn write_words(stream: &mut TcpStream, value: u16) -> io::Result<()> {
+    stream.write_all(write_request(value).as_slice())?;
+    stream.read_exact(&mut [0u8; 12])
 }
 
 fn are_equal(words: &[u16]) -> bool {
@@ -88,43 +78,63 @@ fn are_mirrored(words: &[u16; 64]) -> bool {
     true
 }
 
-/// Writes a value, reads the inputs back, and reads the outputs. The count of scans that they tell.
-fn round(stream: &mut TcpStream, value: u16, seen: &mut Seen) -> io::Result<u16> {
-    stream.write_all(write_request(value).as_slice())?;
-    let mut echo = [0u8; 12];
-    stream.read_exact(&mut echo)?;
+/// What a client saw.
+#[derive(Clone, Copy)]
+struct Seen {
+    /// So many times it wrote, read back, and read the outputs.
+    rounds: u64,
+    /// The count of scans that it read last.
+    scans: u16,
+    is_mixed: bool,
+    goes_back: bool,
+}
+
+impl Seen {
+    /// Takes what was read in a round.
+    fn take(&mut self, inputs: &[u16; 64], outputs: &[u16; 64]) {
+        let scans = outputs[63];
+        self.is_mixed = self.is_mixed || !are_equal(inputs) || !are_mirrored(outputs);
+        self.goes_back = self.goes_back || scans < self.scans;
+        self.scans = scans;
+        self.rounds = self.rounds.saturating_add(1);
+    }
+
+    /// Whether it wrote, and saw no mixed sample and no older outputs behind newer ones.
+    fn is_well(&self) -> bool {
+        self.rounds > 0 && !self.is_mixed && !self.goes_back
+    }
+}
+
+/// Writes a value, reads the inputs back, and reads the outputs.
+fn round(stream: &mut TcpStream, value: u16, seen: &mut Seen) -> io::Result<()> {
+    write_words(stream, value)?;
     let inputs = read_words(stream, 3)?;
     let outputs = read_words(stream, 4)?;
-    seen.is_mixed = seen.is_mixed || !are_equal(inputs.as_slice()) || !are_mirrored(&outputs);
-    Ok(outputs[63])
+    seen.take(&inputs, &outputs);
+    Ok(())
 }
 
 /// What a client sees until its connection ends.
 fn client(mut stream: TcpStream, number: u8) -> Seen {
     let mut seen = Seen {
         rounds: 0,
+        scans: 0,
         is_mixed: false,
         goes_back: false,
     };
-    let mut last = 0u16;
     for turn in 0..u16::MAX {
         let value = turn.wrapping_mul(16).wrapping_add(u16::from(number));
-        let Ok(scans) = round(&mut stream, value, &mut seen) else {
-            return seen;
-        };
-        seen.goes_back = seen.goes_back || scans < last;
-        last = scans;
-        seen.rounds = seen.rounds.saturating_add(1);
+        if round(&mut stream, value, &mut seen).is_err() {
+            break;
+        }
     }
     seen
 }
 
-/// What takes the lines on standard error of a controller, and passes on the port. With each line it reads what shows
-/// of the controller.
+/// What takes the lines on standard error of a controller. With each of them it reads what shows of the controller.
 #[derive(Drop)]
 struct Operator {
-    text: Vec<u8>,
-    port: Arc<AtomicU64>,
+    lines: Lines,
     status: StatusReader,
     /// How many releases showed last.
     releases: u64,
@@ -139,23 +149,10 @@ impl Operator {
     }
 }
 
-/// The port that a line tells.
-fn port_of(line: &[u8]) -> Option<u16> {
-    let text = str::from_utf8(line).ok()?;
-    text.strip_prefix("serving on 127.0.0.1:")?
-        .strip_suffix("\n")?
-        .parse()
-        .ok()
-}
-
 impl Write for Operator {
     fn write(&mut self, bytes: &[u8]) -> io::Result<usize> {
-        self.text.extend_from_slice(bytes)?;
         self.look();
-        if let Some(port) = port_of(self.text.as_slice()) {
-            self.port.store(u64::from(port), Ordering::SeqCst);
-        }
-        Ok(bytes.len())
+        self.lines.write(bytes)
     }
 
     fn flush(&mut self) -> io::Result<()> {
@@ -190,65 +187,83 @@ fn settings() -> Result<Settings, Fail> {
     })
 }
 
-/// The stores of three replicas, in files of a directory.
-fn stores<R: Files + Alloc<A = Global> + Copy + Drop>(
-    rt: R,
-    alloc: Global,
-) -> Result<Vec<FileStore<R>>, Fail> {
-    let _ = fs::remove_dir_all(&rt, "failing");
-    let mut stores = Vec::new(alloc);
-    for number in 0..3u8 {
-        stores.push(FileStore::new(rt, alloc, "failing", number)?)?;
-    }
-    Ok(stores)
+/// The controller that mirrors its inputs.
+fn service<R: Runtime>(rt: R) -> Result<Service<FileStore<R>>, Fail> {
+    let settings = settings()?;
+    let stores = file_stores(rt, "failing")?;
+    let source = source(rt.alloc())?;
+    service_of(rt.alloc(), source.into_bytes(), "failing", stores, settings)
 }
 
-/// How many clients there were, how often they wrote, and whether none saw a mixed sample or a reader that goes back.
-fn joined<R: Threads>(rt: &R, threads: Vec<JoinHandle<Seen>>) -> (u8, u64, bool) {
-    let mut count = 0u8;
-    let mut rounds = 0u64;
-    let mut is_well = true;
-    for thread in threads {
-        let seen = thread.join(rt);
-        count = count.saturating_add(1);
-        rounds = rounds.saturating_add(seen.rounds);
-        is_well = is_well && !seen.is_mixed && !seen.goes_back && seen.rounds > 0;
+/// What clients came to.
+#[derive(Clone, Copy)]
+struct Visits {
+    clients: u8,
+    /// How often they wrote.
+    rounds: u64,
+    are_well: bool,
+}
+
+/// Nobody came yet.
+const NO_VISITS: Visits = Visits {
+    clients: 0,
+    rounds: 0,
+    are_well: true,
+};
+
+impl Visits {
+    /// With one client more, who saw this.
+    fn with(self, seen: Seen) -> Visits {
+        Visits {
+            clients: self.clients.saturating_add(1),
+            rounds: self.rounds.saturating_add(seen.rounds),
+            are_well: self.are_well && seen.is_well(),
+        }
     }
-    (count, rounds, is_well)
+}
+
+/// What the clients of these threads came to.
+fn joined<R: Runtime>(rt: R, threads: Vec<JoinHandle<Seen>>) -> Visits {
+    let mut visits = NO_VISITS;
+    for thread in threads {
+        visits = visits.with(thread.join(&rt));
+    }
+    visits
+}
+
+/// The thread of a client that comes now, if one is to be had.
+fn arrived<R: Runtime>(rt: R, port: u16, number: u8) -> io::Result<Option<JoinHandle<Seen>>> {
+    let stream = connect(&rt, port)?;
+    Ok(thread::spawn(&rt, move || client(stream, number)).ok())
+}
+
+/// The threads of clients who come at once.
+fn crowd<R: Runtime>(rt: R, alloc: Global, port: u16) -> io::Result<Vec<JoinHandle<Seen>>> {
+    let mut threads = Vec::new(alloc);
+    for number in 0..CLIENTS {
+        if let Some(thread) = arrived(rt, port, number)? {
+            threads.push(thread)?;
+        }
+    }
+    Ok(threads)
 }
 
 /// What the clients came to, who come once the port is told.
-fn come_once_told<R>(rt: &R, alloc: Global, port: &AtomicU64) -> io::Result<(u8, u64, bool)>
-where
-    R: Threads + Net<Listener = TcpListener, Stream = TcpStream> + Clock,
-{
-    let mut threads = Vec::new(alloc);
-    if let Some(port) = told_port(rt, port) {
-        for number in 0..CLIENTS {
-            let stream = TcpStream::connect(rt, ("127.0.0.1", port))?;
-            if let Ok(thread) = thread::spawn(rt, move || client(stream, number)) {
-                threads.push(thread)?;
-            }
-        }
+fn come_once_told<R: Runtime>(rt: R, alloc: Global, port: &AtomicU64) -> io::Result<Visits> {
+    match told_port(&rt, port) {
+        Some(port) => Ok(joined(rt, crowd(rt, alloc, port)?)),
+        None => Ok(NO_VISITS),
     }
-    Ok(joined(rt, threads))
 }
 
 /// The thread in which the clients come.
-fn coming<R>(
-    rt: &R,
+fn coming<R: Runtime>(
+    rt: R,
     alloc: Global,
-    told: &Arc<AtomicU64>,
-) -> Result<JoinHandle<io::Result<(u8, u64, bool)>>, Fail>
-where
-    R: Threads + Net<Listener = TcpListener, Stream = TcpStream> + Clock + Copy + Send + 'static,
-{
-    let theirs = *rt;
-    let port = Arc::try_clone(told)?;
-    match thread::spawn(rt, move || come_once_told(&theirs, alloc, &port)) {
-        Ok(clients) => Ok(clients),
-        Err(_) => Err("no thread")?,
-    }
+    port: Arc<AtomicU64>,
+) -> Result<JoinHandle<io::Result<Visits>>, AllocError> {
+    let work = move || come_once_told(rt, alloc, &port);
+    Ok(thread::spawn(&rt, work)?)
 }
 
 /// The numbers of crashes and of writes in a report of forty scans and sixteen sessions.
@@ -261,55 +276,39 @@ fn reported(report: &[u8]) -> Option<(u64, u64)> {
     Some((crashes.parse().ok()?, writes.parse().ok()?))
 }
 
-#[test]
-fn sixteen_clients_see_one_history(rt: HostRuntime) -> Result<(), Fail> {
-    let alloc = rt.alloc();
-    let text = source(alloc)?;
-    let settings = settings()?;
-    let stores = stores(rt, alloc)?;
-    if stores.len() != usize::from(settings.config.group_size()) {
-        return Err("another number of stores")?;
-    }
-    let mut out = Vec::new(alloc);
-    let mut report = Vec::new(alloc);
-    let status = StatusWriter::new(alloc)?;
-    let told = Arc::new(alloc, AtomicU64::new(0))?;
-    let clients = coming(&rt, alloc, &told)?;
+/// Serves the controller: what it came to, and what its operator saw: how many releases showed last, whether those went
+/// back, and how many sessions there were.
+fn watched<R: Runtime>(rt: R, told: Arc<AtomicU64>) -> Result<(Ended, (u64, bool, u64)), Fail> {
+    let service = service(rt)?;
     let mut operator = Operator {
-        text: Vec::new(alloc),
-        port: Arc::try_clone(&told)?,
-        status: status.reader()?,
+        status: service.status.reader()?,
+        lines: Lines::new(rt.alloc(), told),
         releases: 0,
         goes_back: false,
     };
-    let status = serve::<Brand, _, _, _, _, _>(
-        Host { rt, alloc },
-        NewList::new(),
-        Service {
-            source: text.into_bytes(),
-            directories: vec![in alloc; String::from_str(alloc, "failing")?]?,
-            stores,
-            settings,
-            status,
-            showing: None,
-        },
-        &mut Counted::new(&mut report),
-        &mut out,
-        &mut Counted::new(&mut operator),
-    );
+    let ended = ended(rt, service, &mut operator);
+    operator.lines.close();
     operator.look();
-    let shown = operator.status.read();
-    assert_eq!(rt;
-        (operator.releases, operator.goes_back, shown.sessions),
-        (40, false, 16)
-    );
-    // Clients that still wait for the port find none.
-    let _ = told.compare_exchange(0, u64::MAX, Ordering::SeqCst, Ordering::SeqCst);
-    let (count, rounds, is_well) = clients.join(&rt)?;
-    let (crashes, writes) = reported(report.as_slice()).ok_or("no report")?;
+    let sessions = operator.status.read().sessions;
+    Ok((ended, (operator.releases, operator.goes_back, sessions)))
+}
+
+#[test]
+fn sixteen_clients_see_one_history(rt: HostRuntime) -> Result<(), Fail> {
+    let alloc = rt.alloc();
+    let told = Arc::new(alloc, AtomicU64::new(0))?;
+    let clients = coming(rt, alloc, Arc::try_clone(&told)?)?;
+    let (ended, shown) = watched(rt, told)?;
+    assert_eq!(rt; shown, (40, false, 16));
+    let visits = clients.join(&rt)?;
+    let (crashes, writes) = reported(ended.report.as_slice()).ok_or("no report")?;
+    let rounds = visits.rounds;
     println!(rt; "{crashes} crashes, {rounds} rounds, {writes} writes")?;
-    assert_eq!(rt; (status, out.as_slice()), (0, b"scans 40\n".as_slice()));
-    assert_eq!(rt; (count, is_well), (CLIENTS, true));
+    assert_eq!(rt;
+        (ended.status, ended.out.as_slice()),
+        (0, b"scans 40\n".as_slice())
+    );
+    assert_eq!(rt; (visits.clients, visits.are_well), (CLIENTS, true));
     // The last write of each client may not have been followed by its reads.
     assert!(rt; (2..=8).contains(&crashes) && writes >= rounds && writes - rounds <= 16);
     Ok(())

@@ -1,14 +1,9 @@
 //! A served controller of which one disk hangs: it goes on, and at its end that is told.
 
+use crate::controllers::{ended, service_of};
 use il_model::Budget;
-use io_image::NewList;
-use io_model::Counted;
-use plc_host::Host;
-use plc_serve::{Service, serve};
 use plc_settings::{Links, Settings};
-use plc_status::StatusWriter;
 use std::alloc::Global;
-use std::marker::Brand;
 use std::process::Abort;
 use std::rt::Files;
 use std::sync::Arc;
@@ -135,30 +130,13 @@ fn settings() -> Result<Settings, Fail> {
 fn a_disk_that_hangs_stops_no_scan(rt: HostRuntime) -> Result<(), Fail> {
     let alloc = rt.alloc();
     let goes = Arc::new(alloc, AtomicBool::new(false))?;
-    let settings = settings()?;
+    let source = Vec::from_slice(alloc, b"LD %IX0.0\nST %QX0.0\n")?;
     let stores = stores(rt, alloc, &goes)?;
-    if stores.len() != usize::from(settings.config.group_size()) {
-        return Err("another number of stores")?;
-    }
-    let status = StatusWriter::new(alloc)?;
-    let mut shown = status.reader()?;
-    let (mut report, mut out, mut err) = (Vec::new(alloc), Vec::new(alloc), Vec::new(alloc));
+    let service = service_of(alloc, source, "hanging", stores, settings()?)?;
+    let mut shown = service.status.reader()?;
+    let mut err = Vec::new(alloc);
     let begun = Instant::now(&rt)?;
-    let status = serve::<Brand, _, _, _, _, _>(
-        Host { rt, alloc },
-        NewList::new(),
-        Service {
-            source: Vec::from_slice(alloc, b"LD %IX0.0\nST %QX0.0\n")?,
-            directories: vec![in alloc; String::from_str(alloc, "hanging")?]?,
-            stores,
-            settings,
-            status,
-            showing: None,
-        },
-        &mut Counted::new(&mut report),
-        &mut out,
-        &mut Counted::new(&mut err),
-    );
+    let ended = ended(rt, service, &mut err);
     let took = Instant::now(&rt)?.saturating_duration_since(begun);
     goes.store(true, Ordering::SeqCst);
     let text = str::from_utf8(err.as_slice()).unwrap_or("?");
@@ -167,7 +145,7 @@ fn a_disk_that_hangs_stops_no_scan(rt: HostRuntime) -> Result<(), Fail> {
         lines,
         "replica 2 store\nreplica 2 down\nreplica 2 starts\nreplica 2 hangs\nplc: device\n"
     );
-    assert_eq!(rt; (status, shown.read().scans().releases), (2, 70));
+    assert_eq!(rt; (ended.status, shown.read().scans().releases), (2, 70));
     assert!(rt; took < Duration::from_secs(20), "{text}");
     Ok(())
 }

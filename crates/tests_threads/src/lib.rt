@@ -15,6 +15,8 @@ mod cold_rows;
 #[cfg(test)]
 mod console_rows;
 #[cfg(test)]
+mod controllers;
+#[cfg(test)]
 mod failing_rows;
 #[cfg(test)]
 mod falling;

@@ -99,7 +99,7 @@ fn a_link_is_cut_and_made_anew(rt: HostRuntime) -> Result<(), Fail> {
         begun
     };
     let Ok(cutting) = thread::spawn(&rt, cut) else {
-        return Err("no thread")?;
+        return Err(Fail::new("no thread"));
     };
     let closed = is_closed(&mut first);
     let ended = Instant::now(&rt)?;

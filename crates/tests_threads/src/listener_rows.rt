@@ -54,7 +54,7 @@ fn a_client_that_takes_nothing_is_let_go(rt: HostRuntime) -> Result<(), Fail> {
     let limit = Duration::from_millis(300);
     let listener = Listener::new(host, door, sessions, limit, WhenFull::Closes)?;
     let Ok(open) = listener.open() else {
-        return Err("no listener")?;
+        return Err(Fail::new("no listener"));
     };
     let client = TcpStream::connect(&rt, ("127.0.0.1", open.port()));
     let is_let_go = is_said(&rt, &has_ended);

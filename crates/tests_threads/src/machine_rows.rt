@@ -1,29 +1,21 @@
 //! Machines of a group, each with one replica in a thread of its own and a store in a directory of its own.
 
-use crate::cluster_rows::{Sought, is_answered, link_of, shows, wire};
-use crate::shelf::group_of_three;
-use net_hello::Epoch;
-use net_peers::{Exchange, Machine, PeerLink, Pulse, machine_links};
-use std::alloc::Global;
-use std::net::{Net, SocketAddr, TcpListener, TcpStream};
+use crate::cluster_rows::{Plan, Sought, is_answered, link_of, shows, switchboard};
+use crate::peer_rows::{listening, machine_of};
+use crate::shelf::{CLIENT, Runtime, group_of_three};
+use net_peers::{Exchange, Machine, PeerLink, machine_links};
+use std::net::{SocketAddr, TcpListener};
 use std::process::Abort;
-use std::rt::Files;
-use std::sync::{Arc, Wait};
+use std::sync::Arc;
 use std::test::Fail;
-use std::thread::Threads;
-use std::time::{Clock, Duration};
+use std::time::Duration;
 use std::{fs, thread};
-use vr_model::{ClientNumber, Party, Standing, Status};
+use vr_model::{ClientNumber, Config, Party, Standing, Status};
 use vr_ports::{OpenGate, Relink, Tick};
 use vr_threads::{
-    ChannelLink, ClusterConfig, FileStore, GroupPatience, GroupTimer, GroupTimes, JudgedStarts,
+    ChannelLink, ClusterError, FileStore, GroupPatience, GroupTimer, GroupTimes, JudgedStarts,
     Neighbours, Seat, Solo, SoloThread, Starts, Switchboard,
 };
-
-/// A runtime that machines run on.
-trait Runtime: Alloc<A = Global> + Threads + Wait + Clock + Copy + Send + Drop + 'static {}
-
-impl<R: Alloc<A = Global> + Threads + Wait + Clock + Copy + Send + Drop + 'static> Runtime for R {}
 
 /// Over channels everybody is there, always.
 #[derive(Drop)]
@@ -55,6 +47,20 @@ impl Neighbours for Connected {
     }
 }
 
+/// The store of a machine's replica.
+type MachineStore<R> = JudgedStarts<FileStore<R>>;
+
+/// The timer of the replica of this number, with a patience of half a second.
+fn timer_of<R: Runtime, N: Neighbours + Drop>(
+    rt: R,
+    group: Config,
+    number: u8,
+    neighbours: N,
+) -> GroupTimer<R, N> {
+    let (patience, resend) = (Duration::from_millis(500), Duration::from_millis(20));
+    GroupTimer::new(rt, group, number, patience, resend, neighbours)
+}
+
 /// A replica of three, and its thread.
 #[derive(Drop)]
 struct Running<L: Relink + Drop> {
@@ -64,74 +70,72 @@ struct Running<L: Relink + Drop> {
 
 impl<L: Relink + Send + Drop + 'static> Running<L> {
     /// Starts the replica of this number from its store.
-    fn start<R, S, N>(
+    fn start<R: Runtime, N: Neighbours + Send + Drop + 'static>(
         rt: R,
+        plan: &Plan,
         number: u8,
-        store: S,
+        store: MachineStore<R>,
         link: L,
         neighbours: N,
-    ) -> Result<Running<L>, Fail>
-    where
-        R: Alloc<A = Global> + Threads + Wait + Clock + Copy + Send + Drop + 'static,
-        S: Starts + Send + Drop + 'static,
-        N: Neighbours + Send + Drop + 'static,
-    {
-        let alloc = rt.alloc();
-        let (group, budget) = group_of_three()?;
-        let (patience, resend) = (Duration::from_millis(500), Duration::from_millis(20));
-        let config = ClusterConfig {
-            group,
-            budget,
-            turns: u64::MAX,
-        };
+    ) -> Result<Running<L>, ClusterError> {
         let seat = Seat {
             link,
             store,
-            timer: GroupTimer::new(rt, group, number, patience, resend, neighbours),
+            timer: timer_of(rt, plan.config.group, number, neighbours),
             gate: OpenGate,
         };
-        match Solo::start(&rt, alloc, config, number, &wire(alloc)?, seat) {
-            Ok((solo, thread)) => Ok(Running { solo, thread }),
-            Err(_) => Err("no replica")?,
-        }
+        let (solo, thread) = Solo::start(&rt, rt.alloc(), plan.config, number, &plan.image, seat)?;
+        Ok(Running { solo, thread })
     }
 
     /// Whether its replica comes to that in time.
-    fn comes_to<R: Clock>(&mut self, rt: &R, sought: Sought) -> bool {
+    fn comes_to<R: Runtime>(&mut self, rt: R, sought: Sought) -> bool {
         for _ in 0..10_000u32 {
             let shown = self.solo.look();
             if shown.tries == 1 && shows(shown, sought) {
                 return true;
             }
-            thread::sleep(rt, Duration::from_millis(1));
+            thread::sleep(&rt, Duration::from_millis(1));
         }
         false
     }
 
+    /// Whether it comes to be normal, started twice.
+    fn comes_back<R: Runtime>(&mut self, rt: R) -> bool {
+        self.comes_to(rt, Sought::Normal) && self.solo.look().starts == 2
+    }
+
+    /// Whether it comes to be down with a store that failed, and not over.
+    fn is_left_down<R: Runtime>(&mut self, rt: R) -> bool {
+        let is_served = self.comes_to(rt, Sought::Served);
+        let shown = self.solo.look();
+        let is_down = shown.has_failed && shown.standing.status == Status::Down;
+        is_served && is_down && !self.solo.is_over()
+    }
+
+    /// Cuts its link: whether it's over then.
+    fn is_over_once_cut<R: Runtime>(&mut self, rt: R) -> bool {
+        self.solo.cut();
+        self.comes_to(rt, Sought::Ended) && self.solo.is_over()
+    }
+
     /// Ends it as a process ends.
-    fn end<R: Threads>(self, rt: &R) {
+    fn end<R: Runtime>(self, rt: R) {
         let Running { solo, thread } = self;
         solo.cut();
         drop(solo);
-        thread.join(rt);
+        thread.join(&rt);
     }
 }
 
 /// The store of a replica, which was judged to be started first now, or not.
-fn store_of<R: Files + Alloc<A = Global> + Copy + Drop>(
-    rt: R,
-    number: u8,
-    is_first: bool,
-) -> Result<JudgedStarts<FileStore<R>>, Fail> {
+fn store_of<R: Runtime>(rt: R, number: u8, is_first: bool) -> Result<MachineStore<R>, Fail> {
     let store = FileStore::new(rt, rt.alloc(), "machines", number)?;
     Ok(JudgedStarts::new(store, is_first))
 }
 
 /// The stores of three replicas, which are judged so.
-fn stores<R: Files + Alloc<A = Global> + Copy + Drop>(
-    rt: R,
-    is_first: bool,
-) -> Result<Vec<JudgedStarts<FileStore<R>>>, Fail> {
+fn stores<R: Runtime>(rt: R, is_first: bool) -> Result<Vec<MachineStore<R>>, Fail> {
     let mut stores = Vec::new(rt.alloc());
     for number in 0..3u8 {
         stores.push(store_of(rt, number, is_first)?)?;
@@ -140,9 +144,9 @@ fn stores<R: Files + Alloc<A = Global> + Copy + Drop>(
 }
 
 /// An empty directory for the files of stores.
-fn clear<R: Files + Alloc>(rt: &R) -> Result<(), Fail> {
-    let _ = fs::remove_dir_all(rt, "machines");
-    fs::create_dir(rt, "machines")?;
+fn clear<R: Runtime>(rt: R) -> Result<(), Fail> {
+    let _ = fs::remove_dir_all(&rt, "machines");
+    fs::create_dir(&rt, "machines")?;
     Ok(())
 }
 
@@ -150,8 +154,8 @@ fn clear<R: Files + Alloc>(rt: &R) -> Result<(), Fail> {
 #[derive(Drop)]
 struct Joined<R: Runtime> {
     rt: R,
+    plan: Plan,
     board: Arc<Switchboard>,
-    client: ClientNumber,
     link: ChannelLink<R>,
     /// The first machine is the last.
     machines: Vec<Running<ChannelLink<R>>>,
@@ -162,12 +166,12 @@ impl<R: Runtime> Joined<R> {
     /// No machine was started.
     fn new(rt: R) -> Result<Joined<R>, Fail> {
         let alloc = rt.alloc();
-        let client = ClientNumber::new(0).ok_or("no client")?;
-        let board = Arc::new(alloc, Switchboard::new(alloc, 3, 1)?)?;
+        let plan = Plan::new(alloc, u64::MAX)?;
+        let board = switchboard(alloc)?;
         Ok(Joined {
             rt,
-            client,
-            link: link_of(rt, alloc, &board, Party::Client(client))?,
+            plan,
+            link: link_of(rt, alloc, &board, Party::Client(CLIENT))?,
             board,
             machines: Vec::new(alloc),
             back: Vec::new(alloc),
@@ -175,54 +179,41 @@ impl<R: Runtime> Joined<R> {
     }
 
     /// A machine that was started from this store.
-    fn started<S>(&self, number: u8, store: S) -> Result<Running<ChannelLink<R>>, Fail>
-    where
-        S: Starts + Send + Drop + 'static,
-    {
+    fn started(&self, number: u8, store: MachineStore<R>) -> Result<Running<ChannelLink<R>>, Fail> {
         let party = Party::Replica(number);
         let link = link_of(self.rt, self.rt.alloc(), &self.board, party)?;
-        Running::start(self.rt, number, store, link, AllThere)
+        Ok(Running::start(self.rt, &self.plan, number, store, link, AllThere)?)
     }
 
     /// Starts a machine from each of these stores: whether a request is answered.
-    fn start_all<S>(&mut self, mut stores: Vec<S>) -> Result<bool, Fail>
-    where
-        S: Starts + Send + Drop + 'static,
-    {
+    fn start_all(&mut self, mut stores: Vec<MachineStore<R>>) -> Result<bool, Fail> {
         for number in [2, 1, 0u8] {
             let store = stores.pop().ok_or("no store")?;
             let machine = self.started(number, store)?;
             self.machines.push(machine)?;
         }
-        Ok(is_answered(&mut self.link, self.client, 1))
+        Ok(is_answered(&mut self.link, CLIENT, 1))
     }
 
     /// Ends the first machine of those that run since the beginning: whether the others answer this request.
     fn go_on_without_first(&mut self, request: u64) -> bool {
         if let Some(machine) = self.machines.pop() {
-            machine.end(&self.rt);
+            machine.end(self.rt);
         }
-        is_answered(&mut self.link, self.client, request)
+        is_answered(&mut self.link, CLIENT, request)
     }
 
-    /// Starts a machine again: whether it comes to be normal, started twice.
-    fn comes_back<S>(&mut self, number: u8, store: S) -> Result<bool, Fail>
-    where
-        S: Starts + Send + Drop + 'static,
-    {
+    /// Starts a machine again: whether it comes back.
+    fn comes_back(&mut self, number: u8, store: MachineStore<R>) -> Result<bool, Fail> {
         let mut machine = self.started(number, store)?;
-        let is_normal = machine.comes_to(&self.rt, Sought::Normal);
-        let starts = machine.solo.look().starts;
+        let is_back = machine.comes_back(self.rt);
         self.back.push(machine)?;
-        Ok(is_normal && starts == 2)
+        Ok(is_back)
     }
 
     /// Ends each machine and starts it again, from one of these stores: whether the others answer meanwhile, and each
     /// comes back.
-    fn each_comes_back<S>(&mut self, stores: Vec<S>) -> Result<bool, Fail>
-    where
-        S: Starts + Send + Drop + 'static,
-    {
+    fn each_comes_back(&mut self, stores: Vec<MachineStore<R>>) -> Result<bool, Fail> {
         let mut is_well = true;
         for (number, store) in (0..3u8).zip(stores) {
             is_well = is_well && self.go_on_without_first(2 + u64::from(number));
@@ -235,7 +226,7 @@ impl<R: Runtime> Joined<R> {
     fn end(self) {
         let Joined { rt, back, .. } = self;
         for machine in back {
-            machine.end(&rt);
+            machine.end(rt);
         }
     }
 }
@@ -243,7 +234,7 @@ impl<R: Runtime> Joined<R> {
 /// A machine that ends does so while the others go on, and comes back from its file.
 #[test]
 fn each_machine_crashes_and_comes_back(rt: HostRuntime) -> Result<(), Fail> {
-    clear(&rt)?;
+    clear(rt)?;
     let (first, again) = (stores(rt, true)?, stores(rt, false)?);
     let mut joined = Joined::new(rt)?;
     assert!(rt; joined.start_all(first)?);
@@ -253,29 +244,19 @@ fn each_machine_crashes_and_comes_back(rt: HostRuntime) -> Result<(), Fail> {
 }
 
 /// Whether a replica whose start was judged wrongly is down, with a store that failed, until it's cut, and then over.
-fn is_left_down<R: Runtime, S: Starts + Send + Drop + 'static>(
-    rt: R,
-    store: S,
-) -> Result<bool, Fail> {
-    let alloc = rt.alloc();
-    let board = Arc::new(alloc, Switchboard::new(alloc, 3, 1)?)?;
-    let link = link_of(rt, alloc, &board, Party::Replica(1))?;
-    let mut machine = Running::start(rt, 1, store, link, AllThere)?;
-    let is_served = machine.comes_to(&rt, Sought::Served);
-    let shown = machine.solo.look();
-    let is_down = shown.has_failed && shown.standing.status == Status::Down;
-    let is_over_early = machine.solo.is_over();
-    machine.solo.cut();
-    let is_over = machine.comes_to(&rt, Sought::Ended) && machine.solo.is_over();
-    machine.end(&rt);
-    Ok(is_served && is_down && !is_over_early && is_over)
+fn is_left_down<R: Runtime>(rt: R, store: MachineStore<R>) -> Result<bool, Fail> {
+    let joined = Joined::new(rt)?;
+    let mut machine = joined.started(1, store)?;
+    let is_well = machine.is_left_down(rt) && machine.is_over_once_cut(rt);
+    machine.end(rt);
+    Ok(is_well)
 }
 
 /// A start that is another one than was judged leaves the replica down, whether its file is gone or was there.
 #[test]
 fn no_file_makes_a_machine_new(rt: HostRuntime) -> Result<(), Fail> {
     for is_first in [false, true] {
-        clear(&rt)?;
+        clear(rt)?;
         if is_first {
             let _ = FileStore::new(rt, rt.alloc(), "machines", 1)?.begin()?;
         }
@@ -284,83 +265,86 @@ fn no_file_makes_a_machine_new(rt: HostRuntime) -> Result<(), Fail> {
     Ok(fs::remove_dir_all(&rt, "machines")?)
 }
 
-/// The machine of this number, started so often, of three at these addresses: who is there, and the links of its
-/// replica and of its driver.
-fn machine_at<R: Runtime + Net<Listener = TcpListener, Stream = TcpStream>>(
+/// Of the links of a machine that of its replica, and that of its driver.
+fn replica_and_driver<L: Drop>(links: Vec<L>) -> Option<(L, L)> {
+    let mut links = links.into_iter();
+    let replica = links.next()?;
+    Some((replica, links.next()?))
+}
+
+/// Who is there for a machine, and the links of its replica and of its driver.
+fn connected<R: Runtime>(
     rt: R,
-    number: u8,
-    starts: u64,
-    at: &[SocketAddr],
+    machine: &Machine,
     listener: TcpListener,
 ) -> Result<(Connected, PeerLink<R>, PeerLink<R>), Fail> {
-    let alloc = rt.alloc();
-    let machine = Machine {
-        identity: [1; 32],
-        epoch: Epoch {
-            number: 7,
-            image: [2; 32],
-        },
-        starts,
-        number,
-        replicas: Vec::from_slice(alloc, at)?,
-        has_console: false,
-        pulse: Pulse::of(100, 25),
-    };
     let wait = Duration::from_millis(1);
-    let (exchange, links) = machine_links(rt, alloc, &machine, listener, wait)?;
-    let mut links = links.into_iter();
-    let replica = links.next().ok_or("no link")?;
-    let driver = links.next().ok_or("no link")?;
+    let (exchange, links) = machine_links(rt, rt.alloc(), machine, listener, wait)?;
+    let (replica, driver) = replica_and_driver(links).ok_or("no links")?;
     Ok((Connected { exchange }, replica, driver))
 }
 
 /// Machines at addresses of their own, and the links of their drivers. The first machine is the last.
 #[derive(Drop)]
-struct Apart<R: Runtime + Net<Listener = TcpListener, Stream = TcpStream>> {
+struct Apart<R: Runtime> {
     rt: R,
+    plan: Plan,
     at: Vec<SocketAddr>,
     listeners: Vec<TcpListener>,
     machines: Vec<Running<PeerLink<R>>>,
     drivers: Vec<PeerLink<R>>,
 }
 
-impl<R: Runtime + Net<Listener = TcpListener, Stream = TcpStream>> Apart<R> {
-    /// They listen, and no machine was started.
+impl<R: Runtime> Apart<R> {
+    /// None listens.
     fn new(rt: R) -> Result<Apart<R>, Fail> {
-        let (mut listeners, mut at) = (Vec::new(rt.alloc()), Vec::new(rt.alloc()));
-        for _ in 0..3u8 {
-            let listener = TcpListener::bind(&rt, ("127.0.0.1", 0))?;
-            at.push(listener.local_addr()?)?;
-            listeners.push(listener)?;
-        }
+        let alloc = rt.alloc();
         Ok(Apart {
             rt,
-            at,
-            listeners,
-            machines: Vec::new(rt.alloc()),
-            drivers: Vec::new(rt.alloc()),
+            plan: Plan::new(alloc, u64::MAX)?,
+            at: Vec::new(alloc),
+            listeners: Vec::new(alloc),
+            machines: Vec::new(alloc),
+            drivers: Vec::new(alloc),
         })
     }
 
-    /// Starts a machine by the last listener, which was started so often with this time.
-    fn start<S>(&mut self, number: u8, starts: u64, store: S) -> Result<(), Fail>
-    where
-        S: Starts + Send + Drop + 'static,
-    {
+    /// One more listens.
+    fn listen(&mut self) -> Result<(), Fail> {
+        let (listener, address) = listening(self.rt)?;
+        self.at.push(address)?;
+        self.listeners.push(listener)?;
+        Ok(())
+    }
+
+    /// The first listens again, at its address.
+    fn listen_again(&mut self) -> Result<(), Fail> {
+        let address = *self.at.first().ok_or("no address")?;
+        self.listeners.push(TcpListener::bind(&self.rt, address)?)?;
+        Ok(())
+    }
+
+    /// Who is there for a machine with the last listener, which was started so often with this time, and its replica's
+    /// link. That of its driver is kept.
+    fn connect(&mut self, number: u8, starts: u64) -> Result<(Connected, PeerLink<R>), Fail> {
         let listener = self.listeners.pop().ok_or("no listener")?;
-        let at = self.at.as_slice();
-        let (there, link, driver) = machine_at(self.rt, number, starts, at, listener)?;
+        let mut machine = machine_of(self.rt.alloc(), number, self.at.as_slice())?;
+        machine.starts = starts;
+        let (there, replica, driver) = connected(self.rt, &machine, listener)?;
         self.drivers.push(driver)?;
-        let machine = Running::start(self.rt, number, store, link, there)?;
+        Ok((there, replica))
+    }
+
+    /// Starts a machine with the last listener, which was started so often with this time.
+    fn start(&mut self, number: u8, starts: u64, store: MachineStore<R>) -> Result<(), Fail> {
+        let (there, link) = self.connect(number, starts)?;
+        let machine = Running::start(self.rt, &self.plan, number, store, link, there)?;
         self.machines.push(machine)?;
         Ok(())
     }
 
     /// Starts a machine from each of these stores: whether the group answers the first driver.
-    fn start_all<S>(&mut self, mut stores: Vec<S>) -> Result<bool, Fail>
-    where
-        S: Starts + Send + Drop + 'static,
-    {
+    fn start_all(&mut self, mut stores: Vec<MachineStore<R>>) -> Result<bool, Fail> {
         for number in [2, 1, 0u8] {
             let store = stores.pop().ok_or("no store")?;
             self.start(number, 1, store)?;
@@ -378,21 +362,16 @@ impl<R: Runtime + Net<Listener = TcpListener, Stream = TcpStream>> Apart<R> {
     /// Ends the first machine: whether the group answers the second driver.
     fn goes_on_without_first(&mut self) -> Result<bool, Fail> {
         if let Some(machine) = self.machines.pop() {
-            machine.end(&self.rt);
+            machine.end(self.rt);
         }
         self.is_answered(1)
     }
 
-    /// Starts the first machine again, at its address: whether it comes back.
-    fn comes_back<S>(&mut self, store: S) -> Result<bool, Fail>
-    where
-        S: Starts + Send + Drop + 'static,
-    {
-        let address = *self.at.first().ok_or("no address")?;
-        self.listeners.push(TcpListener::bind(&self.rt, address)?)?;
+    /// Starts the first machine again: whether it comes back.
+    fn comes_back(&mut self, store: MachineStore<R>) -> Result<bool, Fail> {
         self.start(0, 2, store)?;
         match self.machines.last_mut() {
-            Some(machine) => Ok(machine.comes_to(&self.rt, Sought::Normal)),
+            Some(machine) => Ok(machine.comes_to(self.rt, Sought::Normal)),
             None => Ok(false),
         }
     }
@@ -401,7 +380,7 @@ impl<R: Runtime + Net<Listener = TcpListener, Stream = TcpStream>> Apart<R> {
     fn end(self) {
         let Apart { rt, machines, .. } = self;
         for machine in machines {
-            machine.end(&rt);
+            machine.end(rt);
         }
     }
 }
@@ -409,11 +388,15 @@ impl<R: Runtime + Net<Listener = TcpListener, Stream = TcpStream>> Apart<R> {
 /// The machine that drives ends, another one goes on, and the first comes back at its address.
 #[test]
 fn a_machine_ends_and_is_connected_again(rt: HostRuntime) -> Result<(), Fail> {
-    clear(&rt)?;
+    clear(rt)?;
     let (stores, again) = (stores(rt, true)?, store_of(rt, 0, false)?);
     let mut apart = Apart::new(rt)?;
+    for _ in 0..3u8 {
+        apart.listen()?;
+    }
     assert!(rt; apart.start_all(stores)?);
     assert!(rt; apart.goes_on_without_first()?);
+    apart.listen_again()?;
     assert!(rt; apart.comes_back(again)?);
     apart.end();
     Ok(fs::remove_dir_all(&rt, "machines")?)

@@ -2,6 +2,7 @@
 
 ghost use Rattle.std.specs.Prelude.{◌≤◌, length};
 
+use crate::shelf::{CLIENT, Runtime};
 use il_model::{Command, ImageBytes, InImage};
 use net_ends::{Inbox, NonBlocking, Outbox};
 use net_hello::{Epoch, HELLO, Hello, Refusal};
@@ -9,11 +10,11 @@ use net_peers::{Exchange, FIRST_CONSOLE, LinkNotice, Machine, PeerLink, Pulse, m
 use net_records::Records;
 use std::alloc::Global;
 use std::io::{ErrorKind, Read, Write};
-use std::net::{Net, SocketAddr, TcpListener, TcpStream};
+use std::net::{SocketAddr, TcpListener, TcpStream};
 use std::process::Abort;
-use std::sync::{Arc, Wait};
+use std::sync::Arc;
 use std::test::Fail;
-use std::time::{Clock, Duration, Instant};
+use std::time::{Duration, Instant};
 use vr_model::{Body, ClientNumber, Message, Party, Request};
 use vr_ports::{Cutter, Input, Link, Relink};
 
@@ -22,10 +23,11 @@ pub(crate) const EPOCH: Epoch = Epoch {
     image: [2; 32],
 };
 
-/// The replica of a machine, and what it shows.
+/// The replica of a machine, where it listens, and what it shows.
 #[derive(Drop)]
-pub(crate) struct Seat<R: Wait + Drop> {
+pub(crate) struct Seat<R: Runtime> {
     pub(crate) rt: R,
+    pub(crate) at: SocketAddr,
     pub(crate) exchange: Arc<Exchange>,
     link: PeerLink<R>,
 }
@@ -41,11 +43,8 @@ pub(crate) fn hello_of(party: Party, starts: u64) -> Hello {
 }
 
 /// A listener at a port of this machine, and its address.
-pub(crate) fn listening<R>(rt: &R) -> Result<(TcpListener, SocketAddr), Fail>
-where
-    R: Net<Listener = TcpListener, Stream = TcpStream>,
-{
-    let listener = TcpListener::bind(rt, ("127.0.0.1", 0))?;
+pub(crate) fn listening<R: Runtime>(rt: R) -> Result<(TcpListener, SocketAddr), Fail> {
+    let listener = TcpListener::bind(&rt, ("127.0.0.1", 0))?;
     let address = listener.local_addr()?;
     Ok((listener, address))
 }
@@ -64,28 +63,34 @@ pub(crate) fn machine_of(alloc: Global, number: u8, at: &[SocketAddr]) -> Result
 }
 
 /// The replica of a machine. Its receives wait for 1 ms.
-pub(crate) fn seat_of<R>(
+pub(crate) fn seat_of<R: Runtime>(
     rt: R,
-    alloc: Global,
     machine: &Machine,
     listener: TcpListener,
-) -> Result<Seat<R>, Fail>
-where
-    R: Wait + Clock + Net<Listener = TcpListener, Stream = TcpStream> + Copy + Drop,
-{
-    let (exchange, links) = machine_links(rt, alloc, machine, listener, Duration::from_millis(1))?;
+) -> Result<Seat<R>, Fail> {
+    let at = listener.local_addr()?;
+    let wait = Duration::from_millis(1);
+    let (exchange, links) = machine_links(rt, rt.alloc(), machine, listener, wait)?;
     let link = links.into_iter().next().ok_or("no link")?;
-    Ok(Seat { rt, exchange, link })
+    Ok(Seat {
+        rt,
+        at,
+        exchange,
+        link,
+    })
 }
 
-/// Replica 0, alone, and its address.
-pub(crate) fn alone<R>(rt: R, alloc: Global) -> Result<(Seat<R>, SocketAddr), Fail>
-where
-    R: Wait + Clock + Net<Listener = TcpListener, Stream = TcpStream> + Copy + Drop,
-{
-    let (listener, address) = listening(&rt)?;
-    let machine = machine_of(alloc, 0, &[address, address, address])?;
-    Ok((seat_of(rt, alloc, &machine, listener)?, address))
+/// Replica 0, alone.
+pub(crate) fn alone<R: Runtime>(rt: R) -> Result<Seat<R>, Fail> {
+    let (listener, at) = listening(rt)?;
+    let machine = machine_of(rt.alloc(), 0, &[at, at, at])?;
+    seat_of(rt, &machine, listener)
+}
+
+/// Machine 1, which dials replica 0 at this address, and its listener.
+pub(crate) fn dialling<R: Runtime>(rt: R, to: SocketAddr) -> Result<(Machine, TcpListener), Fail> {
+    let (listener, at) = listening(rt)?;
+    Ok((machine_of(rt.alloc(), 1, &[to, at, at])?, listener))
 }
 
 /// A COMMIT from a replica to another.
@@ -128,10 +133,7 @@ fn number_of(input: Input) -> u64 {
     }
 }
 
-impl<R> Seat<R>
-where
-    R: Wait + Clock + Net<Listener = TcpListener, Stream = TcpStream> + Copy + Drop,
-{
+impl<R: Runtime> Seat<R> {
     /// It goes on for so long, in milliseconds, and for ten receives at least; the numbers that came are added up.
     pub(crate) fn run(&mut self, milliseconds: u64) -> Result<u64, Fail> {
         let begun = Instant::now(&self.rt)?;
@@ -147,18 +149,39 @@ where
         Ok(sum)
     }
 
+    /// Someone connects and sends these bytes, and it goes on for so long: that connection.
+    pub(crate) fn meet(&mut self, bytes: &[u8], milliseconds: u64) -> Result<TcpStream, Fail> {
+        let stream = stranger(self.rt, self.at, bytes)?;
+        self.run(milliseconds)?;
+        Ok(stream)
+    }
+
     /// What it noticed since it was asked last.
-    fn notices(&self, alloc: Global) -> Vec<LinkNotice> {
-        self.exchange.notices(&self.rt, alloc)
+    fn notices(&self) -> Vec<LinkNotice> {
+        self.exchange.notices(&self.rt, self.rt.alloc())
+    }
+
+    /// Someone connects and sends these bytes: what it noticed. He has to be answered.
+    fn notices_of(&mut self, bytes: &[u8]) -> Result<Vec<LinkNotice>, Fail> {
+        let mut stream = self.meet(bytes, 20)?;
+        if is_answered(self.rt.alloc(), &mut stream)? {
+            Ok(self.notices())
+        } else {
+            Err(Fail::new("no answer"))
+        }
+    }
+
+    /// Whether of someone who comes twice, and is answered each time, this is noticed once.
+    fn is_noticed_once(&mut self, bytes: &[u8], notice: LinkNotice) -> Result<bool, Fail> {
+        let first = self.notices_of(bytes)?;
+        let second = self.notices_of(bytes)?;
+        Ok(first.as_slice() == [notice].as_slice() && second.is_empty())
     }
 }
 
 /// A connection of someone who sends these bytes, and gives up waiting after a second.
-pub(crate) fn stranger<R>(rt: &R, at: SocketAddr, bytes: &[u8]) -> Result<TcpStream, Fail>
-where
-    R: Net<Listener = TcpListener, Stream = TcpStream>,
-{
-    let mut stream = TcpStream::connect(rt, at)?;
+fn stranger<R: Runtime>(rt: R, at: SocketAddr, bytes: &[u8]) -> Result<TcpStream, Fail> {
+    let mut stream = TcpStream::connect(&rt, at)?;
     stream.set_read_timeout(Some(Duration::from_millis(1000)))?;
     stream.write_all(bytes)?;
     Ok(stream)
@@ -228,39 +251,21 @@ fn refused() -> [(Hello, Refusal); 6] {
 /// where one with more starts was before it.
 #[test]
 fn each_refusal_is_answered_and_noticed_once(rt: HostRuntime) -> Result<(), Fail> {
-    let alloc = rt.alloc();
-    let (mut seat, at) = alone(rt, alloc)?;
-    let newer = hello_of(Party::Replica(1), 5).spell(alloc)?;
-    let _newer = stranger(&rt, at, newer.as_slice())?;
-    seat.run(20)?;
+    let mut seat = alone(rt)?;
+    let newer = hello_of(Party::Replica(1), 5).spell(rt.alloc())?;
+    let _newer = seat.meet(newer.as_slice(), 20)?;
     for (hello, refusal) in refused() {
-        for time in 0..2u32 {
-            let bytes = hello.spell(alloc)?;
-            let mut stream = stranger(&rt, at, bytes.as_slice())?;
-            seat.run(20)?;
-            assert!(rt; is_answered(alloc, &mut stream)?);
-            let notices = seat.notices(alloc);
-            let told = notices.as_slice()
-                == [LinkNotice::Refused(Some(hello.party), refusal)].as_slice();
-            assert_eq!(rt; (told, notices.is_empty()), (time == 0, time == 1));
-        }
+        let bytes = hello.spell(rt.alloc())?;
+        let notice = LinkNotice::Refused(Some(hello.party), refusal);
+        assert!(rt; seat.is_noticed_once(bytes.as_slice(), notice)?);
     }
     Ok(())
 }
 
 #[test]
 fn another_version_is_answered_and_noticed_once(rt: HostRuntime) -> Result<(), Fail> {
-    let alloc = rt.alloc();
-    let (mut seat, at) = alone(rt, alloc)?;
-    for time in 0..2u32 {
-        let mut stream = stranger(&rt, at, b"PLC-VR\0\x02")?;
-        seat.run(20)?;
-        assert!(rt; is_answered(alloc, &mut stream)?);
-        let notices = seat.notices(alloc);
-        let told = notices.as_slice()
-            == [LinkNotice::Refused(None, Refusal::OtherVersion)].as_slice();
-        assert_eq!(rt; (told, notices.is_empty()), (time == 0, time == 1));
-    }
+    let notice = LinkNotice::Refused(None, Refusal::OtherVersion);
+    assert!(rt; alone(rt)?.is_noticed_once(b"PLC-VR\0\x02", notice)?);
     Ok(())
 }
 
@@ -268,41 +273,46 @@ fn another_version_is_answered_and_noticed_once(rt: HostRuntime) -> Result<(), F
 #[test]
 fn a_higher_start_replaces_and_an_old_one_is_refused(rt: HostRuntime) -> Result<(), Fail> {
     let alloc = rt.alloc();
-    let (mut seat, at) = alone(rt, alloc)?;
+    let mut seat = alone(rt)?;
     let older = hello_of(Party::Replica(1), 3).spell(alloc)?;
     let mut newer = hello_of(Party::Replica(1), 4).spell(alloc)?;
     newer.extend_from_slice(b"\0\0")?;
-    let mut first = stranger(&rt, at, older.as_slice())?;
-    seat.run(20)?;
+    let mut first = seat.meet(older.as_slice(), 20)?;
     assert_eq!(rt; seat.exchange.reached(), 0);
-    let _second = stranger(&rt, at, newer.as_slice())?;
-    seat.run(20)?;
+    let _second = seat.meet(newer.as_slice(), 20)?;
     assert_eq!(rt; seat.exchange.reached(), 2);
-    let mut third = stranger(&rt, at, older.as_slice())?;
-    seat.run(20)?;
+    let mut third = seat.meet(older.as_slice(), 20)?;
     assert!(rt; is_over(&mut first) && is_answered(alloc, &mut third)?);
     Ok(())
+}
+
+/// What two that are refused by one another notice, each.
+fn notices_of_both<R: Runtime>(
+    alloc: Global,
+    seat: &mut Seat<R>,
+    other: &mut Seat<R>,
+) -> Result<(Vec<LinkNotice>, Vec<LinkNotice>), Fail> {
+    let (mut near, mut far) = (Vec::new(alloc), Vec::new(alloc));
+    for round in 0..1000u32 {
+        seat.run(5)?;
+        other.run(5)?;
+        near.append(&mut seat.notices())?;
+        far.append(&mut other.notices())?;
+        if round > 60 && !near.is_empty() && !far.is_empty() {
+            break;
+        }
+    }
+    Ok((near, far))
 }
 
 /// Both ends of a connection between two groups are told, once, though it's dialled again and again.
 #[test]
 fn both_ends_are_told_of_a_refusal(rt: HostRuntime) -> Result<(), Fail> {
-    let alloc = rt.alloc();
-    let (mut seat, at) = alone(rt, alloc)?;
-    let (listener, beside) = listening(&rt)?;
-    let mut machine = machine_of(alloc, 1, &[at, beside, beside])?;
+    let mut seat = alone(rt)?;
+    let (mut machine, listener) = dialling(rt, seat.at)?;
     machine.identity = [3; 32];
-    let mut other = seat_of(rt, alloc, &machine, listener)?;
-    let (mut near, mut far) = (Vec::new(alloc), Vec::new(alloc));
-    for round in 0..1000u32 {
-        seat.run(5)?;
-        other.run(5)?;
-        near.append(&mut seat.notices(alloc))?;
-        far.append(&mut other.notices(alloc))?;
-        if round > 60 && !near.is_empty() && !far.is_empty() {
-            break;
-        }
-    }
+    let mut other = seat_of(rt, &machine, listener)?;
+    let (near, far) = notices_of_both(rt.alloc(), &mut seat, &mut other)?;
     let told = LinkNotice::Refused(Some(Party::Replica(1)), Refusal::OtherGroup);
     assert!(rt; near.as_slice() == [told].as_slice());
     let told = LinkNotice::Refused(Some(Party::Replica(0)), Refusal::OtherGroup);
@@ -324,29 +334,36 @@ fn send_all(
     if outbox.flush(&mut records) {
         Ok(records)
     } else {
-        Err("over")?
+        Err(Fail::new("over"))
     }
+}
+
+/// What is given of these messages, which the party that says this hello sends in records: their numbers, added up.
+fn given_of_all<R: Runtime>(
+    seat: &mut Seat<R>,
+    hello: Hello,
+    messages: &[Message],
+) -> Result<u64, Fail> {
+    let alloc = seat.rt.alloc();
+    let stream = stranger(seat.rt, seat.at, hello.spell(alloc)?.as_slice())?;
+    let _records = send_all(alloc, stream, messages)?;
+    seat.run(50)
 }
 
 /// Of what comes over a connection neither what isn't from its party to this one is given, nor a scan.
 #[test]
 fn only_what_may_pass_is_given(rt: HostRuntime) -> Result<(), Fail> {
-    let alloc = rt.alloc();
-    let (mut seat, at) = alone(rt, alloc)?;
-    let replica = hello_of(Party::Replica(1), 3).spell(alloc)?;
-    let replica = stranger(&rt, at, replica.as_slice())?;
+    let mut seat = alone(rt)?;
     let messages = [commit(2, 0, 1000), commit(1, 2, 1000), commit(1, 0, 5)];
-    let _replica = send_all(alloc, replica, &messages)?;
-    assert_eq!(rt; seat.run(50)?, 5);
+    let replica = hello_of(Party::Replica(1), 3);
+    assert_eq!(rt; given_of_all(&mut seat, replica, &messages)?, 5);
     let scan = Command::Scan {
         inputs: InImage::clear(),
         moment: 0,
     };
     let messages = [request(1000, scan)?, request(7, Command::Step)?];
-    let console = hello_of(messages[1].from, 3).spell(alloc)?;
-    let console = stranger(&rt, at, console.as_slice())?;
-    let _console = send_all(alloc, console, &messages)?;
-    assert_eq!(rt; seat.run(50)?, 7);
+    let console = hello_of(messages[1].from, 3);
+    assert_eq!(rt; given_of_all(&mut seat, console, &messages)?, 7);
     Ok(())
 }
 
@@ -355,11 +372,11 @@ fn only_what_may_pass_is_given(rt: HostRuntime) -> Result<(), Fail> {
 #[test]
 fn the_parties_of_a_machine_reach_each_other(rt: HostRuntime) -> Result<(), Fail> {
     let alloc = rt.alloc();
-    let (listener, at) = listening(&rt)?;
+    let (listener, at) = listening(rt)?;
     let machine = machine_of(alloc, 0, &[at, at, at])?;
     let (_, mut links) = machine_links(rt, alloc, &machine, listener, Duration::from_millis(1))?;
     let (Some(mut driver), Some(mut replica)) = (links.pop(), links.pop()) else {
-        return Err("no links")?;
+        return Err(Fail::new("no links"));
     };
     let scan = Command::Scan {
         inputs: InImage::clear(),
@@ -377,23 +394,19 @@ fn the_parties_of_a_machine_reach_each_other(rt: HostRuntime) -> Result<(), Fail
 }
 
 /// Why this machine has no links.
-fn unlinked<R>(rt: R, alloc: Global, number: u8, at: &[SocketAddr]) -> Result<ErrorKind, Fail>
-where
-    R: Wait + Clock + Net<Listener = TcpListener, Stream = TcpStream> + Copy + Drop,
-{
-    let (listener, _) = listening(&rt)?;
-    let machine = machine_of(alloc, number, at)?;
-    let links = machine_links(rt, alloc, &machine, listener, Duration::from_millis(1));
+fn unlinked<R: Runtime>(rt: R, number: u8, at: &[SocketAddr]) -> Result<ErrorKind, Fail> {
+    let (listener, _) = listening(rt)?;
+    let machine = machine_of(rt.alloc(), number, at)?;
+    let links = machine_links(rt, rt.alloc(), &machine, listener, Duration::from_millis(1));
     Ok(links.err().ok_or("no error")?.kind())
 }
 
 /// No group has a machine 3 of three, nor nine machines.
 #[test]
 fn a_machine_is_one_of_its_group(rt: HostRuntime) -> Result<(), Fail> {
-    let alloc = rt.alloc();
-    let (_, at) = listening(&rt)?;
-    let of_three = unlinked(rt, alloc, 3, &[at, at, at])?;
-    let of_nine = unlinked(rt, alloc, 0, &[at; 9])?;
+    let (_, at) = listening(rt)?;
+    let of_three = unlinked(rt, 3, &[at, at, at])?;
+    let of_nine = unlinked(rt, 0, &[at; 9])?;
     assert!(rt; of_three == ErrorKind::InvalidInput && of_nine == ErrorKind::InvalidInput);
     Ok(())
 }
@@ -407,31 +420,34 @@ fn introduced(alloc: Global) -> Result<Vec<u8>, Fail> {
 }
 
 /// What comes of bytes that are cut there, and whose second part is sent later.
-fn given_of<R>(seat: &mut Seat<R>, at: SocketAddr, bytes: &[u8], cut: usize) -> Result<u64, Fail>
-where
-    R: Wait + Clock + Net<Listener = TcpListener, Stream = TcpStream> + Copy + Drop,
+fn given_of<R: Runtime>(seat: &mut Seat<R>, bytes: &[u8], cut: usize) -> Result<u64, Fail>
     requires { cut ≤ length bytes.now }
 {
     let (front, behind) = bytes.split_at(cut);
-    let mut stream = stranger(&seat.rt, at, front)?;
-    seat.run(1)?;
+    let mut stream = seat.meet(front, 1)?;
     stream.write_all(behind)?;
     seat.run(20)
 }
 
-/// Where this machine has so much else to do that a hello isn't whole in time, it's tried again.
+/// The same. Where this machine has so much else to do that a hello isn't whole in time, it's tried again.
+fn given_in_time<R: Runtime>(seat: &mut Seat<R>, bytes: &[u8], cut: usize) -> Result<u64, Fail>
+    requires { cut ≤ length bytes.now }
+{
+    for _ in 0..10u32 {
+        let given = given_of(seat, bytes, cut)?;
+        if given != 0 {
+            return Ok(given);
+        }
+    }
+    Ok(0)
+}
+
 #[test]
 fn a_message_comes_however_hello_and_record_are_cut(rt: HostRuntime) -> Result<(), Fail> {
-    let alloc = rt.alloc();
-    let (mut seat, at) = alone(rt, alloc)?;
-    let bytes = introduced(alloc)?;
+    let mut seat = alone(rt)?;
+    let bytes = introduced(rt.alloc())?;
     for cut in 1..bytes.len() {
-        let mut given = 0u64;
-        for _ in 0..10u32 {
-            if given == 0 {
-                given = given_of(&mut seat, at, bytes.as_slice(), cut)?;
-            }
-        }
+        let given = given_in_time(&mut seat, bytes.as_slice(), cut)?;
         assert_eq!(rt; (cut, given), (cut, 2));
     }
     Ok(())
@@ -439,17 +455,14 @@ fn a_message_comes_however_hello_and_record_are_cut(rt: HostRuntime) -> Result<(
 
 #[test]
 fn strangers_are_let_go(rt: HostRuntime) -> Result<(), Fail> {
-    let alloc = rt.alloc();
-    let (mut seat, at) = alone(rt, alloc)?;
-    let mut silent = stranger(&rt, at, b"")?;
-    let mut half = stranger(&rt, at, b"PLC-VR\0\x01half a hello")?;
-    let mut garbage = stranger(&rt, at, b"GET / HTTP/1.1\r\n\r\n")?;
-    seat.run(20)?;
+    let mut seat = alone(rt)?;
+    let mut silent = seat.meet(b"", 1)?;
+    let mut half = seat.meet(b"PLC-VR\0\x01half a hello", 1)?;
+    let mut garbage = seat.meet(b"GET / HTTP/1.1\r\n\r\n", 20)?;
     assert!(rt; is_over(&mut garbage));
-    let mut bytes = hello_of(Party::Replica(1), 3).spell(alloc)?;
+    let mut bytes = hello_of(Party::Replica(1), 3).spell(rt.alloc())?;
     bytes.extend_from_slice(b"\0\x04\0\0\0\0")?;
-    let mut broken = stranger(&rt, at, bytes.as_slice())?;
-    seat.run(20)?;
+    let mut broken = seat.meet(bytes.as_slice(), 20)?;
     assert!(rt; is_over(&mut broken));
     seat.run(450)?;
     assert!(rt; is_over(&mut silent) && is_over(&mut half));
@@ -476,12 +489,9 @@ fn copy(from: &mut TcpStream, to: &mut TcpStream) -> bool {
 
 impl Pipe {
     /// Hands on what is there, both ways.
-    fn pump<R>(&mut self, rt: &R) -> Result<(), Fail>
-    where
-        R: Net<Listener = TcpListener, Stream = TcpStream>,
-    {
+    fn pump<R: Runtime>(&mut self, rt: R) -> Result<(), Fail> {
         if let Ok((near, _)) = self.listener.accept() {
-            let far = TcpStream::connect(rt, self.to)?;
+            let far = TcpStream::connect(&rt, self.to)?;
             near.set_nonblocking(true)?;
             far.set_nonblocking(true)?;
             self.pairs.push((near, far))?;
@@ -495,24 +505,23 @@ impl Pipe {
 }
 
 /// Replica 0, and replica 1, which dials it by way of a pipe.
-fn piped<R>(rt: R, alloc: Global) -> Result<(Seat<R>, Seat<R>, Pipe), Fail>
-where
-    R: Wait + Clock + Net<Listener = TcpListener, Stream = TcpStream> + Copy + Drop,
-{
-    let (first, to) = listening(&rt)?;
-    let (second, beside) = listening(&rt)?;
-    let (listener, by) = listening(&rt)?;
+#[derive(Drop)]
+struct Pair<R: Runtime> {
+    first: Seat<R>,
+    second: Seat<R>,
+    pipe: Pipe,
+}
+
+/// A pipe to this address, and where it begins.
+fn pipe_to<R: Runtime>(rt: R, to: SocketAddr) -> Result<(Pipe, SocketAddr), Fail> {
+    let (listener, at) = listening(rt)?;
     listener.set_nonblocking(true)?;
     let pipe = Pipe {
         listener,
         to,
-        pairs: Vec::new(alloc),
+        pairs: Vec::new(rt.alloc()),
     };
-    let machine = machine_of(alloc, 0, &[to, beside, beside])?;
-    let first = seat_of(rt, alloc, &machine, first)?;
-    let machine = machine_of(alloc, 1, &[by, beside, beside])?;
-    let second = seat_of(rt, alloc, &machine, second)?;
-    Ok((first, second, pipe))
+    Ok((pipe, at))
 }
 
 /// How long something took, in milliseconds, and how long a round of it at most: a machine that has much else to do lets
@@ -523,68 +532,98 @@ struct Taken {
     longest: u64,
 }
 
+impl Taken {
+    /// A round more, which ended so late.
+    fn at(self, late: Duration) -> Taken {
+        let all = u64::try_from(late.as_millis()).unwrap_or(u64::MAX);
+        let longest = self.longest.max(all.saturating_sub(self.all));
+        Taken { all, longest }
+    }
+}
+
 /// So many milliseconds are an end of waiting.
 const LONG: u64 = 15_000;
 
-/// How long it takes until these replicas are reached, over a pipe that carries what it's given or drops it; longer than
-/// is waited where they aren't.
-fn until<R>(
-    seats: (&mut Seat<R>, &mut Seat<R>),
-    pipe: &mut Pipe,
-    carries: bool,
-    reached: (u8, u8),
-) -> Result<Taken, Fail>
-where
-    R: Wait + Clock + Net<Listener = TcpListener, Stream = TcpStream> + Copy + Drop,
-{
-    let (first, second) = seats;
-    let begun = Instant::now(&first.rt)?;
-    let mut taken = Taken { all: 0, longest: 0 };
-    for _ in 0..u32::MAX {
-        let all = Instant::now(&first.rt)?.saturating_duration_since(begun);
-        let all = u64::try_from(all.as_millis()).unwrap_or(u64::MAX);
-        let longest = taken.longest.max(all.saturating_sub(taken.all));
-        taken = Taken { all, longest };
-        if (first.exchange.reached(), second.exchange.reached()) == reached || all > LONG {
-            return Ok(taken);
-        }
-        if carries {
-            pipe.pump(&first.rt)?;
-        }
-        first.link.recv();
-        second.link.recv();
+impl<R: Runtime> Pair<R> {
+    fn new(rt: R) -> Result<Pair<R>, Fail> {
+        let first = alone(rt)?;
+        let (pipe, by) = pipe_to(rt, first.at)?;
+        let (machine, listener) = dialling(rt, by)?;
+        let second = seat_of(rt, &machine, listener)?;
+        Ok(Pair {
+            first,
+            second,
+            pipe,
+        })
     }
-    Err("no end")?
+
+    /// How long it takes until these replicas are reached, over a pipe that carries what it's given or drops it; longer
+    /// than is waited where they aren't.
+    fn until(&mut self, carries: bool, reached: (u8, u8)) -> Result<Taken, Fail> {
+        let rt = self.first.rt;
+        let begun = Instant::now(&rt)?;
+        let mut taken = Taken { all: 0, longest: 0 };
+        for _ in 0..u32::MAX {
+            taken = taken.at(Instant::now(&rt)?.saturating_duration_since(begun));
+            if self.reached() == reached || taken.all > LONG {
+                return Ok(taken);
+            }
+            if carries {
+                self.pipe.pump(rt)?;
+            }
+            self.first.link.recv();
+            self.second.link.recv();
+        }
+        Err(Fail::new("no end"))
+    }
+
+    /// Who is reached by each.
+    fn reached(&self) -> (u8, u8) {
+        (
+            self.first.exchange.reached(),
+            self.second.exchange.reached(),
+        )
+    }
+
+    /// Nothing passes for three seconds.
+    fn stand_apart(&mut self) -> Result<(), Fail> {
+        for _ in 0..150u32 {
+            self.first.run(10)?;
+            self.second.run(10)?;
+        }
+        self.pipe.pairs.clear();
+        Ok(())
+    }
+
+    /// The second sends the number 7, and a message that no frame names: what came, and how many had no frame.
+    fn send(&mut self) -> Result<(u64, u64), Fail> {
+        self.second.link.send(commit(200, 0, 8));
+        self.second.link.send(commit(1, 0, 7));
+        for _ in 0..10u32 {
+            self.pipe.pump(self.first.rt)?;
+            self.second.run(1)?;
+        }
+        Ok((self.first.run(20)?, self.second.link.frameless()))
+    }
 }
 
 /// Nothing passes for three seconds: both notice it, and are joined within one and a half seconds of its end, unless
 /// this machine lets them stand still.
 #[test]
 fn a_partition_heals(rt: HostRuntime) -> Result<(), Fail> {
-    let alloc = rt.alloc();
-    let (mut first, mut second, mut pipe) = piped(rt, alloc)?;
-    let joined = until((&mut first, &mut second), &mut pipe, true, (2, 1))?;
-    let parted = until((&mut first, &mut second), &mut pipe, false, (0, 0))?;
+    let mut pair = Pair::new(rt)?;
+    let joined = pair.until(true, (2, 1))?;
+    let parted = pair.until(false, (0, 0))?;
     assert!(rt; joined.all <= LONG && parted.all <= LONG);
-    for _ in 0..150u32 {
-        first.run(10)?;
-        second.run(10)?;
-    }
-    pipe.pairs.clear();
-    let healed = until((&mut first, &mut second), &mut pipe, true, (2, 1))?;
+    pair.stand_apart()?;
+    let healed = pair.until(true, (2, 1))?;
     assert!(rt;
         healed.all <= 1500 || (healed.longest > 100 && healed.all <= LONG),
         "{} {}",
         healed.all,
         healed.longest
     );
-    second.link.send(commit(200, 0, 8));
-    second.link.send(commit(1, 0, 7));
-    for _ in 0..10u32 {
-        pipe.pump(&rt)?;
-        second.run(1)?;
-    }
-    assert_eq!(rt; (first.run(20)?, second.link.frameless()), (7, 1));
+    assert_eq!(rt; pair.send()?, (7, 1));
     Ok(())
 }
 
@@ -597,7 +636,7 @@ fn long_prepare(alloc: Global, number: u64) -> Result<Message, Fail> {
         body: Body::Prepare {
             view: 0,
             request: Request {
-                client: ClientNumber::new(0).ok_or("no client")?,
+                client: CLIENT,
                 number,
                 command: Command::Change(image),
             },
@@ -619,12 +658,9 @@ struct Reader {
 
 impl Reader {
     /// One that says this hello and has read the answer.
-    fn new<R>(alloc: Global, seat: &mut Seat<R>, at: SocketAddr, own: Hello) -> Result<Reader, Fail>
-    where
-        R: Wait + Clock + Net<Listener = TcpListener, Stream = TcpStream> + Copy + Drop,
-    {
-        let mut stream = stranger(&seat.rt, at, own.spell(alloc)?.as_slice())?;
-        seat.run(1)?;
+    fn new<R: Runtime>(seat: &mut Seat<R>, own: Hello) -> Result<Reader, Fail> {
+        let alloc = seat.rt.alloc();
+        let mut stream = seat.meet(own.spell(alloc)?.as_slice(), 1)?;
         stream.read_exact(&mut [0u8; HELLO])?;
         stream.set_nonblocking(true)?;
         Ok(Reader {
@@ -654,39 +690,71 @@ impl Reader {
     }
 }
 
+/// Replica 0, and the other ends of its connections to one that stands still and to another one.
+#[derive(Drop)]
+struct Trio<R: Runtime> {
+    seat: Seat<R>,
+    still: Reader,
+    other: Reader,
+}
+
+impl<R: Runtime> Trio<R> {
+    fn new(rt: R) -> Result<Trio<R>, Fail> {
+        let mut seat = alone(rt)?;
+        let still = Reader::new(&mut seat, hello_of(Party::Replica(1), 3))?;
+        let other = Reader::new(&mut seat, hello_of(Party::Replica(2), 3))?;
+        Ok(Trio { seat, still, other })
+    }
+
+    /// Both say that they are there.
+    fn beat(&mut self) {
+        self.still.beat();
+        self.other.beat();
+    }
+
+    /// So many long messages are sent to the one that stands still.
+    fn send_long(&mut self, alloc: Global, count: u64) -> Result<(), Fail> {
+        for number in 1..=count {
+            if number % 10 == 0 {
+                self.beat();
+                self.seat.link.recv();
+            }
+            self.seat.link.send(long_prepare(alloc, number)?);
+        }
+        Ok(())
+    }
+
+    /// A message is sent to the other one, which reads: how many came, and the number of the last.
+    fn send_other(&mut self, alloc: Global) -> Result<(u64, u64), Fail> {
+        self.seat.link.send(commit(0, 2, 1));
+        for _ in 0..20u32 {
+            self.beat();
+            self.other.read(alloc);
+            self.seat.run(1)?;
+        }
+        Ok((self.other.count, self.other.last))
+    }
+
+    /// The one that stood still reads.
+    fn read_still(&mut self, alloc: Global) {
+        for _ in 0..400u32 {
+            self.still.beat();
+            self.still.read(alloc);
+            self.seat.link.recv();
+        }
+    }
+}
+
 /// Many more bytes are sent to one that stands still than its connection holds and may wait: 8 million. What is lost is
 /// lost whole, and another one gets its own meanwhile.
 #[test]
 fn one_that_stands_still_delays_no_other(rt: HostRuntime) -> Result<(), Fail> {
     let alloc = rt.alloc();
-    let (mut seat, at) = alone(rt, alloc)?;
-    let mut still = Reader::new(alloc, &mut seat, at, hello_of(Party::Replica(1), 3))?;
-    let mut other = Reader::new(alloc, &mut seat, at, hello_of(Party::Replica(2), 3))?;
-    for number in 1..=250u64 {
-        if number % 10 == 0 {
-            still.beat();
-            other.beat();
-            seat.link.recv();
-        }
-        seat.link.send(long_prepare(alloc, number)?);
-    }
-    seat.link.send(commit(0, 2, 1));
-    for _ in 0..20u32 {
-        still.beat();
-        other.beat();
-        other.read(alloc);
-        seat.run(1)?;
-    }
-    assert_eq!(rt; (other.count, other.last), (1, 1));
-    for _ in 0..400u32 {
-        still.beat();
-        still.read(alloc);
-        seat.link.recv();
-    }
-    assert!(rt;
-        still.is_rising && still.count > 32 && still.count < 250,
-        "{}",
-        still.count
-    );
+    let mut trio = Trio::new(rt)?;
+    trio.send_long(alloc, 250)?;
+    assert_eq!(rt; trio.send_other(alloc)?, (1, 1));
+    trio.read_still(alloc);
+    let (is_rising, count) = (trio.still.is_rising, trio.still.count);
+    assert!(rt; is_rising && count > 32 && count < 250, "{count}");
     Ok(())
 }

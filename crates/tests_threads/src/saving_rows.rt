@@ -1,14 +1,9 @@
 //! A served controller whose disks have no room for a while: what its replicas know isn't lost with it.
 
+use crate::controllers::{ended, service_of};
 use il_model::Budget;
-use io_image::NewList;
-use io_model::Counted;
-use plc_host::Host;
-use plc_serve::{Service, serve};
 use plc_settings::{Links, Settings};
-use plc_status::StatusWriter;
 use std::alloc::Global;
-use std::marker::Brand;
 use std::process::Abort;
 use std::rt::Files;
 use std::test::Fail;
@@ -141,30 +136,13 @@ fn count_of(text: &str, wanted: &str) -> usize {
 #[test]
 fn a_save_that_failed_is_tried_again(rt: HostRuntime) -> Result<(), Fail> {
     let alloc = rt.alloc();
-    let (mut report, mut out, mut err) = (Vec::new(alloc), Vec::new(alloc), Vec::new(alloc));
-    let stores = stores(rt, alloc)?;
-    let settings = settings()?;
-    if stores.len() != usize::from(settings.config.group_size()) {
-        return Err("another number of stores")?;
-    }
-    let status = serve::<Brand, _, _, _, _, _>(
-        Host { rt, alloc },
-        NewList::new(),
-        Service {
-            source: Vec::from_slice(alloc, b"LD %IX0.0\nST %QX0.0\n")?,
-            directories: vec![in alloc; String::from_str(alloc, "cramped")?]?,
-            stores,
-            settings,
-            status: StatusWriter::new(alloc)?,
-            showing: None,
-        },
-        &mut Counted::new(&mut report),
-        &mut out,
-        &mut Counted::new(&mut err),
-    );
+    let source = Vec::from_slice(alloc, b"LD %IX0.0\nST %QX0.0\n")?;
+    let service = service_of(alloc, source, "cramped", stores(rt, alloc)?, settings()?)?;
+    let mut err = Vec::new(alloc);
+    let ended = ended(rt, service, &mut err);
     let text = str::from_utf8(err.as_slice()).unwrap_or("?");
     assert_eq!(rt;
-        (status, out.as_slice()),
+        (ended.status, ended.out.as_slice()),
         (0, b"scans 30\n".as_slice()),
         "{text}"
     );

@@ -1,30 +1,26 @@
 //! A served controller, from the words of its call: what its clients see, what its operator is told, and how it ends.
-ghost use Rattle.std.specs.Prelude.{◌≡◌};
 
 use crate::clients::{ALL, Step, Visit, free_port, visit_once_told};
-use crate::falling::with_falling;
-use io_image::NewList;
-use io_model::Counted;
+use crate::controllers::{Lines, served};
+use crate::falling::{Falling, with_falling};
+use crate::shelf::Runtime;
 use plc_host::Host;
-use plc_serve::{Service, serve};
+use plc_serve::Service;
 use plc_settings::Settings;
 use plc_status::ReportFile;
 use plc_words::{Words, read_words};
-use std::alloc::Global;
+use std::alloc::{AllocError, Global};
 use std::fs::File;
-use std::io::Write;
-use std::marker::Brand;
-use std::net::{Net, TcpListener, TcpStream};
+use std::net::TcpListener;
 use std::os::unix::fs::PermissionsExt;
 use std::process::Abort;
-use std::rt::Files;
 use std::sync::Arc;
-use std::sync::atomic::{AtomicU64, Ordering};
+use std::sync::atomic::AtomicU64;
 use std::test::Fail;
-use std::thread::{JoinHandle, Threads};
-use std::time::{Clock, Duration, Instant};
+use std::thread::JoinHandle;
+use std::time::{Duration, Instant};
 use std::{fs, io, str, thread};
-use vr_threads::FileStore;
+use vr_threads::{FileStore, Starts};
 
 /// `%QX0.0` is `%IX0.0`, `%QW0` is `%IW0`. It performs 10 instructions, and 7 more for each unit of `%IW1`.
 const COUNTS_DOWN: &[u8] = b"VAR N : INT; END_VAR
@@ -203,7 +199,6 @@ const PACED: &[&str] = &[
     "700",
 ];
 
-/// The first scan is due at once, whatever the period.
 /// A directory for each replica.
 const EACH: &[&str] = &[
     "plc",
@@ -221,6 +216,7 @@ const EACH: &[&str] = &[
     "60000",
 ];
 
+/// The first scan is due at once, whatever the period.
 const FIRST: &[&str] = &[
     "plc",
     "serve",
@@ -387,28 +383,29 @@ const ROWS: &[Row] = &[
 ];
 
 /// Gives the directory this mode.
-fn allow<R: Files>(rt: &R, mode: u32) -> io::Result<()> {
-    fs::set_permissions(rt, "served/first", fs::Permissions::from_mode(mode))
+fn allow<R: Runtime>(rt: R, mode: u32) -> io::Result<()> {
+    fs::set_permissions(&rt, "served/first", fs::Permissions::from_mode(mode))
 }
 
 /// What another start has the first directory by, if it does.
 type Held = Option<File>;
 
-fn prepare<R: Files<File = File> + Alloc<A = Global>>(
-    rt: &R,
-    before: Before,
-    held: &mut Held,
-) -> io::Result<()> {
+/// What another start has the first directory by, which is one's own again.
+fn lock<R: Runtime>(rt: R) -> io::Result<File> {
+    allow(rt, 0o755)?;
+    let file = File::create_new(&rt, "served/first/lock")?;
+    file.lock()?;
+    Ok(file)
+}
+
+fn prepare<R: Runtime>(rt: R, before: Before, held: &mut Held) -> io::Result<()> {
     match before {
         Before::Nothing => Ok(()),
-        Before::Hinder => fs::create_dir_all(rt, "served/first/replica-1.new"),
-        Before::LetGo => fs::remove_dir_all(rt, "served/first/replica-1.new"),
+        Before::Hinder => fs::create_dir_all(&rt, "served/first/replica-1.new"),
+        Before::LetGo => fs::remove_dir_all(&rt, "served/first/replica-1.new"),
         Before::Share => allow(rt, 0o777),
         Before::Lock => {
-            allow(rt, 0o755)?;
-            let file = File::create_new(rt, "served/first/lock")?;
-            file.lock()?;
-            *held = Some(file);
+            *held = Some(lock(rt)?);
             Ok(())
         }
         Before::Kill => {
@@ -418,69 +415,9 @@ fn prepare<R: Files<File = File> + Alloc<A = Global>>(
     }
 }
 
-/// What a row asks to serve, with its text in a file.
-fn prepared<R: Files<File = File> + Alloc<A = Global> + Copy + Drop>(
-    rt: R,
-    row: &Row,
-    in_use: u16,
-    console: u16,
-    held: &mut Held,
-) -> Result<Service<FileStore<R>>, Fail> {
-    prepare(&rt, row.before, held)?;
-    fs::write(&rt, "served.il", row.source)?;
-    let port = match row.port {
-        Port::InUse => in_use,
-        Port::Free => 0,
-    };
-    let console = match row.visit {
-        Visit::Operator(_) => Some(console),
-        _ => None,
-    };
-    asked(rt, row, port, console)
-}
-
-/// What takes the lines on standard error of a controller, and passes on the port.
-#[derive(Drop)]
-struct Operator {
-    text: Vec<u8>,
-    port: Arc<AtomicU64>,
-}
-
-impl Operator {
-    fn new(alloc: Global, port: Arc<AtomicU64>) -> Operator {
-        Operator {
-            text: Vec::new(alloc),
-            port,
-        }
-    }
-}
-
-/// The port that a line tells.
-fn port_of(line: &[u8]) -> Option<u16> {
-    let text = str::from_utf8(line).ok()?;
-    text.strip_prefix("serving on 127.0.0.1:")?
-        .strip_suffix("\n")?
-        .parse()
-        .ok()
-}
-
-impl Write for Operator {
-    fn write(&mut self, bytes: &[u8]) -> io::Result<usize> {
-        self.text.extend_from_slice(bytes)?;
-        if let Some(port) = port_of(self.text.as_slice()) {
-            self.port.store(u64::from(port), Ordering::SeqCst);
-        }
-        Ok(bytes.len())
-    }
-
-    fn flush(&mut self) -> io::Result<()> {
-        Ok(())
-    }
-}
-
 /// What the words of a row ask to serve, but at other ports, since the words can't name any that is free, and with the
 /// row's patience.
-fn asked<R: Files + Alloc<A = Global> + Copy + Drop>(
+fn asked<R: Runtime>(
     rt: R,
     row: &Row,
     port: u16,
@@ -495,7 +432,7 @@ fn asked<R: Files + Alloc<A = Global> + Copy + Drop>(
         },
     ) = read_words(rt.alloc(), row.words)
     else {
-        return Err("other words")?;
+        return Err(Fail::new("other words"));
     };
     let settings = Settings {
         port,
@@ -507,10 +444,66 @@ fn asked<R: Files + Alloc<A = Global> + Copy + Drop>(
         rt,
         alloc: rt.alloc(),
     };
-    match Service::new(host, source, stores.as_slice(), settings, None) {
-        Ok(service) => Ok(service),
-        Err(_) => Err("no service")?,
-    }
+    Ok(Service::new(host, source, stores.as_slice(), settings, None)?)
+}
+
+/// The same, but so many of the first stores fall as the row says.
+fn falling<S: Drop>(
+    alloc: Global,
+    service: Service<S>,
+    row: &Row,
+) -> Result<Service<Falling<S>>, AllocError> {
+    let Service {
+        source,
+        directories,
+        stores,
+        settings,
+        status,
+        showing,
+    } = service;
+    let stores = with_falling(alloc, stores, row.falls, row.starts)?;
+    Ok(Service {
+        source,
+        directories,
+        stores,
+        settings,
+        status,
+        showing,
+    })
+}
+
+/// What a row asks to serve, with its text in a file.
+fn prepared<R: Runtime>(
+    rt: R,
+    row: &Row,
+    in_use: u16,
+    console: u16,
+) -> Result<Service<Falling<FileStore<R>>>, Fail> {
+    fs::write(&rt, "served.il", row.source)?;
+    let port = match row.port {
+        Port::InUse => in_use,
+        Port::Free => 0,
+    };
+    let console = match row.visit {
+        Visit::Operator(_) => Some(console),
+        _ => None,
+    };
+    let service = asked(rt, row, port, console)?;
+    Ok(falling(rt.alloc(), service, row)?)
+}
+
+/// The file of the first replica's store.
+fn first_file<S: Drop>(alloc: Global, service: &Service<S>) -> Result<String, Fail> {
+    let directory = service.directories.first().ok_or("no directory")?;
+    Ok(format!(in alloc; "{directory}/replica-0")?)
+}
+
+/// What a controller wrote, and its status.
+#[derive(Drop)]
+struct Written {
+    status: u8,
+    out: Vec<u8>,
+    err: Vec<u8>,
 }
 
 /// How a call went.
@@ -518,10 +511,7 @@ fn asked<R: Files + Alloc<A = Global> + Copy + Drop>(
 struct Ended {
     seen: Option<u8>,
     took: Duration,
-    status: u8,
-    out: Vec<u8>,
-    err: Vec<u8>,
-    has_file: bool,
+    written: Written,
 }
 
 /// What was told of a replica.
@@ -560,15 +550,17 @@ impl Turn {
     }
 }
 
+/// The number of the replica that a line tells of, and what it tells.
+fn told_of(line: &str) -> Option<(usize, &str)> {
+    let (number, what) = line.strip_prefix("replica ")?.split_once(' ')?;
+    Some((number.parse().ok()?, what))
+}
+
 /// Whether a line tells of a replica what may be told without being wanted.
 fn is_turn(turns: &mut [Turn], line: &str) -> bool {
-    let Some((number, what)) = line
-        .strip_prefix("replica ")
-        .and_then(|it| it.split_once(' '))
-    else {
+    let Some((number, what)) = told_of(line) else {
         return false;
     };
-    let number = number.parse::<usize>().unwrap_or(usize::MAX);
     match turns.get_mut(number) {
         Some(turn) => turn.take(what),
         None => false,
@@ -606,15 +598,13 @@ fn tells(text: &str, lines: &[&str]) -> bool {
 
 /// Wants a call to have gone as this row tells.
 fn wants(rt: &impl Abort, n: usize, row: &Row, ended: &Ended) {
-    let gone = (
-        ended.seen,
-        ended.status,
-        ended.out.as_slice(),
-        ended.has_file,
+    let written = &ended.written;
+    let text = str::from_utf8(written.err.as_slice()).unwrap_or("?");
+    assert_eq!(rt;
+        (ended.seen, written.status, written.out.as_slice()),
+        (row.seen, row.status, row.out),
+        "in row {n}: {text}"
     );
-    let wanted = (row.seen, row.status, row.out, row.has_file);
-    let text = str::from_utf8(ended.err.as_slice()).unwrap_or("?");
-    assert_eq!(rt; gone, wanted, "in row {n}: {text}");
     assert!(rt; tells(text, row.err), "in row {n}: {text}");
     assert!(rt;
         ended.took >= Duration::from_millis(row.least),
@@ -623,21 +613,13 @@ fn wants(rt: &impl Abort, n: usize, row: &Row, ended: &Ended) {
 }
 
 /// The thread of a row's clients, who come once the port is told.
-fn visiting<R>(
-    rt: &R,
-    alloc: Global,
+fn visiting<R: Runtime>(
+    rt: R,
     told: &Arc<AtomicU64>,
     visit: Visit,
-) -> Result<JoinHandle<Option<u8>>, Fail>
-where
-    R: Threads + Net<Listener = TcpListener, Stream = TcpStream> + Clock + Copy + Send + 'static,
-{
-    let theirs = *rt;
+) -> Result<JoinHandle<Option<u8>>, AllocError> {
     let port = Arc::try_clone(told)?;
-    match thread::spawn(rt, move || visit_once_told(&theirs, alloc, &port, visit)) {
-        Ok(clients) => Ok(clients),
-        Err(_) => Err("no thread")?,
-    }
+    Ok(thread::spawn(&rt, move || visit_once_told(&rt, rt.alloc(), &port, visit))?)
 }
 
 /// The visit of a row, with the port of its console.
@@ -648,57 +630,61 @@ fn visit_of(row: &Row, console: u16) -> Visit {
     }
 }
 
+/// Serves a controller that has no report, and tells its port.
+fn written<R: Runtime, S>(rt: R, service: Service<S>, told: Arc<AtomicU64>) -> Written
+where
+    S: Starts + Send + Drop + 'static,
+{
+    let mut out = Vec::new(rt.alloc());
+    let mut lines = Lines::new(rt.alloc(), told);
+    let mut report = ReportFile::at(&rt, None);
+    let status = served(rt, service, &mut report, &mut out, &mut lines);
+    lines.close();
+    Written {
+        status,
+        out,
+        err: lines.text,
+    }
+}
+
+/// Serves a controller beside its clients.
+fn ended<R: Runtime, S>(rt: R, service: Service<S>, visit: Visit) -> Result<Ended, Fail>
+where
+    S: Starts + Send + Drop + 'static,
+{
+    let told = Arc::new(rt.alloc(), AtomicU64::new(0))?;
+    let begun = Instant::now(&rt)?;
+    let clients = visiting(rt, &told, visit)?;
+    let written = written(rt, service, told);
+    let seen = clients.join(&rt);
+    Ok(Ended {
+        seen,
+        took: Instant::now(&rt)?.saturating_duration_since(begun),
+        written,
+    })
+}
+
+/// How the call of a row went, and whether replica 0 has a file then.
+fn row_ended<R: Runtime>(rt: R, row: &Row, in_use: u16) -> Result<(Ended, bool), Fail> {
+    let console = free_port(&rt)?;
+    let service = prepared(rt, row, in_use, console)?;
+    let file = first_file(rt.alloc(), &service)?;
+    let ended = ended(rt, service, visit_of(row, console))?;
+    let has_file = fs::exists(&rt, file.as_str())?;
+    Ok((ended, has_file))
+}
+
 #[test]
 fn controllers_are_served(rt: HostRuntime) -> Result<(), Fail> {
-    let alloc = rt.alloc();
     let _ = fs::remove_dir_all(&rt, "served");
     let taken = TcpListener::bind(&rt, ("127.0.0.1", 0))?;
     let in_use = taken.local_addr()?.port();
     let mut held: Held = None;
     for (n, row) in ROWS.iter().enumerate() {
-        let console = free_port(&rt)?;
-        let Service {
-            source,
-            directories,
-            stores,
-            settings,
-            status,
-            showing,
-        } = prepared(rt, row, in_use, console, &mut held)?;
-        let directory = directories.first().ok_or("no directory")?;
-        let file = format!(in alloc; "{directory}/replica-0")?;
-        let service = Service {
-            source,
-            directories,
-            stores: with_falling(alloc, stores, row.falls, row.starts)?,
-            settings,
-            status,
-            showing,
-        };
-        let told = Arc::new(alloc, AtomicU64::new(0))?;
-        let begun = Instant::now(&rt)?;
-        let clients = visiting(&rt, alloc, &told, visit_of(row, console))?;
-        let mut out = Vec::new(alloc);
-        let mut operator = Operator::new(alloc, Arc::try_clone(&told)?);
-        let status = serve::<Brand, _, _, _, _, _>(
-            Host { rt, alloc },
-            NewList::new(),
-            service,
-            &mut Counted::new(ReportFile::at(&rt, None)),
-            &mut out,
-            &mut Counted::new(&mut operator),
-        );
-        // Clients that still wait for the port find none.
-        let _ = told.compare_exchange(0, u64::MAX, Ordering::SeqCst, Ordering::SeqCst);
-        let ended = Ended {
-            seen: clients.join(&rt),
-            took: Instant::now(&rt)?.saturating_duration_since(begun),
-            status,
-            out,
-            err: operator.text,
-            has_file: fs::exists(&rt, file.as_str())?,
-        };
+        prepare(rt, row.before, &mut held)?;
+        let (ended, has_file) = row_ended(rt, row, in_use)?;
         wants(&rt, n, row, &ended);
+        assert_eq!(rt; has_file, row.has_file, "in row {n}");
     }
     Ok(())
 }

@@ -1,11 +1,11 @@
 //! The loop of one replica over scripted ends: what it polls, receives, tells its timer and calls its gate with.
-use crate::shelf::{Shelf, WIRE, group_of_three};
+use crate::shelf::{CLIENT, Shelf, WIRE, group_of_three};
 use il_loader::load;
 use il_model::{Command, InImage};
 use std::alloc::Global;
 use std::process::Abort;
 use std::test::Fail;
-use vr_model::{Body, ClientNumber, Message, Party, Request, Standing, Status};
+use vr_model::{Body, Message, Party, Request, Standing, Status};
 use vr_ports::{Gate, Input, Link, Tick, Timer};
 use vr_replica::Replica;
 use vr_shown::{Shown, ShownWriter};
@@ -19,13 +19,13 @@ enum Given {
     Closed,
 }
 
-/// The request of this number, from a client.
-fn request(client: ClientNumber, number: u64) -> Message {
+/// The request of this number, from the client.
+fn request(number: u64) -> Message {
     Message {
-        from: Party::Client(client),
+        from: Party::Client(CLIENT),
         to: Party::Replica(0),
         body: Body::Request(Request {
-            client,
+            client: CLIENT,
             number,
             command: Command::Scan {
                 inputs: InImage::clear(),
@@ -41,7 +41,6 @@ struct ScriptedLink<'a, R: Abort + Drop> {
     rt: R,
     alloc: Global,
     script: &'a [Given],
-    client: ClientNumber,
     given: Vec<Input>,
     sent: Vec<Message>,
 }
@@ -56,7 +55,7 @@ impl<R: Abort + Drop> Link for ScriptedLink<'_, R> {
     fn recv(&mut self) -> Input {
         let (kept, input) = match self.script.get(self.given.len()) {
             Some(Given::Request(number)) => {
-                let message = request(self.client, *number);
+                let message = request(*number);
                 let copy = message.copy(self.alloc).expect(&self.rt, "memory");
                 (Input::Message(copy), Input::Message(message))
             }
@@ -168,10 +167,7 @@ fn served<R: Abort + Copy + Drop>(
     inputs: &[Given],
 ) -> Result<(Counts, Shown), Fail> {
     let (config, budget) = group_of_three()?;
-    let client = ClientNumber::new(0).ok_or("no client")?;
-    let Ok(image) = load(alloc, WIRE) else {
-        return Err("no image")?;
-    };
+    let image = load(alloc, WIRE)?;
     let mut replica = Replica::new(alloc, config, 0, image, budget)?;
     let mut shown = ShownWriter::new(alloc)?;
     let mut seat = Seat {
@@ -179,7 +175,6 @@ fn served<R: Abort + Copy + Drop>(
             rt,
             alloc,
             script: inputs,
-            client,
             given: Vec::new(alloc),
             sent: Vec::new(alloc),
         },
@@ -204,7 +199,7 @@ fn served<R: Abort + Copy + Drop>(
     );
     let read = shown.reader()?.read();
     if read.standing != seat.timer.standing {
-        return Err("the timer was told something else")?;
+        return Err(Fail::new("the timer was told something else"));
     }
     Ok((counts, read))
 }

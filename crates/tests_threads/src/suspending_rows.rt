@@ -54,7 +54,7 @@ where
     let alloc = rt.alloc();
     let host = Host { rt, alloc };
     let Ok((_writer, readers)) = released::<J, _>(list, alloc, rt, 2) else {
-        return Err("no list")?;
+        return Err(Fail::new("no list"));
     };
     let shown = Shown {
         readers,
@@ -63,10 +63,10 @@ where
     };
     let traffic = Arc::new(alloc, Traffic::new())?;
     let Ok(seats) = Seats::new(host, shown, Duration::from_secs(60), traffic) else {
-        return Err("no seats")?;
+        return Err(Fail::new("no seats"));
     };
     let Ok(open) = seats.open(Door::open(&rt, 0)?) else {
-        return Err("not open")?;
+        return Err(Fail::new("not open"));
     };
     let port = open.port();
     let first = asked::<_, 12>(&rt, port, &WRITES);
@@ -75,7 +75,7 @@ where
     let is_over = is_over(&mut client);
     let is_shut = TcpStream::connect(&rt, ("127.0.0.1", port)).is_err();
     let Ok(open) = seats.open(Door::open(&rt, port)?) else {
-        return Err("not open again")?;
+        return Err(Fail::new("not open again"));
     };
     let second = asked::<_, 11>(&rt, port, &READS);
     let counts = open.close();

@@ -1,0 +1,140 @@
+//! Controllers that tests serve: what they are served from, and what they come to.
+
+use crate::shelf::Runtime;
+use io_image::NewList;
+use io_model::Counted;
+use plc_host::Host;
+use plc_serve::{Service, serve};
+use plc_settings::Settings;
+use plc_status::StatusWriter;
+use std::alloc::Global;
+use std::io::Write;
+use std::marker::Brand;
+use std::sync::Arc;
+use std::sync::atomic::{AtomicU64, Ordering};
+use std::test::Fail;
+use std::{fs, io, str};
+use vr_threads::{FileStore, Starts};
+
+/// The stores of three replicas, in files of a directory. What an earlier run left there is removed.
+pub fn file_stores<R: Runtime>(rt: R, directory: &str) -> Result<Vec<FileStore<R>>, Fail> {
+    let _ = fs::remove_dir_all(&rt, directory);
+    let mut stores = Vec::new(rt.alloc());
+    for number in 0..3u8 {
+        stores.push(FileStore::new(rt, rt.alloc(), directory, number)?)?;
+    }
+    Ok(stores)
+}
+
+/// A controller of this text, with one directory for all its stores.
+pub fn service_of<S: Drop>(
+    alloc: Global,
+    source: Vec<u8>,
+    directory: &str,
+    stores: Vec<S>,
+    settings: Settings,
+) -> Result<Service<S>, Fail> {
+    if stores.len() != usize::from(settings.config.group_size()) {
+        return Err(Fail::new("another number of stores"));
+    }
+    Ok(Service {
+        source,
+        directories: vec![in alloc; String::from_str(alloc, directory)?]?,
+        stores,
+        settings,
+        status: StatusWriter::new(alloc)?,
+        showing: None,
+    })
+}
+
+/// Serves a controller to its end: its status.
+pub fn served<R: Runtime, S, F: Write, E: Write>(
+    rt: R,
+    service: Service<S>,
+    report: &mut F,
+    out: &mut Vec<u8>,
+    err: &mut E,
+) -> u8
+where
+    S: Starts + Send + Drop + 'static,
+{
+    serve::<Brand, _, _, _, _, _>(
+        Host {
+            rt,
+            alloc: rt.alloc(),
+        },
+        NewList::new(),
+        service,
+        &mut Counted::new(report),
+        out,
+        &mut Counted::new(err),
+    )
+}
+
+/// What a controller came to that was served to its end.
+#[derive(Drop)]
+pub struct Ended {
+    pub status: u8,
+    pub report: Vec<u8>,
+    pub out: Vec<u8>,
+}
+
+/// Serves a controller whose lines on standard error this one takes.
+pub fn ended<R: Runtime, S, E: Write>(rt: R, service: Service<S>, err: &mut E) -> Ended
+where
+    S: Starts + Send + Drop + 'static,
+{
+    let (mut report, mut out) = (Vec::new(rt.alloc()), Vec::new(rt.alloc()));
+    let status = served(rt, service, &mut report, &mut out, err);
+    Ended {
+        status,
+        report,
+        out,
+    }
+}
+
+/// What takes the lines on standard error of a controller, and passes on the port.
+#[derive(Drop)]
+pub struct Lines {
+    pub text: Vec<u8>,
+    port: Arc<AtomicU64>,
+}
+
+impl Lines {
+    pub fn new(alloc: Global, port: Arc<AtomicU64>) -> Lines {
+        Lines {
+            text: Vec::new(alloc),
+            port,
+        }
+    }
+
+    /// Clients that still wait for the port find none from now on.
+    pub fn close(&self) {
+        let _ = self
+            .port
+            .compare_exchange(0, u64::MAX, Ordering::SeqCst, Ordering::SeqCst);
+    }
+}
+
+/// The port that a line tells.
+fn port_of(line: &[u8]) -> Option<u16> {
+    let text = str::from_utf8(line).ok()?;
+    text.strip_prefix("serving on 127.0.0.1:")?
+        .strip_suffix("\n")?
+        .parse()
+        .ok()
+}
+
+impl Write for Lines {
+    fn write(&mut self, bytes: &[u8]) -> io::Result<usize> {
+        self.text.extend_from_slice(bytes)?;
+        if let Some(port) = port_of(self.text.as_slice()) {
+            self.port.store(u64::from(port), Ordering::SeqCst);
+        }
+        Ok(bytes.len())
+    }
+
+    fn flush(&mut self) -> io::Result<()> {
+        Ok(())
+    }
+}
