@@ -73,20 +73,20 @@ where
 
 /// What a controller came to that was served to its end.
 #[derive(Drop)]
-pub struct Ended {
+pub struct Outcome {
     pub status: u8,
     pub report: Vec<u8>,
     pub out: Vec<u8>,
 }
 
 /// Serves a controller whose lines on standard error this one takes.
-pub fn ended<R: Runtime, S, E: Write>(rt: R, service: Service<S>, err: &mut E) -> Ended
+pub fn ended<R: Runtime, S, E: Write>(rt: R, service: Service<S>, err: &mut E) -> Outcome
 where
     S: Starts + Send + Drop + 'static,
 {
     let (mut report, mut out) = (Vec::new(rt.alloc()), Vec::new(rt.alloc()));
     let status = served(rt, service, &mut report, &mut out, err);
-    Ended {
+    Outcome {
         status,
         report,
         out,

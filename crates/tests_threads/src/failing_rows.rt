@@ -1,7 +1,7 @@
 //! A served controller whose replicas crash in turn: what sixteen clients see of it, and its report.
 
 use crate::clients::{connect, reply_to, request, told_port};
-use crate::controllers::{Ended, Lines, ended, file_stores, service_of};
+use crate::controllers::{Lines, Outcome, ended, file_stores, service_of};
 use crate::shelf::Runtime;
 use il_model::Budget;
 use plc_serve::Service;
@@ -278,7 +278,7 @@ fn reported(report: &[u8]) -> Option<(u64, u64)> {
 
 /// Serves the controller: what it came to, and what its operator saw: how many releases showed last, whether those went
 /// back, and how many sessions there were.
-fn watched<R: Runtime>(rt: R, told: Arc<AtomicU64>) -> Result<(Ended, (u64, bool, u64)), Fail> {
+fn watched<R: Runtime>(rt: R, told: Arc<AtomicU64>) -> Result<(Outcome, (u64, bool, u64)), Fail> {
     let service = service(rt)?;
     let mut operator = Operator {
         status: service.status.reader()?,

@@ -273,7 +273,7 @@ fn replica_and_driver<L: Drop>(links: Vec<L>) -> Option<(L, L)> {
 }
 
 /// Who is there for a machine, and the links of its replica and of its driver.
-fn connected<R: Runtime>(
+fn linked<R: Runtime>(
     rt: R,
     machine: &Machine,
     listener: TcpListener,
@@ -330,7 +330,7 @@ impl<R: Runtime> Apart<R> {
         let listener = self.listeners.pop().ok_or("no listener")?;
         let mut machine = machine_of(self.rt.alloc(), number, self.at.as_slice())?;
         machine.starts = starts;
-        let (there, replica, driver) = connected(self.rt, &machine, listener)?;
+        let (there, replica, driver) = linked(self.rt, &machine, listener)?;
         self.drivers.push(driver)?;
         Ok((there, replica))
     }

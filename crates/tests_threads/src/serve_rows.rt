@@ -631,7 +631,7 @@ fn visit_of(row: &Row, console: u16) -> Visit {
 }
 
 /// Serves a controller that has no report, and tells its port.
-fn written<R: Runtime, S>(rt: R, service: Service<S>, told: Arc<AtomicU64>) -> Written
+fn serve_unreported<R: Runtime, S>(rt: R, service: Service<S>, told: Arc<AtomicU64>) -> Written
 where
     S: Starts + Send + Drop + 'static,
 {
@@ -648,14 +648,14 @@ where
 }
 
 /// Serves a controller beside its clients.
-fn ended<R: Runtime, S>(rt: R, service: Service<S>, visit: Visit) -> Result<Ended, Fail>
+fn serve_clients<R: Runtime, S>(rt: R, service: Service<S>, visit: Visit) -> Result<Ended, Fail>
 where
     S: Starts + Send + Drop + 'static,
 {
     let told = Arc::new(rt.alloc(), AtomicU64::new(0))?;
     let begun = Instant::now(&rt)?;
     let clients = visiting(rt, &told, visit)?;
-    let written = written(rt, service, told);
+    let written = serve_unreported(rt, service, told);
     let seen = clients.join(&rt);
     Ok(Ended {
         seen,
@@ -669,7 +669,7 @@ fn row_ended<R: Runtime>(rt: R, row: &Row, in_use: u16) -> Result<(Ended, bool),
     let console = free_port(&rt)?;
     let service = prepared(rt, row, in_use, console)?;
     let file = first_file(rt.alloc(), &service)?;
-    let ended = ended(rt, service, visit_of(row, console))?;
+    let ended = serve_clients(rt, service, visit_of(row, console))?;
     let has_file = fs::exists(&rt, file.as_str())?;
     Ok((ended, has_file))
 }
