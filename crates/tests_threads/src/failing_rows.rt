@@ -7,7 +7,7 @@ use il_model::Budget;
 use plc_serve::Service;
 use plc_settings::{Links, Settings};
 use plc_status::StatusReader;
-use std::alloc::{AllocError, Global};
+use std::alloc::Global;
 use std::io::{Read, Write};
 use std::net::TcpStream;
 use std::process::Abort;
@@ -261,9 +261,12 @@ fn coming<R: Runtime>(
     rt: R,
     alloc: Global,
     port: Arc<AtomicU64>,
-) -> Result<JoinHandle<io::Result<Visits>>, AllocError> {
+) -> Result<JoinHandle<io::Result<Visits>>, Fail> {
     let work = move || come_once_told(rt, alloc, &port);
-    Ok(thread::spawn(&rt, work)?)
+    match thread::spawn(&rt, work) {
+        Ok(clients) => Ok(clients),
+        Err(_) => Err(Fail::new("no thread")),
+    }
 }
 
 /// The numbers of crashes and of writes in a report of forty scans and sixteen sessions.

@@ -617,9 +617,13 @@ fn visiting<R: Runtime>(
     rt: R,
     told: &Arc<AtomicU64>,
     visit: Visit,
-) -> Result<JoinHandle<Option<u8>>, AllocError> {
+) -> Result<JoinHandle<Option<u8>>, Fail> {
     let port = Arc::try_clone(told)?;
-    Ok(thread::spawn(&rt, move || visit_once_told(&rt, rt.alloc(), &port, visit))?)
+    let work = move || visit_once_told(&rt, rt.alloc(), &port, visit);
+    match thread::spawn(&rt, work) {
+        Ok(clients) => Ok(clients),
+        Err(_) => Err(Fail::new("no thread")),
+    }
 }
 
 /// The visit of a row, with the port of its console.
