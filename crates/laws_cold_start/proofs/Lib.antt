@@ -1,0 +1,12 @@
+pub mod Tables
+pub mod Statuses
+pub mod Cases
+pub mod Calm
+pub mod Frozen
+pub mod Low
+pub mod Ahead
+pub mod Tells
+pub mod Led
+pub mod Told
+pub mod Ended
+pub mod WorkedColdStarts

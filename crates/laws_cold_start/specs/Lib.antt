@@ -1,0 +1,2 @@
+pub mod ColdStarts
+pub mod WorkedColdStarts
