@@ -38,7 +38,7 @@ fn came_of<R: Runtime>(
     let mut stream = seat.meet(&frame[..cut], 5)?;
     stream.write_all(&frame[cut..])?;
     seat.run(20)?;
-    let visits = seat.exchange.visits(&seat.rt, seat.rt.alloc());
+    let visits = seat.visits();
     Ok((visits.len(), visits.iter().all(|visit| visit == frame)))
 }
 
@@ -46,9 +46,9 @@ fn came_of<R: Runtime>(
 #[test]
 fn a_visit_comes_however_it_is_cut(rt: HostRuntime) -> Result<(), Fail> {
     let mut seat = alone(rt)?;
-    assert!(rt; visit(&rt, seat.at, &frame_of(1), Duration::from_millis(1000)));
+    assert!(rt; visit(&rt, seat.at(), &frame_of(1), Duration::from_millis(1000)));
     seat.run(20)?;
-    assert!(rt; seat.exchange.visits(&rt, rt.alloc()).as_slice() == [frame_of(1)].as_slice());
+    assert!(rt; seat.visits().as_slice() == [frame_of(1)].as_slice());
     for cut in [1usize, 7, 8, 9, 89, 90, 91, 152, 153] {
         let came = came_of(&mut seat, &frame_of(2), cut)?;
         assert_eq!(rt; (cut, came), (cut, (1, true)));
@@ -66,7 +66,7 @@ fn no_other_visit_comes(rt: HostRuntime) -> Result<(), Fail> {
     let (front, _) = frame.as_slice().split_at(VISIT - 1);
     drop(seat.meet(front, 1)?);
     let _other = seat.meet(b"PLC-CS\0\x02", 20)?;
-    assert!(rt; seat.exchange.visits(&rt, rt.alloc()).is_empty());
+    assert!(rt; seat.visits().is_empty());
     let (listener, nobody) = listening(rt)?;
     drop(listener);
     assert!(rt; !visit(&rt, nobody, &frame, Duration::from_millis(1000)));
@@ -106,9 +106,9 @@ fn replicas_are_heard_in_whatever_epoch(rt: HostRuntime) -> Result<(), Fail> {
         let bytes = hello.spell(alloc)?;
         let _stream = seat.meet(bytes.as_slice(), 20)?;
     }
-    let heard = seat.exchange.hellos(&rt, alloc);
+    let heard = seat.hellos();
     assert!(rt; heard.as_slice() == [(1u8, LATER), (2, NONE), (1, EPOCH)].as_slice());
-    assert!(rt; seat.exchange.hellos(&rt, alloc).is_empty());
+    assert!(rt; seat.hellos().is_empty());
     Ok(())
 }
 
@@ -122,8 +122,8 @@ fn heard_by_both<R: Runtime>(
     for _ in 0..1000u32 {
         seat.run(5)?;
         other.run(5)?;
-        near.append(&mut seat.exchange.hellos(&rt, rt.alloc()))?;
-        far.append(&mut other.exchange.hellos(&rt, rt.alloc()))?;
+        near.append(&mut seat.hellos())?;
+        far.append(&mut other.hellos())?;
         if near.len() >= 2 && far.len() >= 2 {
             break;
         }
@@ -135,7 +135,7 @@ fn heard_by_both<R: Runtime>(
 #[test]
 fn both_ends_hear_each_other(rt: HostRuntime) -> Result<(), Fail> {
     let mut seat = alone(rt)?;
-    let (mut machine, listener) = dialling(rt, seat.at)?;
+    let (mut machine, listener) = dialling(rt, seat.at())?;
     machine.epoch = LATER;
     let mut other = seat_of(rt, &machine, listener)?;
     let (near, far) = heard_by_both(rt, &mut seat, &mut other)?;

@@ -1,7 +1,7 @@
 //! Machines of a group, each with one replica in a thread of its own and a store in a directory of its own.
 
 use crate::cluster_rows::{Plan, Sought, is_answered, link_of, shows, switchboard};
-use crate::peer_rows::{listening, machine_of};
+use crate::peer_rows::{listening, machine_of, replica_and_driver};
 use crate::shelf::{CLIENT, Runtime, group_of_three};
 use net_peers::{Exchange, Machine, PeerLink, machine_links};
 use std::net::{SocketAddr, TcpListener};
@@ -263,13 +263,6 @@ fn no_file_makes_a_machine_new(rt: HostRuntime) -> Result<(), Fail> {
         assert!(rt; is_left_down(rt, store_of(rt, 1, is_first)?)?);
     }
     Ok(fs::remove_dir_all(&rt, "machines")?)
-}
-
-/// Of the links of a machine that of its replica, and that of its driver.
-fn replica_and_driver<L: Drop>(links: Vec<L>) -> Option<(L, L)> {
-    let mut links = links.into_iter();
-    let replica = links.next()?;
-    Some((replica, links.next()?))
 }
 
 /// Who is there for a machine, and the links of its replica and of its driver.

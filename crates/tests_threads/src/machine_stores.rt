@@ -88,23 +88,35 @@ fn a_machine_is_new_once_in_an_epoch(rt: HostRuntime) -> Result<(), Fail> {
     Ok(())
 }
 
-#[test]
-fn an_epoch_begins_without_the_views_of_the_one_before(rt: HostRuntime) -> Result<(), Fail> {
-    let path = "machine-4";
+/// Makes a store that has begun the first epoch, with a view of its replica and with a program that was changed.
+fn begun(rt: HostRuntime, path: &str) -> Result<(), Fail> {
     formatted(rt, path)?;
     let _ = kept(rt, path, Kept::Begun(FIRST))?;
     let _ = FileStore::new(rt, rt.alloc(), path, 1)?.begin()?;
     ChangeMark::new(rt, rt.alloc(), path, &FIRST)?.mark()?;
+    Ok(())
+}
+
+/// An operator enters the next epoch by hand, first without an image: why that is refused, and what the store says of
+/// epochs behind the other.
+fn entered(rt: HostRuntime, path: &str) -> Result<(Option<Refusal>, Kept), Fail> {
     let mut directory = FileDirectory::take(rt, rt.alloc(), path)?;
-    let unnamed = enter_by_hand(rt.alloc(), &mut directory, None);
-    assert_eq!(rt; unnamed.err(), Some(Refusal::Changed));
+    let unnamed = enter_by_hand(rt.alloc(), &mut directory, None).err();
     let image = Vec::from_slice(rt.alloc(), b"PLI".as_slice())?;
     let store = enter_by_hand(rt.alloc(), &mut directory, Some(image))?;
-    drop(directory);
+    Ok((unnamed, store.header.kept))
+}
+
+#[test]
+fn an_epoch_begins_without_the_views_of_the_one_before(rt: HostRuntime) -> Result<(), Fail> {
+    let path = "machine-4";
+    begun(rt, path)?;
+    let (unnamed, entered) = entered(rt, path)?;
+    assert_eq!(rt; unnamed, Some(Refusal::Changed));
     assert_eq!(rt; started(rt, path), Ok(Start::First));
     assert!(rt; fs::exists(&rt, "machine-4/replica-1")?);
-    let Kept::Entered(second) = store.header.kept else {
-        return Err(Refusal::Backward)?;
+    let Kept::Entered(second) = entered else {
+        return Err(Fail::from(Refusal::Backward));
     };
     let _ = kept(rt, path, Kept::Begun(second))?;
     assert!(rt; !fs::exists(&rt, "machine-4/replica-1")?);

@@ -6,7 +6,9 @@ use crate::shelf::{CLIENT, Runtime};
 use il_model::{Command, ImageBytes, InImage};
 use net_ends::{Inbox, NonBlocking, Outbox};
 use net_hello::{Epoch, HELLO, Hello, Refusal};
-use net_peers::{Exchange, FIRST_CONSOLE, LinkNotice, Machine, PeerLink, Pulse, machine_links};
+use net_peers::{
+    Exchange, FIRST_CONSOLE, LinkNotice, Machine, PeerLink, Pulse, VISIT, machine_links,
+};
 use net_records::Records;
 use std::alloc::Global;
 use std::io::{ErrorKind, Read, Write};
@@ -26,9 +28,9 @@ pub(crate) const EPOCH: Epoch = Epoch {
 /// The replica of a machine, where it listens, and what it shows.
 #[derive(Drop)]
 pub(crate) struct Seat<R: Runtime> {
-    pub(crate) rt: R,
-    pub(crate) at: SocketAddr,
-    pub(crate) exchange: Arc<Exchange>,
+    rt: R,
+    at: SocketAddr,
+    exchange: Arc<Exchange>,
     link: PeerLink<R>,
 }
 
@@ -156,6 +158,21 @@ impl<R: Runtime> Seat<R> {
         Ok(stream)
     }
 
+    /// Where it listens.
+    pub(crate) fn at(&self) -> SocketAddr {
+        self.at
+    }
+
+    /// The visits that came since it was asked last.
+    pub(crate) fn visits(&self) -> Vec<[u8; VISIT]> {
+        self.exchange.visits(&self.rt, self.rt.alloc())
+    }
+
+    /// Who said hello in which epoch since it was asked last.
+    pub(crate) fn hellos(&self) -> Vec<(u8, Epoch)> {
+        self.exchange.hellos(&self.rt, self.rt.alloc())
+    }
+
     /// What it noticed since it was asked last.
     fn notices(&self) -> Vec<LinkNotice> {
         self.exchange.notices(&self.rt, self.rt.alloc())
@@ -269,20 +286,31 @@ fn another_version_is_answered_and_noticed_once(rt: HostRuntime) -> Result<(), F
     Ok(())
 }
 
+/// Who is reached behind the older of these, and behind the newer, as they come; and whether the older one's connection is
+/// over then, and refused where it comes again.
+fn replaced<R: Runtime>(
+    seat: &mut Seat<R>,
+    older: &[u8],
+    newer: &[u8],
+) -> Result<((u8, u8), bool), Fail> {
+    let mut first = seat.meet(older, 20)?;
+    let behind_older = seat.exchange.reached();
+    let _second = seat.meet(newer, 20)?;
+    let behind_newer = seat.exchange.reached();
+    let mut third = seat.meet(older, 20)?;
+    let is_refused = is_over(&mut first) && is_answered(seat.rt.alloc(), &mut third)?;
+    Ok(((behind_older, behind_newer), is_refused))
+}
+
 /// One that was started again replaces the older, which isn't taken back.
 #[test]
 fn a_higher_start_replaces_and_an_old_one_is_refused(rt: HostRuntime) -> Result<(), Fail> {
-    let alloc = rt.alloc();
     let mut seat = alone(rt)?;
-    let older = hello_of(Party::Replica(1), 3).spell(alloc)?;
-    let mut newer = hello_of(Party::Replica(1), 4).spell(alloc)?;
+    let older = hello_of(Party::Replica(1), 3).spell(rt.alloc())?;
+    let mut newer = hello_of(Party::Replica(1), 4).spell(rt.alloc())?;
     newer.extend_from_slice(b"\0\0")?;
-    let mut first = seat.meet(older.as_slice(), 20)?;
-    assert_eq!(rt; seat.exchange.reached(), 0);
-    let _second = seat.meet(newer.as_slice(), 20)?;
-    assert_eq!(rt; seat.exchange.reached(), 2);
-    let mut third = seat.meet(older.as_slice(), 20)?;
-    assert!(rt; is_over(&mut first) && is_answered(alloc, &mut third)?);
+    let seen = replaced(&mut seat, older.as_slice(), newer.as_slice())?;
+    assert_eq!(rt; seen, ((0, 2), true));
     Ok(())
 }
 
@@ -309,7 +337,7 @@ fn notices_of_both<R: Runtime>(
 #[test]
 fn both_ends_are_told_of_a_refusal(rt: HostRuntime) -> Result<(), Fail> {
     let mut seat = alone(rt)?;
-    let (mut machine, listener) = dialling(rt, seat.at)?;
+    let (mut machine, listener) = dialling(rt, seat.at())?;
     machine.identity = [3; 32];
     let mut other = seat_of(rt, &machine, listener)?;
     let (near, far) = notices_of_both(rt.alloc(), &mut seat, &mut other)?;
@@ -367,29 +395,49 @@ fn only_what_may_pass_is_given(rt: HostRuntime) -> Result<(), Fail> {
     Ok(())
 }
 
-/// What a machine's own parties send each other stays in it, scans among it. A link that is cut is closed until it's made
-/// anew.
-#[test]
-fn the_parties_of_a_machine_reach_each_other(rt: HostRuntime) -> Result<(), Fail> {
-    let alloc = rt.alloc();
+/// Of the links of a machine that of its replica, and that of its driver.
+pub(crate) fn replica_and_driver<L: Drop>(links: Vec<L>) -> Option<(L, L)> {
+    let mut links = links.into_iter();
+    let replica = links.next()?;
+    Some((replica, links.next()?))
+}
+
+/// The links of the replica and of the driver of a machine that is alone.
+fn own_links<R: Runtime>(rt: R) -> Result<(PeerLink<R>, PeerLink<R>), Fail> {
     let (listener, at) = listening(rt)?;
-    let machine = machine_of(alloc, 0, &[at, at, at])?;
-    let (_, mut links) = machine_links(rt, alloc, &machine, listener, Duration::from_millis(1))?;
-    let (Some(mut driver), Some(mut replica)) = (links.pop(), links.pop()) else {
-        return Err(Fail::new("no links"));
-    };
+    let machine = machine_of(rt.alloc(), 0, &[at, at, at])?;
+    let wait = Duration::from_millis(1);
+    let (_, links) = machine_links(rt, rt.alloc(), &machine, listener, wait)?;
+    Ok(replica_and_driver(links).ok_or("no links")?)
+}
+
+/// What comes from a driver to its replica: the number of a scan; whether none comes where the link is cut; and the number
+/// of a COMMIT once that's made anew.
+fn sent_by_driver<R: Runtime>(
+    driver: &mut PeerLink<R>,
+    replica: &mut PeerLink<R>,
+) -> Result<(u64, bool, u64), Fail> {
     let scan = Command::Scan {
         inputs: InImage::clear(),
         moment: 0,
     };
     driver.send(request(4, scan)?);
-    assert_eq!(rt; number_of(replica.recv()), 4);
+    let scanned = number_of(replica.recv());
     replica.cutter()?.cut();
     driver.send(commit(1, 0, 5));
-    assert!(rt; matches!(replica.recv(), Input::Closed));
+    let is_closed = matches!(replica.recv(), Input::Closed);
     replica.renew()?;
     driver.send(commit(1, 0, 6));
-    assert_eq!(rt; number_of(replica.recv()), 6);
+    Ok((scanned, is_closed, number_of(replica.recv())))
+}
+
+/// What a machine's own parties send each other stays in it, scans among it. A link that is cut is closed until it's
+/// made anew.
+#[test]
+fn the_parties_of_a_machine_reach_each_other(rt: HostRuntime) -> Result<(), Fail> {
+    let (mut replica, mut driver) = own_links(rt)?;
+    let came = sent_by_driver(&mut driver, &mut replica)?;
+    assert_eq!(rt; came, (4, true, 6));
     Ok(())
 }
 
@@ -547,7 +595,7 @@ const LONG: u64 = 15_000;
 impl<R: Runtime> Pair<R> {
     fn new(rt: R) -> Result<Pair<R>, Fail> {
         let first = alone(rt)?;
-        let (pipe, by) = pipe_to(rt, first.at)?;
+        let (pipe, by) = pipe_to(rt, first.at())?;
         let (machine, listener) = dialling(rt, by)?;
         let second = seat_of(rt, &machine, listener)?;
         Ok(Pair {
@@ -595,6 +643,16 @@ impl<R: Runtime> Pair<R> {
         Ok(())
     }
 
+    /// How long it takes until they are joined, until both notice that nothing passes, and until they are joined again
+    /// behind three seconds.
+    fn part_and_heal(&mut self) -> Result<[Taken; 3], Fail> {
+        let joined = self.until(true, (2, 1))?;
+        let parted = self.until(false, (0, 0))?;
+        self.stand_apart()?;
+        let healed = self.until(true, (2, 1))?;
+        Ok([joined, parted, healed])
+    }
+
     /// The second sends the number 7, and a message that no frame names: what came, and how many had no frame.
     fn send(&mut self) -> Result<(u64, u64), Fail> {
         self.second.link.send(commit(200, 0, 8));
@@ -612,18 +670,16 @@ impl<R: Runtime> Pair<R> {
 #[test]
 fn a_partition_heals(rt: HostRuntime) -> Result<(), Fail> {
     let mut pair = Pair::new(rt)?;
-    let joined = pair.until(true, (2, 1))?;
-    let parted = pair.until(false, (0, 0))?;
+    let [joined, parted, healed] = pair.part_and_heal()?;
+    let sent = pair.send()?;
     assert!(rt; joined.all <= LONG && parted.all <= LONG);
-    pair.stand_apart()?;
-    let healed = pair.until(true, (2, 1))?;
     assert!(rt;
         healed.all <= 1500 || (healed.longest > 100 && healed.all <= LONG),
         "{} {}",
         healed.all,
         healed.longest
     );
-    assert_eq!(rt; pair.send()?, (7, 1));
+    assert_eq!(rt; sent, (7, 1));
     Ok(())
 }
 
@@ -735,13 +791,21 @@ impl<R: Runtime> Trio<R> {
         Ok((self.other.count, self.other.last))
     }
 
-    /// The one that stood still reads.
-    fn read_still(&mut self, alloc: Global) {
+    /// The one that stood still reads: whether the numbers that came rise, and how many messages they were.
+    fn read_still(&mut self, alloc: Global) -> (bool, u64) {
         for _ in 0..400u32 {
             self.still.beat();
             self.still.read(alloc);
             self.seat.link.recv();
         }
+        (self.still.is_rising, self.still.count)
+    }
+
+    /// What the other one gets while one stands still, and what that one gets behind it.
+    fn stand_still(&mut self, alloc: Global) -> Result<((u64, u64), (bool, u64)), Fail> {
+        self.send_long(alloc, 250)?;
+        let other = self.send_other(alloc)?;
+        Ok((other, self.read_still(alloc)))
     }
 }
 
@@ -749,12 +813,9 @@ impl<R: Runtime> Trio<R> {
 /// lost whole, and another one gets its own meanwhile.
 #[test]
 fn one_that_stands_still_delays_no_other(rt: HostRuntime) -> Result<(), Fail> {
-    let alloc = rt.alloc();
     let mut trio = Trio::new(rt)?;
-    trio.send_long(alloc, 250)?;
-    assert_eq!(rt; trio.send_other(alloc)?, (1, 1));
-    trio.read_still(alloc);
-    let (is_rising, count) = (trio.still.is_rising, trio.still.count);
+    let (other, (is_rising, count)) = trio.stand_still(rt.alloc())?;
+    assert_eq!(rt; other, (1, 1));
     assert!(rt; is_rising && count > 32 && count < 250, "{count}");
     Ok(())
 }

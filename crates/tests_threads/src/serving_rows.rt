@@ -154,9 +154,75 @@ const DOWN: Standing = Standing {
     is_primary: false,
 };
 
+/// A seat whose timer and whose link have scripts.
+type ScriptedSeat<'t, 'l, R> = Seat<ScriptedLink<'l, R>, Shelf, ScriptedTimer<'t, R>, CountingGate>;
+
+fn scripted_seat<'t, 'l, R: Abort + Copy + Drop>(
+    rt: R,
+    alloc: Global,
+    ticks: &'t [Tick],
+    inputs: &'l [Given],
+) -> ScriptedSeat<'t, 'l, R> {
+    let link = ScriptedLink {
+        rt,
+        alloc,
+        script: inputs,
+        given: Vec::new(alloc),
+        sent: Vec::new(alloc),
+    };
+    let timer = ScriptedTimer {
+        rt,
+        script: ticks,
+        said: Vec::new(alloc),
+        heard: 0,
+        standing: DOWN,
+    };
+    Seat {
+        link,
+        store: Shelf::new(0),
+        timer,
+        gate: CountingGate::new(),
+    }
+}
+
 /// How often was polled, received, heard and sent, how many steps the gate saw in turn, and after how many of them the
 /// replica was normal.
 type Counts = (usize, usize, u64, usize, u64, u64);
+
+fn counts_of<R: Abort + Copy + Drop>(seat: &ScriptedSeat<'_, '_, R>) -> Counts {
+    (
+        seat.timer.said.len(),
+        seat.link.given.len(),
+        seat.timer.heard,
+        seat.link.sent.len(),
+        seat.gate.steps(),
+        seat.gate.normal,
+    )
+}
+
+/// Replica 0 of three, as it is before it's served.
+fn first_replica(alloc: Global) -> Result<Replica, Fail> {
+    let (config, budget) = group_of_three()?;
+    let image = load(alloc, WIRE)?;
+    Ok(Replica::new(alloc, config, 0, image, budget)?)
+}
+
+/// Replica 0 is served in this seat for so many turns: what shows of it at the end, which the timer has to be told too.
+fn shown_of<R: Abort + Copy + Drop>(
+    alloc: Global,
+    seat: &mut ScriptedSeat<'_, '_, R>,
+    turns: u64,
+) -> Result<Shown, Fail> {
+    let mut replica = first_replica(alloc)?;
+    let mut shown = ShownWriter::new(alloc)?;
+    serve(alloc, &mut replica, seat, &mut shown, turns);
+    let read = shown.reader()?.read();
+    if read.standing == seat.timer.standing {
+        Ok(read)
+    } else {
+        Err(Fail::new("the timer was told something else"))
+    }
+}
 
 /// Replica 0 is served for so many turns. The counts, and what shows of it at the end.
 fn served<R: Abort + Copy + Drop>(
@@ -166,42 +232,9 @@ fn served<R: Abort + Copy + Drop>(
     ticks: &[Tick],
     inputs: &[Given],
 ) -> Result<(Counts, Shown), Fail> {
-    let (config, budget) = group_of_three()?;
-    let image = load(alloc, WIRE)?;
-    let mut replica = Replica::new(alloc, config, 0, image, budget)?;
-    let mut shown = ShownWriter::new(alloc)?;
-    let mut seat = Seat {
-        link: ScriptedLink {
-            rt,
-            alloc,
-            script: inputs,
-            given: Vec::new(alloc),
-            sent: Vec::new(alloc),
-        },
-        store: Shelf::new(0),
-        timer: ScriptedTimer {
-            rt,
-            script: ticks,
-            said: Vec::new(alloc),
-            heard: 0,
-            standing: DOWN,
-        },
-        gate: CountingGate::new(),
-    };
-    serve(alloc, &mut replica, &mut seat, &mut shown, turns);
-    let counts = (
-        seat.timer.said.len(),
-        seat.link.given.len(),
-        seat.timer.heard,
-        seat.link.sent.len(),
-        seat.gate.steps(),
-        seat.gate.normal,
-    );
-    let read = shown.reader()?.read();
-    if read.standing != seat.timer.standing {
-        return Err(Fail::new("the timer was told something else"));
-    }
-    Ok((counts, read))
+    let mut seat = scripted_seat(rt, alloc, ticks, inputs);
+    let shown = shown_of(alloc, &mut seat, turns)?;
+    Ok((counts_of(&seat), shown))
 }
 
 /// A request, PREPARE to two; resend, the same; nothing; the request again, which is dropped; a timeout, which begins a

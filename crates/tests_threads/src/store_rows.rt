@@ -18,21 +18,62 @@ const fn stored(view: u64, starts: u64) -> Stored {
     Stored { view, starts }
 }
 
+/// What is asked of a store.
+#[derive(Clone, Copy, Debug, PartialEq, Eq)]
+enum Call {
+    Load,
+    Save(u64),
+    Begin,
+}
+
+/// What a store answers: what it keeps, and to a save nothing.
+type Answer = Result<Option<Stored>, StoreFault>;
+
+fn answer_to<R: Files + Drop>(store: &mut FileStore<R>, call: Call) -> Answer {
+    match call {
+        Call::Load => Ok(Some(store.load()?)),
+        Call::Begin => Ok(Some(store.begin()?)),
+        Call::Save(view) => {
+            store.save(view)?;
+            Ok(None)
+        }
+    }
+}
+
+/// The first of these calls, one behind another, that has another answer, if one has.
+fn otherwise_answered<R: Files + Drop>(
+    store: &mut FileStore<R>,
+    rows: &[(Call, Answer)],
+) -> Option<Call> {
+    for (call, answer) in rows {
+        if answer_to(store, *call) != *answer {
+            return Some(*call);
+        }
+    }
+    None
+}
+
 #[test]
 fn a_store_keeps_what_it_saved(rt: HostRuntime) -> Result<(), Fail> {
     let alloc = rt.alloc();
     let mut first = FileStore::new(rt, alloc, ".", 200)?;
     let _ = fs::remove_file(&rt, first.path());
-    assert_eq!(rt; first.save(1), Err(StoreFault));
-    assert_eq!(rt; first.load(), Ok(stored(0, 0)));
-    assert_eq!(rt; first.save(1), Err(StoreFault));
-    assert_eq!(rt; first.begin(), Ok(stored(0, 1)));
-    assert_eq!(rt; first.save(7), Ok(()));
-    assert_eq!(rt; first.save(5), Ok(()));
-    assert_eq!(rt; first.begin(), Ok(stored(5, 2)));
+    let rows: [(Call, Answer); 7] = [
+        (Call::Save(1), Err(StoreFault)),
+        (Call::Load, Ok(Some(stored(0, 0)))),
+        (Call::Save(1), Err(StoreFault)),
+        (Call::Begin, Ok(Some(stored(0, 1)))),
+        (Call::Save(7), Ok(None)),
+        (Call::Save(5), Ok(None)),
+        (Call::Begin, Ok(Some(stored(5, 2)))),
+    ];
+    assert_eq!(rt; otherwise_answered(&mut first, &rows), None);
     let mut again = FileStore::new(rt, alloc, ".", 200)?;
-    assert_eq!(rt; again.load(), Ok(stored(5, 2)));
-    assert_eq!(rt; again.begin(), Ok(stored(5, 3)));
+    let rows: [(Call, Answer); 2] = [
+        (Call::Load, Ok(Some(stored(5, 2)))),
+        (Call::Begin, Ok(Some(stored(5, 3)))),
+    ];
+    assert_eq!(rt; otherwise_answered(&mut again, &rows), None);
     let bytes = fs::read(&rt, "replica-200")?;
     assert_eq!(rt;
         bytes.as_slice(),
