@@ -1,7 +1,6 @@
 //! What is heard of other epochs over connections of this machine, and visits, as before a cold start.
 
-use crate::peer_rows::{EPOCH, Seat, alone, dialling, hello_of, listening, seat_of};
-use crate::shelf::Runtime;
+use crate::peer_rows::{EPOCH, Runtime, Seat, alone, dialling, hello_of, listening, seat_of};
 use net_hello::{Epoch, Hello};
 use net_peers::{FIRST_CONSOLE, VISIT, visit};
 use std::io::{Read, Write};
@@ -67,7 +66,7 @@ fn no_other_visit_comes(rt: HostRuntime) -> Result<(), Fail> {
     drop(seat.meet(front, 1)?);
     let _other = seat.meet(b"PLC-CS\0\x02", 20)?;
     assert!(rt; seat.visits().is_empty());
-    let (listener, nobody) = listening(rt)?;
+    let (listener, nobody) = listening(&rt)?;
     drop(listener);
     assert!(rt; !visit(&rt, nobody, &frame, Duration::from_millis(1000)));
     Ok(())

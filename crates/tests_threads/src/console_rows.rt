@@ -3,7 +3,6 @@
 
 use crate::clients::{connect, free_port};
 use crate::controllers::{ended, file_stores, service_of};
-use crate::shelf::Runtime;
 use il_model::Budget;
 use io_model::Counted;
 use plc_console::send_commands;
@@ -14,8 +13,9 @@ use plc_tool::change_to;
 use std::alloc::Global;
 use std::io;
 use std::io::{Read, Write};
-use std::net::TcpStream;
+use std::net::{Net, TcpListener, TcpStream};
 use std::process::Abort;
+use std::sync::Wait;
 use std::test::Fail;
 use std::time::Duration;
 use vr_model::Config;
@@ -176,8 +176,9 @@ const FLOOD: usize = 1 << 22;
 
 /// What takes the lines on standard error of a controller, and has an operator at its console.
 #[derive(Drop)]
-struct Operator<R: Runtime> {
+struct Operator<R: Drop> {
     rt: R,
+    alloc: Global,
     port: u16,
     /// Whether others come before, of whom this one takes the console over, and this one reads nothing in the end.
     has_others: bool,
@@ -243,7 +244,11 @@ fn texts(alloc: Global, asked: Asked) -> Option<Vec<Vec<u8>>> {
 }
 
 /// What is printed where this is asked as `plc ask` does; none where it isn't answered.
-fn printed<R: Runtime>(host: &Host<R>, stream: &TcpStream, texts: &[Vec<u8>]) -> Option<Vec<u8>> {
+fn printed<R: Wait + Copy>(
+    host: &Host<R>,
+    stream: &TcpStream,
+    texts: &[Vec<u8>],
+) -> Option<Vec<u8>> {
     let mut printed = Vec::new(host.alloc);
     let sent = send_commands(
         host,
@@ -256,15 +261,16 @@ fn printed<R: Runtime>(host: &Host<R>, stream: &TcpStream, texts: &[Vec<u8>]) ->
 }
 
 /// Whether commands that are asked as `plc ask` does are answered so.
-fn is_asked<R: Runtime>(rt: R, stream: &TcpStream, asked: Asked, wanted: &[u8]) -> bool {
-    let host = Host {
-        rt,
-        alloc: rt.alloc(),
-    };
+fn is_asked<R: Wait + Copy>(
+    host: &Host<R>,
+    stream: &TcpStream,
+    asked: Asked,
+    wanted: &[u8],
+) -> bool {
     let Some(texts) = texts(host.alloc, asked) else {
         return false;
     };
-    match printed(&host, stream, texts.as_slice()) {
+    match printed(host, stream, texts.as_slice()) {
         Some(printed) => is_like(printed.as_slice(), wanted),
         None => false,
     }
@@ -301,7 +307,7 @@ fn is_over(stream: &mut TcpStream) -> bool {
     matches!(stream.read(&mut [0; 1]), Ok(0))
 }
 
-impl<R: Runtime> Operator<R> {
+impl<R: Net<Listener = TcpListener, Stream = TcpStream> + Wait + Copy + Drop> Operator<R> {
     /// A connection to the console.
     fn connection(&self) -> io::Result<TcpStream> {
         let stream = connect(&self.rt, self.port)?;
@@ -317,7 +323,7 @@ impl<R: Runtime> Operator<R> {
     /// A connection to the console by which bad lines are seen to be refused: none where they aren't.
     fn tried_connection(&self) -> io::Result<Option<TcpStream>> {
         let mut stream = self.connection()?;
-        if refuses(self.rt.alloc(), &mut stream)? {
+        if refuses(self.alloc, &mut stream)? {
             Ok(Some(stream))
         } else {
             Ok(None)
@@ -327,7 +333,7 @@ impl<R: Runtime> Operator<R> {
     /// Takes the console over from another operator, who is told: none where that one isn't told.
     fn take_over(&self, mut other: TcpStream) -> io::Result<Option<TcpStream>> {
         let stream = self.connection()?;
-        let is_told = is_answered(self.rt.alloc(), &mut other, b"", TAKEN_OVER)?;
+        let is_told = is_answered(self.alloc, &mut other, b"", TAKEN_OVER)?;
         if is_told && is_over(&mut other) {
             Ok(Some(stream))
         } else {
@@ -363,8 +369,12 @@ impl<R: Runtime> Operator<R> {
 
     /// Asks what a row says: whether that is answered as it wants.
     fn asks(&self, row: &Row) -> bool {
+        let host = Host {
+            rt: self.rt,
+            alloc: self.alloc,
+        };
         match &self.stream {
-            Some(stream) => is_asked(self.rt, stream, row.asked, row.printed),
+            Some(stream) => is_asked(&host, stream, row.asked, row.printed),
             None => false,
         }
     }
@@ -372,7 +382,7 @@ impl<R: Runtime> Operator<R> {
     /// Sends on and never reads: the controller goes on, and ends.
     fn flood(&mut self) -> io::Result<()> {
         match &mut self.stream {
-            Some(stream) => flood(self.rt.alloc(), stream),
+            Some(stream) => flood(self.alloc, stream),
             None => Ok(()),
         }
     }
@@ -412,7 +422,8 @@ impl<R: Runtime> Operator<R> {
     }
 }
 
-impl<R: Runtime> Write for Operator<R> {
+impl<R: Net<Listener = TcpListener, Stream = TcpStream> + Wait + Copy + Drop> Write
+    for Operator<R> {
     fn write(&mut self, bytes: &[u8]) -> io::Result<usize> {
         self.line.extend_from_slice(bytes)?;
         if bytes.ends_with(b"\n") {
@@ -451,38 +462,35 @@ fn settings(console: u16, links: Links, crash: Option<u32>) -> Option<Settings> 
 }
 
 /// Where the stores are, how messages go, and after how many releases a replica crashes each time, if one does.
-type Case = (&'static str, Links, Option<u32>);
-
-const CASES: [Case; 2] = [
+const CASES: [(&str, Links, Option<u32>); 2] = [
     ("console", Links::Channels, None),
     ("console_crash", Links::Tcp, Some(2)),
 ];
 
-/// Serves a controller with an operator at its console: its status, and how many rows came to pass.
-fn operated<R: Runtime>(rt: R, case: Case) -> Result<(u8, usize), Fail> {
-    let (directory, links, crash) = case;
-    let port = free_port(&rt)?;
-    let settings = settings(port, links, crash).ok_or("no settings")?;
-    let stores = file_stores(rt, directory)?;
-    let source = SOURCE.to_vec(rt.alloc())?;
-    let service = service_of(rt.alloc(), source, directory, stores, settings)?;
-    let mut operator = Operator {
-        rt,
-        port,
-        has_others: crash.is_none(),
-        stream: None,
-        done: 0,
-        line: Vec::new(rt.alloc()),
-    };
-    let ended = ended(rt, service, &mut operator);
-    Ok((ended.status, operator.done))
-}
-
 /// The same answers with a crash and without, behind which the controller ends well.
 #[test]
 fn an_operator_is_answered_the_same_over_a_crash(rt: HostRuntime) -> Result<(), Fail> {
-    for case in CASES {
-        assert_eq!(rt; operated(rt, case)?, (0, ROWS.len()), "in {}", case.0);
+    let alloc = rt.alloc();
+    for (directory, links, crash) in CASES {
+        let port = free_port(&rt)?;
+        let settings = settings(port, links, crash).ok_or("no settings")?;
+        let stores = file_stores(rt, directory)?;
+        let service = service_of(alloc, SOURCE.to_vec(alloc)?, directory, stores, settings)?;
+        let mut operator = Operator {
+            rt,
+            alloc,
+            port,
+            has_others: crash.is_none(),
+            stream: None,
+            done: 0,
+            line: Vec::new(alloc),
+        };
+        let ended = ended(Host { rt, alloc }, service, &mut operator);
+        assert_eq!(rt;
+            (ended.status, operator.done),
+            (0, ROWS.len()),
+            "in {directory}"
+        );
     }
     Ok(())
 }

@@ -1,15 +1,17 @@
 //! Controllers that tests serve: what they are served from, and what they come to.
 
-use crate::shelf::Runtime;
 use io_image::NewList;
 use io_model::Counted;
-use plc_host::Host;
+use plc_host::{Host, ServiceRuntime};
 use plc_serve::{Service, serve};
 use plc_settings::Settings;
 use plc_status::StatusWriter;
 use std::alloc::Global;
+use std::fs::File;
 use std::io::Write;
 use std::marker::Brand;
+use std::net::{Net, TcpListener, TcpStream};
+use std::rt::Files;
 use std::sync::Arc;
 use std::sync::atomic::{AtomicU64, Ordering};
 use std::test::Fail;
@@ -17,7 +19,10 @@ use std::{fs, io, str};
 use vr_threads::{FileStore, Starts};
 
 /// The stores of three replicas, in files of a directory. What an earlier run left there is removed.
-pub fn file_stores<R: Runtime>(rt: R, directory: &str) -> Result<Vec<FileStore<R>>, Fail> {
+pub fn file_stores<R: Files + Alloc<A = Global> + Copy + Drop>(
+    rt: R,
+    directory: &str,
+) -> Result<Vec<FileStore<R>>, Fail> {
     let _ = fs::remove_dir_all(&rt, directory);
     let mut stores = Vec::new(rt.alloc());
     for number in 0..3u8 {
@@ -48,21 +53,19 @@ pub fn service_of<S: Drop>(
 }
 
 /// Serves a controller to its end: its status.
-pub fn served<R: Runtime, S, F: Write, E: Write>(
-    rt: R,
+pub fn served<R, S, F: Write, E: Write>(
+    host: Host<R>,
     service: Service<S>,
     report: &mut F,
     out: &mut Vec<u8>,
     err: &mut E,
 ) -> u8
 where
+    R: ServiceRuntime + Net<Listener = TcpListener, Stream = TcpStream> + Files<File = File>,
     S: Starts + Send + Drop + 'static,
 {
     serve::<Brand, _, _, _, _, _>(
-        Host {
-            rt,
-            alloc: rt.alloc(),
-        },
+        host,
         NewList::new(),
         service,
         &mut Counted::new(report),
@@ -80,12 +83,13 @@ pub struct Outcome {
 }
 
 /// Serves a controller whose lines on standard error this one takes.
-pub fn ended<R: Runtime, S, E: Write>(rt: R, service: Service<S>, err: &mut E) -> Outcome
+pub fn ended<R, S, E: Write>(host: Host<R>, service: Service<S>, err: &mut E) -> Outcome
 where
+    R: ServiceRuntime + Net<Listener = TcpListener, Stream = TcpStream> + Files<File = File>,
     S: Starts + Send + Drop + 'static,
 {
-    let (mut report, mut out) = (Vec::new(rt.alloc()), Vec::new(rt.alloc()));
-    let status = served(rt, service, &mut report, &mut out, err);
+    let (mut report, mut out) = (Vec::new(host.alloc), Vec::new(host.alloc));
+    let status = served(host, service, &mut report, &mut out, err);
     Outcome {
         status,
         report,

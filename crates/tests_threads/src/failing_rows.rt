@@ -1,20 +1,22 @@
 //! A served controller whose replicas crash in turn: what sixteen clients see of it, and its report.
 
 use crate::clients::{connect, reply_to, request, told_port};
-use crate::controllers::{Lines, Outcome, ended, file_stores, service_of};
-use crate::shelf::Runtime;
+use crate::controllers::{Lines, ended, file_stores, service_of};
 use il_model::Budget;
+use plc_host::Host;
 use plc_serve::Service;
 use plc_settings::{Links, Settings};
 use plc_status::StatusReader;
 use std::alloc::Global;
 use std::io::{Read, Write};
-use std::net::TcpStream;
+use std::net::{Net, TcpListener, TcpStream};
 use std::process::Abort;
+use std::rt::Files;
 use std::sync::Arc;
 use std::sync::atomic::AtomicU64;
 use std::test::Fail;
-use std::thread::JoinHandle;
+use std::thread::{JoinHandle, Threads};
+use std::time::Clock;
 use std::{io, str, thread};
 use vr_model::Config;
 use vr_threads::FileStore;
@@ -142,10 +144,28 @@ struct Operator {
 }
 
 impl Operator {
+    fn new(alloc: Global, told: Arc<AtomicU64>, status: StatusReader) -> Operator {
+        Operator {
+            lines: Lines::new(alloc, told),
+            status,
+            releases: 0,
+            goes_back: false,
+        }
+    }
+
     fn look(&mut self) {
         let releases = self.status.read().scans().releases;
         self.goes_back = self.goes_back || releases < self.releases;
         self.releases = releases;
+    }
+
+    /// Once the controller has ended: how many releases showed last, whether those went back, and how many sessions there
+    /// were.
+    fn seen(&mut self) -> (u64, bool, u64) {
+        self.lines.close();
+        self.look();
+        let sessions = self.status.read().sessions;
+        (self.releases, self.goes_back, sessions)
     }
 }
 
@@ -188,7 +208,9 @@ fn settings() -> Result<Settings, Fail> {
 }
 
 /// The controller that mirrors its inputs.
-fn service<R: Runtime>(rt: R) -> Result<Service<FileStore<R>>, Fail> {
+fn service<R: Files + Alloc<A = Global> + Copy + Drop>(
+    rt: R,
+) -> Result<Service<FileStore<R>>, Fail> {
     let settings = settings()?;
     let stores = file_stores(rt, "failing")?;
     let source = source(rt.alloc())?;
@@ -223,22 +245,28 @@ impl Visits {
 }
 
 /// What the clients of these threads came to.
-fn joined<R: Runtime>(rt: R, threads: Vec<JoinHandle<Seen>>) -> Visits {
+fn joined<R: Threads>(rt: &R, threads: Vec<JoinHandle<Seen>>) -> Visits {
     let mut visits = NO_VISITS;
     for thread in threads {
-        visits = visits.with(thread.join(&rt));
+        visits = visits.with(thread.join(rt));
     }
     visits
 }
 
 /// The thread of a client that comes now, if one is to be had.
-fn arrived<R: Runtime>(rt: R, port: u16, number: u8) -> io::Result<Option<JoinHandle<Seen>>> {
-    let stream = connect(&rt, port)?;
-    Ok(thread::spawn(&rt, move || client(stream, number)).ok())
+fn arrived<R>(rt: &R, port: u16, number: u8) -> io::Result<Option<JoinHandle<Seen>>>
+where
+    R: Threads + Net<Listener = TcpListener, Stream = TcpStream>,
+{
+    let stream = connect(rt, port)?;
+    Ok(thread::spawn(rt, move || client(stream, number)).ok())
 }
 
 /// The threads of clients who come at once.
-fn crowd<R: Runtime>(rt: R, alloc: Global, port: u16) -> io::Result<Vec<JoinHandle<Seen>>> {
+fn crowd<R>(rt: &R, alloc: Global, port: u16) -> io::Result<Vec<JoinHandle<Seen>>>
+where
+    R: Threads + Net<Listener = TcpListener, Stream = TcpStream>,
+{
     let mut threads = Vec::new(alloc);
     for number in 0..CLIENTS {
         if let Some(thread) = arrived(rt, port, number)? {
@@ -249,21 +277,28 @@ fn crowd<R: Runtime>(rt: R, alloc: Global, port: u16) -> io::Result<Vec<JoinHand
 }
 
 /// What the clients came to, who come once the port is told.
-fn come_once_told<R: Runtime>(rt: R, alloc: Global, port: &AtomicU64) -> io::Result<Visits> {
-    match told_port(&rt, port) {
+fn come_once_told<R>(rt: &R, alloc: Global, port: &AtomicU64) -> io::Result<Visits>
+where
+    R: Threads + Net<Listener = TcpListener, Stream = TcpStream> + Clock,
+{
+    match told_port(rt, port) {
         Some(port) => Ok(joined(rt, crowd(rt, alloc, port)?)),
         None => Ok(NO_VISITS),
     }
 }
 
 /// The thread in which the clients come.
-fn coming<R: Runtime>(
-    rt: R,
+fn coming<R>(
+    rt: &R,
     alloc: Global,
-    port: Arc<AtomicU64>,
-) -> Result<JoinHandle<io::Result<Visits>>, Fail> {
-    let work = move || come_once_told(rt, alloc, &port);
-    match thread::spawn(&rt, work) {
+    told: &Arc<AtomicU64>,
+) -> Result<JoinHandle<io::Result<Visits>>, Fail>
+where
+    R: Threads + Net<Listener = TcpListener, Stream = TcpStream> + Clock + Copy + Send + 'static,
+{
+    let theirs = *rt;
+    let port = Arc::try_clone(told)?;
+    match thread::spawn(rt, move || come_once_told(&theirs, alloc, &port)) {
         Ok(clients) => Ok(clients),
         Err(_) => Err(Fail::new("no thread")),
     }
@@ -279,30 +314,15 @@ fn reported(report: &[u8]) -> Option<(u64, u64)> {
     Some((crashes.parse().ok()?, writes.parse().ok()?))
 }
 
-/// Serves the controller: what it came to, and what its operator saw: how many releases showed last, whether those went
-/// back, and how many sessions there were.
-fn watched<R: Runtime>(rt: R, told: Arc<AtomicU64>) -> Result<(Outcome, (u64, bool, u64)), Fail> {
-    let service = service(rt)?;
-    let mut operator = Operator {
-        status: service.status.reader()?,
-        lines: Lines::new(rt.alloc(), told),
-        releases: 0,
-        goes_back: false,
-    };
-    let ended = ended(rt, service, &mut operator);
-    operator.lines.close();
-    operator.look();
-    let sessions = operator.status.read().sessions;
-    Ok((ended, (operator.releases, operator.goes_back, sessions)))
-}
-
 #[test]
 fn sixteen_clients_see_one_history(rt: HostRuntime) -> Result<(), Fail> {
     let alloc = rt.alloc();
     let told = Arc::new(alloc, AtomicU64::new(0))?;
-    let clients = coming(rt, alloc, Arc::try_clone(&told)?)?;
-    let (ended, shown) = watched(rt, told)?;
-    assert_eq!(rt; shown, (40, false, 16));
+    let clients = coming(&rt, alloc, &told)?;
+    let service = service(rt)?;
+    let mut operator = Operator::new(alloc, told, service.status.reader()?);
+    let ended = ended(Host { rt, alloc }, service, &mut operator);
+    assert_eq!(rt; operator.seen(), (40, false, 16));
     let visits = clients.join(&rt)?;
     let (crashes, writes) = reported(ended.report.as_slice()).ok_or("no report")?;
     let rounds = visits.rounds;

@@ -2,6 +2,7 @@
 
 use crate::controllers::{ended, service_of};
 use il_model::Budget;
+use plc_host::Host;
 use plc_settings::{Links, Settings};
 use std::alloc::Global;
 use std::process::Abort;
@@ -136,7 +137,7 @@ fn a_disk_that_hangs_stops_no_scan(rt: HostRuntime) -> Result<(), Fail> {
     let mut shown = service.status.reader()?;
     let mut err = Vec::new(alloc);
     let begun = Instant::now(&rt)?;
-    let ended = ended(rt, service, &mut err);
+    let ended = ended(Host { rt, alloc }, service, &mut err);
     let took = Instant::now(&rt)?.saturating_duration_since(begun);
     goes.store(true, Ordering::SeqCst);
     let text = str::from_utf8(err.as_slice()).unwrap_or("?");

@@ -2,13 +2,16 @@
 
 use crate::cluster_rows::{Plan, Sought, is_answered, link_of, shows, switchboard};
 use crate::peer_rows::{listening, machine_of, replica_and_driver};
-use crate::shelf::{CLIENT, Runtime, group_of_three};
+use crate::shelf::{CLIENT, group_of_three};
 use net_peers::{Exchange, Machine, PeerLink, machine_links};
-use std::net::{SocketAddr, TcpListener};
+use std::alloc::Global;
+use std::net::{Net, SocketAddr, TcpListener, TcpStream};
 use std::process::Abort;
-use std::sync::Arc;
+use std::rt::Files;
+use std::sync::{Arc, Wait};
 use std::test::Fail;
-use std::time::Duration;
+use std::thread::Threads;
+use std::time::{Clock, Duration};
 use std::{fs, thread};
 use vr_model::{ClientNumber, Config, Party, Standing, Status};
 use vr_ports::{OpenGate, Relink, Tick};
@@ -16,6 +19,11 @@ use vr_threads::{
     ChannelLink, ClusterError, FileStore, GroupPatience, GroupTimer, GroupTimes, JudgedStarts,
     Neighbours, Seat, Solo, SoloThread, Starts, Switchboard,
 };
+
+/// A runtime that machines run on.
+trait Runtime: Alloc<A = Global> + Threads + Wait + Clock + Copy + Send + Drop + 'static {}
+
+impl<R: Alloc<A = Global> + Threads + Wait + Clock + Copy + Send + Drop + 'static> Runtime for R {}
 
 /// Over channels everybody is there, always.
 #[derive(Drop)]
@@ -47,11 +55,8 @@ impl Neighbours for Connected {
     }
 }
 
-/// The store of a machine's replica.
-type MachineStore<R> = JudgedStarts<FileStore<R>>;
-
 /// The timer of the replica of this number, with a patience of half a second.
-fn timer_of<R: Runtime, N: Neighbours + Drop>(
+fn timer_of<R: Clock + Drop, N: Neighbours + Drop>(
     rt: R,
     group: Config,
     number: u8,
@@ -70,14 +75,19 @@ struct Running<L: Relink + Drop> {
 
 impl<L: Relink + Send + Drop + 'static> Running<L> {
     /// Starts the replica of this number from its store.
-    fn start<R: Runtime, N: Neighbours + Send + Drop + 'static>(
+    fn start<R, S, N>(
         rt: R,
         plan: &Plan,
         number: u8,
-        store: MachineStore<R>,
+        store: S,
         link: L,
         neighbours: N,
-    ) -> Result<Running<L>, ClusterError> {
+    ) -> Result<Running<L>, ClusterError>
+    where
+        R: Alloc<A = Global> + Threads + Wait + Clock + Copy + Send + Drop + 'static,
+        S: Starts + Send + Drop + 'static,
+        N: Neighbours + Send + Drop + 'static,
+    {
         let seat = Seat {
             link,
             store,
@@ -89,24 +99,24 @@ impl<L: Relink + Send + Drop + 'static> Running<L> {
     }
 
     /// Whether its replica comes to that in time.
-    fn comes_to<R: Runtime>(&mut self, rt: R, sought: Sought) -> bool {
+    fn comes_to<R: Clock>(&mut self, rt: &R, sought: Sought) -> bool {
         for _ in 0..10_000u32 {
             let shown = self.solo.look();
             if shown.tries == 1 && shows(shown, sought) {
                 return true;
             }
-            thread::sleep(&rt, Duration::from_millis(1));
+            thread::sleep(rt, Duration::from_millis(1));
         }
         false
     }
 
     /// Whether it comes to be normal, started twice.
-    fn comes_back<R: Runtime>(&mut self, rt: R) -> bool {
+    fn comes_back<R: Clock>(&mut self, rt: &R) -> bool {
         self.comes_to(rt, Sought::Normal) && self.solo.look().starts == 2
     }
 
     /// Whether it comes to be down with a store that failed, and not over.
-    fn is_left_down<R: Runtime>(&mut self, rt: R) -> bool {
+    fn is_left_down<R: Clock>(&mut self, rt: &R) -> bool {
         let is_served = self.comes_to(rt, Sought::Served);
         let shown = self.solo.look();
         let is_down = shown.has_failed && shown.standing.status == Status::Down;
@@ -114,28 +124,35 @@ impl<L: Relink + Send + Drop + 'static> Running<L> {
     }
 
     /// Cuts its link: whether it's over then.
-    fn is_over_once_cut<R: Runtime>(&mut self, rt: R) -> bool {
+    fn is_over_once_cut<R: Clock>(&mut self, rt: &R) -> bool {
         self.solo.cut();
         self.comes_to(rt, Sought::Ended) && self.solo.is_over()
     }
 
     /// Ends it as a process ends.
-    fn end<R: Runtime>(self, rt: R) {
+    fn end<R: Threads>(self, rt: &R) {
         let Running { solo, thread } = self;
         solo.cut();
         drop(solo);
-        thread.join(&rt);
+        thread.join(rt);
     }
 }
 
 /// The store of a replica, which was judged to be started first now, or not.
-fn store_of<R: Runtime>(rt: R, number: u8, is_first: bool) -> Result<MachineStore<R>, Fail> {
+fn store_of<R: Files + Alloc<A = Global> + Copy + Drop>(
+    rt: R,
+    number: u8,
+    is_first: bool,
+) -> Result<JudgedStarts<FileStore<R>>, Fail> {
     let store = FileStore::new(rt, rt.alloc(), "machines", number)?;
     Ok(JudgedStarts::new(store, is_first))
 }
 
 /// The stores of three replicas, which are judged so.
-fn stores<R: Runtime>(rt: R, is_first: bool) -> Result<Vec<MachineStore<R>>, Fail> {
+fn stores<R: Files + Alloc<A = Global> + Copy + Drop>(
+    rt: R,
+    is_first: bool,
+) -> Result<Vec<JudgedStarts<FileStore<R>>>, Fail> {
     let mut stores = Vec::new(rt.alloc());
     for number in 0..3u8 {
         stores.push(store_of(rt, number, is_first)?)?;
@@ -144,9 +161,9 @@ fn stores<R: Runtime>(rt: R, is_first: bool) -> Result<Vec<MachineStore<R>>, Fai
 }
 
 /// An empty directory for the files of stores.
-fn clear<R: Runtime>(rt: R) -> Result<(), Fail> {
-    let _ = fs::remove_dir_all(&rt, "machines");
-    fs::create_dir(&rt, "machines")?;
+fn clear<R: Files + Alloc>(rt: &R) -> Result<(), Fail> {
+    let _ = fs::remove_dir_all(rt, "machines");
+    fs::create_dir(rt, "machines")?;
     Ok(())
 }
 
@@ -179,14 +196,20 @@ impl<R: Runtime> Joined<R> {
     }
 
     /// A machine that was started from this store.
-    fn started(&self, number: u8, store: MachineStore<R>) -> Result<Running<ChannelLink<R>>, Fail> {
+    fn started<S>(&self, number: u8, store: S) -> Result<Running<ChannelLink<R>>, Fail>
+    where
+        S: Starts + Send + Drop + 'static,
+    {
         let party = Party::Replica(number);
         let link = link_of(self.rt, self.rt.alloc(), &self.board, party)?;
         Ok(Running::start(self.rt, &self.plan, number, store, link, AllThere)?)
     }
 
     /// Starts a machine from each of these stores: whether a request is answered.
-    fn start_all(&mut self, mut stores: Vec<MachineStore<R>>) -> Result<bool, Fail> {
+    fn start_all<S>(&mut self, mut stores: Vec<S>) -> Result<bool, Fail>
+    where
+        S: Starts + Send + Drop + 'static,
+    {
         for number in [2, 1, 0u8] {
             let store = stores.pop().ok_or("no store")?;
             let machine = self.started(number, store)?;
@@ -198,22 +221,28 @@ impl<R: Runtime> Joined<R> {
     /// Ends the first machine of those that run since the beginning: whether the others answer this request.
     fn go_on_without_first(&mut self, request: u64) -> bool {
         if let Some(machine) = self.machines.pop() {
-            machine.end(self.rt);
+            machine.end(&self.rt);
         }
         is_answered(&mut self.link, CLIENT, request)
     }
 
     /// Starts a machine again: whether it comes back.
-    fn comes_back(&mut self, number: u8, store: MachineStore<R>) -> Result<bool, Fail> {
+    fn comes_back<S>(&mut self, number: u8, store: S) -> Result<bool, Fail>
+    where
+        S: Starts + Send + Drop + 'static,
+    {
         let mut machine = self.started(number, store)?;
-        let is_back = machine.comes_back(self.rt);
+        let is_back = machine.comes_back(&self.rt);
         self.back.push(machine)?;
         Ok(is_back)
     }
 
     /// Ends each machine and starts it again, from one of these stores: whether the others answer meanwhile, and each
     /// comes back.
-    fn each_comes_back(&mut self, stores: Vec<MachineStore<R>>) -> Result<bool, Fail> {
+    fn each_comes_back<S>(&mut self, stores: Vec<S>) -> Result<bool, Fail>
+    where
+        S: Starts + Send + Drop + 'static,
+    {
         let mut is_well = true;
         for (number, store) in (0..3u8).zip(stores) {
             is_well = is_well && self.go_on_without_first(2 + u64::from(number));
@@ -226,7 +255,7 @@ impl<R: Runtime> Joined<R> {
     fn end(self) {
         let Joined { rt, back, .. } = self;
         for machine in back {
-            machine.end(rt);
+            machine.end(&rt);
         }
     }
 }
@@ -234,7 +263,7 @@ impl<R: Runtime> Joined<R> {
 /// A machine that ends does so while the others go on, and comes back from its file.
 #[test]
 fn each_machine_crashes_and_comes_back(rt: HostRuntime) -> Result<(), Fail> {
-    clear(rt)?;
+    clear(&rt)?;
     let (first, again) = (stores(rt, true)?, stores(rt, false)?);
     let mut joined = Joined::new(rt)?;
     assert!(rt; joined.start_all(first)?);
@@ -244,11 +273,14 @@ fn each_machine_crashes_and_comes_back(rt: HostRuntime) -> Result<(), Fail> {
 }
 
 /// Whether a replica whose start was judged wrongly is down, with a store that failed, until it's cut, and then over.
-fn is_left_down<R: Runtime>(rt: R, store: MachineStore<R>) -> Result<bool, Fail> {
+fn is_left_down<R: Runtime, S: Starts + Send + Drop + 'static>(
+    rt: R,
+    store: S,
+) -> Result<bool, Fail> {
     let joined = Joined::new(rt)?;
     let mut machine = joined.started(1, store)?;
-    let is_well = machine.is_left_down(rt) && machine.is_over_once_cut(rt);
-    machine.end(rt);
+    let is_well = machine.is_left_down(&rt) && machine.is_over_once_cut(&rt);
+    machine.end(&rt);
     Ok(is_well)
 }
 
@@ -256,7 +288,7 @@ fn is_left_down<R: Runtime>(rt: R, store: MachineStore<R>) -> Result<bool, Fail>
 #[test]
 fn no_file_makes_a_machine_new(rt: HostRuntime) -> Result<(), Fail> {
     for is_first in [false, true] {
-        clear(rt)?;
+        clear(&rt)?;
         if is_first {
             let _ = FileStore::new(rt, rt.alloc(), "machines", 1)?.begin()?;
         }
@@ -266,7 +298,7 @@ fn no_file_makes_a_machine_new(rt: HostRuntime) -> Result<(), Fail> {
 }
 
 /// Who is there for a machine, and the links of its replica and of its driver.
-fn linked<R: Runtime>(
+fn linked<R: Runtime + Net<Listener = TcpListener, Stream = TcpStream>>(
     rt: R,
     machine: &Machine,
     listener: TcpListener,
@@ -279,7 +311,7 @@ fn linked<R: Runtime>(
 
 /// Machines at addresses of their own, and the links of their drivers. The first machine is the last.
 #[derive(Drop)]
-struct Apart<R: Runtime> {
+struct Apart<R: Runtime + Net<Listener = TcpListener, Stream = TcpStream>> {
     rt: R,
     plan: Plan,
     at: Vec<SocketAddr>,
@@ -288,7 +320,7 @@ struct Apart<R: Runtime> {
     drivers: Vec<PeerLink<R>>,
 }
 
-impl<R: Runtime> Apart<R> {
+impl<R: Runtime + Net<Listener = TcpListener, Stream = TcpStream>> Apart<R> {
     /// None listens.
     fn new(rt: R) -> Result<Apart<R>, Fail> {
         let alloc = rt.alloc();
@@ -304,7 +336,7 @@ impl<R: Runtime> Apart<R> {
 
     /// One more listens.
     fn listen(&mut self) -> Result<(), Fail> {
-        let (listener, address) = listening(self.rt)?;
+        let (listener, address) = listening(&self.rt)?;
         self.at.push(address)?;
         self.listeners.push(listener)?;
         Ok(())
@@ -329,7 +361,10 @@ impl<R: Runtime> Apart<R> {
     }
 
     /// Starts a machine with the last listener, which was started so often with this time.
-    fn start(&mut self, number: u8, starts: u64, store: MachineStore<R>) -> Result<(), Fail> {
+    fn start<S>(&mut self, number: u8, starts: u64, store: S) -> Result<(), Fail>
+    where
+        S: Starts + Send + Drop + 'static,
+    {
         let (there, link) = self.connect(number, starts)?;
         let machine = Running::start(self.rt, &self.plan, number, store, link, there)?;
         self.machines.push(machine)?;
@@ -337,7 +372,10 @@ impl<R: Runtime> Apart<R> {
     }
 
     /// Starts a machine from each of these stores: whether the group answers the first driver.
-    fn start_all(&mut self, mut stores: Vec<MachineStore<R>>) -> Result<bool, Fail> {
+    fn start_all<S>(&mut self, mut stores: Vec<S>) -> Result<bool, Fail>
+    where
+        S: Starts + Send + Drop + 'static,
+    {
         for number in [2, 1, 0u8] {
             let store = stores.pop().ok_or("no store")?;
             self.start(number, 1, store)?;
@@ -355,16 +393,19 @@ impl<R: Runtime> Apart<R> {
     /// Ends the first machine: whether the group answers the second driver.
     fn goes_on_without_first(&mut self) -> Result<bool, Fail> {
         if let Some(machine) = self.machines.pop() {
-            machine.end(self.rt);
+            machine.end(&self.rt);
         }
         self.is_answered(1)
     }
 
     /// Starts the first machine again: whether it comes back.
-    fn comes_back(&mut self, store: MachineStore<R>) -> Result<bool, Fail> {
+    fn comes_back<S>(&mut self, store: S) -> Result<bool, Fail>
+    where
+        S: Starts + Send + Drop + 'static,
+    {
         self.start(0, 2, store)?;
         match self.machines.last_mut() {
-            Some(machine) => Ok(machine.comes_to(self.rt, Sought::Normal)),
+            Some(machine) => Ok(machine.comes_to(&self.rt, Sought::Normal)),
             None => Ok(false),
         }
     }
@@ -373,7 +414,7 @@ impl<R: Runtime> Apart<R> {
     fn end(self) {
         let Apart { rt, machines, .. } = self;
         for machine in machines {
-            machine.end(rt);
+            machine.end(&rt);
         }
     }
 }
@@ -381,7 +422,7 @@ impl<R: Runtime> Apart<R> {
 /// The machine that drives ends, another one goes on, and the first comes back at its address.
 #[test]
 fn a_machine_ends_and_is_connected_again(rt: HostRuntime) -> Result<(), Fail> {
-    clear(rt)?;
+    clear(&rt)?;
     let (stores, again) = (stores(rt, true)?, store_of(rt, 0, false)?);
     let mut apart = Apart::new(rt)?;
     for _ in 0..3u8 {

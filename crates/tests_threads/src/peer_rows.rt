@@ -2,7 +2,7 @@
 
 ghost use Rattle.std.specs.Prelude.{◌≤◌, length};
 
-use crate::shelf::{CLIENT, Runtime};
+use crate::shelf::CLIENT;
 use il_model::{Command, ImageBytes, InImage};
 use net_ends::{Inbox, NonBlocking, Outbox};
 use net_hello::{Epoch, HELLO, Hello, Refusal};
@@ -12,11 +12,11 @@ use net_peers::{
 use net_records::Records;
 use std::alloc::Global;
 use std::io::{ErrorKind, Read, Write};
-use std::net::{SocketAddr, TcpListener, TcpStream};
+use std::net::{Net, SocketAddr, TcpListener, TcpStream};
 use std::process::Abort;
-use std::sync::Arc;
+use std::sync::{Arc, Wait};
 use std::test::Fail;
-use std::time::{Duration, Instant};
+use std::time::{Clock, Duration, Instant};
 use vr_model::{Body, ClientNumber, Message, Party, Request};
 use vr_ports::{Cutter, Input, Link, Relink};
 
@@ -24,6 +24,24 @@ pub(crate) const EPOCH: Epoch = Epoch {
     number: 7,
     image: [2; 32],
 };
+
+/// A runtime that links to other machines stand on.
+pub(crate) trait Runtime: Alloc<A = Global>
+    + Wait
+    + Clock
+    + Net<Listener = TcpListener, Stream = TcpStream>
+    + Copy
+    + Drop {}
+
+impl<R> Runtime for R
+where
+    R: Alloc<A = Global>
+        + Wait
+        + Clock
+        + Net<Listener = TcpListener, Stream = TcpStream>
+        + Copy
+        + Drop,
+{}
 
 /// The replica of a machine, where it listens, and what it shows.
 #[derive(Drop)]
@@ -45,8 +63,11 @@ pub(crate) fn hello_of(party: Party, starts: u64) -> Hello {
 }
 
 /// A listener at a port of this machine, and its address.
-pub(crate) fn listening<R: Runtime>(rt: R) -> Result<(TcpListener, SocketAddr), Fail> {
-    let listener = TcpListener::bind(&rt, ("127.0.0.1", 0))?;
+pub(crate) fn listening<R>(rt: &R) -> Result<(TcpListener, SocketAddr), Fail>
+where
+    R: Net<Listener = TcpListener, Stream = TcpStream>,
+{
+    let listener = TcpListener::bind(rt, ("127.0.0.1", 0))?;
     let address = listener.local_addr()?;
     Ok((listener, address))
 }
@@ -84,14 +105,14 @@ pub(crate) fn seat_of<R: Runtime>(
 
 /// Replica 0, alone.
 pub(crate) fn alone<R: Runtime>(rt: R) -> Result<Seat<R>, Fail> {
-    let (listener, at) = listening(rt)?;
+    let (listener, at) = listening(&rt)?;
     let machine = machine_of(rt.alloc(), 0, &[at, at, at])?;
     seat_of(rt, &machine, listener)
 }
 
 /// Machine 1, which dials replica 0 at this address, and its listener.
 pub(crate) fn dialling<R: Runtime>(rt: R, to: SocketAddr) -> Result<(Machine, TcpListener), Fail> {
-    let (listener, at) = listening(rt)?;
+    let (listener, at) = listening(&rt)?;
     Ok((machine_of(rt.alloc(), 1, &[to, at, at])?, listener))
 }
 
@@ -403,8 +424,16 @@ pub(crate) fn replica_and_driver<L: Drop>(links: Vec<L>) -> Option<(L, L)> {
 }
 
 /// The links of the replica and of the driver of a machine that is alone.
-fn own_links<R: Runtime>(rt: R) -> Result<(PeerLink<R>, PeerLink<R>), Fail> {
-    let (listener, at) = listening(rt)?;
+fn own_links<R>(rt: R) -> Result<(PeerLink<R>, PeerLink<R>), Fail>
+where
+    R: Wait
+        + Clock
+        + Net<Listener = TcpListener, Stream = TcpStream>
+        + Alloc<A = Global>
+        + Copy
+        + Drop,
+{
+    let (listener, at) = listening(&rt)?;
     let machine = machine_of(rt.alloc(), 0, &[at, at, at])?;
     let wait = Duration::from_millis(1);
     let (_, links) = machine_links(rt, rt.alloc(), &machine, listener, wait)?;
@@ -413,10 +442,7 @@ fn own_links<R: Runtime>(rt: R) -> Result<(PeerLink<R>, PeerLink<R>), Fail> {
 
 /// What comes from a driver to its replica: the number of a scan; whether none comes where the link is cut; and the number
 /// of a COMMIT once that's made anew.
-fn sent_by_driver<R: Runtime>(
-    driver: &mut PeerLink<R>,
-    replica: &mut PeerLink<R>,
-) -> Result<(u64, bool, u64), Fail> {
+fn sent_by_driver<L: Relink>(driver: &mut L, replica: &mut L) -> Result<(u64, bool, u64), Fail> {
     let scan = Command::Scan {
         inputs: InImage::clear(),
         moment: 0,
@@ -442,8 +468,16 @@ fn the_parties_of_a_machine_reach_each_other(rt: HostRuntime) -> Result<(), Fail
 }
 
 /// Why this machine has no links.
-fn unlinked<R: Runtime>(rt: R, number: u8, at: &[SocketAddr]) -> Result<ErrorKind, Fail> {
-    let (listener, _) = listening(rt)?;
+fn unlinked<R>(rt: R, number: u8, at: &[SocketAddr]) -> Result<ErrorKind, Fail>
+where
+    R: Wait
+        + Clock
+        + Net<Listener = TcpListener, Stream = TcpStream>
+        + Alloc<A = Global>
+        + Copy
+        + Drop,
+{
+    let (listener, _) = listening(&rt)?;
     let machine = machine_of(rt.alloc(), number, at)?;
     let links = machine_links(rt, rt.alloc(), &machine, listener, Duration::from_millis(1));
     Ok(links.err().ok_or("no error")?.kind())
@@ -452,7 +486,7 @@ fn unlinked<R: Runtime>(rt: R, number: u8, at: &[SocketAddr]) -> Result<ErrorKin
 /// No group has a machine 3 of three, nor nine machines.
 #[test]
 fn a_machine_is_one_of_its_group(rt: HostRuntime) -> Result<(), Fail> {
-    let (_, at) = listening(rt)?;
+    let (_, at) = listening(&rt)?;
     let of_three = unlinked(rt, 3, &[at, at, at])?;
     let of_nine = unlinked(rt, 0, &[at; 9])?;
     assert!(rt; of_three == ErrorKind::InvalidInput && of_nine == ErrorKind::InvalidInput);
@@ -562,7 +596,7 @@ struct Pair<R: Runtime> {
 
 /// A pipe to this address, and where it begins.
 fn pipe_to<R: Runtime>(rt: R, to: SocketAddr) -> Result<(Pipe, SocketAddr), Fail> {
-    let (listener, at) = listening(rt)?;
+    let (listener, at) = listening(&rt)?;
     listener.set_nonblocking(true)?;
     let pipe = Pipe {
         listener,

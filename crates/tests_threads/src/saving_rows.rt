@@ -2,6 +2,7 @@
 
 use crate::controllers::{ended, service_of};
 use il_model::Budget;
+use plc_host::Host;
 use plc_settings::{Links, Settings};
 use std::alloc::Global;
 use std::process::Abort;
@@ -139,7 +140,7 @@ fn a_save_that_failed_is_tried_again(rt: HostRuntime) -> Result<(), Fail> {
     let source = Vec::from_slice(alloc, b"LD %IX0.0\nST %QX0.0\n")?;
     let service = service_of(alloc, source, "cramped", stores(rt, alloc)?, settings()?)?;
     let mut err = Vec::new(alloc);
-    let ended = ended(rt, service, &mut err);
+    let ended = ended(Host { rt, alloc }, service, &mut err);
     let text = str::from_utf8(err.as_slice()).unwrap_or("?");
     assert_eq!(rt;
         (ended.status, ended.out.as_slice()),

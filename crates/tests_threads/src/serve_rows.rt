@@ -3,22 +3,23 @@
 use crate::clients::{ALL, Step, Visit, free_port, visit_once_told};
 use crate::controllers::{Lines, served};
 use crate::falling::{Falling, with_falling};
-use crate::shelf::Runtime;
-use plc_host::Host;
+use plc_host::{Host, ServiceRuntime};
 use plc_serve::Service;
 use plc_settings::Settings;
 use plc_status::ReportFile;
 use plc_words::{Words, read_words};
 use std::alloc::{AllocError, Global};
 use std::fs::File;
-use std::net::TcpListener;
+use std::io::Write;
+use std::net::{Net, TcpListener, TcpStream};
 use std::os::unix::fs::PermissionsExt;
 use std::process::Abort;
+use std::rt::Files;
 use std::sync::Arc;
 use std::sync::atomic::AtomicU64;
 use std::test::Fail;
-use std::thread::JoinHandle;
-use std::time::{Duration, Instant};
+use std::thread::{JoinHandle, Threads};
+use std::time::{Clock, Duration, Instant};
 use std::{fs, io, str, thread};
 use vr_threads::{FileStore, Starts};
 
@@ -383,26 +384,30 @@ const ROWS: &[Row] = &[
 ];
 
 /// Gives the directory this mode.
-fn allow<R: Runtime>(rt: R, mode: u32) -> io::Result<()> {
-    fs::set_permissions(&rt, "served/first", fs::Permissions::from_mode(mode))
+fn allow<R: Files>(rt: &R, mode: u32) -> io::Result<()> {
+    fs::set_permissions(rt, "served/first", fs::Permissions::from_mode(mode))
 }
 
 /// What another start has the first directory by, if it does.
 type Held = Option<File>;
 
 /// What another start has the first directory by, which is one's own again.
-fn lock<R: Runtime>(rt: R) -> io::Result<File> {
+fn lock<R: Files<File = File>>(rt: &R) -> io::Result<File> {
     allow(rt, 0o755)?;
-    let file = File::create_new(&rt, "served/first/lock")?;
+    let file = File::create_new(rt, "served/first/lock")?;
     file.lock()?;
     Ok(file)
 }
 
-fn prepare<R: Runtime>(rt: R, before: Before, held: &mut Held) -> io::Result<()> {
+fn prepare<R: Files<File = File> + Alloc<A = Global>>(
+    rt: &R,
+    before: Before,
+    held: &mut Held,
+) -> io::Result<()> {
     match before {
         Before::Nothing => Ok(()),
-        Before::Hinder => fs::create_dir_all(&rt, "served/first/replica-1.new"),
-        Before::LetGo => fs::remove_dir_all(&rt, "served/first/replica-1.new"),
+        Before::Hinder => fs::create_dir_all(rt, "served/first/replica-1.new"),
+        Before::LetGo => fs::remove_dir_all(rt, "served/first/replica-1.new"),
         Before::Share => allow(rt, 0o777),
         Before::Lock => {
             *held = Some(lock(rt)?);
@@ -417,7 +422,7 @@ fn prepare<R: Runtime>(rt: R, before: Before, held: &mut Held) -> io::Result<()>
 
 /// What the words of a row ask to serve, but at other ports, since the words can't name any that is free, and with the
 /// row's patience.
-fn asked<R: Runtime>(
+fn asked<R: Files + Alloc<A = Global> + Copy + Drop>(
     rt: R,
     row: &Row,
     port: u16,
@@ -473,7 +478,7 @@ fn falling<S: Drop>(
 }
 
 /// What a row asks to serve, with its text in a file.
-fn prepared<R: Runtime>(
+fn prepared<R: Files + Alloc<A = Global> + Copy + Drop>(
     rt: R,
     row: &Row,
     in_use: u16,
@@ -613,14 +618,18 @@ fn wants(rt: &impl Abort, n: usize, row: &Row, ended: &Ended) {
 }
 
 /// The thread of a row's clients, who come once the port is told.
-fn visiting<R: Runtime>(
-    rt: R,
+fn visiting<R>(
+    rt: &R,
+    alloc: Global,
     told: &Arc<AtomicU64>,
     visit: Visit,
-) -> Result<JoinHandle<Option<u8>>, Fail> {
+) -> Result<JoinHandle<Option<u8>>, Fail>
+where
+    R: Threads + Net<Listener = TcpListener, Stream = TcpStream> + Clock + Copy + Send + 'static,
+{
+    let theirs = *rt;
     let port = Arc::try_clone(told)?;
-    let work = move || visit_once_told(&rt, rt.alloc(), &port, visit);
-    match thread::spawn(&rt, work) {
+    match thread::spawn(rt, move || visit_once_told(&theirs, alloc, &port, visit)) {
         Ok(clients) => Ok(clients),
         Err(_) => Err(Fail::new("no thread")),
     }
@@ -634,15 +643,20 @@ fn visit_of(row: &Row, console: u16) -> Visit {
     }
 }
 
-/// Serves a controller that has no report, and tells its port.
-fn serve_unreported<R: Runtime, S>(rt: R, service: Service<S>, told: Arc<AtomicU64>) -> Written
+/// Serves a controller, and tells its port.
+fn serve_told<R, S, F: Write>(
+    host: Host<R>,
+    service: Service<S>,
+    report: &mut F,
+    told: Arc<AtomicU64>,
+) -> Written
 where
+    R: ServiceRuntime + Net<Listener = TcpListener, Stream = TcpStream> + Files<File = File>,
     S: Starts + Send + Drop + 'static,
 {
-    let mut out = Vec::new(rt.alloc());
-    let mut lines = Lines::new(rt.alloc(), told);
-    let mut report = ReportFile::at(&rt, None);
-    let status = served(rt, service, &mut report, &mut out, &mut lines);
+    let mut out = Vec::new(host.alloc);
+    let mut lines = Lines::new(host.alloc, told);
+    let status = served(host, service, report, &mut out, &mut lines);
     lines.close();
     Written {
         status,
@@ -652,42 +666,45 @@ where
 }
 
 /// Serves a controller beside its clients.
-fn serve_clients<R: Runtime, S>(rt: R, service: Service<S>, visit: Visit) -> Result<Ended, Fail>
+fn serve_clients<R, S, F: Write>(
+    host: Host<R>,
+    service: Service<S>,
+    report: &mut F,
+    visit: Visit,
+) -> Result<Ended, Fail>
 where
+    R: ServiceRuntime + Net<Listener = TcpListener, Stream = TcpStream> + Files<File = File>,
     S: Starts + Send + Drop + 'static,
 {
-    let told = Arc::new(rt.alloc(), AtomicU64::new(0))?;
-    let begun = Instant::now(&rt)?;
-    let clients = visiting(rt, &told, visit)?;
-    let written = serve_unreported(rt, service, told);
-    let seen = clients.join(&rt);
+    let told = Arc::new(host.alloc, AtomicU64::new(0))?;
+    let begun = Instant::now(&host.rt)?;
+    let clients = visiting(&host.rt, host.alloc, &told, visit)?;
+    let written = serve_told(host, service, report, told);
+    let seen = clients.join(&host.rt);
     Ok(Ended {
         seen,
-        took: Instant::now(&rt)?.saturating_duration_since(begun),
+        took: Instant::now(&host.rt)?.saturating_duration_since(begun),
         written,
     })
 }
 
-/// How the call of a row went, and whether replica 0 has a file then.
-fn row_ended<R: Runtime>(rt: R, row: &Row, in_use: u16) -> Result<(Ended, bool), Fail> {
-    let console = free_port(&rt)?;
-    let service = prepared(rt, row, in_use, console)?;
-    let file = first_file(rt.alloc(), &service)?;
-    let ended = serve_clients(rt, service, visit_of(row, console))?;
-    let has_file = fs::exists(&rt, file.as_str())?;
-    Ok((ended, has_file))
-}
-
 #[test]
 fn controllers_are_served(rt: HostRuntime) -> Result<(), Fail> {
+    let alloc = rt.alloc();
     let _ = fs::remove_dir_all(&rt, "served");
     let taken = TcpListener::bind(&rt, ("127.0.0.1", 0))?;
     let in_use = taken.local_addr()?.port();
     let mut held: Held = None;
     for (n, row) in ROWS.iter().enumerate() {
-        prepare(rt, row.before, &mut held)?;
-        let (ended, has_file) = row_ended(rt, row, in_use)?;
+        prepare(&rt, row.before, &mut held)?;
+        let console = free_port(&rt)?;
+        let service = prepared(rt, row, in_use, console)?;
+        let file = first_file(alloc, &service)?;
+        let mut report = ReportFile::at(&rt, None);
+        let visit = visit_of(row, console);
+        let ended = serve_clients(Host { rt, alloc }, service, &mut report, visit)?;
         wants(&rt, n, row, &ended);
+        let has_file = fs::exists(&rt, file.as_str())?;
         assert_eq!(rt; has_file, row.has_file, "in row {n}");
     }
     Ok(())

@@ -1,46 +1,11 @@
-//! What the served replicas stand on: a runtime, a group of three and its client, a store in memory, and the image of a
-//! small program.
+//! What the served replicas stand on: a group of three and its client, a store in memory, and the image of a small
+//! program.
 
 use il_model::Budget;
-use std::alloc::Global;
-use std::fs::File;
-use std::net::{Net, TcpListener, TcpStream};
-use std::rt::Files;
-use std::sync::Wait;
 use std::test::Fail;
-use std::thread::Threads;
-use std::time::Clock;
 use vr_model::{ClientNumber, Config, Stored};
 use vr_replica::{StoreFault, ViewStore};
 use vr_threads::Starts;
-
-/// The runtime of a test, for the threads that it starts too.
-pub trait Runtime: Alloc<A = Global>
-    + Threads
-    + Wait
-    + Clock
-    + Net<Listener = TcpListener, Stream = TcpStream>
-    + Files<File = File>
-    + Copy
-    + Send
-    + Sync
-    + Drop
-    + 'static {}
-
-impl<R> Runtime for R
-where
-    R: Alloc<A = Global>
-        + Threads
-        + Wait
-        + Clock
-        + Net<Listener = TcpListener, Stream = TcpStream>
-        + Files<File = File>
-        + Copy
-        + Send
-        + Sync
-        + Drop
-        + 'static,
-{}
 
 /// A group of three, each scan within 100 instructions.
 pub fn group_of_three() -> Result<(Config, Budget), Fail> {

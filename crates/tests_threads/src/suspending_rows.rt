@@ -3,15 +3,15 @@
 ghost use Rattle.std.specs.Prelude.{◌≡◌};
 
 use crate::clients::connect;
-use crate::shelf::Runtime;
 use io_image::{Naming, NewList, ReleasedReader, Stamp, released};
 use modbus_server::{Seats, Shown};
-use plc_host::{Host, Traffic};
+use plc_host::{Host, ServiceRuntime, Traffic};
 use plc_listener::Door;
+use std::alloc::Global;
 use std::io;
 use std::io::{Read, Write};
 use std::marker::Brand;
-use std::net::TcpStream;
+use std::net::{Net, TcpListener, TcpStream};
 use std::process::Abort;
 use std::sync::Arc;
 use std::test::Fail;
@@ -27,7 +27,7 @@ const READS: [u8; 12] = [0, 8, 0, 0, 0, 6, 1, 3, 0, 3, 0, 1];
 const KEPT: [u8; 11] = [0, 8, 0, 0, 0, 5, 1, 3, 2, 0, 7];
 
 /// A client of a port that asks this, and the reply.
-fn asked<R: Runtime, const N: usize>(
+fn asked<R: Net<Listener = TcpListener, Stream = TcpStream>, const N: usize>(
     rt: &R,
     port: u16,
     request: &[u8],
@@ -48,7 +48,7 @@ fn is_over(client: &mut TcpStream) -> bool {
 fn shown_by<J, R>(rt: R, readers: Vec<ReleasedReader<J>>) -> Result<Shown<R, J>, Fail>
 where
     J: Naming,
-    R: Runtime,
+    R: ServiceRuntime + Alloc<A = Global>,
 {
     let stamp = Arc::new(rt.alloc(), Stamp::new(rt)?)?;
     Ok(Shown {
@@ -62,7 +62,7 @@ where
 fn seats_of<J, R>(rt: R, readers: Vec<ReleasedReader<J>>) -> Result<Seats<R, J>, Fail>
 where
     J: Naming + Send + Sync + 'static,
-    R: Runtime,
+    R: ServiceRuntime + Net<Listener = TcpListener, Stream = TcpStream> + Alloc<A = Global>,
 {
     let alloc = rt.alloc();
     let shown = shown_by(rt, readers)?;
@@ -76,7 +76,7 @@ where
 fn suspended<J, R>(rt: R, seats: Seats<R, J>) -> Result<(Seats<R, J>, u16, bool), Fail>
 where
     J: Naming + Send + Sync + 'static,
-    R: Runtime,
+    R: ServiceRuntime + Net<Listener = TcpListener, Stream = TcpStream> + Alloc<A = Global>,
 {
     let open = seats.open(Door::open(&rt, 0)?)?;
     let port = open.port();
@@ -91,7 +91,7 @@ where
 fn is_kept<J, R>(rt: R, seats: Seats<R, J>, port: u16) -> Result<bool, Fail>
 where
     J: Naming + Send + Sync + 'static,
-    R: Runtime,
+    R: ServiceRuntime + Net<Listener = TcpListener, Stream = TcpStream> + Alloc<A = Global>,
 {
     let open = seats.open(Door::open(&rt, port)?)?;
     let asked = asked::<_, 11>(&rt, port, &READS);
@@ -105,7 +105,7 @@ where
 fn stays_staged<J, R>(rt: R, list: NewList) -> Result<bool, Fail>
 where
     J: Naming + Send + Sync + 'static,
-    R: Runtime,
+    R: ServiceRuntime + Net<Listener = TcpListener, Stream = TcpStream> + Alloc<A = Global>,
     requires { list ≡ J.book }
 {
     let (_writer, readers) = released::<J, _>(list, rt.alloc(), rt, 2)?;
