@@ -1,0 +1,4 @@
+use Rattle.tests_machines.proofs.machines.Ready.live.Given as goal
+
+abbrev pub ghosts-serve : goal.ghosts-serve
+ghosts-serve g a = record { book = a.list }

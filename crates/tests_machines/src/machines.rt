@@ -1,0 +1,371 @@
+//! Three machines of a group in one process, each with its store, its addresses and its threads.
+
+use il_text::image_bytes;
+use io_image::NewList;
+use io_model::Counted;
+use plc_group::{Group, read_group};
+use plc_host::Host;
+use plc_machine::new_store;
+use plc_member::{MachineRuntime, Member, Stop};
+use plc_store::{FileDirectory, format};
+use std::alloc::Global;
+use std::fs::File;
+use std::io::Write;
+use std::marker::Brand;
+use std::net::{IpAddr, Ipv4Addr, SocketAddr, TcpListener};
+use std::rt::Files;
+use std::sync::Arc;
+use std::sync::atomic::{AtomicBool, Ordering};
+use std::test::Fail;
+use std::thread::{JoinHandle, Threads};
+use std::time::{Clock, Duration};
+use std::{fs, io, thread};
+
+/// Each scan counts in `%QW63`, and `%QW61` is `%IW0`. `%QW62` counts the scans since `%IX0.0` was TRUE first, but for
+/// those behind two seconds of it. `%QW60` is 1 from then on, and 2 once `%IX0.0` or `%IW0` fell from one scan to the
+/// next.
+const PROGRAM: &[u8] = b"VAR
+    HOLD AT %IX0.0 : BOOL;  GIVEN AT %IW0 : INT;
+    MARK AT %QW60 : INT;  SEEN AT %QW61 : INT;  WAITED AT %QW62 : INT;  COUNT AT %QW63 : INT;
+    HELD : BOOL;  FELL : BOOL;  LATE : TON;
+END_VAR
+    LD HELD
+    ANDN HOLD
+    S FELL
+    LD GIVEN
+    LT SEEN
+    S FELL
+    LD HOLD
+    S HELD
+    LD GIVEN
+    ST SEEN
+    CAL LATE(IN := HOLD, PT := T#2s)
+    LD LATE.Q
+    JMPC ENDED
+    LD HELD
+    JMPCN LOOK
+    LD WAITED
+    ADD 1
+    ST WAITED
+    JMP LOOK
+ENDED: LD 1
+    ST MARK
+LOOK: LD FELL
+    JMPCN OUT
+    LD 2
+    ST MARK
+OUT: LD COUNT
+    ADD 1
+    ST COUNT
+";
+
+/// In milliseconds: from one scan to the next.
+pub const PERIOD: i64 = 25;
+
+/// In milliseconds: outputs are shown for so long.
+pub const FRESH: i64 = 500;
+
+/// A runtime that machines run on in a test.
+pub trait Runtime: MachineRuntime + Files<File = File> + Alloc<A = Global> {}
+
+impl<R: MachineRuntime + Files<File = File> + Alloc<A = Global>> Runtime for R {}
+
+/// An address of this computer that no other test has meanwhile: two bytes of it are a port that is taken.
+#[derive(Drop)]
+pub struct Home {
+    _taken: TcpListener,
+    address: Ipv4Addr,
+}
+
+impl Home {
+    fn new<R: Runtime>(rt: &R) -> io::Result<Home> {
+        let taken = TcpListener::bind(rt, ("127.0.0.1", 0))?;
+        let [high, low] = taken.local_addr()?.port().to_be_bytes();
+        Ok(Home {
+            _taken: taken,
+            address: Ipv4Addr::new(127, high, low, 1),
+        })
+    }
+
+    fn at(&self, port: u16) -> SocketAddr {
+        SocketAddr::new(IpAddr::V4(self.address), port)
+    }
+
+    /// Where the replica of a machine listens.
+    pub fn replica(&self, number: u8) -> SocketAddr {
+        self.at(7000 + u16::from(number))
+    }
+
+    /// Where clients of a machine are let in.
+    pub fn clients(&self, number: u8) -> SocketAddr {
+        self.at(5020 + u16::from(number))
+    }
+
+    /// Where a way begins from one machine to the replica of another.
+    pub fn way(&self, from: u8, to: u8) -> SocketAddr {
+        self.at(7100 + 10 * u16::from(from) + u16::from(to))
+    }
+}
+
+/// What a machine told of itself.
+#[derive(Drop)]
+struct Told {
+    is_normal: AtomicBool,
+    is_driving: AtomicBool,
+}
+
+/// The lines of a machine.
+#[derive(Drop)]
+struct Lines {
+    told: Arc<Told>,
+}
+
+impl Write for Lines {
+    fn write(&mut self, bytes: &[u8]) -> io::Result<usize> {
+        let told = &self.told;
+        if bytes.starts_with(b"replica normal") {
+            told.is_normal.store(true, Ordering::SeqCst);
+        } else if bytes.starts_with(b"replica not normal") {
+            told.is_normal.store(false, Ordering::SeqCst);
+        } else if bytes.starts_with(b"driving") {
+            told.is_driving.store(true, Ordering::SeqCst);
+        } else if bytes.starts_with(b"standing by") {
+            told.is_driving.store(false, Ordering::SeqCst);
+        }
+        Ok(bytes.len())
+    }
+
+    fn flush(&mut self) -> io::Result<()> {
+        Ok(())
+    }
+}
+
+/// A machine that is to be served.
+#[derive(Drop)]
+pub struct Ready<R: Runtime> {
+    member: Member<R>,
+    group: Group,
+    lines: Lines,
+}
+
+impl<R: Runtime> Ready<R> {
+    /// Serves it until it ends: whether nothing failed.
+    pub fn live(self, rt: R) -> bool {
+        let Ready {
+            member,
+            group,
+            lines,
+        } = self;
+        let (mut member, mut lines) = (member, lines);
+        let host = Host {
+            rt,
+            alloc: rt.alloc(),
+        };
+        let err = &mut Counted::new(&mut lines);
+        let mut ended = None;
+        for _ in rt.forever() {
+            match member.next_life(host, &group, ended, err) {
+                Ok(Some(begun)) => {
+                    let list = NewList::new();
+                    ended = Some(begun.serve::<Brand, _>(host, list, &group, None, err));
+                }
+                Ok(None) => return true,
+                Err(_) => return false,
+            }
+        }
+        unreachable!()
+    }
+}
+
+/// A machine that is served.
+#[derive(Drop)]
+struct Served {
+    stop: Stop,
+    told: Arc<Told>,
+    /// None before it's begun.
+    thread: Option<JoinHandle<bool>>,
+}
+
+impl Served {
+    /// Ends it, as a crash does, but that its threads are joined: whether nothing failed.
+    fn end<R: Threads>(self, rt: &R) -> bool {
+        let Served { stop, thread, .. } = self;
+        stop.ask();
+        match thread {
+            Some(thread) => thread.join(rt),
+            None => false,
+        }
+    }
+}
+
+/// Whether this comes to be so.
+fn comes_to_be<R: Clock>(rt: &R, flag: &AtomicBool, wanted: bool) -> bool {
+    for _ in 0..20_000u32 {
+        if flag.load(Ordering::SeqCst) == wanted {
+            return true;
+        }
+        thread::sleep(rt, Duration::from_millis(1));
+    }
+    false
+}
+
+/// Three machines, of which those run that were opened and aren't ended.
+#[derive(Drop)]
+pub struct Machines<R: Runtime> {
+    rt: R,
+    /// The first part of their directories' names.
+    name: &'static str,
+    /// They reach one another by ways.
+    has_ways: bool,
+    pub home: Home,
+    running: [Option<Served>; 3],
+}
+
+impl<R: Runtime> Machines<R> {
+    /// Makes a store for each, in a directory that isn't there, or is left by an earlier run.
+    pub fn new(rt: R, name: &'static str, has_ways: bool) -> Result<Machines<R>, Fail> {
+        let machines = Machines {
+            rt,
+            name,
+            has_ways,
+            home: Home::new(&rt)?,
+            running: [None, None, None],
+        };
+        for number in 0..3u8 {
+            machines.make(number)?;
+        }
+        Ok(machines)
+    }
+
+    /// The directory of a machine.
+    fn directory(&self, number: u8) -> Result<String, Fail> {
+        let (alloc, name) = (self.rt.alloc(), self.name);
+        Ok(format!(in alloc; "{name}-{number}")?)
+    }
+
+    /// Makes the store of a machine.
+    fn make(&self, number: u8) -> Result<(), Fail> {
+        let alloc = self.rt.alloc();
+        let path = self.directory(number)?;
+        let _ = fs::remove_dir_all(&self.rt, path.as_str());
+        let store = new_store(&self.group(number)?, number, image_bytes(alloc, PROGRAM)?)?;
+        let mut directory = FileDirectory::make(self.rt, alloc, path.as_str())?;
+        format(alloc, &mut directory, &store)?;
+        Ok(())
+    }
+
+    /// Where this machine finds the replica of another, or is found itself.
+    fn replica(&self, own: u8, other: u8) -> SocketAddr {
+        if self.has_ways && other < own {
+            self.home.way(own, other)
+        } else {
+            self.home.replica(other)
+        }
+    }
+
+    /// The group, as a machine knows it.
+    fn group(&self, own: u8) -> Result<Group, Fail> {
+        let alloc = self.rt.alloc();
+        let mut text = format!(in alloc;
+            "name = \"trial\"\nperiod = {PERIOD}\npatience = 1000\nfresh = {FRESH}\n"
+        )?;
+        for number in 0..3u8 {
+            let replica = self.replica(own, number);
+            let clients = self.home.clients(number);
+            let machine = format!(in alloc;
+                "[[machine]]\nreplica = \"{replica}\"\nmodbus = \"{clients}\"\n"
+            )?;
+            text.push_str(machine.as_str())?;
+        }
+        Ok(read_group(alloc, text.as_bytes())?)
+    }
+
+    /// A machine that is to be served, from its store.
+    pub fn ready(&mut self, number: u8) -> Result<Ready<R>, Fail> {
+        let (rt, alloc) = (self.rt, self.rt.alloc());
+        let group = self.group(number)?;
+        let Ok(member) = Member::open(Host { rt, alloc }, self.directory(number)?.as_str()) else {
+            return Err("no machine")?;
+        };
+        let told = Told {
+            is_normal: AtomicBool::new(false),
+            is_driving: AtomicBool::new(false),
+        };
+        let told = Arc::new(alloc, told)?;
+        let lines = Lines {
+            told: Arc::try_clone(&told)?,
+        };
+        let served = Served {
+            stop: member.stop()?,
+            told,
+            thread: None,
+        };
+        *self.place(number)? = Some(served);
+        Ok(Ready {
+            member,
+            group,
+            lines,
+        })
+    }
+
+    /// The place of a machine.
+    fn place(&mut self, number: u8) -> Result<&mut Option<Served>, Fail> {
+        let places = self.running.as_mut_slice();
+        Ok(places.get_mut(usize::from(number)).ok_or("no machine")?)
+    }
+
+    /// A machine that was ready is served in this thread.
+    pub fn begin(&mut self, number: u8, thread: JoinHandle<bool>) -> Result<(), Fail> {
+        match self.place(number)? {
+            Some(served) => {
+                served.thread = Some(thread);
+                Ok(())
+            }
+            None => Err("it isn't ready")?,
+        }
+    }
+
+    /// Whether the replica of each machine comes to be normal.
+    pub fn are_normal(&self) -> bool {
+        for number in 0..3u8 {
+            if !self.is_normal(number) {
+                return false;
+            }
+        }
+        true
+    }
+
+    /// Whether the replica of a machine comes to be normal.
+    pub fn is_normal(&self, number: u8) -> bool {
+        match self.running.as_slice().get(usize::from(number)) {
+            Some(Some(machine)) => comes_to_be(&self.rt, &machine.told.is_normal, true),
+            _ => false,
+        }
+    }
+
+    /// Whether a machine comes to stand by.
+    pub fn stands_by(&self, number: u8) -> bool {
+        match self.running.as_slice().get(usize::from(number)) {
+            Some(Some(machine)) => comes_to_be(&self.rt, &machine.told.is_driving, false),
+            _ => false,
+        }
+    }
+
+    /// Ends a machine: whether nothing failed.
+    pub fn end(&mut self, number: u8) -> Result<bool, Fail> {
+        match self.place(number)?.take() {
+            Some(machine) => Ok(machine.end(&self.rt)),
+            None => Ok(false),
+        }
+    }
+
+    /// Ends all three, and takes their directories away: whether nothing failed.
+    pub fn end_all(mut self) -> Result<bool, Fail> {
+        let mut is_well = true;
+        for number in 0..3u8 {
+            is_well = self.end(number)? && is_well;
+            fs::remove_dir_all(&self.rt, self.directory(number)?.as_str())?;
+        }
+        Ok(is_well)
+    }
+}
