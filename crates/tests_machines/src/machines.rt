@@ -2,11 +2,11 @@
 
 use il_text::image_bytes;
 use io_image::NewList;
-use io_model::Counted;
+use io_model::CountedWrite;
 use plc_group::{Group, read_group};
 use plc_host::Host;
 use plc_machine::new_store;
-use plc_member::{MachineRuntime, Member, Stop};
+use plc_member::{Begun, Ended, MachineRuntime, Marks, Member, Stop};
 use plc_store::{FileDirectory, format};
 use std::alloc::Global;
 use std::fs::File;
@@ -20,6 +20,7 @@ use std::test::Fail;
 use std::thread::{JoinHandle, Threads};
 use std::time::{Clock, Duration};
 use std::{fs, io, thread};
+use vr_threads::Starts;
 
 /// Each scan counts in `%QW63`, and `%QW61` is `%IW0`. `%QW62` counts the scans since `%IX0.0` was TRUE first, but for
 /// those behind two seconds of it. `%QW60` is 1 from then on, and 2 once `%IX0.0` or `%IW0` fell from one scan to the
@@ -116,7 +117,7 @@ struct Told {
 
 /// The lines of a machine.
 #[derive(Drop)]
-struct Lines {
+pub struct Lines {
     told: Arc<Told>,
 }
 
@@ -140,41 +141,24 @@ impl Write for Lines {
     }
 }
 
-/// A machine that is to be served.
-#[derive(Drop)]
-pub struct Ready<R: Runtime> {
-    member: Member<R>,
-    group: Group,
-    lines: Lines,
-}
+/// A machine that is to be served: from its store, in this group, and what takes its lines.
+pub type Ready<R> = (Member<R>, Group, Lines);
 
-impl<R: Runtime> Ready<R> {
-    /// Serves it until it ends: whether nothing failed.
-    pub fn live(self, rt: R) -> bool {
-        let Ready {
-            member,
-            group,
-            lines,
-        } = self;
-        let (mut member, mut lines) = (member, lines);
-        let host = Host {
-            rt,
-            alloc: rt.alloc(),
-        };
-        let err = &mut Counted::new(&mut lines);
-        let mut ended = None;
-        for _ in rt.forever() {
-            match member.next_life(host, &group, ended, err) {
-                Ok(Some(begun)) => {
-                    let list = NewList::new();
-                    ended = Some(begun.serve::<Brand, _>(host, list, &group, None, err));
-                }
-                Ok(None) => return true,
-                Err(_) => return false,
-            }
-        }
-        unreachable!()
-    }
+/// Serves a machine in the epoch that it has begun: whether it ends since it was asked to.
+pub fn is_stopped<R, S, M, E>(
+    host: Host<R>,
+    group: &Group,
+    begun: Begun<R, S, M>,
+    err: &mut E,
+) -> bool
+where
+    R: MachineRuntime,
+    S: Starts + Send + Drop + 'static,
+    M: Marks + Send + Drop + 'static,
+    E: CountedWrite,
+{
+    let ended = begun.serve::<Brand, _>(host, NewList::new(), group, None, err);
+    matches!(ended, Ended::Stopped)
 }
 
 /// A machine that is served.
@@ -282,6 +266,7 @@ impl<R: Runtime> Machines<R> {
 
     /// A machine that is to be served, from its store.
     pub fn ready(&mut self, number: u8) -> Result<Ready<R>, Fail> {
+        self.wait_for_address(number);
         let (rt, alloc) = (self.rt, self.rt.alloc());
         let group = self.group(number)?;
         let Ok(member) = Member::open(Host { rt, alloc }, self.directory(number)?.as_str()) else {
@@ -301,11 +286,17 @@ impl<R: Runtime> Machines<R> {
             thread: None,
         };
         *self.place(number)? = Some(served);
-        Ok(Ready {
-            member,
-            group,
-            lines,
-        })
+        Ok((member, group, lines))
+    }
+
+    /// Waits until the address of a machine's replica is free: its thread may end a moment behind the machine.
+    fn wait_for_address(&self, number: u8) {
+        for _ in 0..4_000u32 {
+            if TcpListener::bind(&self.rt, self.home.replica(number)).is_ok() {
+                return;
+            }
+            thread::sleep(&self.rt, Duration::from_millis(5));
+        }
     }
 
     /// The place of a machine.

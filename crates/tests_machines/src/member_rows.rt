@@ -1,8 +1,10 @@
 //! What a client of a group reads while its machines crash, and while they are cut off.
 
-use crate::machines::{FRESH, Machines, Runtime};
+use crate::machines::{FRESH, Machines, Runtime, is_stopped};
 use crate::reader::Reader;
 use crate::ways::Ways;
+use io_model::Counted;
+use plc_host::Host;
 use std::process::Abort;
 use std::test::Fail;
 use std::thread;
@@ -16,16 +18,15 @@ const MOST_WAITED: u16 = 100;
 /// So many scans are between two faults.
 const BETWEEN: u16 = 20;
 
-/// Holds `%IX0.0` once the machines go on: when that was, at the latest.
-fn hold<R: Runtime>(machines: &Machines<R>, reader: &mut Reader<R>) -> Result<i64, Fail> {
+/// Has an input held once the machines go on.
+fn hold<R: Runtime>(machines: &Machines<R>, reader: &mut Reader<R>) -> Result<(), Fail> {
     if !machines.are_normal() || !reader.sees_more(BETWEEN)? {
         return Err("no machine drives")?;
     }
-    let begun = reader.now()?;
     if !reader.holds()? || !reader.sees_more(BETWEEN)? {
         return Err("nothing is held")?;
     }
-    Ok(begun)
+    Ok(())
 }
 
 /// The machine that drives crashes, and another one goes on: which crashed.
@@ -40,14 +41,20 @@ fn crash<R: Runtime>(machines: &mut Machines<R>, reader: &mut Reader<R>) -> Resu
     Ok(crashed)
 }
 
-/// Whether the timer has ended that began to run behind this time: not before its time was over, and in the first scan
-/// behind it.
-fn timer_ends<R: Runtime>(reader: &mut Reader<R>, begun: i64) -> Result<bool, Fail> {
-    let is_right = reader.sees_end()? && reader.waited() <= MOST_WAITED;
-    let Some(ended) = reader.ended() else {
-        return Ok(false);
-    };
-    Ok(is_right && ended.saturating_sub(begun) >= TIMER)
+/// The machine that starts in this turn: each at first, and then the one that crashes.
+fn next<R: Runtime>(
+    machines: &mut Machines<R>,
+    reader: &mut Reader<R>,
+    turn: u8,
+) -> Result<u8, Fail> {
+    match turn {
+        0..=2 => Ok(turn),
+        3 => {
+            hold(machines, reader)?;
+            crash(machines, reader)
+        }
+        _ => crash(machines, reader),
+    }
 }
 
 /// The machine that drives crashes, behind twenty scans of it each time, and comes back: another one goes on with what
@@ -55,19 +62,23 @@ fn timer_ends<R: Runtime>(reader: &mut Reader<R>, begun: i64) -> Result<bool, Fa
 /// held in each scan, and the timer over it ends in its scan.
 #[test]
 fn a_crash_is_not_noticed(rt: HostRuntime) -> Result<(), Fail> {
+    let alloc = rt.alloc();
     let mut machines = Machines::new(rt, "crashed", false)?;
-    for number in 0..3u8 {
-        let ready = machines.ready(number)?;
-        machines.begin(number, thread::spawn(&rt, move || ready.live(rt))?)?;
-    }
     let mut reader = Reader::new(rt, &machines.home)?;
-    let begun = hold(&machines, &mut reader)?;
-    for _ in 0..3u8 {
-        let crashed = crash(&mut machines, &mut reader)?;
-        let ready = machines.ready(crashed)?;
-        machines.begin(crashed, thread::spawn(&rt, move || ready.live(rt))?)?;
+    for turn in 0..6u8 {
+        let number = next(&mut machines, &mut reader, turn)?;
+        let (mut member, group, mut lines) = machines.ready(number)?;
+        let life = move || {
+            let host = Host { rt, alloc };
+            let err = &mut Counted::new(&mut lines);
+            match member.next_life(host, &group, None, err) {
+                Ok(Some(begun)) => is_stopped(host, &group, begun, err),
+                _ => false,
+            }
+        };
+        machines.begin(number, thread::spawn(&rt, life)?)?;
     }
-    assert!(rt; machines.are_normal() && timer_ends(&mut reader, begun)?);
+    assert!(rt; machines.are_normal() && reader.sees_end(TIMER, MOST_WAITED)?);
     assert!(rt; machines.end_all()?);
     Ok(())
 }
@@ -109,11 +120,20 @@ fn cut_off<R: Runtime>(
 /// number.
 #[test]
 fn one_that_is_cut_off_falls_silent(rt: HostRuntime) -> Result<(), Fail> {
+    let alloc = rt.alloc();
     let mut machines = Machines::new(rt, "cut-off", true)?;
     let ways = Ways::new(rt, &machines.home)?;
     for number in 0..3u8 {
-        let ready = machines.ready(number)?;
-        machines.begin(number, thread::spawn(&rt, move || ready.live(rt))?)?;
+        let (mut member, group, mut lines) = machines.ready(number)?;
+        let life = move || {
+            let host = Host { rt, alloc };
+            let err = &mut Counted::new(&mut lines);
+            match member.next_life(host, &group, None, err) {
+                Ok(Some(begun)) => is_stopped(host, &group, begun, err),
+                _ => false,
+            }
+        };
+        machines.begin(number, thread::spawn(&rt, life)?)?;
     }
     let mut reader = Reader::new(rt, &machines.home)?;
     for number in 1..=3u8 {

@@ -10,8 +10,8 @@ use std::{io, thread};
 /// So often is looked for what is waited for, with a pause of a millisecond.
 const LOOKS: u32 = 20_000;
 
-/// In milliseconds: so far scans may be ahead of the time, ten of them: one that comes late, one that was under way, and
-/// those by which a machine begins to drive.
+/// In milliseconds: so far scans may be ahead of the time, ten of them: one that comes late, one that was under way,
+/// and those by which a machine begins to drive.
 const SLACK: i64 = 250;
 
 /// What a release shows in `%QW60` to `%QW63`.
@@ -145,6 +145,8 @@ pub struct Reader<R: Runtime> {
     /// The machine that answers, and the connection.
     at: Option<(u8, TcpStream)>,
     story: Story,
+    /// When an input was held, at the latest.
+    held: i64,
 }
 
 impl<R: Runtime> Reader<R> {
@@ -162,6 +164,7 @@ impl<R: Runtime> Reader<R> {
                 ended: None,
                 is_right: true,
             },
+            held: i64::MAX,
         })
     }
 
@@ -224,9 +227,15 @@ impl<R: Runtime> Reader<R> {
         self.sees(Outputs { count, ..NONE })
     }
 
-    /// Whether the timer's end comes to be read, and nothing wrong before it.
-    pub fn sees_end(&mut self) -> io::Result<bool> {
-        self.sees(Outputs { mark: 1, ..NONE })
+    /// Whether the end of the timer over the held input comes to be read, not before its time is over, behind so many
+    /// scans at most, and nothing wrong before.
+    pub fn sees_end(&mut self, time: i64, scans: u16) -> io::Result<bool> {
+        let is_right = self.sees(Outputs { mark: 1, ..NONE })?;
+        let took = match self.story.ended {
+            Some(ended) => ended.saturating_sub(self.held),
+            None => 0,
+        };
+        Ok(is_right && took >= time && self.story.outputs.waited <= scans)
     }
 
     /// Whether as much as this comes to be read, and nothing wrong before it.
@@ -246,6 +255,7 @@ impl<R: Runtime> Reader<R> {
 
     /// Holds `%IX0.0`: whether it comes to be TRUE in the scans, and nothing wrong is read before.
     pub fn holds(&mut self) -> io::Result<bool> {
+        self.held = self.now()?;
         self.writes(Input::Hold, Outputs { waited: 1, ..NONE })
     }
 
@@ -270,16 +280,6 @@ impl<R: Runtime> Reader<R> {
     /// The machine that was read last.
     pub fn machine(&self) -> u8 {
         self.story.machine
-    }
-
-    /// In how many scans the timer ran, by what was read last.
-    pub fn waited(&self) -> u16 {
-        self.story.outputs.waited
-    }
-
-    /// When the timer's end was read first.
-    pub fn ended(&self) -> Option<i64> {
-        self.story.ended
     }
 
     /// Whether the machine that was read last ends the session, and no read of it was answered that began later than

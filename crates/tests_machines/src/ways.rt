@@ -1,6 +1,8 @@
 //! Ways between machines, on which nothing passes to or from one that is cut off.
 
-use crate::machines::{Home, Runtime};
+use crate::machines::Home;
+use plc_host::ServiceRuntime;
+use std::alloc::Global;
 use std::io::{ErrorKind, Read, Write};
 use std::net::{Net, SocketAddr, TcpListener, TcpStream};
 use std::sync::Arc;
@@ -15,6 +17,16 @@ const NOBODY: u64 = 3;
 
 /// Nothing passes any more.
 const OVER: u64 = 4;
+
+/// A runtime that ways are tended on. A thread may have it, which it couldn't with files.
+pub trait WaysRuntime: ServiceRuntime
+    + Alloc<A = Global>
+    + Net<Listener = TcpListener, Stream = TcpStream> {}
+
+impl<R> WaysRuntime for R
+where
+    R: ServiceRuntime + Alloc<A = Global> + Net<Listener = TcpListener, Stream = TcpStream>,
+{}
 
 /// A way from a machine to the replica of another, and what was connected by it.
 #[derive(Drop)]
@@ -37,7 +49,7 @@ fn passes(from: &mut TcpStream, to: &mut TcpStream) -> bool {
 
 impl Way {
     /// From one machine to the replica of another.
-    fn new<R: Runtime>(rt: &R, home: &Home, ends: (u8, u8)) -> Result<Way, Fail> {
+    fn new<R: WaysRuntime>(rt: &R, home: &Home, ends: (u8, u8)) -> Result<Way, Fail> {
         let listener = TcpListener::bind(rt, home.way(ends.0, ends.1))?;
         listener.set_nonblocking(true)?;
         Ok(Way {
@@ -96,7 +108,7 @@ struct Switch {
 }
 
 /// Tends the ways until that's over: whether nothing failed.
-fn tend_all<R: Runtime>(rt: R, mut ways: Vec<Way>, switch: Arc<Switch>) -> bool {
+fn tend_all<R: WaysRuntime>(rt: R, mut ways: Vec<Way>, switch: Arc<Switch>) -> bool {
     for _ in 0..u64::MAX {
         let cut = switch.cut.load(Ordering::SeqCst);
         if cut == OVER {
@@ -124,14 +136,14 @@ where
 
 /// The ways of three machines, and the thread that tends them.
 #[derive(Drop)]
-pub struct Ways<R: Runtime> {
+pub struct Ways<R: WaysRuntime> {
     rt: R,
     switch: Arc<Switch>,
     thread: JoinHandle<bool>,
 }
 
 /// The ways between these three.
-fn ways_of<R: Runtime>(rt: &R, home: &Home) -> Result<Vec<Way>, Fail> {
+fn ways_of<R: WaysRuntime>(rt: &R, home: &Home) -> Result<Vec<Way>, Fail> {
     let mut ways = Vec::new(rt.alloc());
     for ends in [(1, 0), (2, 0), (2, 1u8)] {
         ways.push(Way::new(rt, home, ends)?)?;
@@ -139,7 +151,7 @@ fn ways_of<R: Runtime>(rt: &R, home: &Home) -> Result<Vec<Way>, Fail> {
     Ok(ways)
 }
 
-impl<R: Runtime> Ways<R> {
+impl<R: WaysRuntime> Ways<R> {
     /// They are tended from now on.
     pub fn new(rt: R, home: &Home) -> Result<Ways<R>, Fail> {
         let ways = ways_of(&rt, home)?;
