@@ -3,11 +3,12 @@
 use il_text::image_bytes;
 use io_image::NewList;
 use io_model::CountedWrite;
+use plc_epochs::Kept;
 use plc_group::{Group, read_group};
 use plc_host::Host;
 use plc_machine::new_store;
 use plc_member::{Begun, Ended, MachineRuntime, Marks, Member, Stop};
-use plc_store::{FileDirectory, format};
+use plc_store::{FileDirectory, enter_by_hand, format, stored_in};
 use std::alloc::Global;
 use std::fs::File;
 use std::io::Write;
@@ -144,6 +145,22 @@ impl Write for Lines {
 /// A machine that is to be served: from its store, in this group, and what takes its lines.
 pub type Ready<R> = (Member<R>, Group, Lines);
 
+/// Serves a machine in the epoch that it has begun: how it ends.
+pub fn serving<R, S, M, E>(
+    host: Host<R>,
+    group: &Group,
+    begun: Begun<R, S, M>,
+    err: &mut E,
+) -> Ended
+where
+    R: MachineRuntime,
+    S: Starts + Send + Drop + 'static,
+    M: Marks + Send + Drop + 'static,
+    E: CountedWrite,
+{
+    begun.serve::<Brand, _>(host, NewList::new(), group, None, err)
+}
+
 /// Serves a machine in the epoch that it has begun: whether it ends since it was asked to.
 pub fn is_stopped<R, S, M, E>(
     host: Host<R>,
@@ -157,8 +174,7 @@ where
     M: Marks + Send + Drop + 'static,
     E: CountedWrite,
 {
-    let ended = begun.serve::<Brand, _>(host, NewList::new(), group, None, err);
-    matches!(ended, Ended::Stopped)
+    matches!(serving(host, group, begun, err), Ended::Stopped)
 }
 
 /// A machine that is served.
@@ -340,6 +356,53 @@ impl<R: Runtime> Machines<R> {
             Some(Some(machine)) => comes_to_be(&self.rt, &machine.told.is_driving, false),
             _ => false,
         }
+    }
+
+    /// Puts a machine that has ended into the next epoch by hand: whether that's done.
+    pub fn enter_by_hand(&self, number: u8) -> Result<bool, Fail> {
+        let (rt, alloc) = (self.rt, self.rt.alloc());
+        let path = self.directory(number)?;
+        let Ok(mut directory) = FileDirectory::take(rt, alloc, path.as_str()) else {
+            return Ok(false);
+        };
+        Ok(enter_by_hand(alloc, &mut directory, None).is_ok())
+    }
+
+    /// The number of the epoch that a machine has begun, by its store.
+    fn epoch_of(&self, number: u8) -> Result<Option<u64>, Fail> {
+        let (rt, alloc) = (self.rt, self.rt.alloc());
+        let path = self.directory(number)?;
+        let Ok(directory) = FileDirectory::look(rt, alloc, path.as_str()) else {
+            return Ok(None);
+        };
+        match stored_in(alloc, &directory) {
+            Ok(store) => match store.header.kept {
+                Kept::Begun(epoch) => Ok(Some(epoch.number)),
+                _ => Ok(None),
+            },
+            Err(_) => Ok(None),
+        }
+    }
+
+    /// Whether a machine comes to have begun this epoch.
+    fn is_in(&self, number: u8, epoch: u64) -> Result<bool, Fail> {
+        for _ in 0..400u32 {
+            if self.epoch_of(number)? == Some(epoch) {
+                return Ok(true);
+            }
+            thread::sleep(&self.rt, Duration::from_millis(50));
+        }
+        Ok(false)
+    }
+
+    /// Whether each machine comes to have begun this epoch, and its replica to be normal.
+    pub fn are_in(&self, epoch: u64) -> Result<bool, Fail> {
+        for number in 0..3u8 {
+            if !self.is_in(number, epoch)? {
+                return Ok(false);
+            }
+        }
+        Ok(self.are_normal())
     }
 
     /// Ends a machine: whether nothing failed.
