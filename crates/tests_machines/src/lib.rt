@@ -12,4 +12,8 @@ mod member_rows;
 #[cfg(test)]
 mod reader;
 #[cfg(test)]
+mod traces;
+#[cfg(test)]
+mod trial;
+#[cfg(test)]
 mod ways;

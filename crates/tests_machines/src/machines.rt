@@ -1,14 +1,16 @@
 //! Three machines of a group in one process, each with its store, its addresses and its threads.
 
+use crate::traces::{add_counts, are_whole};
 use il_text::image_bytes;
 use io_image::NewList;
-use io_model::CountedWrite;
+use io_model::{Counted, CountedWrite};
 use plc_epochs::Kept;
 use plc_group::{Group, read_group};
-use plc_host::Host;
+use plc_host::{Failed, Host};
 use plc_machine::new_store;
 use plc_member::{Begun, Ended, MachineRuntime, Marks, Member, Stop};
-use plc_store::{FileDirectory, enter_by_hand, format, stored_in};
+use plc_store::{FileDirectory, enter_by_hand, format, is_unbegun, stored_in};
+use plc_trace::OpenTraceWriter;
 use std::alloc::Global;
 use std::fs::File;
 use std::io::Write;
@@ -142,39 +144,66 @@ impl Write for Lines {
     }
 }
 
-/// A machine that is to be served: from its store, in this group, and what takes its lines.
-pub type Ready<R> = (Member<R>, Group, Lines);
+/// A machine that is to be served: from its store, in this group, what takes its lines, and the path of its trace.
+pub type Ready<R> = (Member<R>, Group, Lines, String);
 
-/// Serves a machine in the epoch that it has begun: how it ends.
+/// Serves a machine in the epoch that it has begun, and adds what it releases to the trace at this path: how it ends.
 pub fn serving<R, S, M, E>(
     host: Host<R>,
     group: &Group,
     begun: Begun<R, S, M>,
+    path: &str,
     err: &mut E,
 ) -> Ended
 where
-    R: MachineRuntime,
+    R: Runtime,
     S: Starts + Send + Drop + 'static,
     M: Marks + Send + Drop + 'static,
     E: CountedWrite,
 {
-    begun.serve::<Brand, _>(host, NewList::new(), group, None, err)
+    match traced(host, begun, path) {
+        Ok((begun, writer)) => {
+            let ended = begun.serve::<Brand, _>(host, NewList::new(), group, None, err);
+            writer.close(&host.rt);
+            ended
+        }
+        Err(failed) => Ended::Failed(failed),
+    }
 }
 
-/// Serves a machine in the epoch that it has begun: whether it ends since it was asked to.
+/// Serves a machine in the epoch that it has begun, with its trace: whether it ends since it was asked to.
 pub fn is_stopped<R, S, M, E>(
     host: Host<R>,
     group: &Group,
     begun: Begun<R, S, M>,
+    path: &str,
     err: &mut E,
 ) -> bool
 where
-    R: MachineRuntime,
+    R: Runtime,
     S: Starts + Send + Drop + 'static,
     M: Marks + Send + Drop + 'static,
     E: CountedWrite,
 {
-    matches!(serving(host, group, begun, err), Ended::Stopped)
+    matches!(serving(host, group, begun, path, err), Ended::Stopped)
+}
+
+/// A machine in the epoch that it has begun, and what adds what it releases to the trace at this path.
+fn traced<R, S, M>(
+    host: Host<R>,
+    begun: Begun<R, S, M>,
+    path: &str,
+) -> Result<(Begun<R, S, M>, OpenTraceWriter), Failed>
+where
+    R: Runtime,
+    S: Starts + Send + Drop + 'static,
+    M: Marks + Send + Drop + 'static,
+{
+    let (trace, writer) = plc_trace::traced(host.alloc)?;
+    let mut options = File::options();
+    let file = options.append(true).create(true).open(&host.rt, path)?;
+    let writer = writer.open(host, begun.started(), Counted::new(file))?;
+    Ok((begun.traced(trace), writer))
 }
 
 /// A machine that is served.
@@ -217,6 +246,8 @@ pub struct Machines<R: Runtime> {
     name: &'static str,
     /// They reach one another by ways.
     has_ways: bool,
+    /// Their group begins anew by hand alone.
+    is_by_hand: bool,
     pub home: Home,
     running: [Option<Served>; 3],
 }
@@ -228,6 +259,7 @@ impl<R: Runtime> Machines<R> {
             rt,
             name,
             has_ways,
+            is_by_hand: false,
             home: Home::new(&rt)?,
             running: [None, None, None],
         };
@@ -243,12 +275,30 @@ impl<R: Runtime> Machines<R> {
         Ok(format!(in alloc; "{name}-{number}")?)
     }
 
+    /// The file of the trace of a machine.
+    fn trace(&self, number: u8) -> Result<String, Fail> {
+        let (alloc, name) = (self.rt.alloc(), self.name);
+        Ok(format!(in alloc; "{name}-{number}/trace")?)
+    }
+
+    /// The counts of scans that machines released.
+    fn released(&self) -> Result<Vec<u16>, Fail> {
+        let mut counts = Vec::new(self.rt.alloc());
+        for number in 0..3u8 {
+            add_counts(&self.rt, self.trace(number)?.as_str(), &mut counts)?;
+        }
+        Ok(counts)
+    }
+
     /// Makes the store of a machine.
     fn make(&self, number: u8) -> Result<(), Fail> {
         let alloc = self.rt.alloc();
         let path = self.directory(number)?;
         let _ = fs::remove_dir_all(&self.rt, path.as_str());
         let store = new_store(&self.group(number)?, number, image_bytes(alloc, PROGRAM)?)?;
+        if !is_unbegun(&store.header.kept) {
+            return Err("it isn't new")?;
+        }
         let mut directory = FileDirectory::make(self.rt, alloc, path.as_str())?;
         format(alloc, &mut directory, &store)?;
         Ok(())
@@ -266,8 +316,9 @@ impl<R: Runtime> Machines<R> {
     /// The group, as a machine knows it.
     fn group(&self, own: u8) -> Result<Group, Fail> {
         let alloc = self.rt.alloc();
+        let manner = if self.is_by_hand { "by hand" } else { "auto" };
         let mut text = format!(in alloc;
-            "name = \"trial\"\nperiod = {PERIOD}\npatience = 1000\nfresh = {FRESH}\n"
+            "name = \"trial\"\nperiod = {PERIOD}\npatience = 1000\nfresh = {FRESH}\ncold_start = \"{manner}\"\n"
         )?;
         for number in 0..3u8 {
             let replica = self.replica(own, number);
@@ -282,7 +333,6 @@ impl<R: Runtime> Machines<R> {
 
     /// A machine that is to be served, from its store.
     pub fn ready(&mut self, number: u8) -> Result<Ready<R>, Fail> {
-        self.wait_for_address(number);
         let (rt, alloc) = (self.rt, self.rt.alloc());
         let group = self.group(number)?;
         let Ok(member) = Member::open(Host { rt, alloc }, self.directory(number)?.as_str()) else {
@@ -302,17 +352,18 @@ impl<R: Runtime> Machines<R> {
             thread: None,
         };
         *self.place(number)? = Some(served);
-        Ok((member, group, lines))
+        Ok((member, group, lines, self.trace(number)?))
     }
 
-    /// Waits until the address of a machine's replica is free: its thread may end a moment behind the machine.
-    fn wait_for_address(&self, number: u8) {
+    /// Whether the address of a machine's replica comes to be free: its thread may end a moment behind the machine.
+    fn is_gone(&self, number: u8) -> bool {
         for _ in 0..4_000u32 {
             if TcpListener::bind(&self.rt, self.home.replica(number)).is_ok() {
-                return;
+                return true;
             }
             thread::sleep(&self.rt, Duration::from_millis(5));
         }
+        false
     }
 
     /// The place of a machine.
@@ -358,6 +409,11 @@ impl<R: Runtime> Machines<R> {
         }
     }
 
+    /// Those that start from now on begin anew by hand alone.
+    pub fn begin_by_hand(&mut self) {
+        self.is_by_hand = true;
+    }
+
     /// Puts a machine that has ended into the next epoch by hand: whether that's done.
     pub fn enter_by_hand(&self, number: u8) -> Result<bool, Fail> {
         let (rt, alloc) = (self.rt, self.rt.alloc());
@@ -384,8 +440,8 @@ impl<R: Runtime> Machines<R> {
         }
     }
 
-    /// Whether a machine comes to have begun this epoch.
-    fn is_in(&self, number: u8, epoch: u64) -> Result<bool, Fail> {
+    /// Whether a machine comes to have begun this epoch, by its store.
+    pub fn is_in(&self, number: u8, epoch: u64) -> Result<bool, Fail> {
         for _ in 0..400u32 {
             if self.epoch_of(number)? == Some(epoch) {
                 return Ok(true);
@@ -405,21 +461,54 @@ impl<R: Runtime> Machines<R> {
         Ok(self.are_normal())
     }
 
-    /// Ends a machine: whether nothing failed.
+    /// Ends a machine: whether nothing failed, and nothing of it is left.
     pub fn end(&mut self, number: u8) -> Result<bool, Fail> {
         match self.place(number)?.take() {
-            Some(machine) => Ok(machine.end(&self.rt)),
+            Some(machine) => Ok(machine.end(&self.rt) && self.is_gone(number)),
             None => Ok(false),
         }
     }
 
-    /// Ends all three, and takes their directories away: whether nothing failed.
-    pub fn end_all(mut self) -> Result<bool, Fail> {
+    /// Asks all three to end.
+    fn stop_all(&self) {
+        for machine in self.running.iter() {
+            if let Some(machine) = machine {
+                machine.stop.ask();
+            }
+        }
+    }
+
+    /// Ends all three at once: whether nothing failed.
+    pub fn end_all(&mut self) -> Result<bool, Fail> {
+        self.stop_all();
         let mut is_well = true;
         for number in 0..3u8 {
             is_well = self.end(number)? && is_well;
-            fs::remove_dir_all(&self.rt, self.directory(number)?.as_str())?;
         }
         Ok(is_well)
+    }
+
+    /// Ends them, and takes their directories away: whether nothing failed.
+    pub fn close(mut self) -> Result<bool, Fail> {
+        let is_well = self.end_all()?;
+        self.clear()?;
+        Ok(is_well)
+    }
+
+    /// Ends them, and takes their directories away: whether nothing failed, and each scan was released once, but for so
+    /// many at most, which nobody released.
+    pub fn close_whole(mut self, most_lost: usize) -> Result<bool, Fail> {
+        let is_well = self.end_all()?;
+        let mut counts = self.released()?;
+        self.clear()?;
+        Ok(is_well && are_whole(&mut counts, most_lost))
+    }
+
+    /// Takes the directories of machines that have ended away.
+    fn clear(&self) -> Result<(), Fail> {
+        for number in 0..3u8 {
+            fs::remove_dir_all(&self.rt, self.directory(number)?.as_str())?;
+        }
+        Ok(())
     }
 }

@@ -300,17 +300,20 @@ impl<R: Runtime> Reader<R> {
         Ok(false)
     }
 
-    /// Whether the port of a machine comes to be closed.
-    pub fn is_shut_out(&self, number: u8) -> bool {
+    /// Whether the port of a machine comes to be closed, until then.
+    pub fn is_shut_out(&self, number: u8, then: i64) -> io::Result<bool> {
         let Some(address) = self.machines.get(usize::from(number)) else {
-            return false;
+            return Ok(false);
         };
         for _ in 0..LOOKS {
             if connected(&self.rt, *address).is_err() {
-                return true;
+                return Ok(true);
+            }
+            if self.now()? > then {
+                return Ok(false);
             }
             thread::sleep(&self.rt, Duration::from_millis(1));
         }
-        false
+        Ok(false)
     }
 }
