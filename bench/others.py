@@ -93,7 +93,7 @@ class EtcdClient:
 
 
 class Etcd(Nodes):
-    name, program = 'etcd', 'etcd'
+    name, program, beside = 'etcd', 'etcd', 0
     kinds = {'default: 100, 1000 ms': (100, 1000), '10, 100 ms': (10, 100)}     # heartbeat, election timeout
 
     def words(self, node):
@@ -165,7 +165,7 @@ class ZooKeeperClient:
 
 
 class ZooKeeper(Nodes):
-    name, program = 'ZooKeeper', 'java'
+    name, program, beside = 'ZooKeeper', 'java', 1
     jar = '/usr/share/java/zookeeper.jar'
     # tickTime, initLimit, syncLimit, and the least time between two looks at the votes of an election
     kinds = {'default: 2000 ms, 10, 5': (2000, 10, 5, None), '500 ms, 10, 5, 20 ms': (500, 10, 5, 20)}
