@@ -11,6 +11,8 @@ pub mod Passing
 pub mod WordsRead
 pub mod WordsOf
 pub mod Images
+pub mod WellFormed
+pub mod WorkedImages
 pub mod Beginnings
 pub mod Link
 pub mod Straight

@@ -3,6 +3,7 @@ pub mod Lines
 pub mod LabelTables
 pub mod Reading
 pub mod Judging
+pub mod Images
 pub mod Linked
 pub mod Actions
 pub mod Faults

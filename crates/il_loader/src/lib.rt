@@ -7,9 +7,10 @@
 //! ```
 //!
 //! Proved: `load` answers Ok exactly on the spelling of a typed program, and gives that program; else the first fault
-//! in the order of reading, with its position (`exact`). `bytes` is that spelling, `copy` an equal image. Each
-//! instruction's `Action` is the one that performs it, and of the instructions that `straight` gives none but the first
-//! has a label, and they reach as far as the next label.
+//! in the order of reading, with its position (`exact`). `bytes` is that spelling, `copy` an equal image. The programs
+//! that have an image are the well-formed ones (`know_well_formed`), and whatever reads images reads the same of all
+//! bytes (`know_reading`). Each instruction's `Action` is the one that performs it, and of the instructions that
+//! `straight` gives none but the first has a label, and they reach as far as the next label.
 //!
 //! Only tested: nothing; `images.rows` of `tests_rows` has images cut short, spoilt and too long.
 #![tactic(auto)]
@@ -23,6 +24,7 @@ mod image;
 mod instance;
 mod judging;
 mod label;
+mod laws;
 mod line;
 mod linking;
 mod loading;
@@ -36,5 +38,6 @@ mod word;
 pub use action::Action;
 pub use fault::{LoadError, LoadFault};
 pub use image::Image;
+pub use laws::{know_reading, know_well_formed};
 pub use line::Line;
 pub use loading::load;
