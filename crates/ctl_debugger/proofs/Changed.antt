@@ -13,10 +13,9 @@ use Rattle.il_model.specs.declared.command.Answer.{Answer}
 use Rattle.il_model.specs.declared.command.Answer.TheVariants as answers
 use Rattle.il_model.specs.declared.command.Refusal.TheVariants as refusals
 use Rattle.il_model.specs.Program.{Program}
-use Rattle.il_model.specs.Fits.{IsProgram}
+use Rattle.il_model.specs.Fits.{IsProgram, IsImage}
 use Rattle.il_loader.specs.declared.fault.LoadFault.{LoadFault}
-use Rattle.il_loader.specs.Judging.{image_of}
-use Rattle.il_loader.proofs.Images.{image_takes, image_again}
+use Rattle.il_loader.specs.Images.{IsWellFormed, Reading, AreBytes, ReadsImages}
 use Rattle.ctl_model.specs.declared.phase.Phase.{Phase}
 use Rattle.ctl_model.specs.declared.phase.Phase.TheVariants as phases
 use Rattle.ctl_model.specs.State.{State, BlockInstance}
@@ -24,8 +23,8 @@ use Rattle.ctl_model.specs.Cold.{cold_instance}
 use Rattle.ctl_model.specs.Suits.{HasValues, Suits}
 use Rattle.ctl_model.specs.Changes.{goes_on_as, carried_instance, carried_state, CarriesOver}
 use Rattle.ctl_debugger.specs.Owned.{Owned, IsController}
-use Rattle.ctl_debugger.specs.Outcome.{outcome, changed, on_image, if_idle}
-use Rattle.ctl_debugger.specs.Changing.{GoesOnWith, IsNoImage, AreBytes, ChangesByNames}
+use Rattle.ctl_debugger.specs.Outcome.{outcome_with, changed, on_image, if_idle}
+use Rattle.ctl_debugger.specs.Changing.{GoesOnWith, IsNoImage, ChangesByNames}
 
 -- the laws of the state alone
 abbrev pub Carries : Type 0
@@ -70,8 +69,8 @@ carried_lawful xs bs (y ∷ ys) are = (lawful_one bs y (position (λ (x : Instan
 
 -- ---- the change
 
-is_done : (o : Owned) (bytes : List ℕ) (R : Program) → o.control.phase ≡ phases.Idle → image_of bytes ≡ Ok R → outcome o (commands.Change bytes) ≡ (answers.Done, changed o R)
-is_done o bytes R idle e = ap (if_idle o (on_image o (image_of bytes))) idle ∙ ap (on_image o) e
+is_done : (reading : Reading) (o : Owned) (bytes : List ℕ) (R : Program) → o.control.phase ≡ phases.Idle → reading bytes ≡ Ok R → outcome_with reading o (commands.Change bytes) ≡ (answers.Done, changed o R)
+is_done reading o bytes R idle e = ap (if_idle o (on_image o (reading bytes))) idle ∙ ap (on_image o) e
 
 left_lawful : (o : Owned) (R : Program) → IsController o → Suits R (carried_state o.program o.control.cycle.state R) → IsController (changed o R)
 left_lawful o R is suits = record {
@@ -98,20 +97,24 @@ goes_on o R carries lawful = record {
   lawful = lawful;
 }
 
-refused_by : (o : Owned) (bytes : List ℕ) (r : Result Program LoadFault) → image_of bytes ≡ r → AreBytes bytes → IsNoImage bytes → on_image o r ≡ (answers.Refused refusals.BadImage, o)
-refused_by o bytes (Ok R) e fits none = let is = image_takes bytes R fits e in absurd (none R is.0 is.1)
-refused_by o bytes (Err fault) e fits none = refl
+refused_by : (reading : Reading) (o : Owned) (bytes : List ℕ) (r : Result Program LoadFault) → ReadsImages reading → reading bytes ≡ r → AreBytes bytes → IsNoImage bytes → on_image o r ≡ (answers.Refused refusals.BadImage, o)
+refused_by reading o bytes (Ok R) reads e fits none = let is = reads.only bytes R fits e in absurd (none R is.0 is.1)
+refused_by reading o bytes (Err fault) reads e fits none = refl
 
 open_by : (o : Owned) (x : Answer × Owned) (p : Phase) → (p ≡ phases.Idle → ⊥) → if_idle o x p ≡ (answers.Refused refusals.NotIdle, o)
 open_by o x phases.Idle never = absurd (never refl)
 open_by o x phases.Held never = refl
 open_by o x (phases.Stopped stop) never = refl
 
-pub changed_by_names : Carries → LeavesSuited → (o : Owned) (bytes : List ℕ) → ChangesByNames o bytes
-changed_by_names carries suited o bytes image is fits = record {
-  done = λ idle R typed same.
-      subst (λ (x : Answer × Owned). (x.0 ≡ answers.Done) × GoesOnWith R o x.1) (sym (is_done o bytes R idle (ap image_of same ∙ image_again R typed)))
-      (refl, goes_on o R (carries o.program o.control.cycle.state R image.text is.suits.values) (left_lawful o R is (suited o.program o.control.cycle.state R typed.text is.suits.values)));
-  no_image = λ idle none. ap (if_idle o (on_image o (image_of bytes))) idle ∙ refused_by o bytes (image_of bytes) refl fits none;
-  not_idle = λ never. open_by o (on_image o (image_of bytes)) o.control.phase never;
+-- the law of images
+abbrev pub HasImage : Type 0
+HasImage = (Q : Program) → IsWellFormed Q → IsImage Q
+
+pub changed_by_names : Carries → LeavesSuited → HasImage → (reading : Reading) (o : Owned) (bytes : List ℕ) → ChangesByNames reading o bytes
+changed_by_names carries suited has reading o bytes reads whole is fits = record {
+  done = λ idle R formed same.
+      subst (λ (x : Answer × Owned). (x.0 ≡ answers.Done) × GoesOnWith R o x.1) (sym (is_done reading o bytes R idle (ap reading same ∙ reads.read R formed)))
+      (refl, goes_on o R (carries o.program o.control.cycle.state R (has o.program whole).text is.suits.values) (left_lawful o R is (suited o.program o.control.cycle.state R (has R formed).text is.suits.values)));
+  no_image = λ idle none. ap (if_idle o (on_image o (reading bytes))) idle ∙ refused_by reading o bytes (reading bytes) reads refl fits none;
+  not_idle = λ never. open_by o (on_image o (reading bytes)) o.control.phase never;
 }

@@ -1,5 +1,5 @@
 -- Worked rows of scans and of the debugger, by computing the command table.
-use Rattle.std.proofs.Common.{◌≡◌, ℕ, Bool, true, false, List, [], ◌∷◌, replicate, None, Result, Ok, Err, refl, ap}
+use Rattle.std.proofs.Common.{◌≡◌, ◌≤◌, ℕ, zero, suc, Bool, true, false, List, [], ◌∷◌, replicate, None, Result, Ok, Err, refl, sym, ap, ◌∙◌, arith}
 use Rattle.std.specs.Prelude.{pos, slice_set, codes}
 use Rattle.il_model.specs.declared.value.Value.TheVariants as values
 use Rattle.il_model.specs.declared.value.Ty.TheVariants as types
@@ -22,13 +22,16 @@ use Rattle.il_model.specs.declared.command.Refusal.TheVariants as refusals
 use Rattle.il_model.specs.Cells.{clear_inputs, safe_image}
 use Rattle.il_model.specs.Program.{Program}
 use Rattle.il_model.specs.Names.{is_well_spelled}
-use Rattle.il_model.specs.Words.{spells, look, mnemonic_of}
+use Rattle.il_model.specs.Words.{plain, spells, look, mnemonic_of}
+use Rattle.il_model.specs.Codes.{usage_of, allows, has_form}
+use Rattle.il_model.specs.Image.{spelling}
+use Rattle.il_loader.specs.Images.{IsName, IsOperand, IsInstruction, IsWellFormed, Reading, AreBytes, ReadsImages}
 use Rattle.il_loader.specs.declared.fault.LoadFault.{LoadFault}
 use Rattle.il_loader.specs.declared.fault.LoadFault.TheVariants.{Truncated}
 use Rattle.il_loader.specs.Reading.{items_from, counts_at, header_at, spelled_name_at, name_at, first_value_at, variable_at, instance_at, mark_at, constant_at, instruction_at, argument_at, word_at, bodies_at, tables_at}
 use Rattle.il_loader.specs.Judging.{image_of, judged_tables}
 use Rattle.ctl_debugger.specs.Owned.{Owned, cold_owned}
-use Rattle.ctl_debugger.specs.Outcome.{on_image, owned_from, answers_from, answers_of}
+use Rattle.ctl_debugger.specs.Outcome.{on_image, owned_from, answers_from, answers_with, answers_of}
 use Rattle.ctl_model.specs.Scan.{next_count}
 
 abbrev line : Op → Operand → Instr
@@ -171,6 +174,52 @@ counts_on = ap (λ (r : Result Program LoadFault). outputs 1 false 1 ∷ outputs
 -- bytes that are no image change nothing
 no_image : answers_of (counting 1) 10 (scan false ∷ scan false ∷ commands.Change one_byte ∷ scan false ∷ []) ≡ outputs 1 false 1 ∷ outputs 2 false 2 ∷ answers.Refused refusals.BadImage ∷ outputs 3 false 3 ∷ []
 no_image = ap (λ (r : Result Program LoadFault). outputs 1 false 1 ∷ outputs 2 false 2 ∷ (on_image after_two r).0 ∷ answers_from (on_image after_two r).1 (scan false ∷ [])) one_byte_is_none
+
+-- ---- whatever reads images
+
+n_named : IsName (codes "N")
+unfolding is_well_spelled spells look mnemonic_of
+n_named = record { lawful = refl; short = (let le : 1 ≤ 32 = omega arith in le) }
+
+does : (op : Op) (operand : Operand) → allows (usage_of op).letters plain ≡ true → has_form (usage_of op).form false operand ≡ true → IsOperand operand → (op ≡ ops.Empty → ⊥) → IsInstruction (line op operand)
+does op operand letters form is some = record { label = λ name e. absurd cc; letters = letters; form = form; operands = (is, tt); labelled = λ e. absurd (some e) }
+
+counting_is : IsWellFormed (counting 10)
+counting_is = record {
+  small = record { variables = (let le : 1 ≤ 512 = omega arith in le); instances = (let le : 0 ≤ 128 = omega arith in le); code = (let le : 4 ≤ 4096 = omega arith in le) };
+  variables = (record { name = n_named; type = refl; range = refl; location = λ loc e. absurd cc }, tt);
+  instances = tt;
+  names = (tt, tt);
+  locations = tt;
+  code = (
+    does ops.Ld (operands.Variable (codes "N")) refl refl tt (λ e. cc),
+    (does ops.Add (number 10) refl refl refl (λ e. cc), (does ops.St (operands.Variable (codes "N")) refl refl tt (λ e. cc), (does ops.St (operands.Direct (Word areas.Output 0)) refl refl refl (λ e. cc), tt))),
+  );
+  typed = refl;
+}
+
+tens_spelled : spelling (counting 10) ≡ tens
+tens_spelled = refl
+
+counts_on_by : (reading : Reading) → ReadsImages reading → answers_with reading (cold_owned (counting 1) 10) (scan false ∷ scan false ∷ commands.Change tens ∷ scan false ∷ [])
+    ≡ outputs 1 false 1 ∷ outputs 2 false 2 ∷ answers.Done ∷ outputs 3 false 12 ∷ []
+counts_on_by reading is =
+    ap (λ (r : Result Program LoadFault). outputs 1 false 1 ∷ outputs 2 false 2 ∷ (on_image after_two r).0 ∷ answers_with reading (on_image after_two r).1 (scan false ∷ []))
+    (ap reading (sym tens_spelled) ∙ is.read (counting 10) counting_is)
+
+is_byte : AreBytes one_byte
+is_byte zero = omega arith
+is_byte (suc i) = omega arith
+
+refused_so : (reading : Reading) (r : Result Program LoadFault) → ReadsImages reading → reading one_byte ≡ r
+    → outputs 1 false 1 ∷ outputs 2 false 2 ∷ (on_image after_two r).0 ∷ answers_with reading (on_image after_two r).1 (scan false ∷ [])
+    ≡ outputs 1 false 1 ∷ outputs 2 false 2 ∷ answers.Refused refusals.BadImage ∷ outputs 3 false 3 ∷ []
+refused_so reading (Ok R) is e = absurd (let spelled = (is.only one_byte R is_byte e).1 in cc)
+refused_so reading (Err fault) is e = refl
+
+no_image_by : (reading : Reading) → ReadsImages reading → answers_with reading (cold_owned (counting 1) 10) (scan false ∷ scan false ∷ commands.Change one_byte ∷ scan false ∷ [])
+    ≡ outputs 1 false 1 ∷ outputs 2 false 2 ∷ answers.Refused refusals.BadImage ∷ outputs 3 false 3 ∷ []
+no_image_by reading is = refused_so reading (reading one_byte) is refl
 
 -- nor does a change while a scan is held
 held_alone : answers_of (counting 1) 10 (commands.SetBreak 1 ∷ scan false ∷ commands.Change tens ∷ commands.Continue ∷ []) ≡ answers.Done ∷ answers.Held 1 ∷ answers.Refused refusals.NotIdle ∷ outputs 1 false 1 ∷ []

@@ -1,4 +1,5 @@
--- The command table of a controller whose program can be changed: the answer, and what is owned then.
+-- The command table of a controller whose program can be changed: the answer, and what is owned then. A change has the
+-- bytes of an image, and how those are read is left open; the controller reads them as the loader does.
 use Rattle.std.specs.Prelude.{ℕ, List, [], ◌∷◌, Result, Ok, Err}
 use Rattle.il_model.specs.declared.command.Command.{Command}
 use Rattle.il_model.specs.declared.command.Command.TheVariants as commands
@@ -11,6 +12,7 @@ use Rattle.ctl_model.specs.declared.phase.Phase.TheVariants as phases
 use Rattle.ctl_model.specs.Changes.{carried_control}
 use Rattle.ctl_model.specs.Commands.{command_outcome}
 use Rattle.il_loader.specs.declared.fault.LoadFault.{LoadFault}
+use Rattle.il_loader.specs.Images.{Reading}
 use Rattle.il_loader.specs.Judging.{image_of}
 use Rattle.ctl_debugger.specs.Owned.{Owned, cold_owned, with_control}
 
@@ -28,9 +30,20 @@ abbrev pub if_idle : Owned → Answer × Owned → Phase → Answer × Owned
 if_idle o x phases.Idle = x
 if_idle o x phase = (answers.Refused refusals.NotIdle, o)
 
+abbrev pub outcome_with : Reading → Owned → Command → Answer × Owned
+outcome_with reading o (commands.Change bytes) = if_idle o (on_image o (reading bytes)) o.control.phase
+outcome_with reading o command = with_control o (command_outcome o.program o.budget o.control command)
+
+-- what commands are answered, one after another
+abbrev pub answers_with : Reading → Owned → List Command → List Answer
+answers_with reading o [] = []
+answers_with reading o (c ∷ more) = (outcome_with reading o c).0
+    ∷ answers_with reading (outcome_with reading o c).1 more
+
+-- ---- images read as the loader reads them
+
 abbrev pub outcome : Owned → Command → Answer × Owned
-outcome o (commands.Change bytes) = if_idle o (on_image o (image_of bytes)) o.control.phase
-outcome o command = with_control o (command_outcome o.program o.budget o.control command)
+outcome o command = outcome_with image_of o command
 
 -- what commands leave, one after another
 abbrev pub owned_from : Owned → List Command → Owned
@@ -39,8 +52,7 @@ owned_from o (c ∷ more) = owned_from (outcome o c).1 more
 
 -- and what they are answered
 abbrev pub answers_from : Owned → List Command → List Answer
-answers_from o [] = []
-answers_from o (c ∷ more) = (outcome o c).0 ∷ answers_from (outcome o c).1 more
+answers_from o cs = answers_with image_of o cs
 
 -- those of a controller of a program that never ran
 abbrev pub answers_of : Program → ℕ → List Command → List Answer

@@ -28,6 +28,7 @@
 ghost use Rattle.std.specs.Prelude.{◌≡◌, ℕ, List, Result};
 ghost use Rattle.ctl_debugger.specs.declared.snap_error.SnapError.{SnapError};
 ghost use Rattle.il_model.specs.declared.command.Command.{Command};
+ghost use Rattle.il_loader.specs.Images.{Reading};
 ghost use Rattle.ctl_debugger.specs.Outcome.{outcome};
 ghost use Rattle.ctl_debugger.specs.Prepared.{Prepared, IsReady, prepared_outcome};
 ghost use Rattle.ctl_debugger.specs.Owned.{Owned};
@@ -35,6 +36,7 @@ ghost use Rattle.ctl_debugger.specs.Changing.{ChangesByNames};
 ghost use Rattle.ctl_debugger.specs.Restored.{RestoresTheSame};
 
 use ctl_model::{a_change_carries_over, snapshots_tell_instances};
+use il_loader::know_well_formed;
 
 mod breaks;
 mod controller;
@@ -62,14 +64,15 @@ pub fn what_is_ready_is_its_command()
     ensures { (o : Owned) (c : Command) (p : Prepared) → IsReady c p → outcome o c ≡ prepared_outcome o p }
 {}
 
-/// What a change of the program is answered and leaves, said by names. Between two scans the image of a program is
-/// `Done`: a variable without a location before and after, of equal name and type, keeps its value; an instance of
-/// equal name and kind its inputs and its state; all others are as when cold; the areas, forces, the count of scans,
-/// the greatest moment and the budget stay; breakpoints go, no scan is open, and what is left is a controller of the
-/// new program. Bytes that are the image of no program are refused as `BadImage`. While a scan is held or stopped
-/// either is refused as `NotIdle`.
+/// What a change of the program is answered and leaves, said by names, whatever reads images. Between two scans the
+/// image of a program is `Done`: a variable without a location before and after, of equal name and type, keeps its
+/// value; an instance of equal name and kind its inputs and its state; all others are as when cold; the areas, forces,
+/// the count of scans, the greatest moment and the budget stay; breakpoints go, no scan is open, and what is left is a
+/// controller of the new program. Bytes that are the image of no program are refused as `BadImage`. While a scan is
+/// held or stopped either is refused as `NotIdle`.
 pub fn a_change_goes_by_names()
-    ensures { (o : Owned) (bytes : List ℕ) → ChangesByNames o bytes }
+    ensures { (reading : Reading) (o : Owned) (bytes : List ℕ) → ChangesByNames reading o bytes }
 {
     a_change_carries_over();
+    know_well_formed();
 }
