@@ -7,10 +7,12 @@ use Rattle.il_model.specs.declared.command.Command.{Command}
 use Rattle.il_model.specs.declared.command.Command.TheVariants.{Force, Unforce, ReadVar}
 use Rattle.il_model.specs.declared.program.Place.{Place}
 use Rattle.il_model.specs.Program.{Program}
+use Rattle.il_loader.specs.Images.{Reading}
+use Rattle.il_loader.specs.Judging.{image_of}
 use Rattle.ctl_model.specs.Slots.{slot_place, slot_of}
 use Rattle.ctl_model.specs.Commands.{forcible_at}
 use Rattle.ctl_debugger.specs.Owned.{Owned}
-use Rattle.ctl_debugger.specs.Outcome.{outcome}
+use Rattle.ctl_debugger.specs.Outcome.{outcome_with}
 use Rattle.plc_json.specs.declared.command.NamedCommand.{NamedCommand}
 use Rattle.plc_json.specs.declared.command.NamedCommand.TheVariants as named
 
@@ -33,8 +35,13 @@ meant Q (named.Force name value) = Force (slot_meant Q (string_bytes name)) valu
 meant Q (named.Unforce name) = Unforce (slot_meant Q (string_bytes name))
 meant Q (named.Read name) = ReadVar (slot_meant Q (string_bytes name))
 
--- what a controller answers to named commands, one after another; each name is one of the program in force
+-- what a controller answers to named commands, one after another, where images are read so; each name is one of the
+-- program in force
+abbrev pub named_answers : Reading → Owned → List NamedCommand → List Answer
+named_answers reading c [] = []
+named_answers reading c (asked ∷ more) = (outcome_with reading c (meant c.program asked)).0
+    ∷ named_answers reading (outcome_with reading c (meant c.program asked)).1 more
+
+-- where they are read as the loader reads them
 abbrev pub answers_by : Owned → List NamedCommand → List Answer
-answers_by c [] = []
-answers_by c (asked ∷ more) = (outcome c (meant c.program asked)).0
-    ∷ answers_by (outcome c (meant c.program asked)).1 more
+answers_by c commands = named_answers image_of c commands

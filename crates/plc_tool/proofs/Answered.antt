@@ -4,6 +4,8 @@ use Rattle.std.specs.Prelude.{OnOk, IfErr}
 use Rattle.il_model.specs.Program.{Program}
 use Rattle.il_model.specs.Typing.{IsTyped}
 use Rattle.io_model.specs.declared.counted.CountedWrite.{Ghosts as CountedWriter}
+use Rattle.il_loader.specs.Images.{ReadsImages}
+use Rattle.il_loader.specs.Judging.{image_of}
 use Rattle.ctl_debugger.specs.Owned.{Owned, cold_owned}
 use Rattle.plc_json.specs.declared.command.NamedCommand.{NamedCommand}
 use Rattle.il_text.specs.declared.fault.Fault.{Fault}
@@ -14,11 +16,13 @@ use Rattle.plc_names.specs.Named.{answers_by}
 use Rattle.il_text.specs.Putting.{Puts, IsWhyStopped}
 use Rattle.plc_tool.specs.Calls.{IsRun, IsRunCutShort}
 
-pub are_answers : (text : List ℕ) (budget : ℕ) (commands : List NamedCommand) (Q : Program) (c : Owned) → IsTypedProgramOfText text Q → IsTyped Q → c ≡ cold_owned Q budget → IsAnswered text budget commands (answers_by c commands)
-are_answers text budget commands Q c is typed cold = record {
+pub are_answers : (text : List ℕ) (budget : ℕ) (commands : List NamedCommand) (Q : Program) (c : Owned) → IsTypedProgramOfText text Q → IsTyped Q → ReadsImages image_of → c ≡ cold_owned Q budget → IsAnswered text budget commands (answers_by c commands)
+are_answers text budget commands Q c is typed reads cold = record {
   program = Q;
   is = is;
   typed = typed;
+  reading = image_of;
+  reads = reads;
   answers_are = ap (λ (o : Owned). answers_by o commands) cold;
 }
 

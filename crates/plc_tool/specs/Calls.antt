@@ -11,6 +11,7 @@ use Rattle.il_model.specs.Typing.{IsTyped}
 use Rattle.il_model.specs.Marks.{words_in}
 use Rattle.il_model.specs.Image.{spelling}
 use Rattle.il_model.specs.Fits.{IsImage}
+use Rattle.il_loader.specs.Images.{Reading, ReadsImages}
 use Rattle.il_lister.specs.Listing.{listing}
 use Rattle.il_text.specs.declared.fault.Fault.{Fault}
 use Rattle.il_text.specs.declared.fault.Fault.TheVariants as faults
@@ -22,7 +23,7 @@ use Rattle.plc_json.specs.declared.command.JsonFault.TheVariants as json
 use Rattle.plc_json.specs.declared.command.NamedCommand.{NamedCommand}
 use Rattle.plc_json.specs.Commands.{HasNoCommands}
 use Rattle.plc_json.specs.Single.{IsChange}
-use Rattle.plc_names.specs.Named.{answers_by}
+use Rattle.plc_names.specs.Named.{named_answers}
 
 -- ---- images and listings
 
@@ -90,16 +91,15 @@ IsFaultOfChange text told = IsTextFault text told ⊎ ((told ≡ faults.Commands
 
 -- ---- answers to commands
 
--- What a controller that starts from the program answers to commands with names, at so many instructions a scan.
-abbrev pub answers_to : Program → ℕ → List NamedCommand → List Answer
-answers_to Q budget commands = answers_by (cold_owned Q budget) commands
-
--- what is answered is what the definitions give for the text's typed program
+-- what is answered is what a controller of the text's typed program answers, each scan within the budget; the bytes of
+-- a change are read as images are
 pub record IsAnswered (text : List ℕ) (budget : ℕ) (commands : List NamedCommand) (answers : List Answer) : Type 0 where
   pub program : Program
   pub is : IsTypedProgramOfText text program
   pub typed : IsTyped program
-  pub answers_are : answers ≡ answers_to program budget commands
+  pub reading : Reading
+  pub reads : ReadsImages reading
+  pub answers_are : answers ≡ named_answers reading (cold_owned program budget) commands
 
 -- the answers of the text to the commands were written, a line each
 pub record IsRun (text : List ℕ) (budget : ℕ) (commands : List NamedCommand) (old new : Option (List ℕ)) : Type 0 where

@@ -9,7 +9,9 @@ use Rattle.il_model.specs.declared.command.Command.TheVariants.{Force, Unforce, 
 use Rattle.ctl_model.specs.Slots.{slot_of}
 use Rattle.il_model.specs.declared.command.Answer.{Answer}
 use Rattle.vr_model.specs.Membership.{Membership}
-use Rattle.ctl_debugger.specs.Outcome.{answers_of}
+use Rattle.il_loader.specs.Images.{Reading, ReadsImages}
+use Rattle.ctl_debugger.specs.Owned.{cold_owned}
+use Rattle.ctl_debugger.specs.Outcome.{answers_with}
 use Rattle.vr_core.specs.StandsFor.{member, IsSavedAs}
 use Rattle.vr_schedules.specs.declared.event.WorldEvent.{WorldEvent}
 use Rattle.vr_schedules.specs.declared.event.WorldEvent.TheVariants as events
@@ -76,15 +78,17 @@ abbrev pub report_line : Trace → List ℕ
 report_line trace = report_text trace ++ codes "\n"
 
 -- The report of these events was written: one history of them, answered as one controller of the text's typed program
--- answers, each scan within the budget.
+-- answers, each scan within the budget; the bytes of a change are read as images are.
 pub record IsSimulated (text : List ℕ) (budget : ℕ) (named : List NamedEvent)
     (old new : Option (List ℕ)) : Type 0 where
   pub program : Program
   pub is : IsTypedProgramOfText text program
   pub events : List WorldEvent
   pub known : AreKnown program named events
+  pub reading : Reading
+  pub reads : ReadsImages reading
   pub trace : Trace
-  pub history : IsOneHistory (answers_of program budget) events trace
+  pub history : IsOneHistory (answers_with reading (cold_owned program budget)) events trace
   pub written : Appends old new (report_line trace)
 
 -- And it's the report of a run of them by the rules of replication, with 2f+1 replicas, in which nothing was lost.

@@ -5,6 +5,7 @@ ghost use Rattle.il_text.specs.Meaning.{IsTextFault, OrMemory};
 ghost use Rattle.plc_tool.specs.Calls.{IsAnswered};
 
 use ctl_debugger::Controller;
+use il_loader::know_reading;
 use il_model::{Answer, Budget};
 use il_text::{Fault, image};
 use plc_json::NamedCommand;
@@ -25,6 +26,7 @@ pub fn answers(
 {
     let image = image(alloc, text)?;
     image.know_lawful();
+    know_reading();
     let mut controller = Controller::new(alloc, image, budget)?;
     Ok(answers_of(alloc, &mut controller, commands)?)
 }

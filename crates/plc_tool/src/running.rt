@@ -8,6 +8,7 @@ ghost use Rattle.il_text.specs.Putting.{Puts, IsWhyStopped};
 ghost use Rattle.plc_tool.specs.Calls.{IsRun, IsRunCutShort};
 
 use ctl_debugger::Controller;
+use il_loader::know_reading;
 use il_model::Budget;
 use il_text::{Fault, image, put_line};
 use io_model::CountedWrite;
@@ -50,6 +51,7 @@ pub fn put_run<W: CountedWrite>(
 {
     let image = image(alloc, text)?;
     image.know_lawful();
+    know_reading();
     let mut controller = Controller::new(alloc, image, budget)?;
     put_answers(alloc, &mut controller, commands, out)
 }

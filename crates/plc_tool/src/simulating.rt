@@ -12,7 +12,7 @@ ghost use Rattle.plc_tool.specs.Simulated.{IsToldOf, report_line};
 
 use crate::events::all_known;
 use crate::report::ReportLine;
-use il_loader::Image;
+use il_loader::{Image, know_reading};
 use il_model::Budget;
 use il_text::{Fault, image};
 use io_model::{CountedWrite, write_all};
@@ -105,6 +105,7 @@ pub fn put_report<W: CountedWrite>(
         ⊎ (OrMemory (IsToldOf text.now group.now.config.f group.now.budget.instructions named.now) e
         × (out.new ≡ out.old))) }
 {
+    know_reading();
     let image = image(alloc, text)?;
     let events = all_known(alloc, &image, named)?;
     let trace = whole_trace(

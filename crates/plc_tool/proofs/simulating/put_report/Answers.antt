@@ -9,14 +9,14 @@ use Rattle.plc_tool.proofs.simulating.put_report.Goals as goal
 pub returns-clause-simulated : goal.returns-clause-simulated
 returns-clause-simulated g c =
     is_simulated g.W.CountedWrite c.in_ok-trace.trace c.args.out.now c.put_trace.new.out c.args.text.now c.args.group.now.budget.instructions c.in_ok-image.image c.args.named.now c.in_ok-events.events.items
-    c.in_ok-image.ensures.found c.in_ok-events.ensures.known
+    c.in_ok-image.ensures.found c.in_ok-events.ensures.known c.know_reading.ensures.reads
     (subst (λ events. IsOneHistory (answers_of c.in_ok-image.image c.args.group.now.budget.instructions) events c.in_ok-trace.trace) c.as_slice.ensures.value c.in_ok-trace.ensures.history)
     c.put_trace.result c.put_trace.ensures
 
 pub returns-clause-replicated : goal.returns-clause-replicated
 returns-clause-replicated g c =
     is_replicated g.W.CountedWrite c.in_ok-trace.trace c.args.out.now c.put_trace.new.out c.args.text.now c.args.group.now.config.f c.args.group.now.budget.instructions c.in_ok-image.image c.args.named.now c.in_ok-events.events.items
-    c.in_ok-image.ensures.found c.in_ok-events.ensures.known
+    c.in_ok-image.ensures.found c.in_ok-events.ensures.known c.know_reading.ensures.reads
     (subst (λ events. IsOneHistory (answers_of c.in_ok-image.image c.args.group.now.budget.instructions) events c.in_ok-trace.trace) c.as_slice.ensures.value c.in_ok-trace.ensures.history)
     (subst (λ events. IsTraced IsSavedAs (member c.args.group.now.config.f 0 c.in_ok-image.image c.args.group.now.budget.instructions) events c.in_ok-trace.trace) c.as_slice.ensures.value c.in_ok-trace.ensures.traced)
     c.in_ok-trace.ensures.none_lost c.put_trace.result c.put_trace.ensures
