@@ -10,8 +10,8 @@ use Rattle.plc_trace.specs.declared.trace.Trace.{Trace}
 use Rattle.plc_trace.specs.Tracing.{IsPut}
 use Rattle.plc_member.specs.declared.scans.Entered.{Entered}
 
--- where a scan stands that this client submitted under this number, and that was answered in this view: known where it's
--- the last one of the own log, as it was seen in that view
+-- where a scan stands that this client submitted under this number, and that was answered in this view: known where
+-- it's the last one of the own log, as it was seen in that view
 abbrev pub placed_by : Option Entered → ℕ → ℕ → ℕ → Option Placed
 placed_by None client number view = None
 placed_by (Some it) client number view =

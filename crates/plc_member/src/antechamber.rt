@@ -4,15 +4,16 @@ ghost use Rattle.std.specs.Prelude.{◌≡◌};
 ghost use Rattle.plc_member.specs.Keeping.{waited_for};
 
 use crate::keeper::{Keeper, Leaving, Waited};
-use crate::links::Linked;
+use crate::life::Life;
+use crate::serving::MachineRuntime;
 use crate::stop::Stop;
 use crate::watch::note;
 use io_model::CountedWrite;
 use net_hello::Epoch;
 use plc_epochs::Kept;
-use plc_host::{Failed, ServiceRuntime};
-use plc_status::{Journal, Notice, Printer};
-use std::net::{Net, TcpListener, TcpStream};
+use plc_host::Failed;
+use plc_status::{Journal, Journals, Notice, Printer};
+use std::alloc::{AllocError, Global};
 use std::time::{Duration, Instant};
 use vr_ports::{Input, Link};
 
@@ -31,20 +32,14 @@ pub(crate) enum Gone {
     Failed(Failed),
 }
 
-/// A machine that has begun no epoch.
+/// Where a machine waits to begin an epoch: what it tells there, and what ends it.
 #[derive(Drop)]
-pub(crate) struct Antechamber<R>
-where
-    R: ServiceRuntime + Net<Listener = TcpListener, Stream = TcpStream>,
-{
-    pub(crate) linked: Linked<R>,
-    pub(crate) keeper: Keeper<R>,
-    pub(crate) journal: Journal,
+struct Antechamber {
+    journal: Journal,
     /// What ends it.
-    pub(crate) stop: Stop,
-    /// The sum of the image in its store.
-    pub(crate) program: [u8; 32],
-    pub(crate) is_told_long: bool,
+    stop: Stop,
+    /// It was told that it waits for others.
+    is_told_long: bool,
 }
 
 /// What the machine of this number waits for that may take a person, by what its store keeps and the sum of its image.
@@ -65,73 +60,92 @@ fn waited_for(kept: Kept, program: &[u8; 32], number: u8) -> Option<Notice>
     }
 }
 
-impl<R> Antechamber<R>
-where
-    R: ServiceRuntime + Net<Listener = TcpListener, Stream = TcpStream>,
-{
-    /// Waits until its machine may begin an epoch, or its life ends otherwise. What is noted meanwhile is printed to
-    /// `err` by this printer of its journal.
-    pub(crate) fn waited<E: CountedWrite>(&mut self, printer: &mut Printer, err: &mut E) -> Gone {
-        self.note_origin();
-        let gone = self.go_on(printer, err);
-        printer.print(err);
-        gone
+/// Whether a machine has waited for long since its life began.
+fn waits_long<R: MachineRuntime>(keeper: &Keeper<R>) -> bool {
+    match Instant::now(&keeper.host.rt) {
+        Ok(now) => {
+            let waited = now.saturating_duration_since(keeper.begun);
+            waited.as_nanos() >= Duration::from_secs(LONG).as_nanos()
+        }
+        Err(_) => false,
     }
+}
 
-    /// Turn by turn, until its machine may begin an epoch, or its life ends otherwise.
-    fn go_on<E: CountedWrite>(&mut self, printer: &mut Printer, err: &mut E) -> Gone {
-        let rt = self.keeper.host.rt;
+/// Waits until a life comes to its epoch's begin, or ends before that: what becomes of its machine, which `stop` ends.
+/// `err` has a line for each change meanwhile.
+pub(crate) fn waited<R: MachineRuntime, E: CountedWrite>(
+    alloc: Global,
+    life: &mut Life<R>,
+    stop: Stop,
+    err: &mut E,
+) -> Result<Gone, AllocError> {
+    let Journals {
+        driver: journal,
+        console: _console,
+        mut printer,
+    } = Journals::new(alloc)?;
+    let mut antechamber = Antechamber {
+        journal,
+        stop,
+        is_told_long: false,
+    };
+    antechamber.note_origin(life);
+    let gone = antechamber.go_on(life, &mut printer, err);
+    printer.print(err);
+    Ok(gone)
+}
+
+impl Antechamber {
+    /// Turn by turn, until its machine may begin an epoch, or its life ends otherwise. What is noted meanwhile is
+    /// printed to `err` by this printer of its journal.
+    fn go_on<R: MachineRuntime, E: CountedWrite>(
+        &mut self,
+        life: &mut Life<R>,
+        printer: &mut Printer,
+        err: &mut E,
+    ) -> Gone {
+        let rt = life.keeper.host.rt;
         for _ in rt.forever() {
             printer.print(err);
             if self.stop.is_asked() {
                 return Gone::Stopped;
             }
             // What comes is for a replica that isn't there: it's lost.
-            if let Input::Closed = self.linked.replica.recv() {
+            if let Input::Closed = life.linked.replica.recv() {
                 return Gone::Failed(Failed::Connection);
             }
-            match self.keeper.wait() {
+            match life.keeper.wait() {
                 Some(Waited::Begins(epoch)) => return Gone::Begins(epoch),
                 Some(Waited::Leaves(leaving)) => return self.leave(leaving),
-                None => self.note_long(),
+                None => self.note_long(&life.keeper),
             }
         }
         unreachable!()
     }
 
-    /// Its life ends so.
+    /// The life ends so.
     fn leave(&mut self, leaving: Leaving) -> Gone {
         note(leaving.notice, &mut self.journal);
         Gone::Leaves(leaving.kept)
     }
 
-    /// Notes what it waits for that may take a person: an epoch above one that others are in, or a store with the
-    /// program of its epoch.
-    fn note_origin(&mut self) {
-        let kept = self.keeper.cold_start.kept();
-        let number = self.keeper.speaker.number;
-        note(waited_for(kept, &self.program, number), &mut self.journal);
+    /// Notes what its machine waits for that may take a person: an epoch above one that others are in, or a store with
+    /// the program of its epoch.
+    fn note_origin<R: MachineRuntime>(&mut self, life: &Life<R>) {
+        let kept = life.keeper.cold_start.kept();
+        let number = life.keeper.speaker.number;
+        let program = life.origin.header.program;
+        note(waited_for(kept, &program, number), &mut self.journal);
     }
 
-    /// Notes once that it waits for others, where it has done so for long.
-    fn note_long(&mut self) {
-        if self.is_told_long || !self.waits_long() {
+    /// Notes once that its machine waits for others, where it has done so for long.
+    fn note_long<R: MachineRuntime>(&mut self, keeper: &Keeper<R>) {
+        if self.is_told_long || !waits_long(keeper) {
             return;
         }
         self.is_told_long = true;
-        if let Kept::Entered(epoch) = self.keeper.cold_start.kept() {
+        if let Kept::Entered(epoch) = keeper.cold_start.kept() {
             self.journal.put(Notice::WaitsForOthers(epoch.number));
-        }
-    }
-
-    /// Whether it has waited for long.
-    fn waits_long(&self) -> bool {
-        match Instant::now(&self.keeper.host.rt) {
-            Ok(now) => {
-                let waited = now.saturating_duration_since(self.keeper.begun);
-                waited.as_nanos() >= Duration::from_secs(LONG).as_nanos()
-            }
-            Err(_) => false,
         }
     }
 }

@@ -1,29 +1,35 @@
 //! A machine that has begun its epoch, and whose replica is not started.
 
 use crate::keeper::Keeper;
-use crate::links::Linked;
+use crate::life::Origin;
 use crate::serving::MachineRuntime;
 use crate::stop::Stop;
-use il_loader::Image;
 use net_hello::Epoch;
+use net_peers::{Exchange, PeerLink};
 use plc_trace::{Started, Trace};
+use std::sync::Arc;
 
 /// A machine that has begun its epoch, as its store says, and is to be served in it: its links are up, and its replica
 /// is not started.
 #[derive(Drop)]
 pub struct Begun<R: MachineRuntime, S: Drop, M: Drop> {
-    pub(crate) number: u8,
+    pub(crate) around: Surroundings<R>,
+    /// Of its replica.
+    pub(crate) link: PeerLink<R>,
+    pub(crate) files: ReplicaFiles<S, M>,
+}
+
+/// What stands around the replica of a machine in its epoch.
+#[derive(Drop)]
+pub(crate) struct Surroundings<R: MachineRuntime> {
     pub(crate) epoch: Epoch,
-    /// How many starts there are in its epoch with this one.
-    pub(crate) starts: u64,
-    /// Of the program with which the epoch began.
-    pub(crate) image: Image,
-    /// Of the replica's view.
-    pub(crate) store: S,
-    pub(crate) marks: M,
-    /// Whether its store is marked by a change of the program.
-    pub(crate) is_marked: bool,
-    pub(crate) linked: Linked<R>,
+    pub(crate) origin: Origin,
+    /// What the links of its parties share.
+    pub(crate) exchange: Arc<Exchange>,
+    /// The link of its driver.
+    pub(crate) driver: PeerLink<R>,
+    /// The link of its console, if it has one.
+    pub(crate) console: Option<PeerLink<R>>,
     pub(crate) keeper: Keeper<R>,
     /// What ends it.
     pub(crate) stop: Stop,
@@ -31,18 +37,33 @@ pub struct Begun<R: MachineRuntime, S: Drop, M: Drop> {
     pub(crate) trace: Option<Trace>,
 }
 
+/// The files of a replica.
+#[derive(Drop)]
+pub(crate) struct ReplicaFiles<S: Drop, M: Drop> {
+    /// Of its view.
+    pub(crate) store: S,
+    pub(crate) marks: M,
+}
+
+impl<R: MachineRuntime> Surroundings<R> {
+    /// Which machine it is.
+    pub(crate) fn number(&self) -> u8 {
+        self.origin.header.machine
+    }
+}
+
 impl<R: MachineRuntime, S: Drop, M: Drop> Begun<R, S, M> {
     /// The same, which puts what it releases into a trace.
     pub fn traced(mut self, trace: Trace) -> Begun<R, S, M> {
-        self.trace = Some(trace);
+        self.around.trace = Some(trace);
         self
     }
 
     /// Which machine it is, and how often it was started in its epoch, with this time.
     pub fn started(&self) -> Started {
         Started {
-            machine: self.number,
-            starts: self.starts,
+            machine: self.around.number(),
+            starts: self.around.origin.starts,
         }
     }
 }

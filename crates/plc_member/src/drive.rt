@@ -256,8 +256,8 @@ where
         self.board.read(&self.host.rt)?.entered
     }
 
-    /// Takes a message of the group. Where it's the reply that is waited for, what it releases is published, and put into
-    /// the trace.
+    /// Takes a message of the group. Where it's the reply that is waited for, what it releases is published, and put
+    /// into the trace.
     fn take(&mut self, message: &Message) -> Result<(), Failed>
         ensures published { OnOk result ((log : List (Entry Asked))
             → Publishes (release_by self.old.requester.driver.driver.state (body_with log message.now.body))

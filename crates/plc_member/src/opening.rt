@@ -1,36 +1,28 @@
 //! A machine as its directory has it, and how each life of it begins and ends there.
 
-ghost use Rattle.std.specs.Prelude.{◌≡◌};
-ghost use Rattle.plc_member.specs.Keeping.{begins_by_itself};
-
-use crate::antechamber::{Antechamber, Gone};
+use crate::antechamber::{Gone, waited};
 use crate::beginning::Beginning;
-use crate::begun::Begun;
+use crate::begun::{Begun, ReplicaFiles};
 use crate::drive::Ended;
-use crate::held_link::Hold;
-use crate::keeper::{Keeper, Terms};
-use crate::links::{Linked, hello_of, links_of, machine_of};
+use crate::life::{Life, Origin, life_of};
 use crate::program::Marker;
 use crate::serving::MachineRuntime;
 use crate::stop::Stop;
 use crate::unserved::Unserved;
-use il_loader::{Image, load};
+use il_loader::load;
 use io_model::CountedWrite;
 use net_hello::Epoch;
-use plc_epochs::{ColdStart, Kept, Place};
-use plc_group::{ColdStart as Manner, Group};
+use plc_epochs::Kept;
+use plc_group::Group;
 use plc_host::{Failed, Host};
 use plc_machine::wanted;
-use plc_status::Journals;
 use plc_store::{
-    ChangeMark, FileDirectory, Header, Opened, Refusal, Start, Store, StoreDirectory, is_changed,
-    keep, open, stored_in,
+    ChangeMark, FileDirectory, Opened, Refusal, Start, Store, StoreDirectory, is_changed, keep,
+    open, stored_in,
 };
 use std::alloc::{AllocError, Global};
 use std::fs::File;
-use std::net::{Net, SocketAddr, TcpListener, TcpStream};
 use std::rt::Files;
-use std::sync::Arc;
 use vr_replica::ViewStore;
 use vr_threads::{FileStore, JudgedStarts};
 
@@ -54,37 +46,6 @@ enum Entered<R: MachineRuntime, S: Drop, M: Drop> {
     Stopped,
 }
 
-/// What a life begins with, as its store has it.
-#[derive(Drop)]
-struct Origin {
-    header: Header,
-    start: Start,
-    image: Image,
-    /// How many starts there are in its epoch with this one.
-    starts: u64,
-    /// Whether the program was changed in its epoch.
-    is_marked: bool,
-}
-
-/// A life whose links are up.
-#[derive(Drop)]
-struct Life<R: MachineRuntime> {
-    origin: Origin,
-    linked: Linked<R>,
-    keeper: Keeper<R>,
-}
-
-/// Listens at an address of this machine.
-fn listening<R: Net<Listener = TcpListener, Stream = TcpStream>>(
-    rt: &R,
-    address: SocketAddr,
-) -> Result<TcpListener, Failed> {
-    match TcpListener::bind(rt, address) {
-        Ok(listener) => Ok(listener),
-        Err(_) => Err(Failed::Port(address.port())),
-    }
-}
-
 /// How many starts there are with this one, by the store of a replica's view.
 fn starts_in<R: Files + Copy + Drop>(host: Host<R>, path: &str, number: u8) -> Result<u64, Failed> {
     let mut store = FileStore::new(host.rt, host.alloc, path, number)?;
@@ -92,51 +53,6 @@ fn starts_in<R: Files + Copy + Drop>(host: Host<R>, path: &str, number: u8) -> R
         Ok(stored) => Ok(stored.starts.saturating_add(1)),
         Err(_) => Err(Failed::Store(number)),
     }
-}
-
-/// Whether a group begins anew by itself as far as this machine is concerned: not where its program was changed, since
-/// its store has the one before.
-fn is_automatic(group: &Group, is_marked: bool) -> bool
-    ensures { result ≡ begins_by_itself group.now.cold_start is_marked }
-{
-    matches!(group.cold_start, Manner::Auto) && !is_marked
-}
-
-/// What a machine is to the protocol of its group, as it starts from its store.
-fn cold_start_of(group: &Group, origin: &Origin) -> ColdStart {
-    let place = Place {
-        config: group.config,
-        number: origin.header.machine,
-        is_automatic: is_automatic(group, origin.is_marked),
-    };
-    let starts = u32::try_from(origin.starts).unwrap_or(u32::MAX);
-    ColdStart::new(place, &origin.header.kept, origin.header.program, starts, 0)
-}
-
-/// The life that begins so, at an address of its machine.
-fn life_of<R: MachineRuntime>(
-    host: Host<R>,
-    group: &Group,
-    origin: Origin,
-    address: SocketAddr,
-) -> Result<Life<R>, Failed> {
-    let listener = listening(&host.rt, address)?;
-    let cold_start = cold_start_of(group, &origin);
-    let hello = hello_of(cold_start.greeting());
-    let machine = machine_of(host.alloc, group, &origin.header, hello, origin.starts)?;
-    let linked = links_of(host, &machine, listener)?;
-    let terms = Terms {
-        f: group.config.f,
-        is_automatic: is_automatic(group, origin.is_marked),
-        hold: Arc::new(host.alloc, Hold::new())?,
-        exchange: Arc::try_clone(&linked.exchange)?,
-    };
-    let keeper = Keeper::new(host, cold_start, machine, terms)?;
-    Ok(Life {
-        origin,
-        linked,
-        keeper,
-    })
 }
 
 impl<R: MachineRuntime + Files<File = File> + Alloc<A = Global>> Member<R> {
@@ -218,13 +134,18 @@ impl<R: MachineRuntime + Files<File = File> + Alloc<A = Global>> Member<R> {
         }
     }
 
+    /// Its store, and how it starts from it.
+    fn opened(&mut self, host: Host<R>, group: &Group) -> Result<Opened, Refusal> {
+        self.directory.look_again()?;
+        match open(host.alloc, &self.directory, &wanted(group)) {
+            Err(Refusal::ViewGone) => self.opened_beginning(host),
+            opened => opened,
+        }
+    }
+
     /// What a life begins with.
     fn origin(&mut self, host: Host<R>, group: &Group) -> Result<Origin, Unserved> {
-        self.directory.look_again()?;
-        let Opened { store, start } = match open(host.alloc, &self.directory, &wanted(group)) {
-            Err(Refusal::ViewGone) => self.opened_beginning(host)?,
-            opened => opened?,
-        };
+        let Opened { store, start } = self.opened(host, group)?;
         let Store { header, image } = store;
         let starts = match start {
             Start::Again => starts_in(host, self.path.as_str(), header.machine)?,
@@ -252,41 +173,47 @@ impl<R: MachineRuntime + Files<File = File> + Alloc<A = Global>> Member<R> {
         }
     }
 
-    /// Waits until its epoch may be begun, and begins it; or ends before that.
+    /// Waits until its epoch may be begun, and begins it; or ends before that. `err` has a line for each change
+    /// meanwhile.
     fn wait<E: CountedWrite>(
         &mut self,
         host: Host<R>,
-        life: Life<R>,
+        mut life: Life<R>,
         err: &mut E,
     ) -> Result<Entered<R, JudgedStarts<FileStore<R>>, Marker<R>>, Unserved> {
-        let (gone, life) = waited(host, life, self.stop.another()?, err)?;
-        match gone {
+        let stop = self.stop.another()?;
+        match waited(host.alloc, &mut life, stop, err)? {
             Gone::Stopped => Ok(Entered::Stopped),
             Gone::Failed(failed) => Err(Unserved::Failed(failed)),
-            Gone::Leaves(kept) => {
-                let Life { linked, keeper, .. } = life;
-                // Nothing of this life is left before another one begins.
-                drop(linked);
-                drop(keeper);
-                self.keep(host, &kept)?;
-                Ok(Entered::Left)
-            }
-            Gone::Begins(epoch) => self.begin(host, life, epoch),
+            Gone::Leaves(kept) => self.leave(host, life, &kept),
+            Gone::Begins(epoch) => self.begin(host, life, &epoch),
         }
+    }
+
+    /// Ends a life before its epoch was begun, and has the store say this of epochs. Nothing of the life is left before
+    /// another one begins.
+    fn leave(
+        &mut self,
+        host: Host<R>,
+        life: Life<R>,
+        kept: &Kept,
+    ) -> Result<Entered<R, JudgedStarts<FileStore<R>>, Marker<R>>, Unserved> {
+        drop(life);
+        self.keep(host, kept)?;
+        Ok(Entered::Left)
     }
 
     /// Begins an epoch: its store has that before its replica says a word.
     fn begin(
         &mut self,
         host: Host<R>,
-        life: Life<R>,
-        epoch: Epoch,
+        mut life: Life<R>,
+        epoch: &Epoch,
     ) -> Result<Entered<R, JudgedStarts<FileStore<R>>, Marker<R>>, Unserved> {
-        let mut life = life;
-        let kept = Kept::Begun(epoch);
+        let kept = Kept::Begun(*epoch);
         // Before the views go: so a machine that stops between that and its replica's first start can be told from one
         // that has lost its view.
-        self.beginning.put(&epoch).map_err(Refusal::from)?;
+        self.beginning.put(epoch).map_err(Refusal::from)?;
         self.keep(host, &kept)?;
         let _ = life.keeper.cold_start.stored(&kept);
         self.go_on(host, life, true)
@@ -299,68 +226,36 @@ impl<R: MachineRuntime + Files<File = File> + Alloc<A = Global>> Member<R> {
         life: Life<R>,
         is_first: bool,
     ) -> Result<Entered<R, JudgedStarts<FileStore<R>>, Marker<R>>, Unserved> {
-        let Life {
-            origin,
-            linked,
-            keeper,
-        } = life;
-        let (path, number) = (self.path.as_str(), origin.header.machine);
-        let store = FileStore::new(host.rt, host.alloc, path, number)?;
-        let Some(epoch) = keeper.cold_start.speaks_in() else {
+        let number = life.origin.header.machine;
+        let Some(epoch) = life.keeper.cold_start.speaks_in() else {
             return Err(Unserved::Failed(Failed::Store(number)));
         };
-        Ok(Entered::Begun(Begun {
-            number,
-            epoch,
-            starts: origin.starts,
-            marks: Marker {
-                change: ChangeMark::new(host.rt, host.alloc, path, &epoch)?,
-                beginning: Beginning::new(host.rt, host.alloc, path)?,
-            },
-            is_marked: origin.is_marked,
-            image: origin.image,
-            store: JudgedStarts::new(store, is_first),
-            linked,
-            keeper,
-            stop: self.stop.another()?,
-            trace: None,
-        }))
+        let files = self.files(host, number, &epoch, is_first)?;
+        let stop = self.stop.another()?;
+        Ok(Entered::Begun(life.begun(epoch, files, stop)))
     }
-}
 
-/// Waits until a life comes to its epoch's begin, or ends before that: what becomes of it. `err` has a line for each
-/// change meanwhile.
-fn waited<R: MachineRuntime, E: CountedWrite>(
-    host: Host<R>,
-    life: Life<R>,
-    stop: Stop,
-    err: &mut E,
-) -> Result<(Gone, Life<R>), Failed> {
-    let Life {
-        origin,
-        linked,
-        keeper,
-    } = life;
-    let Journals {
-        driver: journal,
-        console: _console,
-        mut printer,
-    } = Journals::new(host.alloc)?;
-    let program = origin.header.program;
-    let mut antechamber = Antechamber {
-        linked,
-        keeper,
-        journal,
-        stop,
-        program,
-        is_told_long: false,
-    };
-    let gone = antechamber.waited(&mut printer, err);
-    let Antechamber { linked, keeper, .. } = antechamber;
-    let life = Life {
-        origin,
-        linked,
-        keeper,
-    };
-    Ok((gone, life))
+    /// The files of its replica of this number, which starts in this epoch for the first time, or not.
+    fn files(
+        &self,
+        host: Host<R>,
+        number: u8,
+        epoch: &Epoch,
+        is_first: bool,
+    ) -> Result<ReplicaFiles<JudgedStarts<FileStore<R>>, Marker<R>>, AllocError> {
+        let store = FileStore::new(host.rt, host.alloc, self.path.as_str(), number)?;
+        let marks = self.marker(host, epoch)?;
+        Ok(ReplicaFiles {
+            store: JudgedStarts::new(store, is_first),
+            marks,
+        })
+    }
+
+    /// What its replica has the directory keep in this epoch.
+    fn marker(&self, host: Host<R>, epoch: &Epoch) -> Result<Marker<R>, AllocError> {
+        let path = self.path.as_str();
+        let change = ChangeMark::new(host.rt, host.alloc, path, epoch)?;
+        let beginning = Beginning::new(host.rt, host.alloc, path)?;
+        Ok(Marker { change, beginning })
+    }
 }

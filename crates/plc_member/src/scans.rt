@@ -20,8 +20,8 @@ use vr_ports::Gate;
 use vr_replica::{Replica, ScanInputs};
 use vr_threads::Observer;
 
-/// Where a scan stands in a log, from 0, by whom it was submitted, under which number, and at which moment; and the view
-/// in which that was seen.
+/// Where a scan stands in a log, from 0, by whom it was submitted, under which number, and at which moment; and the
+/// view in which that was seen.
 #[derive(Clone, Copy, Debug, PartialEq, Eq)]
 pub(crate) struct Entered {
     pub(crate) place: u64,

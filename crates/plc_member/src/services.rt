@@ -1,18 +1,38 @@
 //! What is open at a machine beside its port: an operator's console and a page, where its group's file names them.
 
+use crate::links::console_of;
+use crate::serving::{MachineRuntime, millis};
+use crate::starting::Running;
 use io_image::{Naming, ReleasedReader};
-use net_peers::PeerLink;
-use plc_console::{Console, OpenConsole};
-use plc_host::{Failed, ServiceRuntime};
-use plc_page::{OpenPage, Page, Showing};
-use plc_status::StatusReader;
-use std::net::{Net, TcpListener, TcpStream};
+use net_peers::{FIRST_CONSOLE, PeerLink};
+use plc_console::{Console, Desk, DeskClient, OpenConsole, Others};
+use plc_group::Group;
+use plc_host::{Failed, Host, ServiceRuntime};
+use plc_listener::Door;
+use plc_machine::client_starts;
+use plc_page::{OpenPage, Page, Published, Showing, Whose};
+use plc_status::{Journal, StatusReader, StatusWriter};
+use std::net::{Net, SocketAddr, TcpListener, TcpStream};
+use std::sync::Arc;
+use std::time::Duration;
+use vr_model::ClientNumber;
 
 /// What a page shows of a machine: what is published of it, and what is shown beside, if a page is wanted.
 #[derive(Drop)]
-pub(crate) struct ToShow<J: Naming> {
-    pub(crate) status: StatusReader,
+struct ToShow<J: Naming> {
+    status: StatusReader,
+    released: ReleasedReader<J>,
+    showing: Option<Showing>,
+}
+
+/// What a console and a page of a machine are made of, beside what shows of the machine.
+#[derive(Drop)]
+pub(crate) struct Beside<J: Naming> {
+    /// Where what an operator does at the console is noted.
+    pub(crate) journal: Journal,
+    /// The outputs, for the page.
     pub(crate) released: ReleasedReader<J>,
+    /// What the page shows beside what is published, if one is wanted.
     pub(crate) showing: Option<Showing>,
 }
 
@@ -35,6 +55,118 @@ where
 {
     console: Option<OpenConsole<R, PeerLink<R>>>,
     page: Option<OpenPage<R, J>>,
+}
+
+/// Where it's asked what shows of it, if that's shown.
+fn status_of(group: &Group, number: u8) -> Option<SocketAddr> {
+    group.machines.get(usize::from(number))?.status
+}
+
+/// The client that the console of a machine is, which was started so often.
+fn desk_client(number: u8, starts: u64) -> Result<DeskClient, Failed> {
+    match (
+        ClientNumber::new(FIRST_CONSOLE.saturating_add(number)),
+        client_starts(starts),
+    ) {
+        (Some(number), Some(starts)) => Ok(DeskClient { number, starts }),
+        _ => Err(Failed::Store(number)),
+    }
+}
+
+impl<R: MachineRuntime> Running<R> {
+    /// What submits the commands of its console, by this link. They are noted in this journal.
+    fn desk(
+        &self,
+        host: Host<R>,
+        group: &Group,
+        link: PeerLink<R>,
+        journal: Journal,
+    ) -> Result<Desk<R, PeerLink<R>>, Failed> {
+        let number = self.around.number();
+        let client = desk_client(number, self.around.origin.starts)?;
+        let others = Others {
+            board: Arc::try_clone(&self.boards.snapshots)?,
+            budget: group.budget,
+            replica: number,
+        };
+        let has_changed = Arc::try_clone(&self.boards.has_changed)?;
+        let period = millis(group.period);
+        let desk = Desk::new(host, group.config, client, link, period, journal);
+        Ok(desk.among(others).telling_changes(has_changed))
+    }
+
+    /// The operator's console, if the machine has one, which takes no connection yet.
+    fn console(
+        &mut self,
+        host: Host<R>,
+        group: &Group,
+        journal: Journal,
+        status: StatusReader,
+    ) -> Result<Option<Console<R, PeerLink<R>>>, Failed> {
+        let number = self.around.number();
+        let (Some(address), Some(link)) = (console_of(group, number), self.around.console.take())
+        else {
+            return Ok(None);
+        };
+        let Ok(door) = Door::at(&host.rt, address) else {
+            return Err(Failed::Port(address.port()));
+        };
+        let desk = self.desk(host, group, link, journal)?;
+        let idle = Duration::from_secs(u64::from(group.times.idle));
+        let image = &self.around.origin.image;
+        Ok(Some(Console::new(host, door, desk, image, status, idle)?))
+    }
+
+    /// The page that shows the machine, if it has one, which nobody is shown yet.
+    fn page<J: Naming + Send + Sync + 'static>(
+        &self,
+        host: Host<R>,
+        group: &Group,
+        shown: ToShow<J>,
+    ) -> Result<Option<Page<R, J>>, Failed> {
+        let ToShow {
+            status,
+            released,
+            showing,
+        } = shown;
+        let number = self.around.number();
+        let (Some(address), Some(showing)) = (status_of(group, number), showing) else {
+            return Ok(None);
+        };
+        let published = Published {
+            whose: Whose::Machine(number),
+            period: group.period,
+            status,
+            released,
+            begun: self.around.keeper.begun,
+            has_changed: Arc::try_clone(&self.boards.has_changed)?,
+        };
+        let image = &self.around.origin.image;
+        Ok(Some(Page::new(host, address, image, showing, published)?))
+    }
+
+    /// What the machine has beside its port, which isn't open yet. What shows of it is read of `status`.
+    pub(crate) fn services<J: Naming + Send + Sync + 'static>(
+        &mut self,
+        host: Host<R>,
+        group: &Group,
+        status: &StatusWriter,
+        beside: Beside<J>,
+    ) -> Result<Services<R, J>, Failed> {
+        let Beside {
+            journal,
+            released,
+            showing,
+        } = beside;
+        let console = self.console(host, group, journal, status.reader()?)?;
+        let shown = ToShow {
+            status: status.reader()?,
+            released,
+            showing,
+        };
+        let page = self.page(host, group, shown)?;
+        Ok(Services { console, page })
+    }
 }
 
 /// Shows a page, if there is one.

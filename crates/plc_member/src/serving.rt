@@ -2,42 +2,33 @@
 
 ghost use Rattle.std.specs.Prelude.{◌≡◌};
 
-use crate::begun::Begun;
+use crate::begun::{Begun, Surroundings};
 use crate::drive::{Drive, Ended};
-use crate::held_link::{HeldLink, Hold};
 use crate::keeper::Keeper;
-use crate::links::{Linked, console_of};
-use crate::neighbours::Machines;
 use crate::port::Port;
-use crate::program::{Marking, Marks, ProgramWatch};
+use crate::program::Marks;
 use crate::publisher::Publisher;
 use crate::requester::Requester;
-use crate::scans::{ScanBoard, ScanGate};
-use crate::services::{Services, ToShow};
+use crate::services::Beside;
+use crate::starting::{Running, started};
 use crate::stop::Stop;
 use crate::teller::{Submitted, Teller};
 use crate::tracer::Tracer;
-use il_loader::Image;
 use io_image::{Naming, NewList, Pen, ReleasedReader, SharedPen, Stage, Stamp, released};
 use io_model::CountedWrite;
 use modbus_server::{Seats, Shown};
-use net_peers::{Exchange, FIRST_CONSOLE, PeerLink};
-use plc_console::{Console, Desk, DeskClient, Others, SnapshotBoard};
 use plc_group::Group;
 use plc_host::{Failed, Host, ServiceRuntime};
-use plc_listener::Door;
 use plc_machine::{MachineDriver, Pace, client_starts};
-use plc_page::{Page, Published, Showing, Whose};
-use plc_status::{Journal, Journals, Notice, Printer, StatusReader, StatusWriter};
-use plc_trace::Trace;
-use std::alloc::{AllocError, Global};
+use plc_page::Showing;
+use plc_status::{Journal, Journals, Notice, Printer, StatusWriter};
+use std::alloc::Global;
 use std::net::{Net, SocketAddr, TcpListener, TcpStream};
 use std::sync::Arc;
-use std::sync::atomic::AtomicBool;
 use std::thread;
-use std::time::{Duration, Instant};
+use std::time::Duration;
 use vr_model::ClientNumber;
-use vr_threads::{ClusterConfig, ClusterError, GroupTimer, Seat, Solo, SoloThread, Starts};
+use vr_threads::{SoloThread, Starts};
 
 /// So many sessions of Modbus clients are served at once.
 const SESSIONS: usize = 16;
@@ -47,78 +38,9 @@ pub trait MachineRuntime: ServiceRuntime + Net<Listener = TcpListener, Stream = 
 
 impl<R: ServiceRuntime + Net<Listener = TcpListener, Stream = TcpStream>> MachineRuntime for R {}
 
-/// Where the thread of a replica leaves what the others of its machine look at.
-#[derive(Drop)]
-struct Boards {
-    /// The last scan of its log.
-    scans: Arc<ScanBoard>,
-    /// A snapshot of its controller, for a console that wants one.
-    snapshots: Arc<SnapshotBoard>,
-    /// That another program may be in force than the one with which the epoch began.
-    has_changed: Arc<AtomicBool>,
-}
-
-impl Boards {
-    /// Nothing was left there.
-    fn new(alloc: Global) -> Result<Boards, AllocError> {
-        Ok(Boards {
-            scans: Arc::new(alloc, ScanBoard::new())?,
-            snapshots: Arc::new(alloc, SnapshotBoard::new())?,
-            has_changed: Arc::new(alloc, AtomicBool::new(false))?,
-        })
-    }
-
-    /// What keeps a change of the program: with what marks the store, and what ends the replica's link.
-    fn marking<M: Marks + Drop>(
-        &self,
-        marks: M,
-        is_marked: bool,
-        hold: &Arc<Hold>,
-    ) -> Result<Marking<M>, AllocError> {
-        Ok(Marking {
-            has_changed: Arc::try_clone(&self.has_changed)?,
-            marks,
-            is_marked,
-            hold: Arc::try_clone(hold)?,
-        })
-    }
-
-    /// What leaves there what a replica comes to that was not started. Times are told since `begun`.
-    fn gate<R: MachineRuntime, M: Marks + Drop>(
-        &self,
-        host: Host<R>,
-        begun: Instant,
-        program: ProgramWatch<M>,
-    ) -> Result<ScanGate<R, M>, AllocError> {
-        let scans = Arc::try_clone(&self.scans)?;
-        let snapshots = Arc::try_clone(&self.snapshots)?;
-        Ok(ScanGate::new(host, begun, scans, snapshots, program))
-    }
-}
-
-/// The replica of a machine, which runs, and what its driver needs of it.
-#[derive(Drop)]
-struct Running<R: MachineRuntime> {
-    number: u8,
-    /// The epoch in which it takes part.
-    epoch: u64,
-    /// How often the machine was started, with this time.
-    starts: u64,
-    exchange: Arc<Exchange>,
-    driver: PeerLink<R>,
-    solo: Solo<HeldLink<R>>,
-    /// Of the replica. It ends once the link is cut and `solo` is let go of.
-    thread: SoloThread,
-    keeper: Keeper<R>,
-    boards: Boards,
-    /// The link of its console, if it has one.
-    console: Option<PeerLink<R>>,
-    /// Of the program with which the epoch began.
-    image: Image,
-    /// What ends it.
-    stop: Stop,
-    /// Where what it releases is put, if that's wanted.
-    trace: Option<Trace>,
+/// A time of so many milliseconds.
+pub(crate) fn millis(time: u32) -> Duration {
+    Duration::from_millis(u64::from(time))
 }
 
 /// What the outputs are released to, and what clients are shown them by.
@@ -130,183 +52,28 @@ struct Outputs<R: MachineRuntime, J: Naming, P: Pen<J> + Drop> {
     reader: ReleasedReader<J>,
 }
 
-/// A time of so many milliseconds.
-fn millis(time: u32) -> Duration {
-    Duration::from_millis(u64::from(time))
-}
-
-/// Why no replica runs.
-fn failed_by(error: ClusterError) -> Failed {
-    match error {
-        ClusterError::Memory => Failed::Memory,
-        ClusterError::Thread => Failed::Thread,
-    }
-}
-
-/// Where it's asked what shows of it, if that's shown.
-fn status_of(group: &Group, number: u8) -> Option<SocketAddr> {
-    group.machines.get(usize::from(number))?.status
-}
-
-/// What says when the replica of this machine is late.
-fn timer_of<R: MachineRuntime>(
-    rt: R,
-    group: &Group,
-    number: u8,
-    machines: Machines,
-) -> GroupTimer<R, Machines> {
-    let (patience, resend) = (millis(group.times.patience), millis(group.times.resend));
-    GroupTimer::new(rt, group.config, number, patience, resend, machines)
-}
-
-/// How the replicas of a group run.
-fn config_of(group: &Group) -> ClusterConfig {
-    ClusterConfig {
-        group: group.config,
-        budget: group.budget,
-        turns: u64::MAX,
-    }
-}
-
-/// Starts the replica of a machine that has begun its epoch, in a thread of its own.
-fn started<R, S, M>(
+/// What clients are served with, one for each of these readers. They are shown outputs for as long as those are fresh.
+fn seats_of<J, R>(
     host: Host<R>,
     group: &Group,
-    begun: Begun<R, S, M>,
-) -> Result<Running<R>, Failed>
+    readers: Vec<ReleasedReader<J>>,
+    stamp: &Arc<Stamp<R>>,
+    status: &StatusWriter,
+) -> Result<Seats<R, J>, Failed>
 where
+    J: Naming + Send + Sync + 'static,
     R: MachineRuntime,
-    S: Starts + Send + Drop + 'static,
-    M: Marks + Send + Drop + 'static,
 {
-    let Host { rt, alloc } = host;
-    let Begun {
-        number,
-        epoch,
-        starts,
-        image,
-        store,
-        marks,
-        is_marked,
-        linked,
-        keeper,
-        stop,
-        trace,
-    } = begun;
-    let Linked {
-        exchange,
-        replica: link,
-        driver,
-        console,
-    } = linked;
-    let boards = Boards::new(alloc)?;
-    let hold = &keeper.terms.hold;
-    let marking = boards.marking(marks, is_marked, hold)?;
-    let program = ProgramWatch::new(alloc, &image, marking)?;
-    let machines = Machines {
-        exchange: Arc::try_clone(&exchange)?,
+    let shown = Shown {
+        readers,
+        stamp: Arc::try_clone(stamp)?,
+        limit: Some(group.times.fresh),
     };
-    let seat = Seat {
-        link: HeldLink {
-            link,
-            hold: Arc::try_clone(hold)?,
-        },
-        store,
-        timer: timer_of(rt, group, number, machines),
-        gate: boards.gate(host, keeper.begun, program)?,
-    };
-    let (solo, thread) = match Solo::start(&rt, alloc, config_of(group), number, &image, seat) {
-        Ok(started) => started,
-        Err(error) => return Err(failed_by(error)),
-    };
-    Ok(Running {
-        number,
-        epoch: epoch.number,
-        starts,
-        exchange,
-        driver,
-        solo,
-        thread,
-        keeper,
-        boards,
-        console,
-        image,
-        stop,
-        trace,
-    })
+    let idle = Duration::from_secs(u64::from(group.times.idle));
+    Seats::new(host, shown, idle, status.traffic()?)
 }
 
-impl<R: MachineRuntime> Running<R> {
-    /// The operator's console, if the machine has one, which takes no connection yet.
-    fn console(
-        &mut self,
-        host: Host<R>,
-        group: &Group,
-        journal: Journal,
-        status: StatusReader,
-    ) -> Result<Option<Console<R, PeerLink<R>>>, Failed> {
-        let (Some(address), Some(link)) = (console_of(group, self.number), self.console.take())
-        else {
-            return Ok(None);
-        };
-        let Ok(door) = Door::at(&host.rt, address) else {
-            return Err(Failed::Port(address.port()));
-        };
-        let client = desk_client(self.number, self.starts)?;
-        let others = Others {
-            board: Arc::try_clone(&self.boards.snapshots)?,
-            budget: group.budget,
-            replica: self.number,
-        };
-        let period = millis(group.period);
-        let desk = Desk::new(host, group.config, client, link, period, journal)
-            .among(others)
-            .telling_changes(Arc::try_clone(&self.boards.has_changed)?);
-        let idle = Duration::from_secs(u64::from(group.times.idle));
-        let console = Console::new(host, door, desk, &self.image, status, idle)?;
-        Ok(Some(console))
-    }
-
-    /// The page that shows the machine, if it has one, which nobody is shown yet.
-    fn page<J: Naming + Send + Sync + 'static>(
-        &self,
-        host: Host<R>,
-        group: &Group,
-        begun: Instant,
-        shown: ToShow<J>,
-    ) -> Result<Option<Page<R, J>>, Failed> {
-        let ToShow {
-            status,
-            released,
-            showing,
-        } = shown;
-        let (Some(address), Some(showing)) = (status_of(group, self.number), showing) else {
-            return Ok(None);
-        };
-        let published = Published {
-            whose: Whose::Machine(self.number),
-            period: group.period,
-            status,
-            released,
-            begun,
-            has_changed: Arc::try_clone(&self.boards.has_changed)?,
-        };
-        Ok(Some(Page::new(host, address, &self.image, showing, published)?))
-    }
-}
-
-/// The client that the console of a machine is, which was started so often.
-fn desk_client(number: u8, starts: u64) -> Result<DeskClient, Failed> {
-    match (
-        ClientNumber::new(FIRST_CONSOLE.saturating_add(number)),
-        client_starts(starts),
-    ) {
-        (Some(number), Some(starts)) => Ok(DeskClient { number, starts }),
-        _ => Err(Failed::Store(number)),
-    }
-}
-
-/// What the outputs of a machine are released to. Clients are shown them for as long as they are fresh.
+/// What the outputs of a machine are released to.
 fn outputs_of<J, R>(
     host: Host<R>,
     list: NewList,
@@ -326,15 +93,10 @@ where
         return Err(Failed::Memory);
     };
     let stamp = Arc::new(alloc, Stamp::new(rt)?)?;
-    let shown = Shown {
-        readers,
-        stamp: Arc::try_clone(&stamp)?,
-        limit: Some(group.times.fresh),
-    };
-    let idle = Duration::from_secs(u64::from(group.times.idle));
+    let seats = seats_of(host, group, readers, &stamp, status)?;
     Ok(Outputs {
         publisher: Publisher { writer, stamp },
-        seats: Seats::new(host, shown, idle, status.traffic()?)?,
+        seats,
         reader,
     })
 }
@@ -381,8 +143,8 @@ where
 
     /// Notes that the program was changed in its epoch before it started.
     fn note_change(&self, journal: &mut Journal) {
-        if self.is_marked {
-            journal.put(Notice::ProgramChanged(self.epoch.number));
+        if self.around.origin.is_marked {
+            journal.put(Notice::ProgramChanged(self.around.epoch.number));
         }
     }
 
@@ -399,124 +161,217 @@ where
         J: Naming + Send + Sync + 'static,
         requires { list ≡ J.book }
     {
-        let begun = self.keeper.begun;
-        let status = StatusWriter::new(host.alloc)?;
         let Journals {
-            driver: mut journal,
+            driver: journal,
             console,
             mut printer,
         } = Journals::new(host.alloc)?;
-        self.note_change(&mut journal);
-        let Outputs {
-            publisher,
-            seats,
-            reader: released,
-        } = outputs_of::<J, R>(host, list, group, &status)?;
-        let mut running = started(host, group, self)?;
-        let console = running.console(host, group, console, status.reader()?)?;
-        let shown = ToShow {
-            status: status.reader()?,
+        let (served, released) = self.served::<J>(host, list, group, journal)?;
+        let beside = Beside {
+            journal: console,
             released,
             showing,
         };
-        let page = running.page(host, group, begun, shown)?;
-        let Some(place) = group.machines.get(usize::from(running.number)) else {
-            return Err(Failed::Connection);
-        };
-        let address = place.modbus;
-        let stage = seats.shared_stage()?;
-        let parts = Parts {
+        served.run(host, group, beside, &mut printer, err)
+    }
+
+    /// It, once its replica runs; beside it what a page is shown the outputs by. What changes is noted in this journal.
+    fn served<J>(
+        self,
+        host: Host<R>,
+        list: NewList,
+        group: &Group,
+        mut journal: Journal,
+    ) -> Result<(Served<R, J, SharedPen<J, R>>, ReleasedReader<J>), Failed>
+    where
+        J: Naming + Send + Sync + 'static,
+        requires { list ≡ J.book }
+    {
+        self.note_change(&mut journal);
+        let status = StatusWriter::new(host.alloc)?;
+        let Outputs {
             publisher,
-            stage,
-            running,
+            seats,
+            reader,
+        } = outputs_of::<J, R>(host, list, group, &status)?;
+        let parts = Parts {
+            running: started(host, group, self)?,
+            publisher,
             journal,
             status,
         };
-        let (drive, thread) = parts.into_drive(host, group, begun)?;
-        let work = Work {
-            drive,
-            address,
-            seats,
-        };
-        let services = Services { console, page }.open()?;
-        let ended = work.done(host.rt, &mut printer, err);
-        services.close();
-        let ended = ended?;
-        // Whoever leaves an epoch says nothing in a later one before its replica, its links and its listener are gone.
-        if let Ended::Leaves(_) = ended {
-            thread.join(&host.rt);
-        }
-        Ok(ended)
+        Ok((Served { parts, seats }, reader))
     }
 }
 
-/// What the driver of a machine is made of.
+/// What the driver of a machine is made of, whose replica runs.
 #[derive(Drop)]
 struct Parts<R: MachineRuntime, J: Naming, P: Pen<J> + Drop> {
-    publisher: Publisher<R, J, P>,
-    /// The inputs that its clients stage.
-    stage: Arc<Stage>,
     running: Running<R>,
+    publisher: Publisher<R, J, P>,
+    /// Where what changes is noted.
     journal: Journal,
     status: StatusWriter,
 }
 
-impl<R: MachineRuntime, J: Naming, P: Pen<J> + Drop> Parts<R, J, P> {
-    /// The driver, which stands by, and the thread of the replica.
-    fn into_drive(
+/// What the driver of a machine does its work by, apart from what it looks at and publishes to.
+#[derive(Drop)]
+struct Hands<R: MachineRuntime> {
+    requester: Requester<R>,
+    teller: Teller,
+    tracer: Tracer,
+    keeper: Keeper<R>,
+    /// What ends it.
+    stop: Stop,
+}
+
+impl<R: MachineRuntime> Surroundings<R> {
+    /// What a driver does its work by that asks for a scan once a period, notes what changes in this journal, and shows
+    /// this status.
+    fn into_hands(
         self,
-        host: Host<R>,
-        group: &Group,
-        begun: Instant,
-    ) -> Result<(Drive<R, J, P>, SoloThread), Failed> {
-        let driver = driver_of(group, self.running.number, self.running.starts)?;
-        let Parts {
-            publisher,
-            stage,
-            running,
-            journal,
-            status,
-        } = self;
-        let Running {
-            number,
-            epoch,
+        alloc: Global,
+        period: Duration,
+        driver: MachineDriver,
+        journal: Journal,
+        status: StatusWriter,
+    ) -> Hands<R> {
+        let number = self.number();
+        let epoch = self.epoch.number;
+        let Surroundings {
             exchange,
             driver: link,
-            solo,
-            thread,
             keeper,
-            boards,
             stop,
             trace,
             ..
-        } = running;
-        let requester = Requester {
-            alloc: host.alloc,
-            number,
-            period: millis(group.period),
-            driver,
-            link,
-            sent: millis(0),
-        };
-        let drive = Drive {
-            host,
-            begun,
-            requester,
-            solo,
-            keeper,
-            board: boards.scans,
-            stage,
-            publisher,
+        } = self;
+        Hands {
+            requester: Requester {
+                alloc,
+                number,
+                period,
+                driver,
+                link,
+                sent: millis(0),
+            },
             teller: Teller::new(number, epoch, exchange, journal, status),
             tracer: Tracer {
                 number,
                 epoch,
                 trace,
             },
-            submitted: Submitted::at_the_start(begun),
+            keeper,
             stop,
+        }
+    }
+}
+
+impl<R: MachineRuntime, J: Naming, P: Pen<J> + Drop> Parts<R, J, P> {
+    /// The driver, which stands by and samples this stage, and the thread of the replica.
+    fn into_drive(
+        self,
+        host: Host<R>,
+        period: Duration,
+        driver: MachineDriver,
+        stage: Arc<Stage>,
+    ) -> (Drive<R, J, P>, SoloThread) {
+        let Parts {
+            running,
+            publisher,
+            journal,
+            status,
+        } = self;
+        let Running {
+            around,
+            boards,
+            solo,
+            thread,
+        } = running;
+        let begun = around.keeper.begun;
+        let hands = around.into_hands(host.alloc, period, driver, journal, status);
+        let drive = Drive {
+            host,
+            begun,
+            requester: hands.requester,
+            solo,
+            keeper: hands.keeper,
+            board: boards.scans,
+            stage,
+            publisher,
+            teller: hands.teller,
+            tracer: hands.tracer,
+            submitted: Submitted::at_the_start(begun),
+            stop: hands.stop,
         };
-        Ok((drive, thread))
+        (drive, thread)
+    }
+}
+
+/// A machine whose replica runs, and what its clients are served with.
+#[derive(Drop)]
+struct Served<R: MachineRuntime, J: Naming, P: Pen<J> + Drop> {
+    parts: Parts<R, J, P>,
+    seats: Seats<R, J>,
+}
+
+impl<R: MachineRuntime, J: Naming, P: Pen<J> + Drop> Served<R, J, P> {
+    /// The work of its driver, and the thread of its replica.
+    fn into_work(
+        self,
+        host: Host<R>,
+        group: &Group,
+    ) -> Result<(Work<R, J, P>, SoloThread), Failed> {
+        let Served { parts, seats } = self;
+        let around = &parts.running.around;
+        let (number, starts) = (around.number(), around.origin.starts);
+        let Some(place) = group.machines.get(usize::from(number)) else {
+            return Err(Failed::Connection);
+        };
+        let address = place.modbus;
+        let stage = seats.shared_stage()?;
+        let driver = driver_of(group, number, starts)?;
+        let (drive, thread) = parts.into_drive(host, millis(group.period), driver, stage);
+        let work = Work {
+            drive,
+            address,
+            seats,
+        };
+        Ok((work, thread))
+    }
+}
+
+/// How a machine ended whose replica has this thread. Whoever leaves an epoch says nothing in a later one before its
+/// replica, its links and its listener are gone.
+fn joined<R: MachineRuntime>(rt: &R, ended: Ended, thread: SoloThread) -> Ended {
+    if let Ended::Leaves(_) = ended {
+        thread.join(rt);
+    }
+    ended
+}
+
+impl<R, J, P> Served<R, J, P>
+where
+    R: MachineRuntime,
+    J: Naming + Send + Sync + 'static,
+    P: Pen<J> + Send + Drop + 'static,
+{
+    /// Serves it, with this beside its port, and prints what is noted meanwhile, until it ends.
+    fn run<E: CountedWrite>(
+        mut self,
+        host: Host<R>,
+        group: &Group,
+        beside: Beside<J>,
+        printer: &mut Printer,
+        err: &mut E,
+    ) -> Result<Ended, Failed> {
+        let parts = &mut self.parts;
+        let services = parts.running.services(host, group, &parts.status, beside)?;
+        let (work, thread) = self.into_work(host, group)?;
+        let services = services.open()?;
+        let ended = work.done(host.rt, printer, err);
+        services.close();
+        Ok(joined(&host.rt, ended?, thread))
     }
 }
 

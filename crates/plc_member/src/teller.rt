@@ -59,7 +59,8 @@ fn microseconds(time: Duration) -> u64 {
     u64::try_from(time.as_micros()).unwrap_or(u64::MAX)
 }
 
-/// What is told of a port that took this turn in this view, where it was told before that it isn't to be had in that one.
+/// What is told of a port that took this turn in this view, where it was told before that it isn't to be had in that
+/// one.
 fn notice_of_port(turn: Turn, view: u64, refused_in: Option<u64>) -> Option<Notice>
     ensures { result ≡ notice_of_port turn view refused_in }
 {

@@ -1,0 +1,175 @@
+//! A life of a machine: what it begins with, as the machine's store has it, and the links that are up in it.
+
+ghost use Rattle.std.specs.Prelude.{◌≡◌};
+ghost use Rattle.plc_member.specs.Keeping.{begins_by_itself};
+
+use crate::begun::{Begun, ReplicaFiles, Surroundings};
+use crate::held_link::Hold;
+use crate::keeper::{Keeper, Terms};
+use crate::links::{Linked, hello_of, links_of, machine_of};
+use crate::serving::MachineRuntime;
+use crate::stop::Stop;
+use il_loader::Image;
+use net_hello::Epoch;
+use net_peers::{Exchange, Machine};
+use plc_epochs::{ColdStart, Place};
+use plc_group::{ColdStart as Manner, Group};
+use plc_host::{Failed, Host};
+use plc_store::{Header, Start};
+use std::alloc::{AllocError, Global};
+use std::net::{Net, SocketAddr, TcpListener, TcpStream};
+use std::sync::Arc;
+
+/// What a life begins with, as its store has it.
+#[derive(Drop)]
+pub(crate) struct Origin {
+    pub(crate) header: Header,
+    pub(crate) start: Start,
+    /// Of the program with which its epoch begins.
+    pub(crate) image: Image,
+    /// How many starts there are in its epoch with this one.
+    pub(crate) starts: u64,
+    /// Whether the program was changed in its epoch.
+    pub(crate) is_marked: bool,
+}
+
+/// A life whose links are up.
+#[derive(Drop)]
+pub(crate) struct Life<R: MachineRuntime> {
+    pub(crate) origin: Origin,
+    pub(crate) linked: Linked<R>,
+    pub(crate) keeper: Keeper<R>,
+}
+
+/// Listens at an address of this machine.
+fn listening<R: Net<Listener = TcpListener, Stream = TcpStream>>(
+    rt: &R,
+    address: SocketAddr,
+) -> Result<TcpListener, Failed> {
+    match TcpListener::bind(rt, address) {
+        Ok(listener) => Ok(listener),
+        Err(_) => Err(Failed::Port(address.port())),
+    }
+}
+
+/// The links of a machine, whose replica listens at this address.
+fn linked_at<R: MachineRuntime>(
+    host: Host<R>,
+    machine: &Machine,
+    address: SocketAddr,
+) -> Result<Linked<R>, Failed> {
+    let listener = listening(&host.rt, address)?;
+    links_of(host, machine, listener)
+}
+
+/// Whether a group begins anew by itself as far as this machine is concerned: not where its program was changed, since
+/// its store has the one before.
+fn is_automatic(group: &Group, is_marked: bool) -> bool
+    ensures { result ≡ begins_by_itself group.now.cold_start is_marked }
+{
+    matches!(group.cold_start, Manner::Auto) && !is_marked
+}
+
+/// What a machine is to the protocol of its group, as it starts from its store.
+fn cold_start_of(group: &Group, origin: &Origin) -> ColdStart {
+    let place = Place {
+        config: group.config,
+        number: origin.header.machine,
+        is_automatic: is_automatic(group, origin.is_marked),
+    };
+    let starts = u32::try_from(origin.starts).unwrap_or(u32::MAX);
+    ColdStart::new(place, &origin.header.kept, origin.header.program, starts, 0)
+}
+
+/// What a machine knows of its group that says hello as the protocol has it.
+fn greeting_machine(
+    alloc: Global,
+    group: &Group,
+    origin: &Origin,
+    cold_start: &ColdStart,
+) -> Result<Machine, AllocError> {
+    let hello = hello_of(cold_start.greeting());
+    machine_of(alloc, group, &origin.header, hello, origin.starts)
+}
+
+/// What a machine keeps to whose links share this.
+fn terms_of(
+    alloc: Global,
+    group: &Group,
+    is_marked: bool,
+    exchange: &Arc<Exchange>,
+) -> Result<Terms, AllocError> {
+    Ok(Terms {
+        f: group.config.f,
+        is_automatic: is_automatic(group, is_marked),
+        hold: Arc::new(alloc, Hold::new())?,
+        exchange: Arc::try_clone(exchange)?,
+    })
+}
+
+/// The links of a life that begins so, at an address of its machine, and what keeps to its epoch.
+fn connected<R: MachineRuntime>(
+    host: Host<R>,
+    group: &Group,
+    origin: &Origin,
+    address: SocketAddr,
+) -> Result<(Linked<R>, Keeper<R>), Failed> {
+    let cold_start = cold_start_of(group, origin);
+    let machine = greeting_machine(host.alloc, group, origin, &cold_start)?;
+    let linked = linked_at(host, &machine, address)?;
+    let terms = terms_of(host.alloc, group, origin.is_marked, &linked.exchange)?;
+    let keeper = Keeper::new(host, cold_start, machine, terms)?;
+    Ok((linked, keeper))
+}
+
+/// The life that begins so, at an address of its machine.
+pub(crate) fn life_of<R: MachineRuntime>(
+    host: Host<R>,
+    group: &Group,
+    origin: Origin,
+    address: SocketAddr,
+) -> Result<Life<R>, Failed> {
+    let (linked, keeper) = connected(host, group, &origin, address)?;
+    Ok(Life {
+        origin,
+        linked,
+        keeper,
+    })
+}
+
+impl<R: MachineRuntime> Life<R> {
+    /// The same, which has begun this epoch: its replica, which is not started, has these files, and `stop` ends it.
+    pub(crate) fn begun<S: Drop, M: Drop>(
+        self,
+        epoch: Epoch,
+        files: ReplicaFiles<S, M>,
+        stop: Stop,
+    ) -> Begun<R, S, M> {
+        let Life {
+            origin,
+            linked,
+            keeper,
+        } = self;
+        let Linked {
+            exchange,
+            replica: link,
+            driver,
+            console,
+        } = linked;
+        let around = Surroundings {
+            epoch,
+            origin,
+            exchange,
+            driver,
+            console,
+            keeper,
+            stop,
+            trace: None,
+        };
+        Begun {
+            around,
+            link,
+            files,
+        }
+    }
+}
