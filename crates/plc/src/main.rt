@@ -11,7 +11,7 @@ mod showing;
 mod stores;
 mod tracing;
 
-ghost use Rattle.std.specs.Prelude.{IfOk};
+ghost use Rattle.std.specs.Prelude.{IfOk, IfSome};
 ghost use Rattle.plc.specs.Asked.{IsAsAsked, IsLostAfterAMinute};
 
 use crate::asking::{Asking, Console, ask};
@@ -163,7 +163,7 @@ fn given_words(rt: &HostRuntime) -> Result<Vec<String>, WordsError> {
     Ok(env::args(rt)?.collect(rt.alloc())?)
 }
 
-/// What is to be done for the words of a call: what needs no thread and no socket is done.
+/// What is to be served, asked or carried for the words of a call. What else they ask for is done.
 fn perform<W: Write, E: CountedWrite>(
     rt: &HostRuntime,
     words: Words,
@@ -172,37 +172,38 @@ fn perform<W: Write, E: CountedWrite>(
 ) -> Outcome
     ensures { IsAsAsked words.entry result }
 {
-    match prepared(rt, words, out, err) {
-        Ok(outcome) => outcome,
+    let status = done(rt, &words, out, err);
+    match prepared(rt, words, err) {
+        Ok(Some(outcome)) => outcome,
+        Ok(None) => Outcome::Done(status),
         Err(status) => Outcome::Done(status),
     }
 }
 
-/// What is to be done for the words of a call; or the status where it can't be prepared, which is told.
-fn prepared<W: Write, E: CountedWrite>(
+/// Does what is done at once for the words of a call, as files are read and lines printed: the status; 0 where that is
+/// nothing.
+fn done<W: Write, E: CountedWrite>(
     rt: &HostRuntime,
-    words: Words,
+    words: &Words,
     out: &mut W,
     err: &mut E,
-) -> Result<Outcome, u8>
-    ensures { IfOk result (IsAsAsked words.entry) }
-{
-    Ok(match words {
-        Words::Asm { source, image } => Outcome::Done(calls::asm(rt, source, image, out, err)),
-        Words::List { image } => Outcome::Done(calls::list(rt, image, out, err)),
-        Words::Names { source } => Outcome::Done(calls::names(rt, source, out, err)),
-        Words::Diff { old, new } => Outcome::Done(calls::diff(rt, old, new, out, err)),
+) -> u8 {
+    match *words {
+        Words::Asm { source, image } => calls::asm(rt, source, image, out, err),
+        Words::List { image } => calls::list(rt, image, out, err),
+        Words::Names { source } => calls::names(rt, source, out, err),
+        Words::Diff { old, new } => calls::diff(rt, old, new, out, err),
         Words::Run {
             source,
             commands,
             budget,
-        } => Outcome::Done(calls::run(rt, source, commands, budget, out, err)),
+        } => calls::run(rt, source, commands, budget, out, err),
         Words::Sim {
             source,
             schedule,
             config,
             budget,
-        } => Outcome::Done(calls::sim(rt, source, schedule, &Group { config, budget }, out, err)),
+        } => calls::sim(rt, source, schedule, &Group { config, budget }, out, err),
         Words::Format {
             source,
             group,
@@ -215,12 +216,30 @@ fn prepared<W: Write, E: CountedWrite>(
                 waits,
                 directory,
             };
-            Outcome::Done(stores::format(rt, source, group, &asked, err))
+            stores::format(rt, source, group, &asked, err)
         }
         Words::NextEpoch { source, directory } => {
-            Outcome::Done(stores::enter_next(rt, source, directory, out, err))
+            stores::enter_next(rt, source, directory, out, err)
         }
-        Words::Show { directory } => Outcome::Done(stores::show(rt, directory, out, err)),
+        Words::Show { directory } => stores::show(rt, directory, out, err),
+        Words::Field { .. }
+        | Words::Ask { .. }
+        | Words::Change { .. }
+        | Words::ServeMachine { .. }
+        | Words::Serve { .. } => 0,
+    }
+}
+
+/// What is to be served, asked or carried for the words of a call, if anything is; or the status where it can't be
+/// prepared, which is told.
+fn prepared<E: CountedWrite>(
+    rt: &HostRuntime,
+    words: Words,
+    err: &mut E,
+) -> Result<Option<Outcome>, u8>
+    ensures { IfOk result (λ outcome. IfSome outcome (IsAsAsked words.entry)) }
+{
+    Ok(Some(match words {
         Words::Field { field, check, once } => {
             Outcome::Carry(Carrying::of(rt, field, check, once, err)?)
         }
@@ -245,5 +264,6 @@ fn prepared<W: Write, E: CountedWrite>(
             report,
             settings,
         } => Outcome::Serve(Serving::of(rt, source, stores.as_slice(), report, settings, err)?),
-    })
+        _ => return Ok(None),
+    }))
 }

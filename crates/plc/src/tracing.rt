@@ -16,8 +16,8 @@ pub(crate) struct Life<R: MachineRuntime + Files<File = File>> {
     pub(crate) writer: Option<OpenTraceWriter>,
 }
 
-/// The next life of a machine, behind one that ended so, if there was one; its trace goes to the end of the file at this
-/// path, if one is named. A file that isn't to be had is told by the machine.
+/// The next life of a machine, behind one that ended so, if there was one; its trace goes to the end of the file at
+/// this path, if one is named. A file that isn't to be had is told by the machine.
 pub(crate) fn next_life<R, E>(
     member: &mut Member<R>,
     host: Host<R>,
