@@ -207,15 +207,26 @@ fn first_replica(alloc: Global) -> Result<Replica, Fail> {
     Ok(Replica::new(alloc, config, 0, image, budget)?)
 }
 
+/// Replica 0 is served in this seat for so many turns, and shown by this writer.
+fn serve_first<R: Abort + Copy + Drop>(
+    alloc: Global,
+    seat: &mut ScriptedSeat<'_, '_, R>,
+    shown: &mut ShownWriter,
+    turns: u64,
+) -> Result<(), Fail> {
+    let mut replica = first_replica(alloc)?;
+    serve(alloc, &mut replica, seat, shown, turns);
+    Ok(())
+}
+
 /// Replica 0 is served in this seat for so many turns: what shows of it at the end, which the timer has to be told too.
 fn shown_of<R: Abort + Copy + Drop>(
     alloc: Global,
     seat: &mut ScriptedSeat<'_, '_, R>,
     turns: u64,
 ) -> Result<Shown, Fail> {
-    let mut replica = first_replica(alloc)?;
     let mut shown = ShownWriter::new(alloc)?;
-    serve(alloc, &mut replica, seat, &mut shown, turns);
+    serve_first(alloc, seat, &mut shown, turns)?;
     let read = shown.reader()?.read();
     if read.standing == seat.timer.standing {
         Ok(read)
