@@ -22,6 +22,7 @@ use crate::scans::{Entered, ScanBoard};
 use crate::stop::Stop;
 use crate::teller::{Submitted, Teller};
 use crate::tracer::Tracer;
+use il_model::InImage;
 use io_image::{Naming, Pen, Stage, StageError};
 use plc_epochs::Kept;
 use plc_host::{Failed, Host, ServiceRuntime};
@@ -54,6 +55,8 @@ where
     pub(crate) tracer: Tracer,
     /// The last scan that was submitted.
     pub(crate) submitted: Submitted,
+    /// Where the machine began to lead, the inputs of the last scan: the stage has to have them before the next one.
+    pub(crate) inherited: Option<InImage>,
     /// What ends it.
     pub(crate) stop: Stop,
 }
@@ -137,16 +140,20 @@ where
         Some(Ended::Leaves(kept))
     }
 
-    /// Looks at the replica, submits a scan where one is due, and takes one message at most. Whether outputs are shown
-    /// at its end.
+    /// Looks at the replica, submits a scan where one is due, and takes one message at most; where the machine begins to
+    /// lead, it only looks. Whether outputs are shown at its end.
     fn turn(&mut self) -> Result<bool, Failed>
         ensures { IfOk result (λ shows. (now : Time) × (IsTrue shows ↔ Shows now self.new.requester.driver)) }
     {
+        self.inherit()?;
         self.look()?;
         self.teller.note_links(&self.host);
         self.teller.note_trace(self.tracer.has_failed());
-        self.scan()?;
-        self.receive()?;
+        // Where it began to lead, a port that is still open from the view before is closed first.
+        if self.inherited.is_none() {
+            self.scan()?;
+            self.receive()?;
+        }
         let now = self.elapsed()?;
         Ok(self.requester.driver.shows(now))
     }
@@ -189,7 +196,7 @@ where
     }
 
     /// Leads the view that its replica leads, if it leads one, from the last scan of the replica's log on. Where the
-    /// machine begins to lead, the stage gets the inputs of that scan.
+    /// machine begins to lead, the stage is to get the inputs of that scan.
     fn follow(&mut self, leads: Option<u64>, now: Duration) -> Result<(), Failed>
         ensures looked { OnOk result
             ((last : Option Last) × Looks leads last now self.old.requester.driver self.new.requester.driver) }
@@ -204,12 +211,21 @@ where
         if self.requester.driver.look(leads, last, now).is_err() {
             return Err(Failed::Device);
         }
-        if leads.is_none() || leads == before {
-            return Ok(());
+        if leads.is_some() && leads != before {
+            self.inherited = match seen {
+                Some(seen) => Some(seen.inputs),
+                None => None,
+            };
         }
-        match seen {
-            Some(seen) => {
-                fill(&mut self.stage.handle(&self.host.rt), &seen.inputs).map_err(failed_by)
+        Ok(())
+    }
+
+    /// The stage gets the inputs that the machine inherits, if it does. By then the port is closed behind which clients
+    /// wrote in a view before, with each of its sessions, so none of their writes comes later.
+    fn inherit(&mut self) -> Result<(), Failed> {
+        match self.inherited.take() {
+            Some(inputs) => {
+                fill(&mut self.stage.handle(&self.host.rt), &inputs).map_err(failed_by)
             }
             None => Ok(()),
         }

@@ -21,8 +21,8 @@
 //! RECOVERY (`let_through`); a life ends for another epoch by the steps that say so alone (`leaving_by`); no machine
 //! begins anew by itself whose program was changed (`is_automatic`).
 //!
-//! By its code alone, and tested (`tools/try-machines`): how threads, locks, sockets and times are
-//! joined; that the port is open only while outputs are shown; that no answer is under way in the replica of a machine
+//! By its code alone, and tested (`tests_machines`, `tools/try-machines`): how threads, locks, sockets and
+//! times are joined; that the port is open only while outputs are shown; that no answer is under way in the replica of a machine
 //! that freezes; that the store has an epoch as begun before its replica says a word; that nothing is said in a later
 //! epoch before port, sessions and links of the earlier one are closed; that a store is marked before a message tells
 //! of a change of the program.
@@ -38,6 +38,7 @@ mod held_link;
 mod keeper;
 mod life;
 mod links;
+mod looked;
 mod neighbours;
 mod opening;
 mod port;

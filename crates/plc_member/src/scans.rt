@@ -8,6 +8,7 @@ ghost use Rattle.vr_model.specs.Replicas as model;
 ghost use Rattle.vr_replica.specs.Scans.{last_scan_of};
 ghost use Rattle.vr_replica.specs.Standing.{StandsFor};
 
+use crate::looked::{Looked, is_last};
 use crate::program::{Marks, ProgramWatch};
 use il_model::{Command, InImage};
 use plc_console::SnapshotBoard;
@@ -68,8 +69,8 @@ impl ScanBoard {
 #[derive(Clone, Copy, PartialEq, Eq)]
 enum Known {
     Nothing,
-    /// That of the checkpoint, with its forces laid over the inputs.
-    Checkpoint,
+    /// That of a checkpoint, with its forces laid over the inputs; and the place of the last entry that it stands for.
+    Checkpoint(u64),
     /// This one, at this place of the log, from 0.
     At(u64, ScanInputs),
 }
@@ -84,6 +85,7 @@ pub(crate) struct ScanGate<R: Wait + Clock + Copy + Drop, M> {
     snapshots: Arc<SnapshotBoard>,
     program: ProgramWatch<M>,
     known: Known,
+    looked: Looked,
 }
 
 /// Where the last scan stands among the entries that a replica keeps.
@@ -135,6 +137,11 @@ impl<R: Wait + Clock + Copy + Drop, M: Marks + Drop> ScanGate<R, M> {
             snapshots,
             program,
             known: Known::Nothing,
+            looked: Looked {
+                view: 0,
+                count: 0,
+                committed: 0,
+            },
         }
     }
 
@@ -172,19 +179,53 @@ impl<R: Wait + Clock + Copy + Drop, M: Marks + Drop> ScanGate<R, M> {
         }
     }
 
-    /// No entry that the replica keeps is a scan: where nothing else is known of it, the last one is known by what the
-    /// controller has, which is what the checkpoint brought.
+    /// Whether what is known is still the last scan of a log of which no kept entry is one.
+    fn is_known(&self, replica: &Replica) -> bool {
+        let stands = self.looked.standing_in(replica.standing().view);
+        let is_next_kept = replica.entry(stands).is_some();
+        match self.known {
+            Known::Nothing => false,
+            Known::Checkpoint(place) | Known::At(place, _) => {
+                is_last(place, stands, replica.op_number(), is_next_kept)
+            }
+        }
+    }
+
+    /// No entry that the normal replica keeps is a scan: where what is known needn't be the last one any more, or
+    /// nothing is, that is known by what the controller has, which is what the checkpoint brought.
     fn see_checkpoint(&mut self, replica: &Replica) {
-        if self.known != Known::Nothing || !replica.is_normal() || replica.commit() == 0 {
+        let commit = replica.commit();
+        if commit == 0 || self.is_known(replica) {
             return;
         }
+        self.known = Known::Nothing;
         // Where memory runs out, it's tried behind the next step.
         if let Ok(snapshot) = replica.snapshot(self.host.alloc) {
-            self.known = Known::Checkpoint;
+            self.known = Known::Checkpoint(commit - 1);
             let inputs = InImage {
                 cells: snapshot.input,
             };
             self.leave(inputs, snapshot.moment, None);
+        }
+    }
+
+    /// Looks for the last scan.
+    fn see_last(&mut self, replica: &Replica) {
+        match (last_entered(replica), last_of(replica)) {
+            (Some(entered), Some(scan)) => self.see(entered, scan),
+            _ if replica.is_normal() => self.see_checkpoint(replica),
+            _ => {}
+        }
+    }
+
+    /// The log was seen so far.
+    fn note_looked(&mut self, replica: &Replica) {
+        if replica.is_normal() {
+            self.looked = Looked {
+                view: replica.standing().view,
+                count: replica.op_number(),
+                committed: replica.commit(),
+            };
         }
     }
 }
@@ -197,10 +238,8 @@ impl<R: Wait + Clock + Copy + Drop, M: Marks + Drop> Gate for ScanGate<R, M> {
 
 impl<R: Wait + Clock + Copy + Drop, M: Marks + Drop> Observer for ScanGate<R, M> {
     fn observe(&mut self, replica: &Replica) {
-        match (last_entered(replica), last_of(replica)) {
-            (Some(entered), Some(scan)) => self.see(entered, scan),
-            _ => self.see_checkpoint(replica),
-        }
+        self.see_last(replica);
+        self.note_looked(replica);
         self.program.look(self.host.alloc, replica);
         self.leave_snapshot(replica);
     }

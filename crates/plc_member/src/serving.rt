@@ -302,6 +302,7 @@ impl<R: MachineRuntime, J: Naming, P: Pen<J> + Drop> Parts<R, J, P> {
             teller: hands.teller,
             tracer: hands.tracer,
             submitted: Submitted::at_the_start(begun),
+            inherited: None,
             stop: hands.stop,
         };
         (drive, thread)
