@@ -9,8 +9,8 @@ use plc_group::{Group, read_group};
 use plc_host::{Failed, Host};
 use plc_machine::new_store;
 use plc_member::{Begun, Ended, MachineRuntime, Marks, Member, Stop};
-use plc_store::{FileDirectory, enter_by_hand, format, is_unbegun, stored_in};
-use plc_trace::OpenTraceWriter;
+use plc_store::{FileDirectory, Store, enter_by_hand, format, is_unbegun, stored_in};
+use plc_trace::{OpenTraceWriter, Started, Trace};
 use std::alloc::Global;
 use std::fs::File;
 use std::io::Write;
@@ -124,6 +124,28 @@ pub struct Lines {
     told: Arc<Told>,
 }
 
+impl Lines {
+    /// It has told nothing.
+    fn new(alloc: Global) -> Result<Lines, Fail> {
+        let told = Told {
+            is_normal: AtomicBool::new(false),
+            is_driving: AtomicBool::new(false),
+        };
+        Ok(Lines {
+            told: Arc::new(alloc, told)?,
+        })
+    }
+
+    /// A machine that writes these lines, and is to be served. By this it ends.
+    fn ready(&self, stop: Stop) -> Result<Served, Fail> {
+        Ok(Served {
+            stop,
+            told: Arc::try_clone(&self.told)?,
+            thread: None,
+        })
+    }
+}
+
 impl Write for Lines {
     fn write(&mut self, bytes: &[u8]) -> io::Result<usize> {
         let told = &self.told;
@@ -161,8 +183,9 @@ where
     M: Marks + Send + Drop + 'static,
     E: CountedWrite,
 {
-    match traced(host, begun, path) {
-        Ok((begun, writer)) => {
+    match trace_at(host, begun.started(), path) {
+        Ok((trace, writer)) => {
+            let begun = begun.traced(trace);
             let ended = begun.serve::<Brand, _>(host, NewList::new(), group, None, err);
             writer.close(&host.rt);
             ended
@@ -188,22 +211,17 @@ where
     matches!(serving(host, group, begun, path, err), Ended::Stopped)
 }
 
-/// A machine in the epoch that it has begun, and what adds what it releases to the trace at this path.
-fn traced<R, S, M>(
+/// What takes what a machine releases since this start, and what adds it to the trace at this path.
+fn trace_at<R: Runtime>(
     host: Host<R>,
-    begun: Begun<R, S, M>,
+    started: Started,
     path: &str,
-) -> Result<(Begun<R, S, M>, OpenTraceWriter), Failed>
-where
-    R: Runtime,
-    S: Starts + Send + Drop + 'static,
-    M: Marks + Send + Drop + 'static,
-{
+) -> Result<(Trace, OpenTraceWriter), Failed> {
     let (trace, writer) = plc_trace::traced(host.alloc)?;
     let mut options = File::options();
     let file = options.append(true).create(true).open(&host.rt, path)?;
-    let writer = writer.open(host, begun.started(), Counted::new(file))?;
-    Ok((begun.traced(trace), writer))
+    let writer = writer.open(host, started, Counted::new(file))?;
+    Ok((trace, writer))
 }
 
 /// A machine that is served.
@@ -292,16 +310,22 @@ impl<R: Runtime> Machines<R> {
 
     /// Makes the store of a machine.
     fn make(&self, number: u8) -> Result<(), Fail> {
-        let alloc = self.rt.alloc();
         let path = self.directory(number)?;
         let _ = fs::remove_dir_all(&self.rt, path.as_str());
-        let store = new_store(&self.group(number)?, number, image_bytes(alloc, PROGRAM)?)?;
+        let store = self.first_store(number)?;
         if !is_unbegun(&store.header.kept) {
             return Err("it isn't new")?;
         }
+        let alloc = self.rt.alloc();
         let mut directory = FileDirectory::make(self.rt, alloc, path.as_str())?;
         format(alloc, &mut directory, &store)?;
         Ok(())
+    }
+
+    /// What the store of a machine has at first.
+    fn first_store(&self, number: u8) -> Result<Store, Fail> {
+        let image = image_bytes(self.rt.alloc(), PROGRAM)?;
+        Ok(new_store(&self.group(number)?, number, image)?)
     }
 
     /// Where this machine finds the replica of another, or is found itself.
@@ -331,26 +355,21 @@ impl<R: Runtime> Machines<R> {
         Ok(read_group(alloc, text.as_bytes())?)
     }
 
+    /// A machine, from its store.
+    fn open(&self, number: u8) -> Result<Member<R>, Fail> {
+        let (rt, alloc) = (self.rt, self.rt.alloc());
+        match Member::open(Host { rt, alloc }, self.directory(number)?.as_str()) {
+            Ok(member) => Ok(member),
+            Err(_) => Err("no machine")?,
+        }
+    }
+
     /// A machine that is to be served, from its store.
     pub fn ready(&mut self, number: u8) -> Result<Ready<R>, Fail> {
-        let (rt, alloc) = (self.rt, self.rt.alloc());
         let group = self.group(number)?;
-        let Ok(member) = Member::open(Host { rt, alloc }, self.directory(number)?.as_str()) else {
-            return Err("no machine")?;
-        };
-        let told = Told {
-            is_normal: AtomicBool::new(false),
-            is_driving: AtomicBool::new(false),
-        };
-        let told = Arc::new(alloc, told)?;
-        let lines = Lines {
-            told: Arc::try_clone(&told)?,
-        };
-        let served = Served {
-            stop: member.stop()?,
-            told,
-            thread: None,
-        };
+        let member = self.open(number)?;
+        let lines = Lines::new(self.rt.alloc())?;
+        let served = lines.ready(member.stop()?)?;
         *self.place(number)? = Some(served);
         Ok((member, group, lines, self.trace(number)?))
     }
