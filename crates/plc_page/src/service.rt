@@ -12,7 +12,7 @@ use http1::Limits;
 use io_image::Naming;
 use plc_host::{Failed, Host, ServiceRuntime};
 use plc_listener::{Connection, Door, Listener, OpenListener, Session, WhenFull};
-use std::alloc::AllocError;
+use std::alloc::{AllocError, Global};
 use std::hash::RandomState;
 use std::sync::{Arc, Mutex, Wait};
 use std::time::{Clock, Duration};
@@ -52,6 +52,28 @@ struct Seat<J: Naming> {
     program: Arc<Vec<u8>>,
     source: Arc<Mutex<Source<J>>>,
     keys: RandomState,
+}
+
+impl<J: Naming> Seat<J> {
+    /// One more like this.
+    fn another(&self) -> Result<Seat<J>, AllocError> {
+        Ok(Seat {
+            site: Arc::try_clone(&self.site)?,
+            program: Arc::try_clone(&self.program)?,
+            source: Arc::try_clone(&self.source)?,
+            keys: self.keys,
+        })
+    }
+}
+
+/// As many seats like this as connections are served at once.
+fn seats<J: Naming>(alloc: Global, first: Seat<J>) -> Result<Vec<Seat<J>>, AllocError> {
+    let mut seats = Vec::with_capacity(alloc, SESSIONS)?;
+    for _ in 1..SESSIONS {
+        seats.push(first.another()?)?;
+    }
+    seats.push(first)?;
+    Ok(seats)
 }
 
 /// What answers the requests of a connection.
@@ -121,18 +143,13 @@ impl<R: ServiceRuntime, J: Naming + Send + Sync + 'static> Page<R, J> {
         source: Source<J>,
         keys: RandomState,
     ) -> Result<Page<R, J>, Failed> {
-        let site = Arc::new(host.alloc, site)?;
-        let program = Arc::new(host.alloc, program)?;
-        let source = Arc::new(host.alloc, Mutex::new(source))?;
-        let mut seats = Vec::with_capacity(host.alloc, SESSIONS)?;
-        for _ in 0..SESSIONS {
-            seats.push(Seat {
-                site: Arc::try_clone(&site)?,
-                program: Arc::try_clone(&program)?,
-                source: Arc::try_clone(&source)?,
-                keys,
-            })?;
-        }
+        let first = Seat {
+            site: Arc::new(host.alloc, site)?,
+            program: Arc::new(host.alloc, program)?,
+            source: Arc::new(host.alloc, Mutex::new(source))?,
+            keys,
+        };
+        let seats = seats(host.alloc, first)?;
         let idle = Duration::from_secs(IDLE);
         Ok(Page {
             listener: Listener::new(host, door, seats, idle, WhenFull::Closes)?,
