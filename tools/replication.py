@@ -4,7 +4,7 @@ replica becomes.
 It is an independent reading, in Python, of crates/vr_model/specs/Rules.antt, Choices.antt, World.antt and
 Report.antt: nothing proves it, and `plc` doesn't use it. `tools/sequence --check` compares its report with the known
 one of each schedule of examples/ and of crates/tests_rows/data. It never runs a program: answers come from elsewhere
-(`answers`). Want of memory isn't played."""
+(`answers`). That memory runs out isn't played."""
 import collections
 import json
 import re
