@@ -116,7 +116,7 @@ install:
 	mkdir -p $(BIN) $(SHARE)/man/man1 $(SHARE)/plc/examples/console $(SHARE)/plc/examples/field $(SHARE)/plc/examples/machines $(SHARE)/plc/docs/pictures $(SHARE)/plc/tools $(UNITS) $(USERS)
 	install -m 755 build/plc $(BIN)/plc
 	tools/man-page build/plc > $(SHARE)/man/man1/plc.1
-	install -m 644 README.md $(SHARE)/plc
+	install -m 644 README.md SECURITY.md CHANGELOG.md CONTRIBUTING.md $(SHARE)/plc
 	install -m 644 docs/*.md $(SHARE)/plc/docs
 	install -m 644 docs/pictures/*.svg $(SHARE)/plc/docs/pictures
 	install -m 755 tools/number-lines $(SHARE)/plc/tools
