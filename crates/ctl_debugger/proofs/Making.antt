@@ -1,5 +1,5 @@
 -- The controller that a snapshot that fits is of.
-use Rattle.std.proofs.Common.{◌≡◌, cond, ℕ, ◌<◌, Bool, true, false, List, [], ◌∷◌, length, map, reverse, Option, Some, None, refl, sym, ap, subst, ◌∙◌, arith}
+use Rattle.std.proofs.Common.{◌≡◌, cond, ℕ, ◌<◌, ◌≤◌, Bool, true, false, List, [], ◌∷◌, length, map, reverse, Option, Some, None, refl, sym, ap, subst, ◌∙◌, arith}
 use Rattle.std.specs.Prelude.{◌&&◌, nat_eq, nat_lt, is_none, IfSome}
 use Rattle.std.specs.Option.{option_map}
 use Rattle.std.specs.Str.{bytes_eq}
@@ -17,7 +17,8 @@ use Rattle.il_model.specs.Program.{Program}
 use Rattle.il_model.specs.Image.{spelling}
 use Rattle.il_model.specs.Values.{ty_of}
 use Rattle.il_model.specs.Resolved.{is_labelled}
-use Rattle.il_model.specs.Typing.{Shape, shape_at, shape_on_arrival}
+use Rattle.il_model.specs.Typing.{Shape, shape_on_arrival}
+use Rattle.il_model.specs.Checking.{shape_at}
 use Rattle.il_model.proofs.RowTypes.{and_yes}
 use Rattle.ctl_model.specs.declared.phase.Phase.{Phase}
 use Rattle.ctl_model.specs.declared.phase.Phase.TheVariants as phases
@@ -26,7 +27,8 @@ use Rattle.ctl_model.specs.Cold.{at_rest}
 use Rattle.ctl_model.specs.Scan.{Cycle}
 use Rattle.ctl_model.specs.Suits.{held_of}
 use Rattle.ctl_model.specs.Snapshots.{break_positions, saved_phase, snapshot_of, own_types, are_types, fit_instances, fit_breaks, fit_forces, fits_types, fits_run, is_at_rest, fits_phase, fits}
-use Rattle.ctl_model.proofs.Fitting.{types_fit}
+use Rattle.il_model.proofs.Judged.{arrives}
+use Rattle.ctl_model.proofs.Fitting.{typed_so, types_fit}
 use Rattle.ctl_scan.specs.Parts.{FitsMachine, AreLawful}
 use Rattle.ctl_scan.specs.Kept.{KeptCycle, IsCycleOf}
 use Rattle.ctl_scan.specs.Parts.{HasCycle, performed_in, RestoresCycle, AreMasks}
@@ -96,15 +98,24 @@ run_typed Q s h =
     let a = and_yes (nat_lt s.position (length Q.code)) (fits_types s (shape_at Q s.position)) h in
     (ltb-true s.position (length Q.code) a.0, a.1)
 
-phase_typed : (Q : Program) (budget : ℕ) (s : SavedController) (p : SavedPhase) → fits_phase Q budget s p ≡ true → fits_types s (shape_at Q s.position) ≡ true
-phase_typed Q budget s saved_phases.Idle h = rest_typed Q s (resting s h)
-phase_typed Q budget s (saved_phases.Held n) h = (run_typed Q s (and_yes (fits_run Q s) (nat_lt n budget) h).0).1
-phase_typed Q budget s (saved_phases.Stopped stop) h = (run_typed Q s h).1
+-- a position of the program, with its types
+abbrev IsWithin : Program → SavedController → Type 0
+IsWithin Q s = (s.position ≤ length Q.code) × (fits_types s (shape_at Q s.position) ≡ true)
+
+run_within : (Q : Program) (s : SavedController) → fits_run Q s ≡ true → IsWithin Q s
+run_within Q s h = let r = run_typed Q s h in let lt : s.position < length Q.code = r.0 in (omega arith, r.1)
+
+phase_typed : (Q : Program) (budget : ℕ) (s : SavedController) (p : SavedPhase) → fits_phase Q budget s p ≡ true → IsWithin Q s
+phase_typed Q budget s saved_phases.Idle h = let r = resting s h in (omega (arith, r.position), rest_typed Q s r)
+phase_typed Q budget s (saved_phases.Held n) h = run_within Q s (and_yes (fits_run Q s) (nat_lt n budget) h).0
+phase_typed Q budget s (saved_phases.Stopped stop) h = run_within Q s h
 
 pub fits_machine : (Q : Program) (budget : ℕ) (s : SavedController) → fits Q budget s ≡ true → FitsMachine Q s
 fits_machine Q budget s h =
     let f = fitting Q budget s h in
-    record { variables = f.variables; instances = f.instances; types = phase_typed Q budget s s.phase f.phase }
+    let within = phase_typed Q budget s s.phase f.phase in
+    let t = typed_so Q s within.1 in
+    record { variables = f.variables; instances = f.instances; shape = t.shape; types = arrives Q s.position t.shape within.0 t.types; cr = t.cr; deferred = t.kept }
 
 pub fits_slots : (Q : Program) (budget : ℕ) (s : SavedController) → fits Q budget s ≡ true → fit_forces s.forces ≡ true
 fits_slots Q budget s h = (fitting Q budget s h).forces

@@ -12,7 +12,7 @@ use Rattle.il_model.specs.declared.fetched.Deferred.{Deferred}
 use Rattle.il_model.specs.Snapshots.{SavedController}
 use Rattle.il_model.specs.Program.{Program}
 use Rattle.il_model.specs.Image.{spelling}
-use Rattle.il_model.specs.Typing.{shape_at}
+use Rattle.il_model.specs.Checking.{shape_at}
 use Rattle.ctl_model.specs.declared.forces.Forces.{Forces}
 use Rattle.ctl_model.specs.declared.phase.Phase.{Phase}
 use Rattle.ctl_model.specs.declared.phase.Phase.TheVariants as phases
@@ -21,6 +21,7 @@ use Rattle.ctl_model.specs.Scan.{Cycle}
 use Rattle.ctl_model.specs.Suits.{Suits, held_of}
 use Rattle.ctl_model.specs.Commands.{Control}
 use Rattle.ctl_model.specs.Snapshots.{own_values, saved_instance, break_positions, saved_phase, snapshot_of, own_types, are_types, fit_instances, fit_breaks, fit_forces, fits_types, fits_run, fits_phase, fits}
+use Rattle.il_model.proofs.Judged.{arrived}
 use Rattle.ctl_model.proofs.Fitting.{and_both, of_types, instances_fit, types_fit}
 use Rattle.ctl_debugger.specs.declared.snap_error.SnapError.{SnapError}
 use Rattle.ctl_debugger.specs.declared.snap_error.SnapError.TheVariants.{BadBlock, BadShape, Memory}
@@ -41,7 +42,7 @@ rests st = is_none st.cr && (nat_eq (length (reverse st.kept)) 0 && nat_eq st.po
 run_fits : (Q : Program) (s : Control) → Suits Q s.cycle.state → s.cycle.state.position < length Q.code → fits_run Q (snapshot_of Q s) ≡ true
 run_fits Q s suits lt =
     and_both (nat_lt s.cycle.state.position (length Q.code)) (fits_types (snapshot_of Q s) (shape_at Q s.cycle.state.position)) (lt-ltb s.cycle.state.position (length Q.code) lt)
-    (types_fit Q (snapshot_of Q s) (record { shape = suits.shape; types = suits.types; cr = suits.has.cr; kept = ap (map held_of) (reverse-reverse s.cycle.state.kept) ∙ suits.has.kept }))
+    (types_fit Q (snapshot_of Q s) (record { shape = suits.shape; types = arrived Q s.cycle.state.position suits.shape suits.types; cr = suits.has.cr; kept = ap (map held_of) (reverse-reverse s.cycle.state.kept) ∙ suits.has.kept }))
 
 phase_fits : (Q : Program) (budget : ℕ) (s : Control) (phase : Phase) → Suits Q s.cycle.state → IsOpen Q phase s.cycle → s.cycle.performed < budget → fits_phase Q budget (snapshot_of Q s) (saved_phase phase s.cycle.performed) ≡ true
 phase_fits Q budget s phases.Idle suits is_open some = ap rests is_open.0

@@ -25,6 +25,7 @@ use Rattle.il_model.specs.Names.{is_well_spelled}
 use Rattle.il_model.specs.Words.{plain, spells, look, mnemonic_of}
 use Rattle.il_model.specs.Codes.{usage_of, allows, has_form}
 use Rattle.il_model.specs.Image.{spelling}
+use Rattle.il_model.proofs.Judged.{is_typed}
 use Rattle.il_loader.specs.Images.{IsName, IsOperand, IsInstruction, IsWellFormed, Reading, AreBytes, ReadsImages}
 use Rattle.il_loader.specs.declared.fault.LoadFault.{LoadFault}
 use Rattle.il_loader.specs.declared.fault.LoadFault.TheVariants.{Truncated}
@@ -195,7 +196,7 @@ counting_is = record {
     does ops.Ld (operands.Variable (codes "N")) refl refl tt (λ e. cc),
     (does ops.Add (number 10) refl refl refl (λ e. cc), (does ops.St (operands.Variable (codes "N")) refl refl tt (λ e. cc), (does ops.St (operands.Direct (Word areas.Output 0)) refl refl refl (λ e. cc), tt))),
   );
-  typed = refl;
+  typed = is_typed (counting 10) refl;
 }
 
 tens_spelled : spelling (counting 10) ≡ tens

@@ -9,14 +9,15 @@ use Rattle.il_model.specs.declared.cells.Cells.{Cells}
 use Rattle.il_model.specs.Snapshots.{SavedBlock, SavedController}
 use Rattle.il_model.specs.Program.{Program}
 use Rattle.il_model.specs.Fits.{IsProgram}
-use Rattle.il_model.specs.Typing.{shape_at}
+use Rattle.il_model.specs.Typing.{Arrives}
 use Rattle.il_model.specs.Values.{ty_of}
 use Rattle.ctl_model.specs.State.{State}
 use Rattle.ctl_model.specs.Slots.{places_of}
 use Rattle.ctl_model.specs.Suits.{AreCells, KeepFirsts, held_of, Suits}
 use Rattle.ctl_model.specs.Snapshots.{fit_instances}
+use Rattle.il_model.proofs.Judged.{arrived}
 use Rattle.ctl_model.proofs.ColdSuits.{firsts_typed}
-use Rattle.ctl_model.proofs.Fitting.{instances_of, typed_so, few_deferred}
+use Rattle.ctl_model.proofs.Fitting.{instances_of, few_deferred}
 use Rattle.ctl_machine.proofs.Values.{are_all}
 use Rattle.ctl_machine.specs.Kept.{IsMachineOf}
 use Rattle.ctl_machine.specs.Parts.{HasState, all_values, FitsMachine, RestoresState, HasNoBlock, HasNoState, Here, Later}
@@ -28,14 +29,12 @@ lost_at (y ∷ xs) (suc i) x lt e none = Later y xs (lost_at xs i x (omega (arit
 
 pub deferred_few : (Q : Program) (s : SavedController) → FitsMachine Q s → length s.deferred ≤ 16
 deferred_few Q s fits =
-    let t = typed_so Q s fits.types in
-    let few = few_deferred Q s.position t.shape t.types in
-    let same : length s.deferred ≡ length t.shape.kept = sym (length-map (reverse s.deferred) held_of ∙ length-reverse s.deferred) ∙ ap length t.kept in
+    let few = few_deferred Q s.position fits.shape (arrived Q s.position fits.shape fits.types) in
+    let same : length s.deferred ≡ length fits.shape.kept = sym (length-map (reverse s.deferred) held_of ∙ length-reverse s.deferred) ∙ ap length fits.deferred in
     omega (arith, few, same)
 
 pub restored_suits : (Q : Program) (s : SavedController) (st : State) → IsProgram Q → FitsMachine Q s → HasState Q s st → st.own ≡ all_values Q.variables s.variables → AreCells s.input → AreCells s.output → AreCells s.memory → Suits Q st
 restored_suits Q s st is fits has own i o m =
-    let t = typed_so Q s fits.types in
     let all = are_all Q.variables s.variables fits.variables in
     record {
       values = record {
@@ -46,11 +45,11 @@ restored_suits Q s st is fits has own i o m =
         output = subst AreCells has.output o;
         memory = subst AreCells has.memory m;
       };
-      shape = t.shape;
-      types = ap (shape_at Q) (sym has.position) ∙ t.types;
+      shape = fits.shape;
+      types = subst (λ (n : ℕ). Arrives Q n fits.shape) has.position fits.types;
       has = record {
-        cr = ap (option_map ty_of) (sym has.cr) ∙ t.cr;
-        kept = ap (map held_of) (sym (reverse-reverse st.kept)) ∙ ap (λ (ds : List Deferred). map held_of (reverse ds)) (sym has.deferred) ∙ t.kept;
+        cr = ap (option_map ty_of) (sym has.cr) ∙ fits.cr;
+        kept = ap (map held_of) (sym (reverse-reverse st.kept)) ∙ ap (λ (ds : List Deferred). map held_of (reverse ds)) (sym has.deferred) ∙ fits.deferred;
       };
     }
 

@@ -3,7 +3,8 @@
 ghost use Rattle.std.specs.Prelude.{◌≡◌, ◌<◌, ◌≤◌, ◌+◌, ◌&&◌, length, map, reverse, Ok, option_map};
 ghost use Rattle.il_model.specs.Values.{ty_of};
 ghost use Rattle.il_model.specs.Row.{same_type, HasRoom};
-ghost use Rattle.il_model.specs.Typing.{top_of, shape_after, shape_on_arrival, shape_at};
+ghost use Rattle.il_model.specs.Typing.{shape_on_arrival};
+ghost use Rattle.il_model.specs.Checking.{top_of, shape_after, shape_at};
 ghost use Rattle.ctl_model.specs.Suits.{held_of};
 ghost use Rattle.ctl_model.specs.Snapshots.{same_optional, same_held, all_held};
 

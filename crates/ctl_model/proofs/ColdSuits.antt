@@ -1,7 +1,7 @@
 -- The state before the first scan, and at the start of each, suits the program.
-use Rattle.std.proofs.Common.{◌≡◌, Bool, true, false, cond, ltb, List, [], ◌∷◌, ◌++◌, length, map, Option, Some, None, refl, sym, ap, ◌∙◌}
+use Rattle.std.proofs.Common.{◌≡◌, ℕ, Bool, true, false, cond, ltb, List, [], ◌∷◌, ◌++◌, length, map, Option, Some, None, refl, sym, ap, subst, ◌∙◌}
 use Rattle.std.specs.Prelude.{ℤ, pos, negsuc, unwrap_or, slice_set}
-use Rattle.std.specs.Option.{option_and_then}
+use Rattle.std.specs.Option.{option_map, option_and_then}
 use Rattle.std.proofs.lemmas.List.{length-set}
 use Rattle.il_model.specs.declared.value.Ty.{Ty}
 use Rattle.il_model.specs.declared.value.Ty.TheVariants as types
@@ -20,9 +20,8 @@ use Rattle.ctl_model.specs.State.{State, with_value_in}
 use Rattle.il_model.specs.Areas.{area_of}
 use Rattle.il_model.specs.Cells.{clear_cells}
 use Rattle.ctl_model.specs.Cold.{same_area, with_first, with_firsts, first_cells, cold, scan_start_state, at_rest}
-use Rattle.il_model.specs.Resolved.{is_labelled}
-use Rattle.il_model.specs.Typing.{Shape, shape_at, shape_on_arrival}
-use Rattle.ctl_model.specs.Suits.{AreCells, HasValues, HasShape, Suits}
+use Rattle.il_model.specs.Typing.{Shape, Arrives}
+use Rattle.ctl_model.specs.Suits.{AreCells, HasValues, Suits, held_of}
 use Rattle.ctl_model.proofs.Instances.{all_cold}
 use Rattle.ctl_model.proofs.FirstValues.{firsts_first}
 
@@ -92,14 +91,10 @@ first_cells_are area vs = with_firsts_are area clear_cells vs (record { bits = r
 
 -- ---- the start of a run
 
-start_by : (b : Bool) (sh : Shape) (s : State) → sh.cr ≡ None → sh.kept ≡ [] → s.cr ≡ None → s.kept ≡ [] → HasShape s (cond b (record sh { cr = None }) sh)
-start_by true sh s a b c d = record { cr = rw c refl; kept = rw (d, b) refl }
-start_by false sh s a b c d = record { cr = rw (c, a) refl; kept = rw (d, b) refl }
-
 pub at_start : (Q : Program) (s : State) → HasValues Q s → s.position ≡ 0 → s.cr ≡ None → s.kept ≡ [] → Suits Q s
 at_start Q s vals here no_cr none =
     let sh : Shape = record { cr = None; kept = [] } in
-    record { values = vals; shape = shape_on_arrival Q 0 sh; types = ap (shape_at Q) here; has = start_by (is_labelled Q 0) sh s refl refl no_cr none }
+    record { values = vals; shape = sh; types = subst (λ (n : ℕ). Arrives Q n sh) (sym here) refl; has = record { cr = ap (option_map ty_of) no_cr; kept = ap (map held_of) none } }
 
 pub cold_suits : (Q : Program) → IsProgram Q → Suits Q (cold Q)
 cold_suits Q is =

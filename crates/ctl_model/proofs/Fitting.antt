@@ -25,7 +25,8 @@ use Rattle.il_model.specs.Image.{op_code}
 use Rattle.il_model.specs.Codes.{op_of}
 use Rattle.il_model.specs.Program.{Program}
 use Rattle.il_model.specs.Resolved.{is_labelled}
-use Rattle.il_model.specs.Typing.{Shape, shape_at, after_at, after_line, label_row, line_row, shape_after, shape_on_arrival, ◌>>=◌, top_of}
+use Rattle.il_model.specs.Typing.{Shape, shape_on_arrival}
+use Rattle.il_model.specs.Checking.{shape_at, after_at, after_line, label_row, line_row, shape_after, ◌>>=◌, top_of}
 use Rattle.il_model.proofs.RowTypes.{and_yes, same_type_is}
 use Rattle.il_model.proofs.BlockKinds.{kind_of_code-kind_code}
 use Rattle.il_model.proofs.TypedLines.{bind_ok, numbered_ok}

@@ -24,7 +24,8 @@ use Rattle.il_model.specs.Row.{same_type}
 use Rattle.il_model.specs.Kinds.{kind_code}
 use Rattle.il_model.specs.CodedOperands.{loc_code}
 use Rattle.il_model.specs.Image.{op_code, spelling}
-use Rattle.il_model.specs.Typing.{Shape, shape_at, loc_type}
+use Rattle.il_model.specs.Typing.{Shape, loc_type}
+use Rattle.il_model.specs.Checking.{shape_at}
 use Rattle.il_model.specs.Program.{Program}
 use Rattle.ctl_blocks.specs.Blocks.{kind_of, block_words, is_block}
 use Rattle.std.specs.List.{AllByRecursion, items_where_true, list_all, range_with_len}

@@ -24,7 +24,7 @@ use Rattle.il_model.specs.CodedOperands.{code_of}
 use Rattle.il_model.specs.Image.{number_or_unused, coded_operand, operand_code, coded_word, op_code, modifier_code, side_code, field_number_code, word_bytes, argument_bytes, instruction_bytes, is_long_variable, is_long_value, version_with, header_bytes, variable_bytes, instance_bytes, mark_bytes, constant_bytes, spelling}
 use Rattle.il_model.specs.Settled.{settled_argument, settled_line, typed_program_of}
 use Rattle.il_model.proofs.ArgumentFaults.{settled_argument_none}
-use Rattle.il_model.proofs.SettledPrograms.{Alike, literal_is, settled_none, called_settled, settling_alike, target_alike, typed_program}
+use Rattle.il_model.proofs.SettledPrograms.{Alike, literal_is, settled_none, called_settled, is_settling, settling_alike, target_alike, typed_program}
 use Rattle.il_assembler.specs.Encoded.{literals_of, constants_in, literals_in, all_literals, settled_code, settled_passing_word, settled_instruction, settled_words, settled_bytes}
 use Rattle.il_assembler.proofs.Gathered.{passing_literals}
 use Rattle.il_assembler.proofs.SettledLines.{AreSettledLines, settled_lines, same_words, same_address, same_marks, same_long}
@@ -152,4 +152,4 @@ spelled P Q a are =
 pub settled_spelling : (P Q : Program) (literals : List (Option Value)) → typed_program_of P ≡ Ok Q → literals ≡ literals_of Q.code → settled_bytes P (constants_in [] (all_literals P.code literals)) literals ≡ spelling Q
 settled_spelling P Q literals e is =
     ap (λ (ls : List (Option Value)). settled_bytes P (constants_in [] (all_literals P.code ls)) ls) is
-    ∙ spelled P Q (settling_alike P Q (typed_program P Q e).same) (settled_lines P Q e)
+    ∙ spelled P Q (settling_alike P Q (is_settling P Q (typed_program P Q e))) (settled_lines P Q e)

@@ -6,7 +6,8 @@ use Rattle.il_model.specs.declared.program.Instr.{Instr}
 use Rattle.il_model.specs.declared.typing.TypeFault.{TypeFault}
 use Rattle.il_model.specs.declared.typing.TypeFault.TheVariants.{Unbalanced}
 use Rattle.il_model.specs.Program.{Program}
-use Rattle.il_model.specs.Typing.{Shape, shape_at, after_line}
+use Rattle.il_model.specs.Typing.{Shape}
+use Rattle.il_model.specs.Checking.{shape_at, after_line}
 use Rattle.il_model.specs.Resolved.{is_labelled}
 use Rattle.il_model.specs.Settled.{settled_line, settled_text, typed_program_of, IsTypedProgramOf}
 use Rattle.il_model.specs.InstructionFaults.{is_open}

@@ -7,7 +7,8 @@ use Rattle.il_model.specs.declared.program.Instr.{Instr}
 use Rattle.il_model.specs.declared.typing.TypeFault.{TypeFault}
 use Rattle.il_model.specs.Program.{Program}
 use Rattle.il_model.specs.Constants.{operand_literal}
-use Rattle.il_model.specs.Typing.{Shape, shape_at}
+use Rattle.il_model.specs.Typing.{Shape}
+use Rattle.il_model.specs.Checking.{shape_at}
 use Rattle.il_model.specs.Settled.{settled_operand, settled_line, settled_text, typed_program_of}
 use Rattle.il_model.proofs.SettledPrograms.{here_settled, text_count, stays_open, ends_settled, typed_program}
 use Rattle.il_assembler.specs.Encoded.{literals_of}
@@ -44,4 +45,4 @@ pub closed_at_end : (P : Program) (n count : ℕ) (sh : Shape) → n ≡ count �
 closed_at_end P n count sh is len at le = ends_settled P sh (ap (shape_at (settled_text P)) (sym (is ∙ len)) ∙ at) le
 
 pub literals_count : (P Q : Program) (literals : List (Option Value)) → typed_program_of P ≡ Ok Q → literals ≡ literals_of Q.code → length literals ≡ length P.code
-literals_count P Q literals e is = ap length is ∙ length-map Q.code (λ (line : Instr). operand_literal line.operand) ∙ (typed_program P Q e).same.count
+literals_count P Q literals e is = ap length is ∙ length-map Q.code (λ (line : Instr). operand_literal line.operand) ∙ (typed_program P Q e).count

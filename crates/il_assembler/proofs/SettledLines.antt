@@ -8,13 +8,14 @@ use Rattle.std.proofs.lemmas.Option.{slice_get_within}
 use Rattle.il_model.specs.declared.value.Ty.{Ty}
 use Rattle.il_model.specs.declared.program.Instr.{Instr}
 use Rattle.il_model.specs.Program.{Program}
-use Rattle.il_model.specs.Typing.{shape_at, typing_end}
+use Rattle.il_model.specs.Checking.{shape_at, typing_end}
 use Rattle.il_model.specs.Marks.{with_mark, marks_from, word_count, words_in, address_of}
 use Rattle.il_model.specs.Image.{is_long_line}
 use Rattle.il_model.specs.Settled.{settled_argument, settled_line, typed_program_of, IsTypedProgramOf}
 use Rattle.il_model.proofs.SettledPrograms.{some_is, typed_program}
 use Rattle.il_model.proofs.TypedLines.{bind_ok, ok_before}
 use Rattle.il_model.proofs.Calls.{IsTypedLine, typed_lines, words_few}
+use Rattle.il_model.proofs.Judged.{arrives, faultless}
 use Rattle.il_assembler.specs.Encoded.{HasFewArguments}
 
 -- each of the second is one of the first with its bare numbers typed
@@ -34,12 +35,13 @@ lines_by (p ∷ ps) (q ∷ qs) len at = let here = at zero p refl in ((here.0, s
 
 settled_at : (P Q : Program) → IsTypedProgramOf P Q → IsSettledAt P.code Q.code
 settled_at P Q is n p here =
-    let all = bind_ok (shape_at Q (length Q.code)) (typing_end Q) tt is.typed in
-    let sh = ok_before Q (length Q.code) all.0 all.1 n (omega (arith, slice_get_within P.code n p here, is.same.count)) in
-    (sh.0.cr, is.placed n sh.0 sh.1 ∙ ap (option_map (settled_line sh.0.cr)) here)
+    let all = bind_ok (shape_at Q (length Q.code)) (typing_end Q) tt (faultless Q is.typed) in
+    let le : n ≤ length Q.code = omega (arith, slice_get_within P.code n p here, is.count) in
+    let sh = ok_before Q (length Q.code) all.0 all.1 n le in
+    (sh.0.cr, is.placed n sh.0 (arrives Q n sh.0 le sh.1) ∙ ap (option_map (settled_line sh.0.cr)) here)
 
 pub settled_lines : (P Q : Program) → typed_program_of P ≡ Ok Q → AreSettledLines P.code Q.code
-settled_lines P Q e = let is = typed_program P Q e in lines_by P.code Q.code is.same.count (settled_at P Q is)
+settled_lines P Q e = let is = typed_program P Q e in lines_by P.code Q.code is.count (settled_at P Q is)
 
 -- ---- the same labels at the same addresses
 
@@ -94,4 +96,4 @@ few_lines Q (p ∷ ps) (q ∷ qs) are all =
 
 -- a typed program's instructions have few arguments, and so have those of the program
 pub few_arguments : (P Q : Program) → typed_program_of P ≡ Ok Q → AllByRecursion HasFewArguments P.code
-few_arguments P Q e = few_lines Q P.code Q.code (settled_lines P Q e) (typed_lines Q (typed_program P Q e).typed)
+few_arguments P Q e = few_lines Q P.code Q.code (settled_lines P Q e) (typed_lines Q (faultless Q (typed_program P Q e).typed))

@@ -2,7 +2,7 @@
 use Rattle.std.specs.Prelude.{◌≡◌, ℕ, List, Result, Ok, Err}
 use Rattle.il_model.specs.declared.typing.TypeFault.{TypeFault}
 use Rattle.il_model.specs.Program.{Program}
-use Rattle.il_model.specs.Typing.{fault_number}
+use Rattle.il_model.specs.Checking.{fault_number}
 use Rattle.il_model.specs.Settled.{IsTypedProgramOf}
 use Rattle.il_model.specs.Image.{spelling}
 use Rattle.il_model.specs.Fits.{IsImage}

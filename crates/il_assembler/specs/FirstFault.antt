@@ -5,7 +5,8 @@ use Rattle.il_model.specs.declared.program.Instr.{Instr}
 use Rattle.il_model.specs.declared.typing.TypeFault.{TypeFault}
 use Rattle.il_model.specs.declared.typing.TypeFault.TheVariants.{Unbalanced}
 use Rattle.il_model.specs.Program.{Program}
-use Rattle.il_model.specs.Typing.{Shape, after_line}
+use Rattle.il_model.specs.Typing.{Shape}
+use Rattle.il_model.specs.Checking.{after_line}
 use Rattle.il_model.specs.Settled.{settled_line}
 use Rattle.il_model.specs.InstructionFaults.{IsFirst, applies, is_open}
 

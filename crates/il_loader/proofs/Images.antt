@@ -11,7 +11,8 @@ use Rattle.il_model.specs.declared.program.Instr.{Instr}
 use Rattle.il_model.specs.declared.typing.TypeFault.{TypeFault}
 use Rattle.il_model.specs.Program.{Program}
 use Rattle.il_model.specs.Limits.{program_of}
-use Rattle.il_model.specs.Typing.{judgement_of, IsTyped}
+use Rattle.il_model.specs.Typing.{IsTyped}
+use Rattle.il_model.specs.Checking.{judgement_of}
 use Rattle.il_model.specs.Marks.{Mark, marks_from, words_in, AreRising, AreStarts}
 use Rattle.il_model.specs.Constants.{same_value, operands_of, constants_from, constants_of}
 use Rattle.il_model.specs.Image.{version_number, is_long_line, version_with, version_of, instruction_bytes, spelling}
@@ -20,6 +21,7 @@ use Rattle.il_model.specs.Fits.{IsMark, IsConstant, AreItems, IsProgram, IsImage
 use Rattle.il_model.proofs.Marks.{table_again, table_rises, table_starts, table_labels}
 use Rattle.il_model.proofs.ConstantLists.{are_apart}
 use Rattle.il_model.proofs.Calls.{typed_lines}
+use Rattle.il_model.proofs.Judged.{is_typed, faultless}
 use Rattle.il_model.proofs.Versions.{same_version, version_may}
 use Rattle.il_loader.specs.declared.word.Word.{Word}
 use Rattle.il_loader.specs.declared.word.Content.{Content}
@@ -127,7 +129,7 @@ judged_join total t Q x y z u small-is risen-is fine-is used-is version-is =
         used = used.is ∙ ap (λ (u : ℕ). let r : Result ℕ ℕ = Ok u in r) all;
         loud = both.0;
         stray = both.1;
-        typed = subst IsTyped (sym p.1) (word_ok Q (judgement_of Q) fine.typed);
+        typed = subst IsTyped (sym p.1) (is_typed Q (word_ok Q (judgement_of Q) fine.typed));
         version = same_version t.version (version_in t) (ap (is_own_version t) p.1 ∙ agrees_ok BadVersion (is_own_version t Q) u version-is);
       },
       p.1,
@@ -165,7 +167,7 @@ tables_spelled t are judgement_of =
     let constants = subst (AreItems IsConstant []) (sym cs-is) are.constants in
     let read2 = subst (λ (ms : List Mark). AllByRecursion (IsReadSomewhere ds ms (constants_of Q)) t.words) (sym ms-is) (subst (λ (cs : List Value). AllByRecursion (IsReadSomewhere ds t.labels cs) t.words) (sym cs-is) read) in
     let known : AreKnown Q (marks_from 0 Q.code) (constants_of Q) = record { variables = are.variables; instances = are.instances; marks = marks; apart = are_apart (constants_of Q) constants; labels = table_labels Q.code } in
-    let w = are_words Q t.words known read2 (typed_lines Q judgement_of.typed) judgement_of.loud judgement_of.stray in
+    let w = are_words Q t.words known read2 (typed_lines Q (faultless Q judgement_of.typed)) judgement_of.loud judgement_of.stray in
     let none : front t.words ≡ 0 = (none_front None t.words judgement_of.stray).0 in
     let long : length t.words ≡ words_in Q.code = omega (arith, words_are t.instances t.words, none) in
     let few = are.few in
@@ -258,7 +260,7 @@ tables_judged total Q is =
       used,
       stray,
       loud,
-      is.typed,
+      faultless Q is.typed,
       eq-eqb (length cs) (length cs) refl,
       eq-eqb (version_number (version_of Q)) (version_number (version_of Q)) refl,
     ) refl

@@ -10,7 +10,7 @@ use Rattle.il_model.specs.declared.program.Operand.{Operand}
 use Rattle.il_model.specs.declared.program.Argument.{Argument}
 use Rattle.il_model.specs.Kinds.{kind_fields, field_number}
 use Rattle.il_model.specs.Program.{Program, declared_by}
-use Rattle.il_model.specs.Typing.{arguments_fault}
+use Rattle.il_model.specs.Checking.{arguments_fault}
 use Rattle.il_model.specs.Marks.{marks_from}
 use Rattle.il_model.specs.Constants.{constants_of}
 use Rattle.il_model.specs.Image.{operand_code, side_code, field_number_code, coded_word, argument_bytes}

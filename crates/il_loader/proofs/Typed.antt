@@ -8,7 +8,8 @@ use Rattle.il_model.specs.declared.typing.TypeFault.{TypeFault}
 use Rattle.il_model.specs.Program.{Program}
 use Rattle.il_model.specs.Resolved.{source_of, called_kind}
 use Rattle.il_model.specs.Marks.{word_count, words_in, address_of}
-use Rattle.il_model.specs.Typing.{Shape, shape_at, top_of, source_row, label_row, argument_fault}
+use Rattle.il_model.specs.Typing.{Shape}
+use Rattle.il_model.specs.Checking.{shape_at, top_of, source_row, label_row, argument_fault}
 use Rattle.il_model.specs.Faulty.{faulty_argument, is_ok, faulty_in, faulty_at, faulty_by, faulty_word}
 
 -- ---- the words of a program are enough for the address of its fault

@@ -33,12 +33,13 @@ use Rattle.il_model.specs.declared.coded_operand.CodedOperand.{CodedOperand}
 use Rattle.il_model.specs.declared.coded_operand.CodedOperand.TheVariants as coded
 use Rattle.il_model.specs.Values.{ty_of, zero_of, number_of, typed_value}
 use Rattle.il_model.specs.Operators.{is_zero}
-use Rattle.il_model.specs.Names.{same_name, is_lawful_name}
+use Rattle.il_model.specs.Names.{AreDistinct, same_name, is_lawful_name}
 use Rattle.il_model.specs.Areas.{area_of}
 use Rattle.il_model.specs.Kinds.{kind_fields, field_name, field_type}
 use Rattle.il_model.specs.Program.{Program, Declarations, declared_by}
 use Rattle.il_model.specs.Resolved.{variable_place, place_of, variable_number, instance_in, instance_number, numbered_field, field_of, target_of, source_of, called_kind}
-use Rattle.il_model.specs.Typing.{loc_type, is_writable_area, source_kind, passing_fault, arguments_fault}
+use Rattle.il_model.specs.Typing.{loc_type, is_writable_area}
+use Rattle.il_model.specs.Checking.{source_kind, passing_fault, arguments_fault}
 use Rattle.il_model.specs.Marks.{Mark, with_mark, word_count, marks_from}
 use Rattle.il_model.specs.Constants.{constants_of}
 use Rattle.il_model.specs.CodedOperands.{loc_code, IsCell, any_loc, HasOwnCode, with_code}
@@ -53,9 +54,10 @@ use Rattle.il_model.proofs.Declared.{map_some}
 use Rattle.il_model.proofs.Versions.{made_type, made_value}
 use Rattle.il_model.proofs.TypedLines.{IsArgumentOf, arguments_typed, no_arguments}
 use Rattle.il_model.proofs.Calls.{IsTypedLine, typed_lines}
+use Rattle.il_model.proofs.Judged.{faultless}
 use Rattle.il_model.proofs.Lawful.{type_again, lawful_image}
 use Rattle.il_loader.specs.Judging.{image_of}
-use Rattle.il_loader.specs.Images.{IsName, AreDistinct, IsInRange, MayLieAt, IsVariable, IsOperand, IsInstruction, IsWellFormed, Reading, AreBytes, ReadsImages}
+use Rattle.il_loader.specs.Images.{IsName, IsInRange, MayLieAt, IsVariable, IsOperand, IsInstruction, IsWellFormed, Reading, AreBytes, ReadsImages}
 use Rattle.il_loader.proofs.Fields.{length_below, tested_some}
 use Rattle.il_loader.proofs.Images.{image_takes, image_again}
 
@@ -673,7 +675,7 @@ has_image Q is =
     let variables = are_items fitting.IsVariable IsVariable IsFreeVariable AreOther variable_new variable_next [] Q.variables is.variables (none_free Q.variables) (variables_apart Q.variables parts.first is.locations) in
     let own = own_names Q.variables Q.instances is.instances parts.across in
     let instances = are_items (fitting.IsInstance Q.variables) (IsOwnName Q.variables) IsFreeInstance AreOtherInstances (instance_new Q.variables) (instance_next Q.variables) [] Q.instances own (no_instances Q.instances) (instances_apart Q.instances parts.second) in
-    lawful_image Q variables is.small.variables instances is.small.instances is.small.code (lines_lawful Q Q.code is.code (typed_lines Q is.typed)) is.typed
+    lawful_image Q variables is.small.variables instances is.small.instances is.small.code (lines_lawful Q Q.code is.code (typed_lines Q (faultless Q is.typed))) is.typed
 
 -- ---- what is read of an image is lawful
 

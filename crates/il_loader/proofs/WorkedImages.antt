@@ -21,6 +21,7 @@ use Rattle.il_model.specs.Program.{Program}
 use Rattle.il_model.specs.Names.{is_well_spelled}
 use Rattle.il_model.specs.Words.{plain, letter_n, spells, look, mnemonic_of}
 use Rattle.il_model.specs.Image.{spelling}
+use Rattle.il_model.proofs.Judged.{is_typed, faultless}
 use Rattle.il_loader.specs.Images.{IsName, MayLieAt, IsVariable, IsInstruction, IsWellFormed, Reading, AreBytes, ReadsImages}
 
 abbrev variable : List ℕ → Ty → Option Loc → Value → Variable
@@ -84,7 +85,7 @@ copying_is = record {
   names = ((other_names, tt), (tt, tt));
   locations = (((λ e. cc), tt), (tt, tt));
   code = (loads (codes "X"), (stores (codes "Y"), tt));
-  typed = refl;
+  typed = is_typed copying refl;
 }
 
 copying_spelled : spelling copying ≡ copying_bytes
@@ -167,4 +168,4 @@ nothing_said is = let e = is.labelled refl in cc
 
 -- ST where there is no current result
 untyped : IsWellFormed (performing (line ops.St plain (operands.Direct output_bit))) → ⊥
-untyped is = let e = is.typed in cc
+untyped is = let e = faultless (performing (line ops.St plain (operands.Direct output_bit))) is.typed in cc

@@ -1,5 +1,5 @@
 -- Which programs have an image, and what it is to read images: from the bytes of one its program, and from others none.
-use Rattle.std.specs.Prelude.{◌≡◌, ◌<◌, ◌≤◌, ℕ, false, true, List, [], ◌∷◌, ◌++◌, length, map, get_or, Some}
+use Rattle.std.specs.Prelude.{◌≡◌, ◌<◌, ◌≤◌, ℕ, false, true, List, ◌++◌, length, map, get_or, Some}
 use Rattle.std.specs.Prelude.{is_some, Result, Ok}
 use Rattle.std.specs.List.{AllByRecursion, filter_map}
 use Rattle.il_model.specs.declared.limits.TheConstants.{LONGEST_NAME}
@@ -12,7 +12,7 @@ use Rattle.il_model.specs.declared.program.Operand.{Operand}
 use Rattle.il_model.specs.declared.program.Operand.TheVariants as operands
 use Rattle.il_model.specs.declared.program.Instr.{Instr}
 use Rattle.il_model.specs.Values.{ty_of, zero_of, number_of, typed_value}
-use Rattle.il_model.specs.Names.{is_lawful_name}
+use Rattle.il_model.specs.Names.{AreDistinct, is_lawful_name}
 use Rattle.il_model.specs.Areas.{area_of}
 use Rattle.il_model.specs.Program.{Program}
 use Rattle.il_model.specs.Limits.{IsSmall}
@@ -28,11 +28,6 @@ use Rattle.il_loader.specs.declared.fault.LoadFault.{LoadFault}
 pub record IsName (name : List ℕ) : Type 0 where
   pub lawful : is_lawful_name name ≡ true
   pub short : length name ≤ LONGEST_NAME
-
--- none of them stands again behind
-abbrev pub AreDistinct : {X : Type 0} → List X → Type 0
-AreDistinct [] = Unit {0}
-AreDistinct (x ∷ xs) = AllByRecursion (λ y. x ≡ y → ⊥) xs × AreDistinct xs
 
 -- a value in the range of its type
 abbrev pub IsInRange : Value → Type 0

@@ -14,7 +14,7 @@ use Rattle.il_model.specs.declared.codes.Version.{Version}
 use Rattle.il_model.specs.Program.{Program}
 use Rattle.il_model.specs.Image.{version_number, number_width, version_with}
 use Rattle.il_model.specs.Limits.{program_of}
-use Rattle.il_model.specs.Typing.{judgement_of}
+use Rattle.il_model.specs.Checking.{judgement_of}
 use Rattle.il_model.specs.Marks.{Mark, address_of}
 use Rattle.il_model.specs.Faulty.{faulty_word}
 use Rattle.il_model.specs.Constants.{step_used}

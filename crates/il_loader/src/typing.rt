@@ -2,7 +2,7 @@
 
 ghost use Rattle.std.specs.Prelude.{◌≡◌, ◌<◌, ◌^◌, IfOk};
 ghost use Rattle.il_model.specs.Marks.{word_count, words_in, address_of};
-ghost use Rattle.il_model.specs.Typing.{judgement_of};
+ghost use Rattle.il_model.specs.Checking.{judgement_of};
 ghost use Rattle.il_loader.specs.Judging.{at_word};
 
 use il_model::{IndexedProgram, Instr, Program, TypeFault, check_types, faulty_word};

@@ -23,7 +23,8 @@ use Rattle.il_model.specs.Kinds.{field_type, any_field}
 use Rattle.il_model.specs.Values.{typed_value}
 use Rattle.il_model.specs.Row.{same_type}
 use Rattle.il_model.specs.Constants.{operand_literal}
-use Rattle.il_model.specs.Typing.{fault_rank, tried_first, first_fault, operand_kind, passing_fault, goes_so, field_fault, kind_field, argument_fault, arguments_fault}
+use Rattle.il_model.specs.Typing.{kind_field}
+use Rattle.il_model.specs.Checking.{fault_rank, tried_first, first_fault, operand_kind, passing_fault, goes_so, field_fault, argument_fault, arguments_fault}
 use Rattle.il_model.specs.Settled.{settled_as, settled_passing, settled_argument, as_settled}
 use Rattle.il_model.proofs.TypedLines.{is_among}
 

@@ -23,7 +23,7 @@ use Rattle.il_model.specs.Names.{same_name}
 use Rattle.il_model.specs.Kinds.{kind_fields, field_name, field_number, field_type, is_input}
 use Rattle.il_model.specs.Program.{Program}
 use Rattle.il_model.specs.Resolved.{source_of, called_kind}
-use Rattle.il_model.specs.Typing.{shape_at, typing_end, top_of, source_row, source_kind, passing_fault, goes_so, argument_fault, arguments_fault, IsTyped}
+use Rattle.il_model.specs.Checking.{shape_at, typing_end, top_of, source_row, source_kind, passing_fault, goes_so, argument_fault, arguments_fault, HasNoTypeFault}
 use Rattle.il_model.specs.Marks.{word_count, words_in}
 use Rattle.il_model.specs.Constants.{operand_literal, operands_in, operands_of}
 use Rattle.il_model.proofs.Declared.{fields_few, field_so}
@@ -35,7 +35,7 @@ pub record IsTypedLine (Q : Program) (line : Instr) : Type 0 where
   pub sourced : source_of Q line.operand ≡ Some source
   pub arguments : arguments_fault Q (called_kind Q line.operand) [] line.arguments ≡ None
 
-typed_so : (Q : Program) → IsTyped Q → (n : ℕ) (line : Instr) → slice_get Q.code n ≡ Some line → IsTypedLine Q line
+typed_so : (Q : Program) → HasNoTypeFault Q → (n : ℕ) (line : Instr) → slice_get Q.code n ≡ Some line → IsTypedLine Q line
 typed_so Q typed n line here =
     let lt : n < length Q.code = slice_get_within Q.code n line here in
     let all = bind_ok (shape_at Q (length Q.code)) (typing_end Q) tt typed in
@@ -50,7 +50,7 @@ all_of P [] each = tt
 all_of P (line ∷ code) each = (each 0 line refl, all_of P code (λ n l e. each (suc n) l e))
 
 -- the instructions of a typed program
-pub typed_lines : (Q : Program) → IsTyped Q → AllByRecursion (IsTypedLine Q) Q.code
+pub typed_lines : (Q : Program) → HasNoTypeFault Q → AllByRecursion (IsTypedLine Q) Q.code
 typed_lines Q typed = all_of (IsTypedLine Q) Q.code (typed_so Q typed)
 
 -- ---- how many fields no argument names yet

@@ -24,7 +24,8 @@ use Rattle.il_model.specs.declared.program.Instr.{Instr}
 use Rattle.il_model.specs.Program.{Program, Declarations, declared_by}
 use Rattle.il_model.specs.Values.{ty_of, number_of, is_within, typed_value}
 use Rattle.il_model.specs.Kinds.{any_field, field_type}
-use Rattle.il_model.specs.Typing.{Shape, shape_at, typing_end, IsTyped}
+use Rattle.il_model.specs.Typing.{Shape}
+use Rattle.il_model.specs.Checking.{shape_at, typing_end, HasNoTypeFault}
 use Rattle.il_model.specs.Codes.{usage_of, has_form, formed_by}
 use Rattle.il_model.specs.Fits.{IsVariable, IsInstance, AreItems, IsImage}
 use Rattle.il_model.specs.Lawful.{IsOperand, IsPassed, IsLawful, AreLawful}
@@ -32,8 +33,9 @@ use Rattle.il_model.specs.Declarable.{as_value, IsArgument, IsInstruction, IsDec
 use Rattle.il_model.specs.Declarable as declarable
 use Rattle.il_model.specs.Settled.{wanted_type, settled_number, settled_as, settled_operand, settled_passing, settled_argument, settled_line, typed_program_of, is_bare, has_bare, IsTypedProgramOf}
 use Rattle.il_model.proofs.TypedLines.{bind_ok, ok_before}
+use Rattle.il_model.proofs.Judged.{arrives, faultless}
 use Rattle.il_model.proofs.Lawful.{lawful_image}
-use Rattle.il_model.proofs.SettledPrograms.{typed_program}
+use Rattle.il_model.proofs.SettledPrograms.{typed_plain, typed_program}
 
 -- ---- one operand
 
@@ -194,17 +196,18 @@ mapped_some : (f : Instr → Instr) (o : Option Instr) (line : Instr) → option
 mapped_some f None line e = absurd cc
 mapped_some f (Some p) line e = (p, refl, cc)
 
-typed_shape : (Q : Program) → IsTyped Q → (sh : Shape) × (shape_at Q (length Q.code) ≡ Ok sh)
+typed_shape : (Q : Program) → HasNoTypeFault Q → (sh : Shape) × (shape_at Q (length Q.code) ≡ Ok sh)
 typed_shape Q typed = let b = bind_ok (shape_at Q (length Q.code)) (typing_end Q) tt typed in (b.0, b.1)
 
 settled_lines : (P Q : Program) → IsDeclared P → IsTypedProgramOf P Q → (n : ℕ) (line : Instr) → slice_get Q.code n ≡ Some line → IsLawful (declared_by P) line
 settled_lines P Q is t n line e =
     let lt : n < length Q.code = slice_get_within Q.code n line e in
-    let whole = typed_shape Q t.typed in
+    let whole = typed_shape Q (faultless Q t.typed) in
     let sh = ok_before Q (length Q.code) whole.0 whole.1 n (omega arith) in
-    let m = mapped_some (settled_line sh.0.cr) (slice_get P.code n) line (sym (t.placed n sh.0 sh.1) ∙ e) in
+    let at = arrives Q n sh.0 (omega arith) sh.1 in
+    let m = mapped_some (settled_line sh.0.cr) (slice_get P.code n) line (sym (t.placed n sh.0 at) ∙ e) in
     let one = nth_is (IsInstruction (declared_by P)) P.code is.lines n m.0 m.1 in
-    let bare : has_bare (settled_line sh.0.cr m.0) ≡ false = ap has_bare m.2 ∙ t.plain n line e in
+    let bare : has_bare (settled_line sh.0.cr m.0) ≡ false = ap has_bare m.2 ∙ typed_plain Q (faultless Q t.typed) n line e in
     subst (IsLawful (declared_by P)) m.2 (line_fits (declared_by P) sh.0.cr m.0 one bare)
 
 same_declared : (P Q : Program) → Q.variables ≡ P.variables → Q.instances ≡ P.instances → declared_by P ≡ declared_by Q
@@ -212,8 +215,8 @@ same_declared P Q vs xs = cc
 
 declared_fits : (P Q : Program) → IsDeclared P → IsTypedProgramOf P Q → IsImage Q
 declared_fits P Q is t =
-    let vs : Q.variables ≡ P.variables = t.same.variables in
-    let xs : Q.instances ≡ P.instances = t.same.instances in
+    let vs : Q.variables ≡ P.variables = t.variables in
+    let xs : Q.instances ≡ P.instances = t.instances in
     let lines : AreLawful (declared_by P) Q.code = all_lawful (declared_by P) Q.code (settled_lines P Q is t) in
     let instances : AreItems (IsInstance Q.variables) [] P.instances = subst (λ (seen : List Variable). AreItems (IsInstance seen) [] P.instances) (sym vs) is.instances in
     lawful_image Q
@@ -221,7 +224,7 @@ declared_fits P Q is t =
     (rw vs is.variables_few)
     (subst (AreItems (IsInstance Q.variables) []) (sym xs) instances)
     (rw xs is.instances_few)
-    (rw t.same.count is.lines_few)
+    (rw t.count is.lines_few)
     (subst (λ (ds : Declarations). AreLawful ds Q.code) (same_declared P Q vs xs) lines)
     t.typed
 

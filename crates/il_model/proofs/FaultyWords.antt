@@ -8,7 +8,8 @@ use Rattle.il_model.specs.declared.program.Argument.{Argument}
 use Rattle.il_model.specs.declared.program.Instr.{Instr}
 use Rattle.il_model.specs.declared.typing.TypeFault.{TypeFault}
 use Rattle.il_model.specs.Program.{Program}
-use Rattle.il_model.specs.Typing.{Shape, shape_at, after_line, argument_fault}
+use Rattle.il_model.specs.Typing.{Shape}
+use Rattle.il_model.specs.Checking.{shape_at, after_line, argument_fault}
 use Rattle.il_model.proofs.Loop.{err_here, err_after}
 use Rattle.il_model.specs.Faulty.{faulty_argument, faulty_in, faulty_at, faulty_by, faulty_word}
 

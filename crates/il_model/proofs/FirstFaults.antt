@@ -31,7 +31,8 @@ use Rattle.il_model.specs.Operators.{joined_type}
 use Rattle.il_model.specs.Codes.{is_jump, is_call}
 use Rattle.il_model.specs.Resolved.{source_of, target_of, called_kind}
 use Rattle.il_model.specs.Row.{row, same_type, is_bool, negatable, load_row, store_row, set_row, truth_row, leave_row, jump_row, call_row, close_row, closes_to, convert_row, opened_row, opens_with, combine_row, sets_to}
-use Rattle.il_model.specs.Typing.{◌>>=◌, Shape, top_of, source_kind, missing_kind, operand_kind, source_row, without_effect, fault_rank, first_fault, passing_fault, goes_so, field_fault, kind_field, argument_fault, arguments_fault, with_fault, line_row_of, line_row, label_at, label_row, shape_after, shape_on_arrival, after_line}
+use Rattle.il_model.specs.Typing.{Shape, kind_field, shape_on_arrival}
+use Rattle.il_model.specs.Checking.{◌>>=◌, top_of, source_kind, missing_kind, operand_kind, source_row, without_effect, fault_rank, first_fault, passing_fault, goes_so, field_fault, argument_fault, arguments_fault, with_fault, line_row_of, line_row, label_at, label_row, shape_after, after_line}
 use Rattle.il_model.specs.InstructionFaults.{leaves, is_closing, writes, combines, has_operand, needs_result, is_target, is_instance, is_no_field, may_be_written, result_is, both_are, joins, begins_inside, takes, if_goes_so, argument_field, is_field_bad, is_output_side, is_unwritable, is_of_field, is_mismatched, has_twins, is_doubled, applies, IsFirst, TellsFirst}
 use Rattle.il_model.proofs.RowTypes.{and_yes}
 use Rattle.il_model.proofs.TypedLines.{is_among}

@@ -1,9 +1,9 @@
 -- A typed program whose parts are lawful each for itself has an image.
-use Rattle.std.proofs.Common.{inl, inr, ◌⊎◌, ◌≡◌, ℕ, suc, ◌+◌, ◌^◌, ◌<◌, ◌≤◌, Bool, true, false, cond, ltb, eqb, List, [], ◌∷◌, ◌++◌, length, get_or, Option, Some, None, Result, Ok, Err, refl, sym, ap, subst, ◌∙◌, append_assoc, arith}
+use Rattle.std.proofs.Common.{inl, inr, ◌⊎◌, ◌≡◌, ℕ, suc, ◌+◌, ◌^◌, ◌<◌, ◌≤◌, Bool, true, false, cond, ltb, List, [], ◌∷◌, ◌++◌, length, get_or, Option, Some, None, Ok, refl, sym, ap, subst, ◌∙◌, append_assoc, arith}
 use Rattle.std.specs.Prelude.{ℤ, pos, negsuc, map, slice_get, is_some, not, nat_eq, ◌&&◌, ◌||◌}
 use Rattle.std.specs.List.{position, AllByRecursion}
 use Rattle.std.specs.Option.{option_map, option_and_then}
-use Rattle.std.proofs.lemmas.Bool.{eqb-true, ltb-false, or_left, or_right}
+use Rattle.std.proofs.lemmas.Bool.{ltb-false, or_left, or_right}
 use Rattle.std.proofs.lemmas.List.{length-append, append-nil}
 use Rattle.std.proofs.lemmas.Option.{slice_get-get_or}
 use Rattle.std.proofs.lemmas.List.Quantifiers.{position-Some}
@@ -31,15 +31,14 @@ use Rattle.il_model.specs.declared.codes.LetterSet.{LetterSet}
 use Rattle.il_model.specs.declared.codes.LetterSet.TheVariants as letters
 use Rattle.il_model.specs.declared.codes.OperandForm.{OperandForm}
 use Rattle.il_model.specs.declared.codes.OperandForm.TheVariants as forms
-use Rattle.il_model.specs.declared.typing.TypeFault.{TypeFault}
-use Rattle.il_model.specs.declared.typing.TypeFault.TheVariants.{Unbalanced, DuplicateLabel}
 use Rattle.il_model.specs.Values.{ty_of, number_of, typed_value}
 use Rattle.il_model.specs.Operators.{same_truth, same_number}
 use Rattle.il_model.specs.Names.{same_name, is_lawful_name}
 use Rattle.il_model.specs.Kinds.{field_name}
 use Rattle.il_model.specs.Program.{Program, Declarations, declared_by}
 use Rattle.il_model.specs.Resolved.{has_label, target_of, instance_in, field_of, source_of, called_kind}
-use Rattle.il_model.specs.Typing.{shape_at, typing_end, label_at, label_row, arguments_fault, IsTyped}
+use Rattle.il_model.specs.Typing.{IsTyped}
+use Rattle.il_model.specs.Checking.{shape_at, typing_end, label_row, arguments_fault, HasNoTypeFault}
 use Rattle.il_model.specs.Marks.{Mark, with_mark, word_count, words_in, address_of, marks_from}
 use Rattle.il_model.specs.Constants.{same_value, operand_literal, joined_constants, constants_from, operands_in, operands_of, constants_of}
 use Rattle.il_model.specs.CodedOperands.{code_of}
@@ -48,6 +47,7 @@ use Rattle.il_model.specs.Codes.{if_passes, type_of, is_known, usage_of, allows,
 use Rattle.il_model.specs.Fits.{IsVariable, IsInstance, IsMark, IsConstant, IsPassing, IsWord, AreItems, IsImage}
 use Rattle.il_model.specs.Lawful.{IsOperand, IsLabel, IsPassed, IsLawful, AreLawful}
 use Rattle.il_model.proofs.TypedLines.{bind_ok, ok_before, typed_line, IsArgumentOf, arguments_typed, no_arguments}
+use Rattle.il_model.proofs.Judged.{first_by, faultless}
 use Rattle.il_model.proofs.Positions.{position_front, found_in_front, found_last, position_later, position_first}
 use Rattle.il_model.proofs.Marks.{words_in-append, address_small, table_labels, label_in}
 use Rattle.il_model.proofs.ConstantLists.{same_self, constants_grow}
@@ -643,16 +643,8 @@ has_line before name = is_some (position (has_label name) before)
 record AreKnown (seen : List Mark) (before : List Instr) : Type 0 where
   each : (x : List ℕ) → known_label seen x ≡ true → has_line before x ≡ true
 
-first_one : (b : Bool) (first n depth : ℕ) → eqb first n ≡ b → (let r : Result (Unit {0}) TypeFault = cond b (cond (ltb 0 depth) (Err Unbalanced) (Ok tt)) (Err DuplicateLabel) in r ≡ Ok tt) → first ≡ n
-first_one true first n depth e h = eqb-true first n e
-first_one false first n depth e h = absurd cc
-
-first_by : (t : Option ℕ) (n depth : ℕ) → label_at t n depth ≡ Ok tt → t ≡ Some n
-first_by None n depth h = absurd cc
-first_by (Some first) n depth h = ap (λ (k : ℕ). Some k) (first_one (eqb first n) first n depth refl h)
-
 -- a label of a typed program stands where it is found
-label_stands : (Q : Program) (n : ℕ) (line : Instr) (name : List ℕ) → IsTyped Q → n < length Q.code → slice_get Q.code n ≡ Some line → line.label ≡ Some name → target_of Q name ≡ Some n
+label_stands : (Q : Program) (n : ℕ) (line : Instr) (name : List ℕ) → HasNoTypeFault Q → n < length Q.code → slice_get Q.code n ≡ Some line → line.label ≡ Some name → target_of Q name ≡ Some n
 label_stands Q n line name typed lt here is =
     let all = bind_ok (shape_at Q (length Q.code)) (typing_end Q) tt typed in
     let sh = ok_before Q (length Q.code) all.0 all.1 n (omega arith) in
@@ -689,7 +681,7 @@ and_both : (a b : Bool) → a ≡ true → b ≡ true → (a && b) ≡ true
 and_both true b e h = h
 and_both false b e h = absurd cc
 
-mark_fits : (Q : Program) (seen : List Mark) (before : List Instr) (line : Instr) (code : List Instr) (name : List ℕ) → words_in Q.code ≤ 36864 → IsTyped Q → Q.code ≡ before ++ line ∷ code → AreKnown seen before → line.label ≡ Some name → IsLabel (Some name) → IsMark seen (record { name = name; at = words_in before })
+mark_fits : (Q : Program) (seen : List Mark) (before : List Instr) (line : Instr) (code : List Instr) (name : List ℕ) → words_in Q.code ≤ 36864 → HasNoTypeFault Q → Q.code ≡ before ++ line ∷ code → AreKnown seen before → line.label ≡ Some name → IsLabel (Some name) → IsMark seen (record { name = name; at = words_in before })
 mark_fits Q seen before line code name few typed all known is ok =
     let here : slice_get Q.code (length before) ≡ Some line = ap (λ (c : List Instr). slice_get c (length before)) all ∙ line_at before line code in
     let lt : length before < length Q.code = omega (arith, ap length all, length-append before (line ∷ code)) in
@@ -729,7 +721,7 @@ known_next seen before line name at x known is (inr e) = found_last (has_label x
 known_same : (seen : List Mark) (before : List Instr) (line : Instr) → AreKnown seen before → AreKnown seen (before ++ line ∷ [])
 known_same seen before line known = record { each = λ x e. found_in_front (has_label x) before (line ∷ []) (known.each x e) }
 
-marks_by : (o : Option (List ℕ)) (Q : Program) (seen : List Mark) (before : List Instr) (line : Instr) (code : List Instr) → words_in Q.code ≤ 36864 → IsTyped Q → Q.code ≡ before ++ line ∷ code → AreKnown seen before → line.label ≡ o → IsLabel o
+marks_by : (o : Option (List ℕ)) (Q : Program) (seen : List Mark) (before : List Instr) (line : Instr) (code : List Instr) → words_in Q.code ≤ 36864 → HasNoTypeFault Q → Q.code ≡ before ++ line ∷ code → AreKnown seen before → line.label ≡ o → IsLabel o
     → ((seen : List Mark) → AreKnown seen (before ++ line ∷ []) → AreItems IsMark seen (marks_from (words_in before + word_count line) code)) → AreItems IsMark seen (with_mark (words_in before) o (marks_from (words_in before + word_count line) code))
 marks_by None Q seen before line code few typed all known is ok ih = ih seen (known_same seen before line known)
 marks_by (Some name) Q seen before line code few typed all known is ok ih =
@@ -738,7 +730,7 @@ marks_by (Some name) Q seen before line code few typed all known is ok ih =
       ih (seen ++ m ∷ []) (record { each = λ x e. known_next seen before line name (words_in before) x known is (split_by (position (λ (m : Mark). same_name m.name x) seen) (same_name name x) (λ (m : Mark). same_name m.name x) seen m refl refl e) }),
     )
 
-marks_fit : (Q : Program) (seen : List Mark) (before code : List Instr) → words_in Q.code ≤ 36864 → IsTyped Q → Q.code ≡ before ++ code → AreKnown seen before → AreLawful (declared_by Q) code → AreItems IsMark seen (marks_from (words_in before) code)
+marks_fit : (Q : Program) (seen : List Mark) (before code : List Instr) → words_in Q.code ≤ 36864 → HasNoTypeFault Q → Q.code ≡ before ++ code → AreKnown seen before → AreLawful (declared_by Q) code → AreItems IsMark seen (marks_from (words_in before) code)
 marks_fit Q seen before [] few typed all known lawful = tt
 marks_fit Q seen before (line ∷ code) few typed all known lawful =
     let next : Q.code ≡ (before ++ line ∷ []) ++ code = all ∙ sym (append_assoc before (line ∷ []) code) in
@@ -762,7 +754,8 @@ none_known x e = cc
 pub lawful_image : (Q : Program) → AreItems IsVariable [] Q.variables → length Q.variables ≤ 512 → AreItems (IsInstance Q.variables) [] Q.instances → length Q.instances ≤ 128 → length Q.code ≤ 4096
     → AreLawful (declared_by Q) Q.code → IsTyped Q → IsImage Q
 lawful_image Q variables few instances instances-few short lawful typed =
-    let lines = typed_lines Q typed in
+    let fine = faultless Q typed in
+    let lines = typed_lines Q fine in
     let words-few : words_in Q.code ≤ 36864 = (let le = words_few Q Q.code lines in omega arith) in
     let cs-few : length (constants_of Q) ≤ 20480 = (let le = constants_few (operands_of Q.code) [] in let more = literals_few Q Q.code lines in omega arith) in
     let ms-few : length (marks_from 0 Q.code) ≤ length Q.code = marks_few Q.code 0 in
@@ -773,7 +766,7 @@ lawful_image Q variables few instances instances-few short lawful typed =
         variables_few = few;
         instances = instances;
         instances_few = instances-few;
-        labels = marks_fit Q [] [] Q.code words-few typed refl (record { each = λ x e. absurd (none_known x e) }) lawful;
+        labels = marks_fit Q [] [] Q.code words-few fine refl (record { each = λ x e. absurd (none_known x e) }) lawful;
         labels_few = omega arith;
         constants = constants_fit (declared_by Q) (operands_of Q.code) [] (operands_fit (declared_by Q) Q.code lawful) tt;
         constants_few = cs-few;

@@ -15,6 +15,8 @@ pub mod LocationTables
 pub mod ArgumentFaults
 pub mod FirstFaults
 pub mod FaultyWords
+pub mod Judged
+pub mod WorkedTyping
 pub mod SettledPrograms
 pub mod Indexing
 pub mod Decimals

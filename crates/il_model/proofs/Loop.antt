@@ -6,7 +6,8 @@ use Rattle.std.proofs.lemmas.Option.{slice_get_read}
 use Rattle.il_model.specs.declared.program.Instr.{Instr}
 use Rattle.il_model.specs.declared.typing.TypeFault.{TypeFault}
 use Rattle.il_model.specs.Program.{Program}
-use Rattle.il_model.specs.Typing.{◌>>=◌, Shape, shape_at, after_at, after_line, with_number, judgement_of, typing_end}
+use Rattle.il_model.specs.Typing.{Shape}
+use Rattle.il_model.specs.Checking.{◌>>=◌, shape_at, after_at, after_line, with_number, judgement_of, typing_end}
 
 pub goes_at : (Q : Program) (n : ℕ) (sh sh' : Shape) (line : Instr) → shape_at Q n ≡ Ok sh → slice_get Q.code n ≡ Some line → after_line Q n sh line ≡ Ok sh' → shape_at Q (n + 1) ≡ Ok sh'
 goes_at Q n sh sh' line at here h =

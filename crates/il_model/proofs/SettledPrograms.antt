@@ -39,8 +39,10 @@ use Rattle.il_model.proofs.RowTypes.{some_yes}
 use Rattle.il_model.proofs.TypedLines.{bind_ok, ok_before, typed_line, sourced, fault_none, IsArgumentOf, arguments_typed, no_arguments, is_among}
 use Rattle.il_model.proofs.ArgumentFaults.{literal_by}
 use Rattle.il_model.proofs.Loop.{goes_at, fails_at}
-use Rattle.il_model.specs.Typing.{◌>>=◌, Shape, source_kind, missing_kind, operand_kind, source_row, goes_so, passing_fault, first_fault, field_fault, kind_field, argument_fault, arguments_fault, with_fault, line_row, label_at, label_row, shape_after, after_line, after_at, with_number, shape_at, typing_end, judgement_of, IsTyped, top_of}
-use Rattle.il_model.specs.Settled.{wanted_type, settled_number, settled_as, settled_operand, settled_passing, settled_argument, settled_line, settled_nth, settled_on_arrival, settled_before, settled_text, if_typed, typed_program_of, is_bare, has_bare, HasNoBare, Settles, AreSettled, SettlesLine, IsSettling, IsSettledOnArrival, IsTypedProgramOf}
+use Rattle.il_model.proofs.Judged.{arrives, arrived, is_typed, faultless}
+use Rattle.il_model.specs.Typing.{Shape, kind_field}
+use Rattle.il_model.specs.Checking.{◌>>=◌, source_kind, missing_kind, operand_kind, source_row, goes_so, passing_fault, first_fault, field_fault, argument_fault, arguments_fault, with_fault, line_row, label_at, label_row, shape_after, after_line, after_at, with_number, shape_at, typing_end, judgement_of, top_of, HasNoTypeFault}
+use Rattle.il_model.specs.Settled.{wanted_type, settled_number, settled_as, settled_operand, settled_passing, settled_argument, settled_line, settled_nth, settled_on_arrival, settled_before, settled_text, if_typed, typed_program_of, is_bare, has_bare, HasNoBare, Settles, AreSettled, SettlesLine, IsSettling, IsTypedProgramOf}
 
 -- ---- programs with the same declarations and labels
 
@@ -249,7 +251,7 @@ text_within P n sh lt at =
     ∙ arrival_own (settled_before P n) n (shape_at (settled_before P n) n) sh (sym (text_shape P n (omega arith)) ∙ at)
     ∙ ap (option_map (settled_line sh.cr)) (before_past P n n (omega arith))
 
-pub text_arrival : (P : Program) → IsSettledOnArrival P (settled_text P)
+pub text_arrival : (P : Program) (n : ℕ) (sh : Shape) → shape_at (settled_text P) n ≡ Ok sh → slice_get (settled_text P).code n ≡ option_map (settled_line sh.cr) (slice_get P.code n)
 text_arrival P n sh at =
     elim (nat_lt n (length P.code)) as (λ v. nat_lt n (length P.code) ≡ v → slice_get (settled_text P).code n ≡ option_map (settled_line sh.cr) (slice_get P.code n)) [
       | true ↦ λ h. text_within P n sh (ltb-true n (length P.code) h) at
@@ -435,11 +437,11 @@ settles_line cr line e =
     let both = or_no (is_bare (settled_line cr line).operand) (have_bare (settled_line cr line).arguments) e in
     record { label = refl; op = refl; modifier = refl; operand = settles cr line.op line.modifier line.operand both.0; arguments = are_settled line.arguments both.1 }
 
-shape_within : (Q : Program) → IsTyped Q → (n : ℕ) → n ≤ length Q.code → (sh : Shape) × (shape_at Q n ≡ Ok sh)
+shape_within : (Q : Program) → HasNoTypeFault Q → (n : ℕ) → n ≤ length Q.code → (sh : Shape) × (shape_at Q n ≡ Ok sh)
 shape_within Q typed n le = let all = bind_ok (shape_at Q (length Q.code)) (typing_end Q) tt typed in ok_before Q (length Q.code) all.0 all.1 n le
 
 -- a typed program has no bare number
-pub typed_plain : (Q : Program) → IsTyped Q → HasNoBare Q
+pub typed_plain : (Q : Program) → HasNoTypeFault Q → HasNoBare Q
 typed_plain Q typed n line here =
     let lt = slice_get_within Q.code n line here in
     let at = shape_within Q typed n (omega arith) in
@@ -448,25 +450,31 @@ typed_plain Q typed n line here =
     let src = sourced Q at.0.cr (top_of at.0.kept) (length at.0.kept) line (source_of Q line.operand) is.effect row.0 in
     no_or (is_bare line.operand) (have_bare line.arguments) (sourced_plain Q line.operand src.0 src.1) (arguments_plain Q (called_kind Q line.operand) line.arguments row.1)
 
-text_lines : (P : Program) → IsTyped (settled_text P) → (n : ℕ) (line : Instr) → slice_get P.code n ≡ Some line → (q : Instr) × SettlesLine line q × (slice_get (settled_text P).code n ≡ Some q)
-text_lines P typed n line here =
-    let lt = slice_get_within P.code n line here in
-    let at = shape_within (settled_text P) typed n (omega (arith, text_count P)) in
-    let there = here_settled P n at.0 line at.1 here in
-    (settled_line at.0.cr line, settles_line at.0.cr line (typed_plain (settled_text P) typed n (settled_line at.0.cr line) there), there)
+-- a typed program is that of which it is the typed program, but for bare numbers
+pub is_settling : (P Q : Program) → IsTypedProgramOf P Q → IsSettling P Q
+is_settling P Q is = record { variables = is.variables; instances = is.instances; count = is.count; lines = each }
+  where
+    each : (n : ℕ) (line : Instr) → slice_get P.code n ≡ Some line → (q : Instr) × SettlesLine line q × (slice_get Q.code n ≡ Some q)
+    each n line here =
+        let fine = faultless Q is.typed in
+        let le : n ≤ length Q.code = omega (arith, slice_get_within P.code n line here, is.count) in
+        let at = shape_within Q fine n le in
+        let there : slice_get Q.code n ≡ Some (settled_line at.0.cr line) = is.placed n at.0 (arrives Q n at.0 le at.1) ∙ ap (option_map (settled_line at.0.cr)) here in
+        (settled_line at.0.cr line, settles_line at.0.cr line (typed_plain Q fine n (settled_line at.0.cr line) there), there)
 
-text_typed : (P : Program) → IsTyped (settled_text P) → IsTypedProgramOf P (settled_text P)
+text_typed : (P : Program) → HasNoTypeFault (settled_text P) → IsTypedProgramOf P (settled_text P)
 text_typed P typed = record {
-  typed = typed;
-  plain = typed_plain (settled_text P) typed;
-  same = record { variables = (text_alike P).variables; instances = (text_alike P).instances; count = text_count P; lines = text_lines P typed };
-  placed = text_arrival P;
+  typed = is_typed (settled_text P) typed;
+  variables = (text_alike P).variables;
+  instances = (text_alike P).instances;
+  count = text_count P;
+  placed = λ n sh at. text_arrival P n sh (arrived (settled_text P) n sh at);
 }
 
 text_is : (P Q : Program) → (let r : Result Program (TypeFault × ℕ) = Ok P in r) ≡ Ok Q → P ≡ Q
 text_is P Q e = cc
 
--- the typed program of a program is typed, has no bare number, and is otherwise the same
+-- the typed program of a program is typed, and otherwise the same
 pub typed_program : (P Q : Program) → typed_program_of P ≡ Ok Q → IsTypedProgramOf P Q
 typed_program P Q e =
     let all = bind_ok (judgement_of (settled_text P)) (λ _. Ok (settled_text P)) Q e in
@@ -505,7 +513,7 @@ same_list (x ∷ xs) (y ∷ ys) len same =
 
 text_like : (P Q : Program) → IsTypedProgramOf P Q → Alike (settled_text P) Q
 text_like P Q is =
-    let a = settling_alike P Q is.same in
+    let a = settling_alike P Q (is_settling P Q is) in
     let b = text_alike P in
     record { variables = a.variables ∙ sym b.variables; instances = a.instances ∙ sym b.instances; labels = a.labels ∙ sym b.labels }
 
@@ -517,14 +525,15 @@ lines_same P Q is (suc n) le k lt =
       | false ↦ λ h.
           let past : n ≤ k = ltb-false k n h in
           let here : n ≡ k = omega arith in
-          let at = shape_within Q is.typed n (omega (arith, is.same.count)) in
+          let le : n ≤ length Q.code = omega (arith, is.count) in
+          let at = shape_within Q (faultless Q is.typed) n le in
           let shapes = shapes_alike (settled_text P) Q n (text_like P Q is) (λ j below. lines_same P Q is n (omega arith) j below) in
-          ap (λ (j : ℕ). slice_get Q.code j) (sym here) ∙ is.placed n at.0 at.1 ∙ sym (text_arrival P n at.0 (sym shapes ∙ at.1)) ∙ ap (λ (j : ℕ). slice_get (settled_text P).code j) here
+          ap (λ (j : ℕ). slice_get Q.code j) (sym here) ∙ is.placed n at.0 (arrives Q n at.0 le at.1) ∙ sym (text_arrival P n at.0 (sym shapes ∙ at.1)) ∙ ap (λ (j : ℕ). slice_get (settled_text P).code j) here
     ] refl
 
 text_same : (P Q : Program) → IsTypedProgramOf P Q → Q ≡ settled_text P
 text_same P Q is =
-    let codes : Q.code ≡ (settled_text P).code = same_list Q.code (settled_text P).code (is.same.count ∙ sym (text_count P)) (λ k lt. lines_same P Q is (length P.code) (omega arith) k (omega (arith, is.same.count))) in
+    let codes : Q.code ≡ (settled_text P).code = same_list Q.code (settled_text P).code (is.count ∙ sym (text_count P)) (λ k lt. lines_same P Q is (length P.code) (omega arith) k (omega (arith, is.count))) in
     let like = text_like P Q is in
     ap (λ (vs : List Variable). let R : Program = record { variables = vs; instances = Q.instances; code = Q.code } in R) like.variables
     ∙ ap (λ (xs : List Instance). let R : Program = record { variables = (settled_text P).variables; instances = xs; code = Q.code } in R) like.instances
@@ -534,7 +543,7 @@ text_same P Q is =
 pub typed_only : (P Q : Program) → IsTypedProgramOf P Q → typed_program_of P ≡ Ok Q
 typed_only P Q is =
     let same = text_same P Q is in
-    ap (λ (r : Result (Unit {0}) (TypeFault × ℕ)). r >>= λ _. Ok (settled_text P)) (ap judgement_of (sym same) ∙ is.typed)
+    ap (λ (r : Result (Unit {0}) (TypeFault × ℕ)). r >>= λ _. Ok (settled_text P)) (ap judgement_of (sym same) ∙ faultless Q is.typed)
     ∙ ap (λ (R : Program). let r : Result Program (TypeFault × ℕ) = Ok R in r) (sym same)
 
 -- ---- a program without bare numbers

@@ -7,7 +7,8 @@ use Rattle.il_model.specs.declared.program.Instr.{Instr}
 use Rattle.il_model.specs.declared.typing.TypeFault.{TypeFault}
 use Rattle.il_model.specs.Program.{Program}
 use Rattle.il_model.specs.Resolved.{source_of, called_kind}
-use Rattle.il_model.specs.Typing.{Shape, shape_at, top_of, source_row, label_row, argument_fault}
+use Rattle.il_model.specs.Typing.{Shape}
+use Rattle.il_model.specs.Checking.{shape_at, top_of, source_row, label_row, argument_fault}
 
 -- how many arguments there are before the first that has a fault
 abbrev pub faulty_argument : Program → Option BlockKind → List Argument → List Argument → ℕ

@@ -29,7 +29,8 @@ use Rattle.il_model.specs.Codes.{is_jump, is_call}
 use Rattle.il_model.specs.Program.{Program}
 use Rattle.il_model.specs.Resolved.{source_of, target_of, called_kind}
 use Rattle.il_model.specs.Row.{same_type, is_bool, negatable}
-use Rattle.il_model.specs.Typing.{Shape, top_of, operand_kind, goes_so, kind_field, fault_rank}
+use Rattle.il_model.specs.Typing.{Shape, kind_field}
+use Rattle.il_model.specs.Checking.{top_of, operand_kind, goes_so, fault_rank}
 
 -- ---- operators
 

@@ -6,6 +6,7 @@ pub mod Program
 pub mod Resolved
 pub mod Row
 pub mod Typing
+pub mod Checking
 pub mod Faulty
 pub mod Settled
 pub mod CodedOperands

@@ -1,13 +1,18 @@
 -- Names: their bytes, in upper case (IEC 61131-3:2003, 2.1.2).
-use Rattle.std.specs.Prelude.{ℕ, Bool, true, false, not, ◌&&◌, ◌||◌, List, [], ◌∷◌, length, codes, is_some, nat_le}
+use Rattle.std.specs.Prelude.{◌≡◌, ℕ, Bool, true, false, not, ◌&&◌, ◌||◌, List, [], ◌∷◌, length, codes, is_some, nat_le}
 use Rattle.std.specs.Prelude.{nat_lt, nat_eq, if◌then◌else◌}
-use Rattle.std.specs.List.{list_all, list_any}
+use Rattle.std.specs.List.{AllByRecursion, list_all, list_any}
 use Rattle.std.specs.Str.{bytes_eq}
 use Rattle.il_model.specs.Words.{mnemonic_of}
 use Rattle.il_model.specs.Kinds.{kind_of_name}
 
 abbrev pub same_name : List ℕ → List ℕ → Bool
 same_name a b = bytes_eq a b
+
+-- none of them stands again behind
+abbrev pub AreDistinct : {X : Type 0} → List X → Type 0
+AreDistinct [] = Unit {0}
+AreDistinct (x ∷ xs) = AllByRecursion (λ y. x ≡ y → ⊥) xs × AreDistinct xs
 
 -- a capital letter or an underscore
 abbrev pub is_first_byte : ℕ → Bool

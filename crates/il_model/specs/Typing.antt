@@ -1,11 +1,14 @@
--- When a program is typed: the types on arrival at each position, from left to right.
-use Rattle.std.specs.Prelude.{◌≡◌, ℕ, zero, suc, ◌+◌, Bool, true, false, not, List, [], ◌∷◌, ◌++◌, length, drop, Option}
-use Rattle.std.specs.Prelude.{Some, None, Result, Ok, Err, nat_lt, nat_eq, slice_get, if◌then◌else◌}
-use Rattle.std.specs.List.{list_any}
+-- When a program is typed: what each instruction needs of the types on arrival, and what it leaves, from left to right.
+use Rattle.std.specs.Prelude.{◌≡◌, ◌<◌, ℕ, zero, suc, Bool, true, false, List, [], ◌∷◌, length, map, Option, Some, None}
+use Rattle.std.specs.Prelude.{is_some, nat_lt, slice_get, if◌then◌else◌}
+use Rattle.std.specs.List.{AllByRecursion}
 use Rattle.std.specs.Option.{option_map, option_and_then}
-use Rattle.il_model.specs.declared.limits.TheConstants.{BITS, WORDS}
+use Rattle.il_model.specs.declared.limits.TheConstants.{BITS, WORDS, MOST_OPEN_PARENTHESES}
 use Rattle.il_model.specs.declared.value.Ty.{Ty}
 use Rattle.il_model.specs.declared.value.Ty.TheVariants as types
+use Rattle.il_model.specs.declared.op.Op.{Op}
+use Rattle.il_model.specs.declared.op.Op.TheVariants as ops
+use Rattle.il_model.specs.declared.op.Modifier.{Modifier}
 use Rattle.il_model.specs.declared.program.Area.{Area}
 use Rattle.il_model.specs.declared.program.Area.TheVariants as areas
 use Rattle.il_model.specs.declared.program.Loc.{Loc}
@@ -24,42 +27,16 @@ use Rattle.il_model.specs.declared.program.Operand.TheVariants as operands
 use Rattle.il_model.specs.declared.program.Instr.{Instr}
 use Rattle.il_model.specs.declared.fetched.Source.{Source}
 use Rattle.il_model.specs.declared.fetched.Source.TheVariants as sources
-use Rattle.il_model.specs.declared.typing.TypeFault.{TypeFault}
-use Rattle.il_model.specs.declared.typing.TypeFault.TheVariants.{TypeMismatch, NoCurrentResult, UnknownLabel}
-use Rattle.il_model.specs.declared.typing.TypeFault.TheVariants.{DuplicateLabel, Unbalanced, TooDeep, NotWritable}
-use Rattle.il_model.specs.declared.typing.TypeFault.TheVariants.{BadField}
-use Rattle.il_model.specs.declared.typing.OperandKind.{OperandKind}
-use Rattle.il_model.specs.declared.typing.OperandKind.TheVariants as kinds
 use Rattle.il_model.specs.declared.typing.Held.{Held}
-use Rattle.il_model.specs.declared.typing.Effect.{Effect}
-use Rattle.il_model.specs.declared.typing.Effect.TheVariants.{Sets, Opens, Closes}
 use Rattle.il_model.specs.Program.{Program}
 use Rattle.il_model.specs.Values.{ty_of}
 use Rattle.il_model.specs.Areas.{area_of}
 use Rattle.il_model.specs.Kinds.{kind_fields, field_number, field_type, is_input}
-use Rattle.il_model.specs.Names.{same_name}
+use Rattle.il_model.specs.Names.{AreDistinct}
+use Rattle.il_model.specs.Operators.{joined_type}
 use Rattle.il_model.specs.Resolved.{source_of, target_of, is_labelled, called_kind}
-use Rattle.il_model.specs.Row.{row, same_type}
 
-abbrev pub fault_number : TypeFault → ℕ
-fault_number TypeMismatch = 1
-fault_number NoCurrentResult = 2
-fault_number UnknownLabel = 3
-fault_number DuplicateLabel = 4
-fault_number Unbalanced = 5
-fault_number TooDeep = 6
-fault_number NotWritable = 7
-fault_number BadField = 8
-
-infixl 10 ◌>>=◌
-abbrev pub ◌>>=◌ : {A B E : Type 0} → Result A E → (A → Result B E) → Result B E
-(Ok x) >>= f = f x
-(Err e) >>= f = Err e
-
--- the types at a position: that of the current result, and those of the deferred operators, the innermost first
-pub record Shape : Type 0 where
-  pub cr : Option Ty
-  pub kept : List Held
+-- ---- operands
 
 abbrev pub loc_type : Loc → Option Ty
 loc_type (Bit a n) = if nat_lt n BITS then Some types.Bool else None
@@ -88,152 +65,129 @@ is_writable Q (Own i) = true
 is_writable Q (At loc) = is_writable_area (area_of loc)
 is_writable Q (places.Field i n) = is_input_field (field_at Q i n)
 
-abbrev pub typed_kind : Option Ty → Bool → OperandKind
-typed_kind (Some t) w = kinds.Typed t w
-typed_kind None w = kinds.Misfit
+abbrev pub source_type : Program → Source → Option Ty
+source_type Q (sources.Constant v) = Some (ty_of v)
+source_type Q (sources.Of place) = place_type Q place
+source_type Q source = None
 
-abbrev pub source_kind : Program → Source → OperandKind
-source_kind Q sources.Absent = kinds.Absent
-source_kind Q (sources.Constant v) = kinds.Typed (ty_of v) false
-source_kind Q (sources.Of p) = typed_kind (place_type Q p) (is_writable Q p)
-source_kind Q (sources.Target n) = kinds.Target
-source_kind Q (sources.Instance i) = kinds.Instance
+-- the operand has a value, which is of that type
+abbrev pub HasType : Program → Operand → Ty → Type 0
+HasType Q x t = option_and_then (source_type Q) (source_of Q x) ≡ Some t
 
--- of an operand that stands for nothing
-abbrev pub missing_kind : Operand → OperandKind
-missing_kind (operands.Label name) = kinds.NoTarget
-missing_kind (operands.Field name field) = kinds.NoField
-missing_kind operand = kinds.Misfit
+-- a value of that type may be stored there: the operand is no constant, no input location and no output of a block
+abbrev pub MayStore : Program → Operand → Ty → Type 0
+MayStore Q x t = (place : Place) × (source_of Q x ≡ Some (sources.Of place)) × (place_type Q place ≡ Some t)
+    × (is_writable Q place ≡ true)
 
-abbrev pub top_of : List Held → Option Held
-top_of [] = None
-top_of (h ∷ hs) = Some h
+-- ---- what an operator needs and leaves
 
-abbrev pub without_effect : Result Effect TypeFault → Result Effect TypeFault
-without_effect (Err f) = Err f
-without_effect (Ok e) = Err TypeMismatch
+-- the types at an instruction: of the current result, where there is one, and of the operators that wait for a closing
+-- parenthesis, the innermost first
+pub record Shape : Type 0 where
+  pub cr : Option Ty
+  pub kept : List Held
 
-abbrev pub source_row : Program → Option Ty → Option Held → ℕ → Instr → Option Source → Result Effect TypeFault
-source_row Q cr top depth line (Some src) = row cr top depth line.op line.modifier (source_kind Q src)
-source_row Q cr top depth line None =
-    without_effect (row cr top depth line.op line.modifier (missing_kind line.operand))
+-- N asks for BOOL
+abbrev pub AllowsN : Modifier → Ty → Type 0
+AllowsN m t = m.negated ≡ true → t ≡ types.Bool
+
+-- C asks for a current result that is BOOL
+abbrev pub AllowsC : Modifier → Shape → Type 0
+AllowsC m before = m.conditional ≡ true → before.cr ≡ Some types.Bool
+
+-- a jump or a return stands in no parenthesis; behind one without C there is no current result
+abbrev pub Leaves : Modifier → Shape → Shape → Type 0
+Leaves m before after = (before.kept ≡ []) × AllowsC m before
+    × (after ≡ record before { cr = if m.conditional then before.cr else None })
+
+abbrev pub Converts : Ty → Ty → Shape → Shape → Type 0
+Converts from to before after = (before.cr ≡ Some from) × (after ≡ record before { cr = Some to })
+
+-- the current result inside a parenthesis is the operand behind it, if there is one
+abbrev pub Begins : Program → Operand → Option Ty → Type 0
+Begins Q x None = x ≡ operands.Absent
+Begins Q x (Some t) = HasType Q x t
+
+-- An operator takes the current result on its left and its operand on its right. With an opening parenthesis it waits,
+-- with the current result on its left, which has to be of a type that it takes; only so many may wait.
+abbrev pub Operates : Bool → Program → Op → Modifier → Operand → Shape → Shape → Type 0
+Operates false Q op m x before after = (left : Ty) × (right : Ty) × (result : Ty) × (before.cr ≡ Some left)
+    × HasType Q x right × AllowsN m right × (joined_type op left right ≡ Some result)
+    × (after ≡ record before { cr = Some result })
+Operates true Q op m x before after = (left : Ty) × (inside : Option Ty) × (before.cr ≡ Some left) × Begins Q x inside
+    × (is_some (joined_type op left left) ≡ true) × (length before.kept < MOST_OPEN_PARENTHESES)
+    × (after ≡ record { cr = inside; kept = record { op = op; negated = m.negated; ty = left } ∷ before.kept })
+
+-- at a closing parenthesis the operator that waits for it takes the current result on its right
+abbrev pub Closes : Shape → Shape → Type 0
+Closes before after = (held : Held) × (rest : List Held) × (right : Ty) × (result : Ty) × (before.kept ≡ held ∷ rest)
+    × (before.cr ≡ Some right) × (held.negated ≡ true → right ≡ types.Bool)
+    × (joined_type held.op held.ty right ≡ Some result) × (after ≡ record { cr = Some result; kept = rest })
+
+-- what an operator with its letters and its operand needs before it, and leaves after it; the last line is that of AND,
+-- OR, XOR, of arithmetic and of comparisons
+abbrev pub Takes : Program → Op → Modifier → Operand → Shape → Shape → Type 0
+Takes Q ops.Empty m x before after = after ≡ before
+Takes Q ops.Ld m x before after = (t : Ty) × HasType Q x t × AllowsN m t × (after ≡ record before { cr = Some t })
+Takes Q ops.St m x before after = (t : Ty) × (before.cr ≡ Some t) × MayStore Q x t × AllowsN m t × (after ≡ before)
+Takes Q ops.S m x before after = (before.cr ≡ Some types.Bool) × MayStore Q x types.Bool × (after ≡ before)
+Takes Q ops.R m x before after = (before.cr ≡ Some types.Bool) × MayStore Q x types.Bool × (after ≡ before)
+Takes Q ops.Not m x before after = (before.cr ≡ Some types.Bool) × (after ≡ before)
+Takes Q ops.Jmp m x before after = (n : ℕ) × (source_of Q x ≡ Some (sources.Target n)) × Leaves m before after
+Takes Q ops.Ret m x before after = Leaves m before after
+Takes Q ops.Cal m x before after = (i : ℕ) × (source_of Q x ≡ Some (sources.Instance i)) × (before.kept ≡ [])
+    × AllowsC m before × (after ≡ before)
+Takes Q ops.Close m x before after = Closes before after
+Takes Q ops.IntToDint m x before after = Converts types.Int types.Dint before after
+Takes Q ops.DintToInt m x before after = Converts types.Dint types.Int before after
+Takes Q ops.DintToLint m x before after = Converts types.Dint types.Lint before after
+Takes Q ops.LintToDint m x before after = Converts types.Lint types.Dint before after
+Takes Q op m x before after = Operates m.opens Q op m x before after
 
 -- ---- the arguments of a call
 
--- the order in which the faults of one instruction are tried
-abbrev pub fault_rank : TypeFault → ℕ
-fault_rank DuplicateLabel = 0
-fault_rank Unbalanced = 1
-fault_rank TooDeep = 2
-fault_rank UnknownLabel = 3
-fault_rank BadField = 4
-fault_rank NotWritable = 5
-fault_rank NoCurrentResult = 6
-fault_rank TypeMismatch = 7
-
-abbrev pub tried_first : TypeFault → TypeFault → TypeFault
-tried_first f g = if nat_lt (fault_rank g) (fault_rank f) then g else f
-
-abbrev pub first_fault : Option TypeFault → Option TypeFault → Option TypeFault
-first_fault None o = o
-first_fault (Some f) None = Some f
-first_fault (Some f) (Some g) = Some (tried_first f g)
-
-abbrev pub operand_kind : Program → Operand → OperandKind
-operand_kind Q operand = elim (source_of Q operand) [ Some src ↦ source_kind Q src | None ↦ missing_kind operand ]
-
-abbrev pub unless_same : Ty → Ty → Option TypeFault
-unless_same t u = if same_type t u then None else Some TypeMismatch
-
--- what goes into an input or out of an output is of the field's type, and what an output is stored to can be written
-abbrev pub passing_fault : Side → Ty → OperandKind → Option TypeFault
-passing_fault side t kinds.NoField = Some BadField
-passing_fault sides.Input t (kinds.Typed u w) = unless_same t u
-passing_fault sides.Input t kind = Some TypeMismatch
-passing_fault sides.Output t (kinds.Typed u true) = unless_same t u
-passing_fault sides.Output t kind = Some NotWritable
-
-abbrev pub goes_so : Side → Field → Bool
-goes_so sides.Input field = is_input field
-goes_so sides.Output field = not (is_input field)
-
-abbrev pub field_fault : Program → Argument → Option Field → Option TypeFault
-field_fault Q a None = Some BadField
-field_fault Q a (Some field) = if goes_so a.side field
-    then passing_fault a.side (field_type field) (operand_kind Q a.operand) else Some BadField
+-- a value of the field's type goes into an input; what an output gives may be stored
+abbrev pub Passes : Program → Side → Field → Operand → Type 0
+Passes Q sides.Input field x = (is_input field ≡ true) × HasType Q x (field_type field)
+Passes Q sides.Output field x = (is_input field ≡ false) × MayStore Q x (field_type field)
 
 abbrev pub kind_field : BlockKind → List ℕ → Option Field
 kind_field kind name = option_and_then (slice_get (kind_fields kind)) (field_number kind name)
 
--- a field stands once among the arguments of a call; seen are those before it
-abbrev pub argument_fault : Program → Option BlockKind → List Argument → Argument → Option TypeFault
-argument_fault Q None seen a = Some BadField
-argument_fault Q (Some kind) seen a = if list_any (λ (b : Argument). same_name b.field a.field) seen then Some BadField
-    else field_fault Q a (kind_field kind a.field)
+abbrev pub IsPassed : Program → BlockKind → Argument → Type 0
+IsPassed Q kind a = (field : Field) × (kind_field kind a.field ≡ Some field) × Passes Q a.side field a.operand
 
-abbrev pub arguments_fault : Program → Option BlockKind → List Argument → List Argument → Option TypeFault
-arguments_fault Q kind seen [] = None
-arguments_fault Q kind seen (a ∷ more) =
-    first_fault (argument_fault Q kind seen a) (arguments_fault Q kind (seen ++ a ∷ []) more)
+-- each names a field of the block that is called, and no two the same; only a call has any
+abbrev pub ArePassed : Program → Option BlockKind → List Argument → Type 0
+ArePassed Q None args = args ≡ []
+ArePassed Q (Some kind) args = AllByRecursion (IsPassed Q kind) args
+    × AreDistinct (map (λ (a : Argument). a.field) args)
 
--- an instruction's effect, where its arguments have that fault
-abbrev pub with_fault : Result Effect TypeFault → Option TypeFault → Result Effect TypeFault
-with_fault r None = r
-with_fault (Ok e) (Some f) = Err f
-with_fault (Err g) (Some f) = Err (tried_first g f)
+-- ---- a whole program
 
--- what an instruction does to the types, or its first fault; where it is no call an argument is a bad field
-abbrev pub line_row_of : Program → Option Ty → Option Held → ℕ → Instr → Result Effect TypeFault
-line_row_of Q cr top depth line =
-    with_fault (source_row Q cr top depth line (source_of Q line.operand))
-    (arguments_fault Q (called_kind Q line.operand) [] line.arguments)
+-- a label is that of no earlier instruction, so that jumps to it come here, and it stands in no parenthesis
+abbrev pub MayStand : Program → ℕ → Shape → Option (List ℕ) → Type 0
+MayStand Q n before None = Unit {0}
+MayStand Q n before (Some name) = (target_of Q name ≡ Some n) × (before.kept ≡ [])
 
-abbrev pub line_row : Program → Shape → Instr → Result Effect TypeFault
-line_row Q sh line = line_row_of Q sh.cr (top_of sh.kept) (length sh.kept) line
-
--- a label stands once, and not while a parenthesis is open
-abbrev pub label_at : Option ℕ → ℕ → ℕ → Result (Unit {0}) TypeFault
-label_at None n depth = Err DuplicateLabel
-label_at (Some first) n depth = if nat_eq first n then (if nat_lt 0 depth then Err Unbalanced else Ok tt)
-    else Err DuplicateLabel
-
-abbrev pub label_row : Program → ℕ → ℕ → Option (List ℕ) → Result (Unit {0}) TypeFault
-label_row Q n depth None = Ok tt
-label_row Q n depth (Some name) = label_at (target_of Q name) n depth
-
-abbrev pub shape_after : Shape → Effect → Shape
-shape_after sh (Sets cr) = record sh { cr = cr }
-shape_after sh (Opens held cr) = record { cr = cr; kept = held ∷ sh.kept }
-shape_after sh (Closes t) = record { cr = Some t; kept = drop 1 sh.kept }
+-- the n-th instruction, with these types before it and those after it; what its operand names is there
+pub record Leads (Q : Program) (n : ℕ) (line : Instr) (before after : Shape) : Type 0 where
+  pub label : MayStand Q n before line.label
+  pub named : is_some (source_of Q line.operand) ≡ true
+  pub types : Takes Q line.op line.modifier line.operand before after
+  pub arguments : ArePassed Q (called_kind Q line.operand) line.arguments
 
 -- at a label there is no current result
 abbrev pub shape_on_arrival : Program → ℕ → Shape → Shape
 shape_on_arrival Q n sh = if is_labelled Q n then record sh { cr = None } else sh
 
-abbrev pub after_line : Program → ℕ → Shape → Instr → Result Shape TypeFault
-after_line Q n sh line =
-    label_row Q n (length sh.kept) line.label >>= λ _. line_row Q sh line >>= λ e. Ok
-    (shape_on_arrival Q (n + 1) (shape_after sh e))
+-- the program arrives with these types at its n-th instruction, or at its end: with none at the first, then from each
+-- to the next
+abbrev pub Arrives : Program → ℕ → Shape → Type 0
+Arrives Q zero sh = sh ≡ record { cr = None; kept = [] }
+Arrives Q (suc n) sh = (line : Instr) × (before : Shape) × (after : Shape) × (slice_get Q.code n ≡ Some line)
+    × Arrives Q n before × Leads Q n line before after × (sh ≡ shape_on_arrival Q (suc n) after)
 
-abbrev pub with_number : {X : Type 0} → ℕ → Result X TypeFault → Result X (TypeFault × ℕ)
-with_number n (Ok x) = Ok x
-with_number n (Err f) = Err (f, n)
-
-abbrev pub after_at : Program → ℕ → Shape → Option Instr → Result Shape (TypeFault × ℕ)
-after_at Q n sh (Some line) = with_number n (after_line Q n sh line)
-after_at Q n sh None = Ok sh
-
--- the types on arrival at a position, or the first fault before it with the instruction's number
-abbrev pub shape_at : Program → ℕ → Result Shape (TypeFault × ℕ)
-shape_at Q zero = Ok (shape_on_arrival Q 0 (record { cr = None; kept = [] }))
-shape_at Q (suc n) = shape_at Q n >>= λ sh. after_at Q n sh (slice_get Q.code n)
-
--- no parenthesis is open at the end
-abbrev pub typing_end : Program → Shape → Result (Unit {0}) (TypeFault × ℕ)
-typing_end Q sh = if nat_lt 0 (length sh.kept) then Err (Unbalanced, length Q.code) else Ok tt
-
-abbrev pub judgement_of : Program → Result (Unit {0}) (TypeFault × ℕ)
-judgement_of Q = shape_at Q (length Q.code) >>= typing_end Q
-
+-- it arrives at its end, where no parenthesis is open
 abbrev pub IsTyped : Program → Type 0
-IsTyped Q = judgement_of Q ≡ Ok tt
+IsTyped Q = (end : Shape) × Arrives Q (length Q.code) end × (end.kept ≡ [])

@@ -4,8 +4,10 @@ ghost use Rattle.std.specs.Prelude.{◌≡◌, [], map, option_and_then, if◌th
 ghost use Rattle.std.specs.List.{list_any};
 ghost use Rattle.il_model.specs.Names.{same_name};
 ghost use Rattle.il_model.specs.Constants.{operand_literal};
-ghost use Rattle.il_model.specs.Typing.{fault_rank, tried_first, first_fault, operand_kind, unless_same, passing_fault};
-ghost use Rattle.il_model.specs.Typing.{goes_so, field_fault, kind_field, argument_fault, arguments_fault, with_fault};
+ghost use Rattle.il_model.specs.Checking.{fault_rank, tried_first, first_fault, operand_kind, unless_same};
+ghost use Rattle.il_model.specs.Checking.{passing_fault};
+ghost use Rattle.il_model.specs.Typing.{kind_field};
+ghost use Rattle.il_model.specs.Checking.{goes_so, field_fault, argument_fault, arguments_fault, with_fault};
 ghost use Rattle.il_model.specs.Settled.{settled_argument, as_settled};
 
 use crate::indexed::IndexedProgram;

@@ -1,8 +1,9 @@
 //! The types on arrival at each instruction, and whether a program is typed.
 
-ghost use Rattle.std.specs.Prelude.{◌≡◌, ◌<◌, ℕ, length, reverse, Ok, Err, Some};
-ghost use Rattle.il_model.specs.Typing.{judgement_of, shape_at, source_row, line_row, line_row_of, label_at, label_row};
-ghost use Rattle.il_model.specs.Typing.{shape_after, shape_on_arrival, top_of, Shape, after_line};
+ghost use Rattle.std.specs.Prelude.{◌≡◌, ◌<◌, ◌≤◌, ℕ, length, reverse, Ok, Err, Some};
+ghost use Rattle.il_model.specs.Typing.{shape_on_arrival, Shape, Arrives, IsTyped};
+ghost use Rattle.il_model.specs.Checking.{judgement_of, shape_at, source_row, line_row, line_row_of, label_at};
+ghost use Rattle.il_model.specs.Checking.{label_row, shape_after, top_of, after_line, HasNoTypeFault};
 ghost use Rattle.il_model.specs.Resolved.{is_labelled};
 ghost use Rattle.il_model.specs.Row.{HasRoom};
 ghost use Rattle.il_model.specs.declared.program.Instr.{Instr};
@@ -240,6 +241,15 @@ pub fn check(program: &IndexedProgram) -> Result<(), (TypeFault, usize)>
         Ok(())
     }
 }
+
+/// A program is typed exactly where the check finds no fault, and it arrives at an instruction with the types that the
+/// check has there. For proofs; it does nothing.
+pub fn know_typed()
+    ensures typed { (Q : Program) → HasNoTypeFault Q → IsTyped Q }
+    ensures faultless { (Q : Program) → IsTyped Q → HasNoTypeFault Q }
+    ensures arrives { (Q : Program) (n : ℕ) (sh : Shape) → n ≤ length Q.code → shape_at Q n ≡ Ok sh → Arrives Q n sh }
+    ensures shape { (Q : Program) (n : ℕ) (sh : Shape) → Arrives Q n sh → shape_at Q n ≡ Ok sh }
+{}
 
 /// Of the faults that an instruction has the one of least rank is told, in whatever program it stands, at whatever
 /// place, and with whatever types the program comes to it. For proofs; it does nothing.

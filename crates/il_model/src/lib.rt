@@ -11,8 +11,9 @@
 //!
 //! Proved: each table of the code is its definition. An operator gives its result on unbounded numbers, or the stop
 //! where that doesn't fit; each code is read back as what it was written for; `literal_from` gives exactly the value of
-//! a literal. `check_types` answers exactly whether a program is typed, else the fault of the least instruction, and
-//! which that is is a law (`the_first_fault_is_told`). A program has at most one typed program (`settling`).
+//! a literal. `check_types` finds no fault exactly where a program is typed, which a relation says that names none
+//! (`know_typed`, `specs/Typing`), else it tells the fault of the least instruction, and which that is is a law too
+//! (`the_first_fault_is_told`). A program has at most one typed program (`settling`).
 //!
 //! Only tested: nothing; rows of `tests_rows` show it at work.
 #![tactic(auto)]
@@ -54,6 +55,7 @@ pub use cells::InImage;
 pub use cells::OutImage;
 pub use check::Types;
 pub use check::check as check_types;
+pub use check::know_typed;
 pub use check::the_first_fault_is_told;
 pub use coded_operand::CodedOperand;
 pub use coded_operand::FIRST_CONSTANT;

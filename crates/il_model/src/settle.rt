@@ -5,9 +5,9 @@ ghost use Rattle.std.specs.Prelude.{◌≡◌, ◌<◌, length, OnOk, OnErr, IfO
 ghost use Rattle.il_model.specs.Constants.{operand_literal};
 ghost use Rattle.il_model.specs.Program.{Program};
 ghost use Rattle.il_model.specs.Resolved.{source_of};
-ghost use Rattle.il_model.specs.Typing.{source_row, line_row_of};
+ghost use Rattle.il_model.specs.Checking.{source_row, line_row_of};
 ghost use Rattle.il_model.specs.Settled.{settled_operand, settled_line, if_typed, typed_program_of, HasNoBare};
-ghost use Rattle.il_model.specs.Settled.{IsTypedProgramOf};
+ghost use Rattle.il_model.specs.Settled.{IsSettling, IsTypedProgramOf};
 
 use crate::arguments::{arguments_fault, with_fault};
 use crate::check::{Types, label_row, source_row};
@@ -79,7 +79,7 @@ fn settled_row(
 }
 
 impl Types {
-    ghost use Rattle.il_model.specs.Typing.{after_line};
+    ghost use Rattle.il_model.specs.Checking.{after_line};
 
     /// Goes past an instruction, in which a bare number takes the type that its place asks for. Gives the literal that
     /// the operand then is, if it is one, or the instruction's first fault and leaves the types as they were.
@@ -114,6 +114,7 @@ impl Types {
 pub fn settling(program: &Program)
     ensures typed { (Q : Program) → typed_program_of program.now ≡ Ok Q → IsTypedProgramOf program.now Q }
     ensures only { (Q : Program) → IsTypedProgramOf program.now Q → typed_program_of program.now ≡ Ok Q }
+    ensures same { (Q : Program) → IsTypedProgramOf program.now Q → IsSettling program.now Q × HasNoBare Q }
     ensures plain { HasNoBare program.now → typed_program_of program.now ≡ if_typed program.now }
 {
     let _code = &program.code;

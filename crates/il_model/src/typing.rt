@@ -40,7 +40,7 @@ pub enum TypeFault {
 }
 
 impl TypeFault {
-    ghost use Rattle.il_model.specs.Typing.{fault_number};
+    ghost use Rattle.il_model.specs.Checking.{fault_number};
 
     /// The number of a fault, from 1 in the order of this page.
     pub fn number(self) -> u8

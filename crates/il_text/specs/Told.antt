@@ -2,7 +2,7 @@
 use Rattle.il_reader.specs.declared.fault.ReadError.{ReadError}
 use Rattle.il_reader.specs.declared.fault.ReadError.TheVariants as reads
 use Rattle.il_reader.specs.Faults.{kind_number}
-use Rattle.il_model.specs.Typing.{fault_number}
+use Rattle.il_model.specs.Checking.{fault_number}
 use Rattle.il_declarations.specs.Faults as Kinds
 use Rattle.il_declarations.specs.declared.fault.DeclError.{DeclError}
 use Rattle.il_declarations.specs.declared.fault.DeclError.TheVariants as declarations

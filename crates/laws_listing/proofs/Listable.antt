@@ -26,7 +26,7 @@ use Rattle.il_model.specs.Values.{ty_of, number_of, is_within, truth_made, typed
 use Rattle.il_model.specs.Names.{same_name, is_lawful_name}
 use Rattle.il_model.specs.Kinds.{kind_fields, field_name, field_number}
 use Rattle.il_model.specs.Resolved.{variable_place, place_of, source_of, instance_in, numbered_field, field_of, has_label, target_of, called_kind}
-use Rattle.il_model.specs.Typing.{arguments_fault}
+use Rattle.il_model.specs.Checking.{arguments_fault}
 use Rattle.il_model.specs.Marks.{Mark, with_mark, marks_from, word_count}
 use Rattle.il_model.specs.Constants.{constants_of}
 use Rattle.il_model.specs.Image.{modifier_code, operand_code}
@@ -40,6 +40,7 @@ use Rattle.il_model.proofs.Positions.{position_later}
 use Rattle.il_model.proofs.Declared.{field_so}
 use Rattle.il_model.proofs.TypedLines.{IsArgumentOf, arguments_typed, no_arguments}
 use Rattle.il_model.proofs.Calls.{IsTypedLine, typed_lines}
+use Rattle.il_model.proofs.Judged.{faultless}
 use Rattle.il_declarations.specs.Walk.{has_name, has_instance}
 use Rattle.laws_listing.proofs.Fronts.{both_true}
 use Rattle.il_model.proofs.LiteralLaws.{IsValue}
@@ -386,4 +387,4 @@ listable Q is =
     let has = names_of Q is.text in
     let all = items_all IsConstant IsValue constant_value [] (constants_of Q) is.text.constants in
     let words = items_all (λ seen. IsWord Q) (IsWord Q) (λ seen line w. w) [] Q.code is.text.words in
-    record { names = has; lines = all_lines Q Q.code has all has.labels words (typed_lines Q is.typed) }
+    record { names = has; lines = all_lines Q Q.code has all has.labels words (typed_lines Q (faultless Q is.typed)) }

@@ -2,7 +2,8 @@ use Rattle.std.proofs.Common.{◌+◌, Ok, Some, sym, ap, ◌∙◌, length}
 use Rattle.il_model.specs.declared.typing.Effect.{Effect}
 use Rattle.il_model.specs.declared.fetched.Fetched.{Fetched}
 use Rattle.il_model.specs.Program.{Program}
-use Rattle.il_model.specs.Typing.{Shape, top_of, source_kind, shape_on_arrival, shape_after}
+use Rattle.il_model.specs.Typing.{Shape, shape_on_arrival}
+use Rattle.il_model.specs.Checking.{top_of, source_kind, shape_after}
 use Rattle.il_model.proofs.Room.{row_room}
 use Rattle.ctl_machine.proofs.Arrivals.{goes_past, row_again, ok_effect, no_fault}
 use Rattle.ctl_machine.proofs.arrival.pass.Goals as goal

@@ -1,5 +1,5 @@
 use Rattle.std.proofs.Common.{◌≡◌, Ok, take}
-use Rattle.il_model.specs.Typing.{shape_at}
+use Rattle.il_model.specs.Checking.{shape_at}
 use Rattle.il_model.specs.Settled.{settled_text}
 use Rattle.il_assembler.specs.Encoded.{literals_of}
 use Rattle.il_assembler.proofs.assembling.literals.Given as goal

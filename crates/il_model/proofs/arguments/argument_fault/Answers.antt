@@ -1,5 +1,5 @@
 use Rattle.std.proofs.Common.{ap, sym, ◌∙◌}
-use Rattle.il_model.specs.Typing.{field_fault}
+use Rattle.il_model.specs.Checking.{field_fault}
 use Rattle.il_model.specs.Settled.{as_settled}
 use Rattle.il_model.proofs.ArgumentFaults.{is_seen, is_new}
 use Rattle.il_model.proofs.arguments.argument_fault.Goals as goal

@@ -1,7 +1,7 @@
 use Rattle.std.proofs.Common.{rules, ◌≡◌, ap, sym, ◌∙◌, subst, ◌+◌, take}
 use Rattle.std.specs.Prelude.{[], map, Option, Some}
 use Rattle.il_model.specs.declared.typing.TypeFault.{TypeFault}
-use Rattle.il_model.specs.Typing.{first_fault, arguments_fault}
+use Rattle.il_model.specs.Checking.{first_fault, arguments_fault}
 use Rattle.il_model.specs.Settled.{as_settled}
 use Rattle.il_model.proofs.ArgumentFaults.{IsLate, argument_late, first_late, fault_from, one_more, ends_bad}
 use Rattle.il_model.proofs.arguments.arguments_fault.Goals as goal

@@ -1,5 +1,5 @@
 use Rattle.std.proofs.Common.{◌≡◌, [], map}
-use Rattle.il_model.specs.Typing.{first_fault, arguments_fault}
+use Rattle.il_model.specs.Checking.{first_fault, arguments_fault}
 use Rattle.il_model.specs.Settled.{as_settled}
 use Rattle.il_model.proofs.ArgumentFaults.{IsLate, fault_from}
 use Rattle.il_model.proofs.arguments.arguments_fault.Given as goal

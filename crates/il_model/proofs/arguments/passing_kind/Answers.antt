@@ -1,5 +1,5 @@
 use Rattle.std.proofs.Common.{Bool, ap, sym, ◌∙◌}
-use Rattle.il_model.specs.Typing.{operand_kind}
+use Rattle.il_model.specs.Checking.{operand_kind}
 use Rattle.il_model.specs.Settled.{as_settled}
 use Rattle.il_model.proofs.ArgumentFaults.{settled_argument_none}
 use Rattle.il_model.proofs.arguments.passing_kind.Goals as goal

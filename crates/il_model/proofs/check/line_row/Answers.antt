@@ -5,7 +5,7 @@ use Rattle.il_model.specs.declared.typing.Effect.{Effect}
 use Rattle.il_model.specs.declared.typing.TypeFault.{TypeFault}
 use Rattle.il_model.specs.Program.{Program}
 use Rattle.il_model.specs.Resolved.{source_of, called_kind}
-use Rattle.il_model.specs.Typing.{source_row, arguments_fault, with_fault}
+use Rattle.il_model.specs.Checking.{source_row, arguments_fault, with_fault}
 use Rattle.il_model.specs.Settled.{as_settled}
 use Rattle.il_model.proofs.ArgumentFaults.{none_settled}
 use Rattle.il_model.proofs.check.line_row.Goals as goal

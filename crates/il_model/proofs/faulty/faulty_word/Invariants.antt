@@ -1,5 +1,5 @@
 use Rattle.std.proofs.Common.{◌≡◌, ◌≤◌, Ok}
-use Rattle.il_model.specs.Typing.{shape_at}
+use Rattle.il_model.specs.Checking.{shape_at}
 use Rattle.il_model.proofs.faulty.faulty_word.Given as goal
 
 abbrev pub invariant-loop-k : goal.invariant-loop-k

@@ -3,7 +3,7 @@ use Rattle.il_model.specs.declared.value.Ty.{Ty}
 use Rattle.il_model.specs.declared.typing.OperandKind.TheVariants as kinds
 use Rattle.il_model.specs.Program.{Program}
 use Rattle.il_model.specs.Row.{row}
-use Rattle.il_model.specs.Typing.{source_row}
+use Rattle.il_model.specs.Checking.{source_row}
 use Rattle.il_model.proofs.SettledPrograms.{literal_row, other_row}
 use Rattle.il_model.proofs.settle.operand_row.Goals as goal
 

@@ -4,7 +4,7 @@ use Rattle.il_model.specs.declared.kind.BlockKind.{BlockKind}
 use Rattle.il_model.specs.declared.typing.Effect.{Effect}
 use Rattle.il_model.specs.declared.typing.TypeFault.{TypeFault}
 use Rattle.il_model.specs.Resolved.{source_of, called_kind}
-use Rattle.il_model.specs.Typing.{source_row, arguments_fault, with_fault}
+use Rattle.il_model.specs.Checking.{source_row, arguments_fault, with_fault}
 use Rattle.il_model.specs.Settled.{as_settled, settled_line}
 use Rattle.il_model.proofs.ArgumentFaults.{all_settled}
 use Rattle.il_model.proofs.SettledPrograms.{called_settled}
