@@ -14,7 +14,7 @@ use Rattle.vr_model.specs.declared.message.Message as code
 use Rattle.vr_model.specs.declared.message.Party.TheVariants as party
 use Rattle.vr_model.specs.Groups.{group_size}
 use Rattle.vr_model.specs.Logs.{Request, IsPrefix}
-use Rattle.vr_model.specs.Membership.{Membership}
+use Rattle.vr_model.specs.Membership.{Group, Membership, member}
 use Rattle.vr_model.specs.Messages.{Message, Body, Party, Replica, RequestMessage, NewState}
 use Rattle.vr_model.specs.Replicas.{ReplicaState, Outcome, is_down, put}
 use Rattle.vr_model.specs.Rules.{receives}
@@ -35,10 +35,10 @@ use Rattle.vr_threads.specs.Serving.{StepsTo, sends_in}
 use Rattle.vr_threads.specs.Starting.{HasStarted, StandsDown}
 use Rattle.laws_threads.specs.ObservedMoves.{ObservedMove, ByReplica, ByClient, all_said, InputTakesSent, ObservationTakesSent, AreFromTheFirst, IsOneRun, known_at, MayPresuppose}
 use Rattle.laws_threads.specs.ObservedSteps.{Means, FitsIn, observation_of}
-use Rattle.laws_threads.specs.CodeMoves.{CodeMove, Starts, Steps, Serves, Seat, numbered, given_with, IsUnused, TakesHanded, HearsHanded, IsNextStart, AreCodeMoves, AreFromTheStart, AreOneRun, seats_after, all_handed, clients_in, observed_clients}
+use Rattle.laws_threads.specs.CodeMoves.{CodeMove, Starts, Steps, Serves, Seat, given_with, IsUnused, TakesHanded, HearsHanded, IsNextStart, AreCodeMoves, AreFromTheStart, AreOneRun, seats_after, all_handed, clients_in, observed_clients}
 use Rattle.laws_threads.proofs.Tables.{put_same, put_other}
 use Rattle.laws_threads.proofs.Appending.{clients_after, knowns_append, clients_append, said_append, right_append, observed_append}
-use Rattle.laws_threads.proofs.Handed.{log_at, stands_at, IsHandedOn, MayBeHandedOn, HandsOn, StandsIn, AllStandIn, all_append, all_at, all_stand, all_later, was_still}
+use Rattle.laws_threads.proofs.Handed.{IsHandedOn, MayBeHandedOn, HandsOn, StandsIn, AllStandIn, all_append, all_at, all_stand, all_later, was_still}
 use Rattle.laws_threads.proofs.Seated.{known, IsSeated, MaySit, At, reseated, one_more}
 use Rattle.laws_threads.proofs.Stepping.{shows, held, acted, came_up, IsRestart, only_of}
 
@@ -98,7 +98,7 @@ sends_ask f c answer k StartsAgain = tt
 sends_ask f c answer k (Hears m) = tt
 
 -- and hands no log on
-asks_hand : (g : Membership) (os : List (ObservedMove Command Answer)) (l : List (Request Command)) (b : body.Body) (meant : Body Command Answer) → meant ≡ body_with l b → IsAsking meant → HandsOn g os b meant
+asks_hand : (g : Group) (os : List (ObservedMove Command Answer)) (l : List (Request Command)) (b : body.Body) (meant : Body Command Answer) → meant ≡ body_with l b → IsAsking meant → HandsOn g os b meant
 asks_hand g os l (says.NewState v p c log) meant is asking = absurd (subst (λ (x : Body Command Answer). IsAsking x) is asking)
 asks_hand g os l (says.Request m) meant is asking = tt
 asks_hand g os l (says.Prepare v m p c) meant is asking = tt
@@ -112,7 +112,7 @@ asks_hand g os l (says.Recovery x v) meant is asking = tt
 asks_hand g os l (says.RecoveryResponse v x state) meant is asking = tt
 asks_hand g os l (says.GetState v p) meant is asking = tt
 
-asks_stand : (g : Membership) (os : List (ObservedMove Command Answer)) (xs : List code.Message) (ms : List (Message Command Answer)) → AllStand IsSavedAs g xs ms → AllAsk ms → AllStandIn g os xs ms
+asks_stand : (g : Group) (os : List (ObservedMove Command Answer)) (xs : List code.Message) (ms : List (Message Command Answer)) → AllStand IsSavedAs g xs ms → AllAsk ms → AllStandIn g os xs ms
 asks_stand g os [] [] a b = tt
 asks_stand g os [] (m ∷ ms) a b = absurd a
 asks_stand g os (x ∷ xs) [] a b = absurd a
@@ -120,7 +120,7 @@ asks_stand g os (x ∷ xs) (m ∷ ms) a b =
     let s : Stands IsSavedAs g x m = a.0 in
     (record { stands = s; hands_on = asks_hand g os s.log x.body m.body (ap (λ (y : Message Command Answer). y.body) s.is) b.0 }, asks_stand g os xs ms a.1 b.1)
 
-module _ {S : Type 0} (loads : S → Option Stored → S → Type 0) (saves : S → ℕ → Bool → S → Type 0) (faults : S → ℕ) (begins : S → Option Stored → S → Type 0) (holds : S → (ℕ → Bool) → Type 0) (keeps : KeepsViews loads saves begins holds) (g : Membership)
+module _ {S : Type 0} (loads : S → Option Stored → S → Type 0) (saves : S → ℕ → Bool → S → Type 0) (faults : S → ℕ) (begins : S → Option Stored → S → Type 0) (holds : S → (ℕ → Bool) → Type 0) (keeps : KeepsViews loads saves begins holds) (g : Group)
     (may : (os : List (ObservedMove Command Answer)) → AreFromTheFirst g.f g.answer os → MayPresuppose g.f g.answer os) where
   -- a move goes on to here, and this shows of it
   record Goes (seats : ℕ → Option (Seat S)) (given : ℕ → ℕ → Bool) (clients : ℕ → ClientState Command) (sent : List code.Message) (os : List (ObservedMove Command Answer)) (cs : List (ℕ × ClientStep Command Answer)) : Type 0 where
@@ -137,20 +137,20 @@ module _ {S : Type 0} (loads : S → Option Stored → S → Type 0) (saves : S 
       abbrev k : KnownState Command
       k = known holds g os i
 
-      takes_up : (e : Event) (x : Input Command Answer) → StepsTo loads saves faults seat.replica seat.store e r left result → Means (numbered g i) e x → KeepsExecuted (numbered g i) k.replica x → FitsIn (numbered g i) k.replica e x → InputTakesSent (all_said os) i x place
+      takes_up : (e : Event) (x : Input Command Answer) → StepsTo loads saves faults seat.replica seat.store e r left result → Means (member g i) e x → KeepsExecuted (member g i) k.replica x → FitsIn (member g i) k.replica e x → InputTakesSent (all_said os) i x place
           → Goes (put seats i (Some (record { replica = r; store = left; waits = None }))) given clients (sent ++ sends_in result) os []
       takes_up e x steps means keeps_log fits takes =
-          let does : Acted loads saves IsSavedAs (StandsFor r (numbered g i)) (numbered g i) k.replica seat.store left (acts g.f i g.answer k.replica x) result =
-          acted loads saves faults seat.replica r seat.store left e result (numbered g i) k x steps sits.stands means keeps_log fits in
-          let o : Observation Command Answer = observation_of (numbered g i) k.replica x result in
+          let does : Acted loads saves IsSavedAs (StandsFor r (member g i)) (member g i) k.replica seat.store left (acts g.f i g.answer k.replica x) result =
+          acted loads saves faults seat.replica r seat.store left e result (member g i) k x steps sits.stands means keeps_log fits in
+          let o : Observation Command Answer = observation_of (member g i) k.replica x result in
           record {
             more = ByReplica i o place ∷ [];
             at = one_more holds g seats given given clients sent os at i place low o (record { replica = r; store = left; waits = None }) (sends_in result)
-                (shows loads saves (numbered g i) r seat.store left k x result does)
-                (observed_takes (numbered g i) k.replica (all_said os) i place x result takes)
-                (held loads saves begins holds keeps (numbered g i) r seat.store left k x result does sits.held)
+                (shows loads saves (member g i) r seat.store left k x result does)
+                (observed_takes (member g i) k.replica (all_said os) i place x result takes)
+                (held loads saves begins holds keeps (member g i) r seat.store left k x result does sits.held)
                 (λ n e. absurd (let no : None ≡ Some n = e in cc))
-                (λ n u. at.used i n (subst (λ (h : ℕ → Bool). h n ≡ true) (used_same (numbered g i) k x result) u))
+                (λ n u. at.used i n (subst (λ (h : ℕ → Bool). h n ≡ true) (used_same (member g i) k x result) u))
                 (λ j ne. refl);
             own = refl;
           }
@@ -177,7 +177,7 @@ module _ {S : Type 0} (loads : S → Option Stored → S → Type 0) (saves : S 
             go false up = rw up (presupposed.keeps i place m up meant.1 to_is)
 
         handed_log : (log : KeptLog) → IsHandedOn g os log m.body
-            → ((acts g.f i g.answer k.replica (Takes m)).replica ≡ k.replica) ⊎ LogStands IsSavedAs (numbered g i) log (acts g.f i g.answer k.replica (Takes m)).replica.log
+            → ((acts g.f i g.answer k.replica (Takes m)).replica ≡ k.replica) ⊎ LogStands IsSavedAs g log (acts g.f i g.answer k.replica (Takes m)).replica.log
         handed_log log h = go (is_down k.replica.status) refl
           where
             b : Body Command Answer
@@ -189,25 +189,25 @@ module _ {S : Type 0} (loads : S → Option Stored → S → Type 0) (saves : S 
             sent_is : slice_get (all_said os) place ≡ Some (record { from = m.from; to = Replica i; body = b })
             sent_is = meant.1 ∙ ap (λ p. Some (record { from = m.from; to = p; body = m.body })) to_is ∙ ap (λ y. Some (record { from = m.from; to = Replica i; body = y })) h.meant_is
 
-            of : (o : Outcome Command Answer) → (o.replica ≡ k.replica) ⊎ (o.replica.log ≡ h.whole) → (o.replica ≡ k.replica) ⊎ LogStands IsSavedAs (numbered g i) log o.replica.log
-            of o x = elim x [ inl same ↦ inl same | inr is_whole ↦ inr (subst (LogStands IsSavedAs (numbered g i) log) (sym is_whole) (log_at g g.number i log h.whole h.stands)) ]
+            of : (o : Outcome Command Answer) → (o.replica ≡ k.replica) ⊎ (o.replica.log ≡ h.whole) → (o.replica ≡ k.replica) ⊎ LogStands IsSavedAs g log o.replica.log
+            of o x = elim x [ inl same ↦ inl same | inr is_whole ↦ inr (subst (LogStands IsSavedAs g log) (sym is_whole) h.stands) ]
 
-            go : (d : Bool) → is_down k.replica.status ≡ d → ((acts g.f i g.answer k.replica (Takes m)).replica ≡ k.replica) ⊎ LogStands IsSavedAs (numbered g i) log (acts g.f i g.answer k.replica (Takes m)).replica.log
+            go : (d : Bool) → is_down k.replica.status ≡ d → ((acts g.f i g.answer k.replica (Takes m)).replica ≡ k.replica) ⊎ LogStands IsSavedAs g log (acts g.f i g.answer k.replica (Takes m)).replica.log
             go true is_so = rw is_so (inl refl)
-            go false up = rw up (subst (λ y. ((receives g.f i g.answer k.replica m.from y).replica ≡ k.replica) ⊎ LogStands IsSavedAs (numbered g i) log (receives g.f i g.answer k.replica m.from y).replica.log) (sym h.meant_is)
+            go false up = rw up (subst (λ y. ((receives g.f i g.answer k.replica m.from y).replica ≡ k.replica) ⊎ LogStands IsSavedAs g log (receives g.f i g.answer k.replica m.from y).replica.log) (sym h.meant_is)
                 (of (receives g.f i g.answer k.replica m.from b) (presupposed.hands_on i place h.view h.op_number h.commit_number m.from h.whole up sent_is h.within h.was)))
 
-        fits : Fits IsSavedAs (numbered g i) k.replica (acts g.f i g.answer k.replica (Takes m)) a.body
+        fits : Fits IsSavedAs g k.replica (acts g.f i g.answer k.replica (Takes m)) a.body
         fits = go a.body meant.2.hands_on
           where
             o : Outcome Command Answer
             o = acts g.f i g.answer k.replica (Takes m)
 
-            of : (c : Option SavedCheckpoint) (log : KeptLog) → MayBeHandedOn g os c log m.body → MayFit IsSavedAs (numbered g i) c log k.replica o
+            of : (c : Option SavedCheckpoint) (log : KeptLog) → MayBeHandedOn g os c log m.body → MayFit IsSavedAs g c log k.replica o
             of None log h = tt
             of (Some c) log h = handed_log log h
 
-            go : (b : body.Body) → HandsOn g os b m.body → Fits IsSavedAs (numbered g i) k.replica o b
+            go : (b : body.Body) → HandsOn g os b m.body → Fits IsSavedAs g k.replica o b
             go (says.NewState v p c log) h = of log.checkpoint log h
             go (says.Request x) h = tt
             go (says.Prepare v x p c) h = tt
@@ -222,16 +222,16 @@ module _ {S : Type 0} (loads : S → Option Stored → S → Type 0) (saves : S 
             go (says.GetState v p) h = tt
 
         takes_message : StepsTo loads saves faults seat.replica seat.store (event.Message a) r left result → Goes (put seats i (Some (record { replica = r; store = left; waits = None }))) given clients (sent ++ sends_in result) os []
-        takes_message steps = takes_up (event.Message a) (Takes m) steps (m, stands_at g g.number i a m meant.2.stands, refl) (λ over. keeps_log) fits (meant.1, to_is)
+        takes_message steps = takes_up (event.Message a) (Takes m) steps (m, meant.2.stands, refl) (λ over. keeps_log) fits (meant.1, to_is)
 
       -- it comes up, or tries
       comes_up : (n : ℕ) → StepsTo loads saves faults seat.replica seat.store (event.Restart n) r left result → seat.waits ≡ Some n → Goes (put seats i (Some (record { replica = r; store = left; waits = None }))) given clients (sent ++ sends_in result) os []
       comes_up n steps waits =
           let w = sits.waits n waits in
-          let owed : step.Restarted loads saves IsSavedAs (StandsFor r (numbered g i)) (numbered g i) k.replica seat.store left n result =
-          subst (λ (b : Bool). step.RestartedIf loads saves IsSavedAs (StandsFor r (numbered g i)) (numbered g i) k.replica seat.store left b n result) w.0 (steps.row (numbered g i) k.replica sits.stands) in
+          let owed : step.Restarted loads saves IsSavedAs (StandsFor r (member g i)) (member g i) k.replica seat.store left n result =
+          subst (λ (b : Bool). step.RestartedIf loads saves IsSavedAs (StandsFor r (member g i)) (member g i) k.replica seat.store left b n result) w.0 (steps.row (member g i) k.replica sits.stands) in
           let now : Seat S = record { replica = r; store = left; waits = None } in
-          elim (came_up loads saves begins holds keeps (numbered g i) r seat.store left k n result owed w.0 w.1 sits.held) [
+          elim (came_up loads saves begins holds keeps (member g i) r seat.store left k n result owed w.0 w.1 sits.held) [
             | inl x ↦ record {
               more = ByReplica i x.0 place ∷ [];
               at = one_more holds g seats given given clients sent os at i place low x.0 now (sends_in result) x.1 (restart_takes (all_said os) i place x.0 x.4) x.2
@@ -291,7 +291,7 @@ module _ {S : Type 0} (loads : S → Option Stored → S → Type 0) (saves : S 
           )
 
       -- it is down, and what ran before is gone
-      crashes : StandsDown q (numbered g i) → holds left was.may_keep → Goes (put seats i (Some now)) after clients sent os []
+      crashes : StandsDown q (member g i) → holds left was.may_keep → Goes (put seats i (Some now)) after clients sent os []
       crashes stands kept = record {
         more = ByReplica i Crashed 0 ∷ [];
         at = subst (λ (ms : List code.Message). At holds g (put seats i (Some now)) after clients ms (os ++ ByReplica i Crashed 0 ∷ [])) (append-nil sent)
@@ -303,7 +303,7 @@ module _ {S : Type 0} (loads : S → Option Stored → S → Type 0) (saves : S 
       begun : (stored : Stored) → holds found was.may_keep → begins found (Some stored) left → holds left was.may_keep
       begun stored kept b = let x = keeps.begins found left was.may_keep stored kept b in keeps.more left (only stored.view) was.may_keep x.1 (only_of loads saves begins holds keeps was.may_keep stored.view x.0)
 
-      started : (o : Option (Seat S)) → MaySit holds g i was (given i) o → IsNextStart loads saves faults begins holds g o found starts → HasStarted begins (numbered g i) found left q nonce starts → Goes (put seats i (Some now)) after clients sent os []
+      started : (o : Option (Seat S)) → MaySit holds g i was (given i) o → IsNextStart loads saves faults begins holds g o found starts → HasStarted begins (member g i) found left q nonce starts → Goes (put seats i (Some now)) after clients sent os []
       started o sits next_start h = elim h [
         | inl x ↦ by_count o sits next_start x.0 x.1 x.2 (eqb x.0.starts 1) refl x.3
         | inr x ↦ crashes x.3 (keeps.begin_failed found left was.may_keep (kept_before o sits next_start) x.0)
@@ -314,7 +314,7 @@ module _ {S : Type 0} (loads : S → Option Stored → S → Type 0) (saves : S 
           kept_before (Some seat) sits next_start = next_start.0 was.may_keep sits.held
 
           by_count : (o : Option (Seat S)) → MaySit holds g i was (given i) o → IsNextStart loads saves faults begins holds g o found starts → (stored : Stored) → begins found (Some stored) left → starts ≡ Some stored.starts
-              → (b : Bool) → eqb stored.starts 1 ≡ b → MatchBool b ((stored.view ≡ 0) × (nonce ≡ None) × StandsFor q (numbered g i) first_replica) ((nonce ≡ Some stored.starts) × StandsDown q (numbered g i)) → Goes (put seats i (Some now)) after clients sent os []
+              → (b : Bool) → eqb stored.starts 1 ≡ b → MatchBool b ((stored.view ≡ 0) × (nonce ≡ None) × StandsFor q (member g i) first_replica) ((nonce ≡ Some stored.starts) × StandsDown q (member g i)) → Goes (put seats i (Some now)) after clients sent os []
           by_count o sits next_start stored b count false e w = crashes w.1 (begun stored (kept_before o sits next_start) b)
           by_count (Some seat) sits next_start stored b count true e w = absurd (next_start.1 (count ∙ ap Some (eqb-true stored.starts 1 e)))
           by_count None sits next_start stored b count true e w =
@@ -322,13 +322,13 @@ module _ {S : Type 0} (loads : S → Option Stored → S → Type 0) (saves : S 
               nothing (put seats i (Some now)) after clients sent os
               (reseated holds g seats given after clients sent os i now at
               (record {
-                stands = subst (λ (k : KnownState Command). StandsFor q (numbered g i) k.replica) (sym sits) w.2;
+                stands = subst (λ (k : KnownState Command). StandsFor q (member g i) k.replica) (sym sits) w.2;
                 held = keeps.more left (only stored.view) was.may_keep x.1 (only_of loads saves begins holds keeps was.may_keep stored.view x.0);
                 waits = λ n f. absurd (let no : None ≡ Some n = sym w.1 ∙ f in cc);
               })
               (λ j ne. put_other given i (given_with (given i) nonce) j ne) more_after)
 
-    start_of : (i : ℕ) (q : code_replica.Replica) (found left : S) (nonce starts : Option ℕ) → i < group_size g.f → HasStarted begins (numbered g i) found left q nonce starts → IsNextStart loads saves faults begins holds g (seats i) found starts → IsUnused (given i) nonce
+    start_of : (i : ℕ) (q : code_replica.Replica) (found left : S) (nonce starts : Option ℕ) → i < group_size g.f → HasStarted begins (member g i) found left q nonce starts → IsNextStart loads saves faults begins holds g (seats i) found starts → IsUnused (given i) nonce
         → Goes (put seats i (Some (record { replica = q; store = left; waits = nonce }))) (put given i (given_with (given i) nonce)) clients sent os []
     start_of i q found left nonce starts low h next_start unused = started i low q found left nonce starts unused (seats i) (at.sits i) next_start h
 
@@ -392,11 +392,11 @@ module _ {S : Type 0} (loads : S → Option Stored → S → Type 0) (saves : S 
     first : List (ObservedMove Command Answer)
     rest : List (ObservedMove Command Answer)
     right : AreFromTheFirst g.f g.answer ((os ++ first) ++ rest)
-    replicas : (i : ℕ) (seat : Seat S) → seats_after seats early i ≡ Some seat → StandsFor seat.replica (numbered g i) (known_at g.f g.answer (os ++ first) i)
+    replicas : (i : ℕ) (seat : Seat S) → seats_after seats early i ≡ Some seat → StandsFor seat.replica (member g i) (known_at g.f g.answer (os ++ first) i)
     messages : AllStand IsSavedAs g (sent ++ all_handed early) (all_said (os ++ first))
     own : observed_clients first ≡ clients_in early
 
-  seated : (i : ℕ) (k : KnownState Command) (given : ℕ → Bool) (o : Option (Seat S)) (seat : Seat S) → o ≡ Some seat → MaySit holds g i k given o → StandsFor seat.replica (numbered g i) k.replica
+  seated : (i : ℕ) (k : KnownState Command) (given : ℕ → Bool) (o : Option (Seat S)) (seat : Seat S) → o ≡ Some seat → MaySit holds g i k given o → StandsFor seat.replica (member g i) k.replica
   seated i k given o seat e h = let s : IsSeated holds g i k given seat = subst (λ x. MaySit holds g i k given x) e h in s.stands
 
   along : (early late : List (CodeMove S)) (seats : ℕ → Option (Seat S)) (given : ℕ → ℕ → Bool) (clients : ℕ → ClientState Command) (sent : List code.Message) (os : List (ObservedMove Command Answer)) → At holds g seats given clients sent os
@@ -408,7 +408,7 @@ module _ {S : Type 0} (loads : S → Option Stored → S → Type 0) (saves : S 
         first = [];
         rest = r.0;
         right = subst (λ xs. AreFromTheFirst g.f g.answer (xs ++ r.0)) (sym none) r.1;
-        replicas = λ i seat e. subst (λ xs. StandsFor seat.replica (numbered g i) (known_at g.f g.answer xs i)) (sym none) (seated i (known holds g os i) (given i) (seats i) seat e (at.sits i));
+        replicas = λ i seat e. subst (λ xs. StandsFor seat.replica (member g i) (known_at g.f g.answer xs i)) (sym none) (seated i (known holds g os i) (given i) (seats i) seat e (at.sits i));
         messages = subst (λ (ms : List code.Message). AllStand IsSavedAs g ms (all_said (os ++ []))) (sym (append-nil sent)) (subst (λ (xs : List (ObservedMove Command Answer)). AllStand IsSavedAs g sent (all_said xs)) (sym none) (all_stand g os sent (all_said os) at.handed));
         own = refl;
       }
@@ -421,7 +421,7 @@ module _ {S : Type 0} (loads : S → Option Stored → S → Type 0) (saves : S 
         first = one.more ++ r.first;
         rest = r.rest;
         right = subst (λ xs. AreFromTheFirst g.f g.answer (xs ++ r.rest)) whole r.right;
-        replicas = λ j seat e. subst (λ xs. StandsFor seat.replica (numbered g j) (known_at g.f g.answer xs j)) whole (r.replicas j seat e);
+        replicas = λ j seat e. subst (λ xs. StandsFor seat.replica (member g j) (known_at g.f g.answer xs j)) whole (r.replicas j seat e);
         messages = subst (λ (xs : List (ObservedMove Command Answer)). AllStand IsSavedAs g (sent ++ all_handed early) (all_said xs)) whole r.messages;
         own = observed_append one.more r.first ∙ ap (λ (xs : List (ℕ × ClientStep Command Answer)). xs ++ observed_clients r.first) one.own ∙ r.own;
       }
@@ -434,7 +434,7 @@ module _ {S : Type 0} (loads : S → Option Stored → S → Type 0) (saves : S 
         first = one.more ++ r.first;
         rest = r.rest;
         right = subst (λ xs. AreFromTheFirst g.f g.answer (xs ++ r.rest)) whole r.right;
-        replicas = λ j seat h. subst (λ xs. StandsFor seat.replica (numbered g j) (known_at g.f g.answer xs j)) whole (r.replicas j seat h);
+        replicas = λ j seat h. subst (λ xs. StandsFor seat.replica (member g j) (known_at g.f g.answer xs j)) whole (r.replicas j seat h);
         messages = subst (λ (ms : List code.Message). AllStand IsSavedAs g ms (all_said (os ++ (one.more ++ r.first)))) (append_assoc sent (sends_in result) (all_handed early))
             (subst (λ (xs : List (ObservedMove Command Answer)). AllStand IsSavedAs g ((sent ++ sends_in result) ++ all_handed early) (all_said xs)) whole r.messages);
         own = observed_append one.more r.first ∙ ap (λ (xs : List (ℕ × ClientStep Command Answer)). xs ++ observed_clients r.first) one.own ∙ r.own;
@@ -448,7 +448,7 @@ module _ {S : Type 0} (loads : S → Option Stored → S → Type 0) (saves : S 
         first = one.more ++ r.first;
         rest = r.rest;
         right = subst (λ xs. AreFromTheFirst g.f g.answer (xs ++ r.rest)) whole r.right;
-        replicas = λ j seat h. subst (λ xs. StandsFor seat.replica (numbered g j) (known_at g.f g.answer xs j)) whole (r.replicas j seat h);
+        replicas = λ j seat h. subst (λ xs. StandsFor seat.replica (member g j) (known_at g.f g.answer xs j)) whole (r.replicas j seat h);
         messages = subst (λ (ms : List code.Message). AllStand IsSavedAs g ms (all_said (os ++ (one.more ++ r.first)))) (append_assoc sent out (all_handed early))
             (subst (λ (xs : List (ObservedMove Command Answer)). AllStand IsSavedAs g ((sent ++ out) ++ all_handed early) (all_said xs)) whole r.messages);
         own = observed_append one.more r.first ∙ ap (λ (xs : List (ℕ × ClientStep Command Answer)). xs ++ observed_clients r.first) one.own ∙ ap (λ (xs : List (ℕ × ClientStep Command Answer)). (c, d) ∷ xs) r.own;

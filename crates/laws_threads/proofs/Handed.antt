@@ -1,66 +1,24 @@
--- What messages of observed moves stand for, at each number, later on, and one list after another.
+-- What messages of observed moves stand for, later on, and one list after another.
 use Rattle.std.proofs.Common.{◌≡◌, ℕ, zero, suc, ◌≤◌, true, List, [], ◌∷◌, ◌++◌, length, take, drop, Option, Some, None, refl, ap, subst, ◌∙◌, sym}
 use Rattle.std.specs.Prelude.{slice_get}
 use Rattle.std.proofs.lemmas.Option.{same_Some}
 use Rattle.std.proofs.lemmas.List.{append-nil}
 use Rattle.il_model.specs.declared.command.Command.{Command}
 use Rattle.il_model.specs.declared.command.Answer.{Answer}
-use Rattle.vr_model.specs.declared.message.PrimaryState as primary
 use Rattle.vr_model.specs.declared.message.Body as body
 use Rattle.vr_model.specs.declared.message.Body.TheVariants as says
 use Rattle.vr_model.specs.declared.message.Message as sent
 use Rattle.vr_model.specs.Logs.{Request}
 use Rattle.vr_model.specs.Messages.{Body, NewState, Message}
 use Rattle.vr_model.specs.Replicas.{ReplicaState, is_normal}
-use Rattle.vr_model.specs.Membership.{Membership}
-use Rattle.vr_model.specs.Checkpoints.{SavedCheckpoint, KeptLog, IsCheckpoint, MayShow, LogStands, PartStandsBy}
-use Rattle.vr_model.specs.StandsFor.{IsCarried, MayCarry, Carries, Stands, AllStand, MayBeOf, IsOfOwn, AllStandFrom}
+use Rattle.vr_model.specs.Membership.{Group}
+use Rattle.vr_model.specs.Checkpoints.{SavedCheckpoint, KeptLog, LogStands}
+use Rattle.vr_model.specs.StandsFor.{Stands, AllStand, MayBeOf, IsOfOwn, AllStandFrom}
 use Rattle.vr_core.specs.StandsFor.{IsSavedAs}
 use Rattle.laws_threads.specs.ObservedMoves.{ObservedMove, WasKnownLog, known_at}
-use Rattle.laws_threads.specs.CodeMoves.{numbered}
 use Rattle.laws_threads.proofs.Running.{take_front}
 
-module _ (g : Membership) where
-  -- what a message or a log stands for, it stands for at every number
-  module _ (i j : ℕ) where
-    checkpoint_at : (c : SavedCheckpoint) (l : List (Request Command)) → IsCheckpoint IsSavedAs (numbered g i) c l → IsCheckpoint IsSavedAs (numbered g j) c l
-    checkpoint_at c l k = record { within = k.within; saved = k.saved; answers = k.answers }
-
-    shows_at : (c : Option SavedCheckpoint) (l : List (Request Command)) → MayShow IsSavedAs (numbered g i) c l → MayShow IsSavedAs (numbered g j) c l
-    shows_at None l k = tt
-    shows_at (Some c) l k = checkpoint_at c l k
-
-    pub log_at : (log : KeptLog) (l : List (Request Command)) → LogStands IsSavedAs (numbered g i) log l → LogStands IsSavedAs (numbered g j) log l
-    log_at log l k = record { first = shows_at log.checkpoint l k.first; rest = k.rest }
-
-    part_at : (c : Option SavedCheckpoint) (p : ℕ) (log : KeptLog) (l : List (Request Command)) → PartStandsBy IsSavedAs (numbered g i) c p log l → PartStandsBy IsSavedAs (numbered g j) c p log l
-    part_at None p log l k = k
-    part_at (Some c) p log l k = record { before = k.before; count = k.count; stands = log_at log (k.before ++ l) k.stands }
-
-    carried_at : (c : ℕ) (log : KeptLog) (l : List (Request Command)) → IsCarried IsSavedAs (numbered g i) c log l → IsCarried IsSavedAs (numbered g j) c log l
-    carried_at c log l k = record { reached = k.reached; stands = log_at log l k.stands }
-
-    state_at : (state : Option primary.PrimaryState) (l : List (Request Command)) → MayCarry IsSavedAs (numbered g i) state l → MayCarry IsSavedAs (numbered g j) state l
-    state_at None l k = tt
-    state_at (Some state) l k = carried_at state.commit_number state.log l k
-
-    carries_at : (b : body.Body) (l : List (Request Command)) → Carries IsSavedAs (numbered g i) b l → Carries IsSavedAs (numbered g j) b l
-    carries_at (says.DoViewChange v last c log) l k = carried_at c log l k
-    carries_at (says.StartView v c log) l k = carried_at c log l k
-    carries_at (says.RecoveryResponse v x state) l k = state_at state l k
-    carries_at (says.NewState v p c log) l k = record { reached = k.reached; stands = part_at log.checkpoint p log l k.stands }
-    carries_at (says.Request m) l k = tt
-    carries_at (says.Prepare v m p c) l k = tt
-    carries_at (says.PrepareOk v p) l k = tt
-    carries_at (says.Commit v c) l k = tt
-    carries_at (says.Reply v number answer) l k = tt
-    carries_at (says.StartViewChange v) l k = tt
-    carries_at (says.Recovery x v) l k = tt
-    carries_at (says.GetState v p) l k = tt
-
-    pub stands_at : (m : sent.Message) (meant : Message Command Answer) → Stands IsSavedAs (numbered g i) m meant → Stands IsSavedAs (numbered g j) m meant
-    stands_at m meant k = record { log = k.log; carries = carries_at m.body k.log k.carries; is = k.is }
-
+module _ (g : Group) where
   module _ (past : List (ObservedMove Command Answer)) where
     -- it is a NEWSTATE that hands a whole log on, which a replica was known to have that was normal in its view; and its
     -- checkpoint and entries are of that log
@@ -115,10 +73,10 @@ module _ (g : Membership) where
     all_stand (x ∷ xs) (m ∷ ms) a = (a.0.stands, all_stand xs ms a.1)
 
     -- what a replica sent, where it was known to be normal with its log
-    own_hands_on : (i : ℕ) (r : ReplicaState Command) (c : Option SavedCheckpoint) (log : KeptLog) (meant : Body Command Answer) → (is_normal r.status ≡ true → WasKnownLog g.f g.answer past r.view r.log)
-        → MayBeOf IsSavedAs (numbered g i) c r log meant → MayBeHandedOn c log meant
-    own_hands_on i r None log meant was k = tt
-    own_hands_on i r (Some c) log meant was k = record {
+    own_hands_on : (r : ReplicaState Command) (c : Option SavedCheckpoint) (log : KeptLog) (meant : Body Command Answer) → (is_normal r.status ≡ true → WasKnownLog g.f g.answer past r.view r.log)
+        → MayBeOf IsSavedAs g c r log meant → MayBeHandedOn c log meant
+    own_hands_on r None log meant was k = tt
+    own_hands_on r (Some c) log meant was k = record {
       view = r.view;
       op_number = k.op_number;
       commit_number = k.commit_number;
@@ -126,29 +84,29 @@ module _ (g : Membership) where
       was = was k.normal;
       meant_is = k.meant_is;
       within = k.within;
-      stands = log_at i g.number log r.log k.stands;
+      stands = k.stands;
     }
 
-    own_in : (i : ℕ) (r : ReplicaState Command) (b : body.Body) (meant : Body Command Answer) → (is_normal r.status ≡ true → WasKnownLog g.f g.answer past r.view r.log) → IsOfOwn IsSavedAs (numbered g i) r b meant → HandsOn b meant
-    own_in i r (says.NewState v p c log) meant was k = own_hands_on i r log.checkpoint log meant was k
-    own_in i r (says.Request m) meant was k = tt
-    own_in i r (says.Prepare v m p c) meant was k = tt
-    own_in i r (says.PrepareOk v p) meant was k = tt
-    own_in i r (says.Commit v c) meant was k = tt
-    own_in i r (says.Reply v number answer) meant was k = tt
-    own_in i r (says.StartViewChange v) meant was k = tt
-    own_in i r (says.DoViewChange v last c log) meant was k = tt
-    own_in i r (says.StartView v c log) meant was k = tt
-    own_in i r (says.Recovery x v) meant was k = tt
-    own_in i r (says.RecoveryResponse v x state) meant was k = tt
-    own_in i r (says.GetState v p) meant was k = tt
+    own_in : (r : ReplicaState Command) (b : body.Body) (meant : Body Command Answer) → (is_normal r.status ≡ true → WasKnownLog g.f g.answer past r.view r.log) → IsOfOwn IsSavedAs g r b meant → HandsOn b meant
+    own_in r (says.NewState v p c log) meant was k = own_hands_on r log.checkpoint log meant was k
+    own_in r (says.Request m) meant was k = tt
+    own_in r (says.Prepare v m p c) meant was k = tt
+    own_in r (says.PrepareOk v p) meant was k = tt
+    own_in r (says.Commit v c) meant was k = tt
+    own_in r (says.Reply v number answer) meant was k = tt
+    own_in r (says.StartViewChange v) meant was k = tt
+    own_in r (says.DoViewChange v last c log) meant was k = tt
+    own_in r (says.StartView v c log) meant was k = tt
+    own_in r (says.Recovery x v) meant was k = tt
+    own_in r (says.RecoveryResponse v x state) meant was k = tt
+    own_in r (says.GetState v p) meant was k = tt
 
-    pub sent_stand : (i : ℕ) (r : ReplicaState Command) (xs : List sent.Message) (ms : List (Message Command Answer)) → (is_normal r.status ≡ true → WasKnownLog g.f g.answer past r.view r.log)
-        → AllStandFrom IsSavedAs (numbered g i) r xs ms → AllStandIn xs ms
-    sent_stand i r [] [] was a = tt
-    sent_stand i r [] (m ∷ ms) was a = absurd a
-    sent_stand i r (x ∷ xs) [] was a = absurd a
-    sent_stand i r (x ∷ xs) (m ∷ ms) was a = (record { stands = stands_at i g.number x m a.0.stands; hands_on = own_in i r x.body m.body was a.0.own }, sent_stand i r xs ms was a.1)
+    pub sent_stand : (r : ReplicaState Command) (xs : List sent.Message) (ms : List (Message Command Answer)) → (is_normal r.status ≡ true → WasKnownLog g.f g.answer past r.view r.log)
+        → AllStandFrom IsSavedAs g r xs ms → AllStandIn xs ms
+    sent_stand r [] [] was a = tt
+    sent_stand r [] (m ∷ ms) was a = absurd a
+    sent_stand r (x ∷ xs) [] was a = absurd a
+    sent_stand r (x ∷ xs) (m ∷ ms) was a = (record { stands = a.0.stands; hands_on = own_in r x.body m.body was a.0.own }, sent_stand r xs ms was a.1)
 
   -- later on
   module _ (past later : List (ObservedMove Command Answer)) (still : (view : ℕ) (log : List (Request Command)) → WasKnownLog g.f g.answer past view log → WasKnownLog g.f g.answer later view log) where

@@ -3,12 +3,12 @@ use Rattle.std.proofs.Common.{◌≡◌, ℕ, ◌≤◌, ◌==◌, Bool, true, f
 use Rattle.std.specs.Prelude.{MatchBool}
 use Rattle.std.proofs.lemmas.Bool.{cases_eq, eq-eqb}
 use Rattle.vr_model.specs.declared.event.Stored.{Stored}
-use Rattle.vr_model.specs.Membership.{Membership}
+use Rattle.vr_model.specs.Membership.{Group, Membership, member}
 use Rattle.vr_model.specs.World.{first_replica}
 use Rattle.vr_replica.specs.declared.state.Replica.{Replica}
 use Rattle.vr_replica.specs.Standing.{StandsFor}
 use Rattle.vr_threads.specs.Starting.{HasStarted, StandsDown}
-use Rattle.laws_threads.specs.CodeMoves.{CodeMove, Seat, numbered, given_with, IsUnused, IsNextStart}
+use Rattle.laws_threads.specs.CodeMoves.{CodeMove, Seat, given_with, IsUnused, IsNextStart}
 use Rattle.laws_threads.specs.OwnMoves.{OwnMove, Started, Stepped, AreOwnMoves, EachInOneOrder}
 use Rattle.laws_threads.specs.MachineMoves.{CountsAsJudged, Rises, counted_with, IsMachineStart, AreMachineMoves, MachinesInOneOrder}
 use Rattle.laws_threads.proofs.Tables.{put_other}
@@ -49,14 +49,14 @@ some_is : (a b : ℕ) → Some a ≡ Some b → a ≡ b
 some_is a b e = cc
 
 module _ {S : Type 0} (loads : S → Option Stored → S → Type 0) (saves : S → ℕ → Bool → S → Type 0) (faults : S → ℕ) (begins : S → Option Stored → S → Type 0) (holds : S → (ℕ → Bool) → Type 0) (is_first : S → Bool)
-    (judged : CountsAsJudged begins is_first) (g : Membership) where
+    (judged : CountsAsJudged begins is_first) (g : Group) where
   abbrev Comes : ℕ → S → S → Replica → Option ℕ → Option ℕ → Type 0
-  Comes i found left q number starts = HasStarted begins (numbered g i) found left q number starts
+  Comes i found left q number starts = HasStarted begins (member g i) found left q number starts
 
   -- a nonce is the count of its start
   nonce_is : (i : ℕ) (found left : S) (q : Replica) (number starts : Option ℕ) → Comes i found left q number starts → (number ≡ None) ⊎ (number ≡ starts)
   nonce_is i found left q number starts h = elim h [
-    | inl k ↦ elim (nonce_of (numbered g i) k.0 q number (k.0.starts == 1) k.3) [
+    | inl k ↦ elim (nonce_of (member g i) k.0 q number (k.0.starts == 1) k.3) [
       | inl is ↦ inl is
       | inr is ↦ inr (is ∙ sym k.2)
     ]

@@ -8,7 +8,7 @@ use Rattle.vr_model.specs.declared.event.Event.TheVariants as event
 use Rattle.vr_model.specs.declared.event.Stored.{Stored}
 use Rattle.vr_model.specs.declared.message.Message as code
 use Rattle.vr_model.specs.Groups.{group_size}
-use Rattle.vr_model.specs.Membership.{Membership}
+use Rattle.vr_model.specs.Membership.{Group}
 use Rattle.vr_model.specs.Replicas.{put}
 use Rattle.vr_model.specs.World.{ClientState}
 use Rattle.vr_model.specs.Steps.{ClientStep, AreClientSteps, client_after, first_client}
@@ -17,13 +17,13 @@ use Rattle.laws_threads.specs.CodeMoves.{CodeMove, Starts, Steps, Serves, Seat, 
 use Rattle.laws_threads.specs.OwnMoves.{OwnMove, Started, Stepped, MayTake, own_moves, own_steps, EventHanded, AllTakeHanded, AreOwnMoves, EachInOneOrder}
 use Rattle.laws_threads.proofs.Tables.{put_same, put_other}
 
-takes_handed : (g : Membership) (sent : List code.Message) (i place : ℕ) (waits : Option ℕ) (e : Event) → MayTake waits e → EventHanded g sent i e place → TakesHanded sent i waits e place
+takes_handed : (g : Group) (sent : List code.Message) (i place : ℕ) (waits : Option ℕ) (e : Event) → MayTake waits e → EventHanded g sent i e place → TakesHanded sent i waits e place
 takes_handed g sent i place waits (event.Message a) may h = (may, h.0, h.1)
 takes_handed g sent i place waits event.Timeout may h = may
 takes_handed g sent i place waits event.Resend may h = may
 takes_handed g sent i place waits (event.Restart n) may h = may
 
-module _ {S : Type 0} (loads : S → Option Stored → S → Type 0) (saves : S → ℕ → Bool → S → Type 0) (faults : S → ℕ) (begins : S → Option Stored → S → Type 0) (holds : S → (ℕ → Bool) → Type 0) (g : Membership) where
+module _ {S : Type 0} (loads : S → Option Stored → S → Type 0) (saves : S → ℕ → Bool → S → Type 0) (faults : S → ℕ) (begins : S → Option Stored → S → Type 0) (holds : S → (ℕ → Bool) → Type 0) (g : Group) where
   abbrev Own : ℕ → Option (Seat S) → (ℕ → Bool) → List (OwnMove S) → Type 0
   Own i seat given ms = AreOwnMoves loads saves faults begins holds g i seat given ms
 

@@ -6,7 +6,7 @@ use Rattle.il_model.specs.declared.command.Command.{Command}
 use Rattle.il_model.specs.declared.command.Answer.{Answer}
 use Rattle.vr_model.specs.declared.message.Message as code
 use Rattle.vr_model.specs.Groups.{group_size}
-use Rattle.vr_model.specs.Membership.{Membership}
+use Rattle.vr_model.specs.Membership.{Group, member}
 use Rattle.vr_model.specs.Messages.{Message}
 use Rattle.vr_model.specs.Replicas.{is_down, is_normal, put}
 use Rattle.vr_model.specs.World.{ClientState}
@@ -15,18 +15,18 @@ use Rattle.vr_model.specs.Stores.{Observation, KnownState, next, first_known_sta
 use Rattle.vr_replica.specs.Standing.{StandsFor}
 use Rattle.laws_threads.specs.ObservedMoves.{ObservedMove, ByReplica, said, all_said, ObservationTakesSent, AreFromTheFirst, knowns_after, WasKnownLog}
 use Rattle.laws_threads.specs.ObservedSteps.{IsShownAs}
-use Rattle.laws_threads.specs.CodeMoves.{Seat, numbered}
+use Rattle.laws_threads.specs.CodeMoves.{Seat}
 use Rattle.laws_threads.proofs.Tables.{put_same, put_other, put_cases}
 use Rattle.laws_threads.proofs.Appending.{clients_after, knowns_append, clients_append, said_append, right_append}
 use Rattle.laws_threads.proofs.Handed.{AllStandIn, all_append, all_later, sent_stand, was_still, was_last}
 
-module _ {S : Type 0} (holds : S → (ℕ → Bool) → Type 0) (g : Membership) where
+module _ {S : Type 0} (holds : S → (ℕ → Bool) → Type 0) (g : Group) where
   abbrev pub known : List (ObservedMove Command Answer) → ℕ → KnownState Command
   known os i = knowns_after g.f g.answer (λ i. first_known_state) os i
 
   -- what runs of a replica, by what is known of it
   pub record IsSeated (i : ℕ) (k : KnownState Command) (given : ℕ → Bool) (seat : Seat S) : Type 0 where
-    pub stands : StandsFor seat.replica (numbered g i) k.replica
+    pub stands : StandsFor seat.replica (member g i) k.replica
     pub held : holds seat.store k.may_keep
     pub waits : (n : ℕ) → seat.waits ≡ Some n → (is_down k.replica.status ≡ true) × (k.used n ≡ false) × (given n ≡ true)
 
@@ -83,7 +83,7 @@ module _ {S : Type 0} (holds : S → (ℕ → Bool) → Type 0) (g : Membership)
     still_said : all_said later ≡ all_said os ++ said o
     still_said = said_append g.f g.answer os (ByReplica i o place ∷ []) ∙ ap (λ (xs : List (Message Command Answer)). all_said os ++ xs) (append-nil (said o))
 
-    pub one_more : IsShownAs (numbered g i) (known os i) o seat.replica out → ObservationTakesSent (all_said os) i o place → holds seat.store now.may_keep
+    pub one_more : IsShownAs (member g i) (known os i) o seat.replica out → ObservationTakesSent (all_said os) i o place → holds seat.store now.may_keep
         → ((n : ℕ) → seat.waits ≡ Some n → (is_down now.replica.status ≡ true) × (now.used n ≡ false) × (after i n ≡ true))
         → ((x : ℕ) → now.used x ≡ true → after i x ≡ true) → ((j : ℕ) → (j ≡ i → ⊥) → after j ≡ given j)
         → At (put seats i (Some seat)) after clients (sent ++ out) later
@@ -103,5 +103,5 @@ module _ {S : Type 0} (holds : S → (ℕ → Bool) → Type 0) (g : Membership)
           clients_at = λ c. clients_append g.f g.answer (λ c. first_client) os (ByReplica i o place ∷ []) c ∙ at.clients_at c;
           handed = subst (λ (ms : List (Message Command Answer)). AllStandIn g later (sent ++ out) ms) (sym still_said)
               (all_append g later sent out (all_said os) (said o) (all_later g os later (was_still g.f g.answer os (ByReplica i o place ∷ [])) sent (all_said os) at.handed)
-              (sent_stand g later i now.replica out (said o) was shown.says));
+              (sent_stand g later now.replica out (said o) was shown.says));
         }

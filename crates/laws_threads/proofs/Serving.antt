@@ -5,7 +5,7 @@ use Rattle.vr_model.specs.declared.event.Event.{Event}
 use Rattle.vr_model.specs.declared.event.Event.TheVariants as event
 use Rattle.vr_model.specs.declared.event.Stored.{Stored}
 use Rattle.vr_model.specs.declared.message.Message as code
-use Rattle.vr_model.specs.Membership.{Membership}
+use Rattle.vr_model.specs.Membership.{Group}
 use Rattle.vr_replica.specs.declared.state.Replica.{Replica}
 use Rattle.vr_ports.specs.declared.link.Input.TheVariants as input
 use Rattle.vr_threads.specs.Serving.{Turn, TimedOut, Resent, Received, Scene, event_of, sends_in, Ran, Did}
@@ -35,7 +35,7 @@ may_take event.Timeout q = refl
 may_take event.Resend q = refl
 may_take (event.Restart n) q = absurd q
 
-module _ {S : Type 0} (loads : S → Option Stored → S → Type 0) (saves : S → ℕ → Bool → S → Type 0) (faults : S → ℕ) (begins : S → Option Stored → S → Type 0) (holds : S → (ℕ → Bool) → Type 0) (g : Membership) (i : ℕ) where
+module _ {S : Type 0} (loads : S → Option Stored → S → Type 0) (saves : S → ℕ → Bool → S → Type 0) (faults : S → ℕ) (begins : S → Option Stored → S → Type 0) (holds : S → (ℕ → Bool) → Type 0) (g : Group) (i : ℕ) where
   abbrev at_rest : Replica → S → Seat S
   at_rest q s = record { replica = q; store = s; waits = None }
 

@@ -110,7 +110,7 @@ pub acted : {S : Type 0} (loads : S → Option Stored → S → Type 0) (saves :
 acted loads saves faults q r s t (event.Message a) result m k x steps stands means keeps fits =
     subst (λ (y : Input Command Answer). Acted loads saves IsSavedAs (StandsFor r m) m k.replica s t (acts m.f m.number m.answer k.replica y) result) (sym means.2)
     (steps.row m k.replica stands means.0 means.1 (subst (λ (y : Input Command Answer). KeepsExecuted m k.replica y) means.2 keeps)
-    (subst (λ (y : Input Command Answer). Fits IsSavedAs m k.replica (acts m.f m.number m.answer k.replica y) a.body) means.2 fits))
+    (subst (λ (y : Input Command Answer). Fits IsSavedAs m.group k.replica (acts m.f m.number m.answer k.replica y) a.body) means.2 fits))
 acted loads saves faults q r s t event.Timeout result m k x steps stands means keeps fits =
     subst (λ (y : Input Command Answer). Acted loads saves IsSavedAs (StandsFor r m) m k.replica s t (acts m.f m.number m.answer k.replica y) result) (sym means) (steps.row m k.replica stands)
 acted loads saves faults q r s t event.Resend result m k x steps stands means keeps fits =

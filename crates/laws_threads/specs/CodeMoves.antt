@@ -10,7 +10,7 @@ use Rattle.vr_model.specs.declared.message.Message as code
 use Rattle.vr_model.specs.declared.message.Party.TheVariants as party
 use Rattle.vr_model.specs.Groups.{group_size}
 use Rattle.vr_model.specs.Logs.{Request}
-use Rattle.vr_model.specs.Membership.{Membership}
+use Rattle.vr_model.specs.Membership.{Group, member}
 use Rattle.vr_model.specs.Messages.{Client}
 use Rattle.vr_model.specs.Replicas.{put}
 use Rattle.vr_model.specs.World.{ClientState}
@@ -39,10 +39,6 @@ pub record Seat (S : Type 0) : Type 0 where
   pub store : S
   pub waits : Option ℕ
 
--- the same member, with another number
-abbrev pub numbered : Membership → ℕ → Membership
-numbered g i = record g { number = i }
-
 -- the nonces that were given, with this one
 abbrev pub given_with : (ℕ → Bool) → Option ℕ → ℕ → Bool
 given_with given None = given
@@ -69,7 +65,7 @@ HearsHanded sent c _ place = Unit {0}
 -- the stores of one kind, and the group
 module _ {S : Type 0} (load_gives : S → Option Stored → S → Type 0) (save_gives : S → ℕ → Bool → S → Type 0)
     (faults : S → ℕ) (begin_gives : S → Option Stored → S → Type 0) (holds : S → (ℕ → Bool) → Type 0)
-    (g : Membership) where
+    (g : Group) where
   -- the first start of a replica finds a store that holds no view but 0; each later one, which is no first start, a
   -- store that holds what the one before was left with
   abbrev pub IsNextStart : Option (Seat S) → S → Option ℕ → Type 0
@@ -82,7 +78,7 @@ module _ {S : Type 0} (load_gives : S → Option Stored → S → Type 0) (save_
       → List (CodeMove S) → Type 0
   AreCodeMoves seats given clients sent [] = Unit {0}
   AreCodeMoves seats given clients sent (Starts i q found left nonce starts ∷ ms) =
-      (i < group_size g.f) × HasStarted begin_gives (numbered g i) found left q nonce starts
+      (i < group_size g.f) × HasStarted begin_gives (member g i) found left q nonce starts
       × IsNextStart (seats i) found starts × IsUnused (given i) nonce
       × AreCodeMoves (put seats i (Some (record { replica = q; store = left; waits = nonce })))
       (put given i (given_with (given i) nonce)) clients sent ms
@@ -136,11 +132,11 @@ observed_clients (ByClient c d place ∷ ms) = (c, d) ∷ observed_clients ms
 -- The moves of the code show as observed moves that are one run of the group, with one history: each replica that runs
 -- stands for the record that is known of it, the messages that were handed out stand for those that were said, and the
 -- clients' steps are theirs.
-pub record AreOneRun {S : Type 0} (g : Membership) (early late : List (CodeMove S)) : Type 0 where
+pub record AreOneRun {S : Type 0} (g : Group) (early late : List (CodeMove S)) : Type 0 where
   pub first : List (ObservedMove Command Answer)
   pub second : List (ObservedMove Command Answer)
   pub run : IsOneRun g.f g.answer first second
   pub replicas : (i : ℕ) (seat : Seat S) → seats_after (λ i. None) early i ≡ Some seat
-      → StandsFor seat.replica (numbered g i) (known_at g.f g.answer first i)
+      → StandsFor seat.replica (member g i) (known_at g.f g.answer first i)
   pub messages : AllStand IsSavedAs g (all_handed early) (all_said first)
   pub clients : observed_clients first ≡ clients_in early

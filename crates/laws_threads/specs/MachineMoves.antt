@@ -2,14 +2,14 @@
 use Rattle.std.specs.Prelude.{◌≡◌, ℕ, ◌<◌, ◌≤◌, ◌==◌, Bool, false, List, [], ◌∷◌, Option, Some, None}
 use Rattle.vr_model.specs.declared.event.Stored.{Stored}
 use Rattle.vr_model.specs.Groups.{group_size}
-use Rattle.vr_model.specs.Membership.{Membership}
+use Rattle.vr_model.specs.Membership.{Group, member}
 use Rattle.vr_model.specs.Steps.{AreClientSteps, first_client}
 use Rattle.vr_model.specs.Stores.{only}
 use Rattle.vr_threads.specs.declared.file_store.Held.{Held}
 use Rattle.vr_threads.specs.Keeping.{IsOneOf}
 use Rattle.vr_threads.specs.Serving.{StepsTo}
 use Rattle.vr_threads.specs.Starting.{HasStarted}
-use Rattle.laws_threads.specs.CodeMoves.{CodeMove, Seat, numbered}
+use Rattle.laws_threads.specs.CodeMoves.{CodeMove, Seat}
 use Rattle.laws_threads.specs.OwnMoves.{OwnMove, Started, Stepped, MayTake, AllTakeHanded, own_moves, own_steps}
 
 -- a start is the first just where that was judged
@@ -33,7 +33,7 @@ HoldsAtLeast h counted = (v : Stored) → IsOneOf h v → counted ≤ v.starts
 -- the stores of one kind, of which is known whether their next start was judged to be the first, and the group
 module _ {S : Type 0} (load_gives : S → Option Stored → S → Type 0) (save_gives : S → ℕ → Bool → S → Type 0)
     (faults : S → ℕ) (begin_gives : S → Option Stored → S → Type 0) (holds : S → (ℕ → Bool) → Type 0)
-    (is_first : S → Bool) (g : Membership) where
+    (is_first : S → Bool) (g : Group) where
   -- the first start of a machine finds a store that holds no view but 0; each later one was judged to be no first one,
   -- and finds a store that holds what the one before was left with
   abbrev pub IsMachineStart : Option (Seat S) → S → Type 0
@@ -45,7 +45,7 @@ module _ {S : Type 0} (load_gives : S → Option Stored → S → Type 0) (save_
   abbrev pub AreMachineMoves : ℕ → Option (Seat S) → ℕ → List (OwnMove S) → Type 0
   AreMachineMoves i seat counted [] = Unit {0}
   AreMachineMoves i seat counted (Started q found left nonce starts ∷ ms) =
-      HasStarted begin_gives (numbered g i) found left q nonce starts × IsMachineStart seat found × Rises counted starts
+      HasStarted begin_gives (member g i) found left q nonce starts × IsMachineStart seat found × Rises counted starts
       × AreMachineMoves i (Some (record { replica = q; store = left; waits = nonce })) (counted_with counted starts) ms
   AreMachineMoves i seat counted (Stepped e r left result ∷ ms) =
       (from : Seat S) × (seat ≡ Some from)

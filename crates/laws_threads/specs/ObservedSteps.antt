@@ -21,14 +21,14 @@ use Rattle.laws_threads.specs.ObservedMoves.{said}
 module _ (m : Membership) where
   -- the event is this input of the rules; of a message, one with whole logs that it stands for
   abbrev pub Means : Event → Input Command Answer → Type 0
-  Means (event.Message a) x = (meant : Message Command Answer) × Stands IsSavedAs m a meant × (x ≡ Takes meant)
+  Means (event.Message a) x = (meant : Message Command Answer) × Stands IsSavedAs m.group a meant × (x ≡ Takes meant)
   Means event.Timeout x = x ≡ TimesOut
   Means event.Resend x = x ≡ Resends
   Means (event.Restart n) x = ⊥
 
   -- the checkpoint of a NEWSTATE is of the log that the rule makes of it
   abbrev pub FitsIn : ReplicaState Command → Event → Input Command Answer → Type 0
-  FitsIn r (event.Message a) x = Fits IsSavedAs m r (acts m.f m.number m.answer r x) a.body
+  FitsIn r (event.Message a) x = Fits IsSavedAs m.group r (acts m.f m.number m.answer r x) a.body
   FitsIn r _ x = Unit {0}
 
   -- what a step shows by its result: a replica that is down did nothing
@@ -43,4 +43,4 @@ module _ (m : Membership) where
       (out : List code.Message) : Type 0 where
     pub may : MayShow m.f m.number m.answer k g
     pub stands : StandsFor end m (next m.f m.number m.answer k g).replica
-    pub says : AllStandFrom IsSavedAs m (next m.f m.number m.answer k g).replica out (said g)
+    pub says : AllStandFrom IsSavedAs m.group (next m.f m.number m.answer k g).replica out (said g)

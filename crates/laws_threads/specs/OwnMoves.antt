@@ -9,7 +9,7 @@ use Rattle.vr_model.specs.declared.event.Stored.{Stored}
 use Rattle.vr_model.specs.declared.message.Message as code
 use Rattle.vr_model.specs.declared.message.Party.TheVariants as party
 use Rattle.vr_model.specs.Groups.{group_size}
-use Rattle.vr_model.specs.Membership.{Membership}
+use Rattle.vr_model.specs.Membership.{Group, member}
 use Rattle.vr_model.specs.Steps.{ClientStep, AreClientSteps, first_client}
 use Rattle.vr_model.specs.StandsFor.{AllStand}
 use Rattle.vr_core.specs.StandsFor.{IsSavedAs}
@@ -17,7 +17,7 @@ use Rattle.vr_replica.specs.declared.state.Replica.{Replica}
 use Rattle.vr_replica.specs.Stepped.{StepResult}
 use Rattle.vr_threads.specs.Serving.{StepsTo, Scene, Turn, event_of, sends_in}
 use Rattle.vr_threads.specs.Starting.{HasStarted}
-use Rattle.laws_threads.specs.CodeMoves.{CodeMove, Starts, Steps, Serves, Seat, numbered, given_with, IsUnused}
+use Rattle.laws_threads.specs.CodeMoves.{CodeMove, Starts, Steps, Serves, Seat, given_with, IsUnused}
 use Rattle.laws_threads.specs.CodeMoves.{HearsHanded}
 use Rattle.laws_threads.specs.CodeMoves.{IsNextStart}
 
@@ -68,7 +68,7 @@ module _ {S : Type 0} where
   seat_after seat (Stepped e r left result ∷ ms) =
       seat_after (Some (record { replica = r; store = left; waits = None })) ms
 
-module _ (g : Membership) where
+module _ (g : Group) where
   abbrev pub EventHanded : List code.Message → ℕ → Event → ℕ → Type 0
   EventHanded sent i (event.Message a) place = (slice_get sent place ≡ Some a) × (a.to ≡ party.Replica i)
   EventHanded sent i _ place = Unit {0}
@@ -85,12 +85,12 @@ module _ (g : Membership) where
 
 module _ {S : Type 0} (load_gives : S → Option Stored → S → Type 0) (save_gives : S → ℕ → Bool → S → Type 0)
     (faults : S → ℕ) (begin_gives : S → Option Stored → S → Type 0) (holds : S → (ℕ → Bool) → Type 0)
-    (g : Membership) where
+    (g : Group) where
   -- replica i's own list is right by itself
   abbrev pub AreOwnMoves : ℕ → Option (Seat S) → (ℕ → Bool) → List (OwnMove S) → Type 0
   AreOwnMoves i seat given [] = Unit {0}
   AreOwnMoves i seat given (Started q found left number starts ∷ ms) =
-      HasStarted begin_gives (numbered g i) found left q number starts
+      HasStarted begin_gives (member g i) found left q number starts
       × IsNextStart load_gives save_gives faults begin_gives holds g seat found starts × IsUnused given number
       × AreOwnMoves i (Some (record { replica = q; store = left; waits = number })) (given_with given number) ms
   AreOwnMoves i seat given (Stepped e r left result ∷ ms) =
@@ -118,7 +118,7 @@ seat_in a = record { replica = a.replica; store = a.store; waits = None }
 
 -- Serving is moves of the replica's own list: a step for each event of the turns, which handed out what serving did.
 pub record IsServed {S : Type 0} (load_gives : S → Option Stored → S → Type 0) (save_gives : S → ℕ → Bool → S → Type 0)
-    (faults : S → ℕ) (begin_gives : S → Option Stored → S → Type 0) (holds : S → (ℕ → Bool) → Type 0) (g : Membership)
+    (faults : S → ℕ) (begin_gives : S → Option Stored → S → Type 0) (holds : S → (ℕ → Bool) → Type 0) (g : Group)
     (i : ℕ) (given : ℕ → Bool) (turns : List Turn) (a b : Scene S) (sends : List code.Message) : Type 0 where
   pub moves : List (OwnMove S)
   pub right : AreOwnMoves load_gives save_gives faults begin_gives holds g i (Some (seat_in a)) given moves

@@ -36,7 +36,7 @@ ghost use Rattle.il_model.specs.declared.command.Command.{Command};
 ghost use Rattle.il_model.specs.declared.command.Answer.{Answer};
 ghost use Rattle.vr_model.specs.declared.event.Event.{Event};
 ghost use Rattle.vr_model.specs.declared.event.Stored.{Stored};
-ghost use Rattle.vr_model.specs.Membership.{Membership};
+ghost use Rattle.vr_model.specs.Membership.{Group, Membership};
 ghost use Rattle.vr_model.specs.Steps.{Input};
 ghost use Rattle.vr_model.specs.Stores.{KnownState};
 ghost use Rattle.vr_replica.specs.declared.state.Replica.{Replica};
@@ -140,7 +140,7 @@ pub fn step_is_observed<S: ViewStore>()
 /// that is taken was handed out before to its taker, are one run of the group, with one history. Each replica may start
 /// again and again, from a store that holds what it was left with, each time with a nonce that it never had.
 pub fn threads_are_one_run<S: Kept>()
-    ensures { (group : Membership) (early late : List (CodeMove S))
+    ensures { (group : Group) (early late : List (CodeMove S))
         → AreFromTheStart S.load_gives S.save_gives S.faults S.begin_gives S.holds group (early ++ late)
         → AreOneRun group early late }
 {
@@ -152,13 +152,13 @@ pub fn threads_are_one_run<S: Kept>()
 /// What a thread serves, from its clause, is moves of its replica's own list: a step for each event of its turns.
 pub fn serving_is_own_moves<S: Kept>()
     ensures { (turns : List Turn) (a b : Scene S) (did : Did S.load_gives S.save_gives S.faults turns a b)
-        (group : Membership) (i : ℕ) (given : ℕ → Bool)
+        (group : Group) (i : ℕ) (given : ℕ → Bool)
         → IsServed S.load_gives S.save_gives S.faults S.begin_gives S.holds group i given turns a b did.sends }
 {}
 
 /// Lists of moves of a replica, one behind the other, are one list: those of one start, and then those of the next.
 pub fn own_moves_join<S: Kept>()
-    ensures { (group : Membership) (i : ℕ) (seat : Option (Seat S)) (given : ℕ → Bool) (early late : List (OwnMove S))
+    ensures { (group : Group) (i : ℕ) (seat : Option (Seat S)) (given : ℕ → Bool) (early late : List (OwnMove S))
         → AreOwnMoves S.load_gives S.save_gives S.faults S.begin_gives S.holds group i seat given early
         → AreOwnMoves S.load_gives S.save_gives S.faults S.begin_gives S.holds group i
         (seat_after seat early) (given_after given early) late
@@ -168,7 +168,7 @@ pub fn own_moves_join<S: Kept>()
 /// Lists of replicas and of clients that are right by themselves, in one order in which each message that is taken was
 /// handed out before to its taker, are moves that are right along it.
 pub fn lists_are_moves<S: Kept>()
-    ensures { (group : Membership) (moves : List (CodeMove S))
+    ensures { (group : Group) (moves : List (CodeMove S))
         → EachInOneOrder S.load_gives S.save_gives S.faults S.begin_gives S.holds group moves
         → AreFromTheStart S.load_gives S.save_gives S.faults S.begin_gives S.holds group moves }
 {}
@@ -178,7 +178,7 @@ pub fn lists_are_moves<S: Kept>()
 /// one before left and counts more starts than any before it; and each message that is taken was handed out before, to
 /// its taker.
 pub fn machines_are_one_run<S: Judged>()
-    ensures { (group : Membership) (early late : List (CodeMove S))
+    ensures { (group : Group) (early late : List (CodeMove S))
         → MachinesInOneOrder S.load_gives S.save_gives S.faults S.begin_gives S.holds S.is_first group (early ++ late)
         → AreOneRun group early late }
 {

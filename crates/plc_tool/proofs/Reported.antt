@@ -7,7 +7,7 @@ use Rattle.plc_json.specs.declared.event.NamedEvent.{NamedEvent}
 use Rattle.il_loader.specs.Images.{ReadsImages}
 use Rattle.il_loader.specs.Judging.{image_of}
 use Rattle.ctl_debugger.specs.Outcome.{answers_of}
-use Rattle.vr_core.specs.StandsFor.{member, IsSavedAs}
+use Rattle.vr_core.specs.StandsFor.{group_of, IsSavedAs}
 use Rattle.vr_schedules.specs.declared.event.WorldEvent.{WorldEvent}
 use Rattle.vr_schedules.specs.declared.trace.Trace.{Trace}
 use Rattle.vr_schedules.specs.Traces.{IsTraced}
@@ -25,7 +25,7 @@ module _ {W : Type 0} (w : CountedWriter W) (trace : Trace) (old new : W) where
   is_simulated text budget Q named events is known reads history (Err e) h = tt
 
   pub is_replicated : (text : List ℕ) (f budget : ℕ) (Q : Program) (named : List NamedEvent) (events : List WorldEvent) → IsTypedProgramOfText text Q → AreKnown Q named events
-      → ReadsImages image_of → IsOneHistory (answers_of Q budget) events trace → IsTraced IsSavedAs (member f 0 Q budget) events trace → trace.lost.items ≡ [] → (r : Result (Unit {0}) Fault) → Puts w (report_line trace) old new r
+      → ReadsImages image_of → IsOneHistory (answers_of Q budget) events trace → IsTraced IsSavedAs (group_of f Q budget) events trace → trace.lost.items ≡ [] → (r : Result (Unit {0}) Fault) → Puts w (report_line trace) old new r
       → OnOk r (IsReplicated text f budget named (w.held old) (w.held new))
   is_replicated text f budget Q named events is known reads history traced none (Ok x) h =
       record {
@@ -36,7 +36,7 @@ module _ {W : Type 0} (w : CountedWriter W) (trace : Trace) (old new : W) where
   is_replicated text f budget Q named events is known reads history traced none (Err e) h = tt
 
   pub is_cut_short : (text : List ℕ) (f budget : ℕ) (Q : Program) (named : List NamedEvent) (events : List WorldEvent) → IsTypedProgramOfText text Q → AreKnown Q named events
-      → IsTraced IsSavedAs (member f 0 Q budget) events trace → trace.lost.items ≡ [] → (r : Result (Unit {0}) Fault) → Puts w (report_line trace) old new r
+      → IsTraced IsSavedAs (group_of f Q budget) events trace → trace.lost.items ≡ [] → (r : Result (Unit {0}) Fault) → Puts w (report_line trace) old new r
       → IfErr r (λ e. IsWhyStopped e (w.faults old) (w.faults new) × IsReportCutShort text f budget named (w.held old) (w.held new) ⊎ OrMemory (IsToldOf text f budget named) e × new ≡ old)
   is_cut_short text f budget Q named events is known traced none (Ok x) h = tt
   is_cut_short text f budget Q named events is known traced none (Err e) h =

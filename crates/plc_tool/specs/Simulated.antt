@@ -8,11 +8,11 @@ use Rattle.il_model.specs.declared.command.Command.{Command}
 use Rattle.il_model.specs.declared.command.Command.TheVariants.{Force, Unforce, ReadVar}
 use Rattle.ctl_model.specs.Slots.{slot_of}
 use Rattle.il_model.specs.declared.command.Answer.{Answer}
-use Rattle.vr_model.specs.Membership.{Membership}
+use Rattle.vr_model.specs.Membership.{Group}
 use Rattle.il_loader.specs.Images.{Reading, ReadsImages}
 use Rattle.ctl_debugger.specs.Owned.{cold_owned}
 use Rattle.ctl_debugger.specs.Outcome.{answers_with}
-use Rattle.vr_core.specs.StandsFor.{member, IsSavedAs}
+use Rattle.vr_core.specs.StandsFor.{group_of, IsSavedAs}
 use Rattle.vr_schedules.specs.declared.event.WorldEvent.{WorldEvent}
 use Rattle.vr_schedules.specs.declared.event.WorldEvent.TheVariants as events
 use Rattle.vr_schedules.specs.declared.store.Kept.TheVariants.{Old, New}
@@ -63,14 +63,14 @@ abbrev pub IsWhyUnknown : Program → List NamedEvent → Fault → Type 0
 IsWhyUnknown Q named told = (told ≡ faults.Memory) ⊎ ((told ≡ faults.Schedule) × HasUnknownName Q named)
 
 -- what is told is the first event of a run that can't take place, and the lowest reason
-pub record IsRefusedAs (g : Membership) (events : List WorldEvent) (told : Fault) : Type 0 where
+pub record IsRefusedAs (g : Group) (events : List WorldEvent) (told : Fault) : Type 0 where
   pub index : ℕ
   pub reason : ℕ
   pub is : told ≡ faults.ScheduleAt index reason
   pub refused : IsRefused g events index reason
 
 -- why a run has no report: memory ran out, or an event can't take place
-abbrev pub IsWhyNoReport : Membership → List WorldEvent → Fault → Type 0
+abbrev pub IsWhyNoReport : Group → List WorldEvent → Fault → Type 0
 IsWhyNoReport g events told = (told ≡ faults.Memory) ⊎ IsRefusedAs g events told
 
 -- the line of a report
@@ -95,7 +95,7 @@ pub record IsSimulated (text : List ℕ) (budget : ℕ) (named : List NamedEvent
 pub record IsReplicated (text : List ℕ) (f budget : ℕ) (named : List NamedEvent)
     (old new : Option (List ℕ)) : Type 0 where
   pub simulated : IsSimulated text budget named old new
-  pub traced : IsTraced IsSavedAs (member f 0 simulated.program budget) simulated.events simulated.trace
+  pub traced : IsTraced IsSavedAs (group_of f simulated.program budget) simulated.events simulated.trace
   pub none_lost : simulated.trace.lost.items ≡ []
 
 -- a prefix of that report was written, before the writer failed in the call or memory ran out
@@ -106,7 +106,7 @@ pub record IsReportCutShort (text : List ℕ) (f budget : ℕ) (named : List Nam
   pub events : List WorldEvent
   pub known : AreKnown program named events
   pub trace : Trace
-  pub traced : IsTraced IsSavedAs (member f 0 program budget) events trace
+  pub traced : IsTraced IsSavedAs (group_of f program budget) events trace
   pub none_lost : trace.lost.items ≡ []
   pub written : (n : ℕ) × Appends old new (take n (report_line trace))
 
@@ -114,7 +114,7 @@ pub record IsReportCutShort (text : List ℕ) (f budget : ℕ) (named : List Nam
 pub record CantTakePlace (Q : Program) (f budget : ℕ) (named : List NamedEvent) (told : Fault) : Type 0 where
   pub events : List WorldEvent
   pub known : AreKnown Q named events
-  pub refused : IsRefusedAs (member f 0 Q budget) events told
+  pub refused : IsRefusedAs (group_of f Q budget) events told
 
 -- A schedule of these events is refused for the program of a text, and this is told: a name in them is unknown, or one
 -- can't take place.

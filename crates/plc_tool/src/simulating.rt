@@ -1,7 +1,7 @@
 //! The run of a schedule, and its report.
 
 ghost use Rattle.std.specs.Prelude.{◌≡◌, ◌⊎◌, [], IfOk, IfErr, OnOk, string_bytes};
-ghost use Rattle.vr_core.specs.StandsFor.{member, IsSavedAs};
+ghost use Rattle.vr_core.specs.StandsFor.{group_of, IsSavedAs};
 ghost use Rattle.ctl_debugger.specs.Outcome.{answers_of};
 ghost use Rattle.vr_schedules.specs.Traces.{IsTraced};
 ghost use Rattle.vr_world.specs.History.{IsOneHistory};
@@ -40,9 +40,9 @@ fn whole_trace(
     events: &[WorldEvent],
 ) -> Result<Trace, Fault>
     ensures history { IfOk result (IsOneHistory (answers_of image.now budget.instructions) events.now) }
-    ensures traced { IfOk result (IsTraced IsSavedAs (member config.now.f 0 image.now budget.instructions) events.now) }
+    ensures traced { IfOk result (IsTraced IsSavedAs (group_of config.now.f image.now budget.instructions) events.now) }
     ensures none_lost { IfOk result (λ trace. trace.lost.items ≡ []) }
-    ensures refused { IfErr result (IsWhyNoReport (member config.now.f 0 image.now budget.instructions) events.now) }
+    ensures refused { IfErr result (IsWhyNoReport (group_of config.now.f image.now budget.instructions) events.now) }
 {
     match run_world(alloc, config, image, budget, events) {
         Ok(trace) => {

@@ -138,7 +138,7 @@ pub ready_none : (core : Core) (n : ℕ) (ps : List Prepared) → min n (op_numb
 ready_none core n ps le none = record {
   ready = λ w r st.
       let k : r.commit_number ≡ core.commit_number = st.commit_number in
-      let whole : length r.log ≡ op_number_of core = whole_length w core.log r.log st.log in
+      let whole : length r.log ≡ op_number_of core = whole_length w.group core.log r.log st.log in
       let few : length (take n r.log) ≡ min n (length r.log) = length-take n r.log in
       subst (λ es. AreReady es ps) (sym (drop_all r.commit_number (take n r.log) (omega arith))) (subst (AreReady []) (sym none) tt);
 }

@@ -14,13 +14,13 @@ use Rattle.vr_core.specs.Begun.{IsOfNone}
 use Rattle.vr_core.specs.Changes.{AreReady, between, IsReadyFor}
 use Rattle.vr_core.specs.Dropped.{IsSpoilt}
 use Rattle.vr_core.specs.Readied.{IsReadied}
-use Rattle.vr_core.proofs.WholeLogs.{is_own}
+use Rattle.vr_core.proofs.WholeLogs.{is_own_group}
 
-pub ready_handed : (core : Core) (w : Membership) (r : ReplicaState Command) (handed : KeptLog) (l : List (Request Command)) (n : ℕ) (ps : List Prepared) → IsReadyFor core handed n ps → StandsFor core w r → LogStands IsSavedAs w handed l
+pub ready_handed : (core : Core) (w : Membership) (r : ReplicaState Command) (handed : KeptLog) (l : List (Request Command)) (n : ℕ) (ps : List Prepared) → IsReadyFor core handed n ps → StandsFor core w r → LogStands IsSavedAs w.group handed l
     → AreReady (between l (max r.commit_number (base_of handed.checkpoint)) n) ps
 ready_handed core w r handed l n ps h st s =
     subst (λ (k : ℕ). AreReady (between l (max k (base_of handed.checkpoint)) n) ps) (sym st.commit_number)
-    (h.ready l (subst (λ m. LogStands IsSavedAs m handed l) (sym (is_own core w st.member)) s))
+    (h.ready l (subst (λ m. LogStands IsSavedAs m handed l) (sym (is_own_group core w st.member)) s))
 
 -- what is needed was made ready
 pub readied_some : (core : Core) (handed : KeptLog) (n : ℕ) (o : Option Readied) (x : Readied) → o ≡ Some x → MatchOption o (IsOfNone core handed) (IsReadied core handed n) → IsReadied core handed n x

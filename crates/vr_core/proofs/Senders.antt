@@ -30,7 +30,7 @@ pub fits_as : (old : Core) (handed : handed_in.Body) (rule other : Rule) (new : 
 fits_as old handed rule other new (Ok sends) h same = record {
   leaves = λ w r st prefix fits.
       subst (λ o. Leaves old new sends.items w o) (sym (same w r st))
-      (h.leaves w r st (subst (λ (o : Outcome Command Answer). IsPrefix (executed r) o.replica.log) (same w r st) prefix) (subst (λ (o : Outcome Command Answer). Fits IsSavedAs w r o handed) (same w r st) fits));
+      (h.leaves w r st (subst (λ (o : Outcome Command Answer). IsPrefix (executed r) o.replica.log) (same w r st) prefix) (subst (λ (o : Outcome Command Answer). Fits IsSavedAs w.group r o handed) (same w r st) fits));
 }
 fits_as old handed rule other new (Err e) h same = record { same = h.same; matters = λ w r st. subst (λ o. Matters r o) (sym (same w r st)) (h.matters w r st) }
 

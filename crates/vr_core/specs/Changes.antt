@@ -16,7 +16,7 @@ use Rattle.vr_model.specs.Choices.{commands}
 use Rattle.vr_model.specs.Rules.{reply_of}
 use Rattle.vr_model.specs.Checkpoints.{KeptLog, base_of, LogStands}
 use Rattle.vr_core.specs.declared.state.Core.{Core}
-use Rattle.vr_core.specs.StandsFor.{StandsFor, IsSavedAs, own_member}
+use Rattle.vr_core.specs.StandsFor.{StandsFor, IsSavedAs, own_group}
 use Rattle.vr_core.specs.Follows.{Rule, AreSent, Leaves}
 
 -- those of some commands that change the program
@@ -52,7 +52,7 @@ pub record IsReadyPast (core : Core) (place : ℕ) (more : List (Request Command
 
 -- the same of a log that is handed in: for the entries past its checkpoint and past what the core has executed
 pub record IsReadyFor (core : Core) (handed : KeptLog) (n : ℕ) (ps : List Prepared) : Type 0 where
-  pub ready : (l : List (Request Command)) → LogStands IsSavedAs (own_member core) handed l
+  pub ready : (l : List (Request Command)) → LogStands IsSavedAs (own_group core) handed l
       → AreReady (between l (max core.commit_number (base_of handed.checkpoint)) n) ps
 
 -- ---- executing
@@ -78,7 +78,7 @@ pub record ExecutesNext (old : Core) (ps : List Prepared) (new : Core) (left : L
   pub next : (w : Membership) (r : ReplicaState Command) (n : ℕ) → HasNext old w r n ps
       → StandsFor new w (record r { commit_number = r.commit_number + 1 })
   pub replies : (w : Membership) (r : ReplicaState Command) (n : ℕ) → HasNext old w r n ps
-      → AreSent w (option_to_list reply)
+      → AreSent w.group (option_to_list reply)
       (reply_of w.f w.number w.answer r r.commit_number (slice_get r.log r.commit_number))
   pub others : (w : Membership) (r : ReplicaState Command) (n : ℕ) → HasNext old w r n ps
       → AreReady (between r.log (r.commit_number + 1) n) left

@@ -1,7 +1,7 @@
 -- A core that never ran asks the others.
 use Rattle.std.proofs.Common.{◌≡◌, ℕ, zero, suc, ◌<◌, true, false, List, [], ◌∷◌, Option, None, arith, refl, sym, subst}
 use Rattle.std.specs.Prelude.{slice_get}
-use Rattle.vr_model.specs.Membership.{Membership}
+use Rattle.vr_model.specs.Membership.{Group, Membership, member}
 use Rattle.il_model.specs.declared.command.Command.{Command}
 use Rattle.vr_model.specs.Replicas.{ReplicaState, takes_part, is_view_change}
 use Rattle.vr_model.specs.Rules.{restarted}
@@ -9,7 +9,7 @@ use Rattle.vr_model.specs.World.{first_replica}
 use Rattle.vr_core.specs.declared.state.Core.{Core}
 use Rattle.vr_core.specs.declared.state.Response.{Response}
 use Rattle.vr_model.specs.declared.standing.Status.TheVariants as statuses
-use Rattle.vr_core.specs.StandsFor.{SlotStands, StandsFor, own_member}
+use Rattle.vr_core.specs.StandsFor.{SlotStands, StandsFor, own_group}
 use Rattle.vr_core.proofs.WholeLogs.{is_own}
 use Rattle.vr_recovery.specs.ComingUp.{IsUpAgain}
 
@@ -20,17 +20,17 @@ no_responses = None ∷ None ∷ None ∷ None ∷ None ∷ None ∷ None ∷ []
 apart : false ≡ true → ⊥
 apart e = cc
 
-none_at : (w : Membership) (s : ℕ) → s < 7 → SlotStands w (slice_get no_responses s) None
-none_at w zero l = tt
-none_at w (suc zero) l = tt
-none_at w (suc (suc zero)) l = tt
-none_at w (suc (suc (suc zero))) l = tt
-none_at w (suc (suc (suc (suc zero)))) l = tt
-none_at w (suc (suc (suc (suc (suc zero))))) l = tt
-none_at w (suc (suc (suc (suc (suc (suc zero)))))) l = tt
-none_at w (suc (suc (suc (suc (suc (suc (suc s))))))) l = absurd (omega arith)
+none_at : (g : Group) (s : ℕ) → s < 7 → SlotStands g (slice_get no_responses s) None
+none_at g zero l = tt
+none_at g (suc zero) l = tt
+none_at g (suc (suc zero)) l = tt
+none_at g (suc (suc (suc zero))) l = tt
+none_at g (suc (suc (suc (suc zero)))) l = tt
+none_at g (suc (suc (suc (suc (suc zero))))) l = tt
+none_at g (suc (suc (suc (suc (suc (suc zero)))))) l = tt
+none_at g (suc (suc (suc (suc (suc (suc (suc s))))))) l = absurd (omega arith)
 
-pub up_again : (old first begun : Core) (stored_view nonce : ℕ) → StandsFor first (own_member old) first_replica
+pub up_again : (old first begun : Core) (stored_view nonce : ℕ) → StandsFor first (member (own_group old) old.number) first_replica
     → begun ≡ record first { status = statuses.Recovering; stored_view = stored_view; nonce = nonce; responses = begun.responses }
     → begun.responses.items ≡ no_responses → IsUpAgain old stored_view nonce begun
 up_again old first begun stored_view nonce fresh is none = record {
@@ -56,7 +56,7 @@ up_again old first begun stored_view nonce fresh is none = record {
         sent_do_view_change = st.sent_do_view_change;
         own = λ (e : is_view_change r.status ≡ true). absurd (apart e);
         nonce = refl;
-        responses = λ e. record { at = λ s l. subst (λ (xs : List (Option Response)). SlotStands w (slice_get xs s) None) (sym none) (none_at w s l) };
+        responses = λ e. record { at = λ s l. subst (λ (xs : List (Option Response)). SlotStands w.group (slice_get xs s) None) (sym none) (none_at w.group s l) };
       } in
       subst (λ (x : Core). StandsFor x w r) (sym is) stands;
 }

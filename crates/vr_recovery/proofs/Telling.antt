@@ -65,6 +65,6 @@ comes_up old begun stored nonce before sends up none is = record {
   asks = λ w m.
       let st = up.stands w m in
       let asked = map (message_from begun.number (says.Recovery nonce stored)) (others begun.number (group_size begun.config.f)) in
-      subst (λ (ms : List sent.Message). AllStand IsSavedAs w ms (send_others w.f w.number w.answer (Recovery nonce stored))) (sym (is ∙ ap (λ (ms : List sent.Message). ms ++ asked) none))
+      subst (λ (ms : List sent.Message). AllStand IsSavedAs w.group ms (send_others w.f w.number w.answer (Recovery nonce stored))) (sym (is ∙ ap (λ (ms : List sent.Message). ms ++ asked) none))
       (sent_others w begun.number begun.config.f (says.Recovery nonce stored) [] st.member.number st.member.f tt).are;
 }

@@ -40,7 +40,7 @@ with_back kept s (Some o) = slice_set kept s o
 -- it keeps the response of s: whoever stood for what was there before stands for it with the one that the rule keeps
 pub record Keeps (old : Core) (s : ℕ) (a : Response) (new : Core) : Type 0 where
   pub keeps : (w : Membership) (r : ReplicaState Command) (content : RecoveryResponse Command) → StandsFor old w r
-      → ResponseStands w a content
+      → ResponseStands w.group a content
       → StandsFor new w (record r { responses = put r.responses s (Some (kept_response (r.responses s) content)) })
 
 -- the primary of this view told its state in it

@@ -8,7 +8,7 @@ ghost use Rattle.vr_model.specs.Rules as rules;
 ghost use Rattle.vr_model.specs.declared.message.Body.TheVariants as says;
 ghost use Rattle.vr_model.specs.Checkpoints.{requests_of};
 ghost use Rattle.vr_model.specs.StandsFor.{IsCarriedPart};
-ghost use Rattle.vr_core.specs.StandsFor.{IsSavedAs, own_member};
+ghost use Rattle.vr_core.specs.StandsFor.{IsSavedAs, own_group};
 ghost use Rattle.vr_core.specs.Follows.{Tells, DoesIfKept, DoesIfFits, op_number_of, receives_from};
 ghost use Rattle.vr_core.specs.Dropped.{IsUnfit, Drops};
 
@@ -37,7 +37,7 @@ pub fn on_new_state(
     new_state: NewState,
 ) -> Result<Sends, AllocError>
     ensures rule { (l : List (logs.Request Command))
-        → IsCarriedPart IsSavedAs (own_member core.old) new_state.op_number new_state.commit_number new_state.log l
+        → IsCarriedPart IsSavedAs (own_group core.old) new_state.op_number new_state.commit_number new_state.log l
         → DoesIfFits core.old
         (says.NewState new_state.view new_state.op_number new_state.commit_number new_state.log)
         (receives_from sender
@@ -68,7 +68,7 @@ fn new_state_of_other(
     log: Log,
 ) -> Result<Sends, AllocError>
     ensures rule { (l : List (logs.Request Command))
-        → IsCarriedPart IsSavedAs (own_member core.old) op_number commit_number log l
+        → IsCarriedPart IsSavedAs (own_group core.old) op_number commit_number log l
         → DoesIfFits core.old (says.NewState view op_number commit_number log)
         (λ w r. rules.on_new_state w.f w.number w.answer r view op_number commit_number l) core.new result }
     ensures dropped { IsUnfit core.old commit_number log → Drops core.old core.new result }
@@ -127,7 +127,7 @@ fn on_checkpoint(
 ) -> Result<Sends, AllocError>
     requires { is_some log.checkpoint ≡ true }
     ensures rule { (l : List (logs.Request Command))
-        → IsCarriedPart IsSavedAs (own_member core.old) op_number commit_number log l
+        → IsCarriedPart IsSavedAs (own_group core.old) op_number commit_number log l
         → DoesIfFits core.old (says.NewState view op_number commit_number log)
         (λ w r. rules.on_new_state w.f w.number w.answer r view op_number commit_number l) core.new result }
     ensures dropped { IsUnfit core.old commit_number log → Drops core.old core.new result }

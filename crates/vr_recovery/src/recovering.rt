@@ -10,7 +10,7 @@ ghost use Rattle.vr_model.specs.declared.standing.Status.TheVariants.{Recovering
 ghost use Rattle.vr_core.specs.declared.state.Response.{Response};
 ghost use Rattle.il_model.specs.declared.command.Command.{Command};
 ghost use Rattle.vr_model.specs.Messages.{RecoveryResponse, RecoveryResponseMessage};
-ghost use Rattle.vr_core.specs.StandsFor.{ResponseStands, own_member};
+ghost use Rattle.vr_core.specs.StandsFor.{ResponseStands, own_group};
 ghost use Rattle.vr_core.specs.Begun.{IsOfNone};
 ghost use Rattle.vr_core.specs.Readied.{IsReadied};
 ghost use Rattle.vr_core.specs.Follows.{Tells, FollowsIfKept, DoesIfKept, receives_from};
@@ -33,7 +33,7 @@ pub fn on_recovery_response(
     nonce: u64,
     response: Response,
 ) -> Result<Sends, AllocError>
-    ensures rule { (a : RecoveryResponse Command) → ResponseStands (own_member core.old) response a
+    ensures rule { (a : RecoveryResponse Command) → ResponseStands (own_group core.old) response a
         → DoesIfKept core.old (receives_from sender (RecoveryResponseMessage nonce a)) core.new result }
     ensures dropped { IsUnfitResponse core.old sender response → Drops core.old core.new result }
 {
@@ -53,7 +53,7 @@ fn response_of_other(
     response: Response,
 ) -> Result<Sends, AllocError>
     requires { sender < group_size core.old.config.f }
-    ensures rule { (a : RecoveryResponse Command) → ResponseStands (own_member core.old) response a
+    ensures rule { (a : RecoveryResponse Command) → ResponseStands (own_group core.old) response a
         → DoesIfKept core.old
         (λ w r. rules.on_recovery_response w.f w.number w.answer r sender nonce a) core.new result }
     ensures dropped { IsUnfitResponse core.old sender response → Drops core.old core.new result }
@@ -83,7 +83,7 @@ fn response_fits(
     response: &Response,
 ) -> Result<bool, AllocError>
     ensures fits { IfOk result
-        (λ fits. fits ≡ false → (a : RecoveryResponse Command) → ResponseStands (own_member core.now) response.now a
+        (λ fits. fits ≡ false → (a : RecoveryResponse Command) → ResponseStands (own_group core.now) response.now a
         → ⊥) }
     ensures err { OnErr result (stays (kept_of core.now sender) response.now ≡ false) }
     ensures unfit { IfOk result (λ fits. fits ≡ true → IsUnfitResponse core.now sender response.now → ⊥) }

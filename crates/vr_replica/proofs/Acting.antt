@@ -19,7 +19,7 @@ use Rattle.vr_core.specs.declared.state.Core.{Core}
 use Rattle.vr_core.specs.Down.{StandsForDown, Crashes}
 use Rattle.vr_core.specs.StandsFor as core
 use Rattle.vr_core.specs.Follows.{AreSaved}
-use Rattle.vr_core.proofs.WholeLogs.{is_own}
+use Rattle.vr_core.proofs.WholeLogs.{is_own_group}
 use Rattle.vr_replica.specs.declared.state.Replica.{Replica}
 use Rattle.vr_replica.specs.Standing.{StandsFor, IsDown, IsDeafTo}
 use Rattle.vr_replica.specs.Ruled.{LeavesFrom, Ruled}
@@ -70,9 +70,9 @@ module _ {S : Type 0} (load_gives : S → Option Stored → S → Type 0) (save_
   by_its_rule : (input : Input Command Answer) → acts m.f m.number m.answer r input ≡ by_rule m.f m.number m.answer r input
   by_its_rule input = at_false (is_down r.status) (keep m.f m.number m.answer r) (by_rule m.f m.number m.answer r input) up
 
-  -- a message that stands for one at this member does so at the core's
-  for_own : (a : code.Message) (meant : Message Command Answer) → Stands core.IsSavedAs m a meant → Stands core.IsSavedAs (core.own_member old) a meant
-  for_own a meant st = subst (λ w. Stands core.IsSavedAs w a meant) (sym (is_own old m stands.member)) st
+  -- a message that stands for one in this group does so in the core's
+  for_own : (a : code.Message) (meant : Message Command Answer) → Stands core.IsSavedAs m.group a meant → Stands core.IsSavedAs (core.own_group old) a meant
+  for_own a meant st = subst (λ g. Stands core.IsSavedAs g a meant) (sym (is_own_group old m stands.member)) st
 
   -- what holds of an outcome that the rules leave
   pub stepped_ok : (NowStands : ReplicaState Command → Type 0) (mid : Core) (sends : Vec code.Message Global) (result : step.StepResult) (e : Event) → Ruled old e mid (Ok sends)
@@ -83,7 +83,7 @@ module _ {S : Type 0} (load_gives : S → Option Stored → S → Type 0) (save_
       let same : acts m.f m.number m.answer r (Takes meant) ≡ o = by_its_rule (Takes meant) in
       subst (λ x. step.Acted load_gives save_gives core.IsSavedAs NowStands m r s t x result) (sym same)
       (then o
-      ((h meant (for_own a meant is)).leaves m r stands (keeps_log m.f m.number m.answer r meant.from meant.body none (λ over. subst (λ (x : Outcome Command Answer). IsPrefix (executed r) x.replica.log) same (keeps over))) (subst (λ (x : Outcome Command Answer). Fits core.IsSavedAs m r x a.body) same fits))
+      ((h meant (for_own a meant is)).leaves m r stands (keeps_log m.f m.number m.answer r meant.from meant.body none (λ over. subst (λ (x : Outcome Command Answer). IsPrefix (executed r) x.replica.log) same (keeps over))) (subst (λ (x : Outcome Command Answer). Fits core.IsSavedAs m.group r x a.body) same fits))
       (stays_up is_down refl refl m.f m.number m.answer r (Takes meant) up) (has_none_still m.f m.number m.answer r (Takes meant) none))
   stepped_ok NowStands mid sends result event.Timeout h then =
       subst (λ x. step.Acted load_gives save_gives core.IsSavedAs NowStands m r s t x result) (sym (by_its_rule TimesOut))

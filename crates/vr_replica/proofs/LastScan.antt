@@ -61,7 +61,7 @@ pub size_of : (replica : Replica) (m : Membership) (r : ReplicaState Command) �
 size_of replica m r st = go (is_down r.status) refl
   where
     go : (b : Bool) → is_down r.status ≡ b → end_of replica.core.log ≡ length r.log
-    go false e = sym (whole_length m replica.core.log r.log (st.up e).log)
+    go false e = sym (whole_length m.group replica.core.log r.log (st.up e).log)
     go true e = ap end_of (st.down e).core_log ∙ sym (ap length (st.down e).log)
 
 -- a Scan that it keeps is the last of its log

@@ -8,7 +8,7 @@ use Rattle.vr_model.specs.declared.message.Body as body
 use Rattle.vr_model.specs.declared.message.Body.TheVariants as says
 use Rattle.vr_model.specs.declared.message.Message as sent
 use Rattle.vr_model.specs.Logs.{Request, IsPrefix}
-use Rattle.vr_model.specs.Membership.{Membership}
+use Rattle.vr_model.specs.Membership.{Group, Membership}
 use Rattle.vr_model.specs.Messages.{Body, Message}
 use Rattle.vr_model.specs.Replicas.{ReplicaState, Outcome}
 use Rattle.vr_model.specs.Steps.{Matters}
@@ -22,20 +22,20 @@ use Rattle.vr_replica.specs.Ruled.{LeavesFrom, DoesFrom}
 use Rattle.vr_replica.proofs.NoState.{IsNoState, NoStates}
 
 -- what is no NEWSTATE has no checkpoint that is to be its sender's own
-of_own : (w : Membership) (q : ReplicaState Command) (l : List (Request Command)) (b : body.Body) (x : Body Command Answer) → x ≡ body_with l b → IsNoState x → IsOfOwn IsSavedAs w q b x
-of_own w q l (says.NewState v p c log) x e h = absurd (subst (λ (y : Body Command Answer). IsNoState y) e h)
-of_own w q l _ x e h = tt
+of_own : (g : Group) (q : ReplicaState Command) (l : List (Request Command)) (b : body.Body) (x : Body Command Answer) → x ≡ body_with l b → IsNoState x → IsOfOwn IsSavedAs g q b x
+of_own g q l (says.NewState v p c log) x e h = absurd (subst (λ (y : Body Command Answer). IsNoState y) e h)
+of_own g q l _ x e h = tt
 
-pub all_from : (w : Membership) (q : ReplicaState Command) (xs : List sent.Message) (ms : List (Message Command Answer)) → AllStand IsSavedAs w xs ms → NoStates ms → AllStandFrom IsSavedAs w q xs ms
-all_from w q [] [] h n = tt
-all_from w q [] (m ∷ ms) h n = absurd h
-all_from w q (x ∷ xs) [] h n = absurd h
-all_from w q (x ∷ xs) (m ∷ ms) h n =
-    let st : Stands IsSavedAs w x m = h.0 in
-    (record { stands = st; own = of_own w q st.log x.body m.body (ap (λ (y : Message Command Answer). y.body) st.is) n.0 }, all_from w q xs ms h.1 n.1)
+pub all_from : (g : Group) (q : ReplicaState Command) (xs : List sent.Message) (ms : List (Message Command Answer)) → AllStand IsSavedAs g xs ms → NoStates ms → AllStandFrom IsSavedAs g q xs ms
+all_from g q [] [] h n = tt
+all_from g q [] (m ∷ ms) h n = absurd h
+all_from g q (x ∷ xs) [] h n = absurd h
+all_from g q (x ∷ xs) (m ∷ ms) h n =
+    let st : Stands IsSavedAs g x m = h.0 in
+    (record { stands = st; own = of_own g q st.log x.body m.body (ap (λ (y : Message Command Answer). y.body) st.is) n.0 }, all_from g q xs ms h.1 n.1)
 
 pub leaves_from : (old new : Core) (sends : List sent.Message) (w : Membership) (o : Outcome Command Answer) → Leaves old new sends w o → NoStates o.sends → LeavesFrom old new sends w o
-leaves_from old new sends w o k n = record { replica = k.replica; saves = k.saves; sends = all_from w o.replica sends o.sends k.sends.are n }
+leaves_from old new sends w o k n = record { replica = k.replica; saves = k.saves; sends = all_from w.group o.replica sends o.sends k.sends.are n }
 
 -- a rule that sends none
 module _ (old : Core) (handed : body.Body) (rule : Rule) (new : Core) (none : (w : Membership) (r : ReplicaState Command) → NoStates (rule w r).sends) where
@@ -60,7 +60,7 @@ from_own core handed rule (Ok sends) h own same = record {
       record {
         replica = k.replica;
         saves = k.saves;
-        sends = subst (λ (q : ReplicaState Command). AllStandFrom IsSavedAs w q sends.items (rule w r).sends) (sym (same w r)) (own.own w r st);
+        sends = subst (λ (q : ReplicaState Command). AllStandFrom IsSavedAs w.group q sends.items (rule w r).sends) (sym (same w r)) (own.own w r st);
       };
 }
 from_own core handed rule (Err e) h own same = h
@@ -71,6 +71,6 @@ pub from_as : (old : Core) (handed : body.Body) (rule other : Rule) (new : Core)
 from_as old handed rule other new (Ok sends) h same = record {
   leaves = λ w r st prefix fits.
       subst (λ o. LeavesFrom old new sends.items w o) (sym (same w r st))
-      (h.leaves w r st (subst (λ (o : Outcome Command Answer). IsPrefix (executed r) o.replica.log) (same w r st) prefix) (subst (λ (o : Outcome Command Answer). Fits IsSavedAs w r o handed) (same w r st) fits));
+      (h.leaves w r st (subst (λ (o : Outcome Command Answer). IsPrefix (executed r) o.replica.log) (same w r st) prefix) (subst (λ (o : Outcome Command Answer). Fits IsSavedAs w.group r o handed) (same w r st) fits));
 }
 from_as old handed rule other new (Err e) h same = record { same = h.same; matters = λ w r st. subst (λ o. Matters r o) (sym (same w r st)) (h.matters w r st) }

@@ -20,12 +20,12 @@ Shows r place None = (slice_get r.log place ≡ None) ⊎ (place < r.commit_numb
 Shows r place (Some e) = slice_get r.log place ≡ Some (request_of e)
 
 shown_up : (replica : Replica) (m : Membership) (r : ReplicaState Command) (place : ℕ) (o : Option code.Request) → core.StandsFor replica.core m r → entry_at replica.core.log place ≡ o → Shows r place o
-shown_up replica m r place (Some e) st is = kept_entry m replica.core.log r.log place e st.log is
+shown_up replica m r place (Some e) st is = kept_entry m.group replica.core.log r.log place e st.log is
 shown_up replica m r place None st is = go (ltb place (base_of replica.core.log.checkpoint)) refl
   where
     go : (b : Bool) → ltb place (base_of replica.core.log.checkpoint) ≡ b → (slice_get r.log place ≡ None) ⊎ (place < r.commit_number)
     go true e = let low : place < base_of replica.core.log.checkpoint = ltb-true _ _ e in let reached : base_of replica.core.log.checkpoint ≤ r.commit_number = st.reached in inr (omega arith)
-    go false e = inl (sym (entry_kept m replica.core.log r.log place st.log (ltb-false _ _ e)) ∙ ap (option_map request_of) is)
+    go false e = inl (sym (entry_kept m.group replica.core.log r.log place st.log (ltb-false _ _ e)) ∙ ap (option_map request_of) is)
 
 shown_down : (replica : Replica) (m : Membership) (r : ReplicaState Command) (place : ℕ) (o : Option code.Request) → StandsForDown replica.core m r → entry_at replica.core.log place ≡ o → Shows r place o
 shown_down replica m r place o st is = go o (sym (ap (λ (l : KeptLog). entry_at l place) st.core_log) ∙ is)

@@ -54,7 +54,7 @@ module _ {S : Type 0} (load_gives : S → Option Stored → S → Type 0) (save_
     pub record Done (o : Outcome Command Answer) (out : List code.Message) : Type 0 where
       pub replica : NowStands o.replica
       pub saved : Saved s o.saves t
-      pub sends : AllStandFrom IsSavedAs m o.replica out o.sends
+      pub sends : AllStandFrom IsSavedAs m.group o.replica out o.sends
 
     -- it was lost for want of memory: before its save, or after it
     pub record Lost (o : Outcome Command Answer) : Type 0 where
@@ -79,7 +79,7 @@ module _ {S : Type 0} (load_gives : S → Option Stored → S → Type 0) (save_
       pub stored : Stored
       pub loaded : load_gives s (Some stored) t
       pub replica : NowStands (on_restart m.f m.number m.answer (record r { stored_view = stored.view }) x).replica
-      pub sends : AllStandFrom IsSavedAs m
+      pub sends : AllStandFrom IsSavedAs m.group
           (on_restart m.f m.number m.answer (record r { stored_view = stored.view }) x).replica out
           (on_restart m.f m.number m.answer (record r { stored_view = stored.view }) x).sends
 
@@ -117,8 +117,8 @@ module _ {S : Type 0} (load_gives : S → Option Stored → S → Type 0) (save_
     -- tests.
     abbrev pub Stepped : Event → StepResult → Type 0
     Stepped (event.Message a) result =
-        (meant : Message Command Answer) → Stands IsSavedAs m a meant → KeepsExecuted m r (Takes meant)
-        → Fits IsSavedAs m r (acts m.f m.number m.answer r (Takes meant)) a.body
+        (meant : Message Command Answer) → Stands IsSavedAs m.group a meant → KeepsExecuted m r (Takes meant)
+        → Fits IsSavedAs m.group r (acts m.f m.number m.answer r (Takes meant)) a.body
         → Acted (acts m.f m.number m.answer r (Takes meant)) result
     Stepped event.Timeout result = Acted (acts m.f m.number m.answer r TimesOut) result
     Stepped event.Resend result = Acted (acts m.f m.number m.answer r Resends) result

@@ -6,7 +6,7 @@ ghost use Rattle.vr_model.specs.Logs as logs;
 ghost use Rattle.vr_model.specs.Protocols.{NormalCase, ViewChange, Recovery, protocol_of};
 ghost use Rattle.vr_model.specs.Rules as rules;
 ghost use Rattle.vr_model.specs.StandsFor.{body_with, party_of, Carries};
-ghost use Rattle.vr_core.specs.StandsFor.{IsSavedAs, own_member};
+ghost use Rattle.vr_core.specs.StandsFor.{IsSavedAs, own_group};
 ghost use Rattle.vr_core.specs.Follows.{DoesIfKept, receives_from};
 ghost use Rattle.vr_replica.specs.Ruled.{DoesFrom, Ruled};
 ghost use Rattle.vr_core.specs.Dropped.{Drops};
@@ -34,7 +34,7 @@ pub(crate) fn by_rule(core: &mut Core, alloc: Global, event: Event) -> Result<Se
 
 /// What the rules make of a message.
 fn receive(core: &mut Core, alloc: Global, message: Message) -> Result<Sends, AllocError>
-    ensures rule { (l : List (logs.Request Command)) → Carries IsSavedAs (own_member core.old) message.body l
+    ensures rule { (l : List (logs.Request Command)) → Carries IsSavedAs (own_group core.old) message.body l
         → DoesFrom core.old message.body
         (λ w r. rules.receives w.f w.number w.answer r (party_of message.from)
         (body_with l message.body)) core.new result }
@@ -60,7 +60,7 @@ fn from_client(core: &mut Core, alloc: Global, body: Body) -> Result<Sends, Allo
 /// What the rules make of a message of a replica: of all but requests and replies. It is sorted by protocol first, so
 /// that each function here is proved by the calls of one protocol.
 fn from_replica(core: &mut Core, alloc: Global, sender: u8, body: Body) -> Result<Sends, AllocError>
-    ensures rule { (l : List (logs.Request Command)) → Carries IsSavedAs (own_member core.old) body l
+    ensures rule { (l : List (logs.Request Command)) → Carries IsSavedAs (own_group core.old) body l
         → DoesFrom core.old body (receives_from sender (body_with l body)) core.new result }
     ensures dropped { IsUnfitBody core.old sender body → Drops core.old core.new result }
 {
@@ -124,7 +124,7 @@ fn in_view_change(
     body: Body,
 ) -> Result<Sends, AllocError>
     requires part { protocol_of body ≡ ViewChange }
-    ensures rule { (l : List (logs.Request Command)) → Carries IsSavedAs (own_member core.old) body l
+    ensures rule { (l : List (logs.Request Command)) → Carries IsSavedAs (own_group core.old) body l
         → DoesIfKept core.old (receives_from sender (body_with l body)) core.new result }
     ensures dropped { IsUnfitBody core.old sender body → Drops core.old core.new result }
 {
@@ -156,7 +156,7 @@ fn in_view_change(
 /// What the rules make of a message of recovery or of state transfer.
 fn in_recovery(core: &mut Core, alloc: Global, sender: u8, body: Body) -> Result<Sends, AllocError>
     requires part { protocol_of body ≡ Recovery }
-    ensures rule { (l : List (logs.Request Command)) → Carries IsSavedAs (own_member core.old) body l
+    ensures rule { (l : List (logs.Request Command)) → Carries IsSavedAs (own_group core.old) body l
         → DoesFrom core.old body (receives_from sender (body_with l body)) core.new result }
     ensures dropped { IsUnfitBody core.old sender body → Drops core.old core.new result }
 {

@@ -5,12 +5,12 @@ ghost use Rattle.std.specs.Prelude.{if◌then◌else◌};
 ghost use Rattle.std.specs.List.{slice_get};
 ghost use Rattle.ctl_model.specs.Snapshots.{snapshot_of};
 ghost use Rattle.il_model.specs.declared.command.Command.{Command};
-ghost use Rattle.vr_model.specs.Membership.{Membership};
+ghost use Rattle.vr_model.specs.Membership.{Membership, member};
 ghost use Rattle.vr_model.specs.Replicas as model;
 ghost use Rattle.vr_model.specs.Rules as rules;
 ghost use Rattle.vr_model.specs.StandsFor.{request_of, status_of};
 ghost use Rattle.vr_model.specs.World as world;
-ghost use Rattle.vr_core.specs.StandsFor.{member};
+ghost use Rattle.vr_core.specs.StandsFor.{group_of};
 ghost use Rattle.vr_model.specs.Checkpoints.{requests_of};
 ghost use Rattle.vr_replica.specs.Standing.{StandsFor, IsDown};
 ghost use Rattle.vr_replica.specs.Scans.{last_scan_of};
@@ -38,7 +38,7 @@ impl Replica {
         budget: Budget,
     ) -> Result<Replica, AllocError>
         ensures { IfOk result (λ replica. StandsFor replica
-            (member config.f number image budget.instructions) world.first_replica) }
+            (member (group_of config.f image budget.instructions) number) world.first_replica) }
     {
         Ok(Replica {
             core: Core::new(alloc, config, number, image, budget)?,
@@ -54,7 +54,7 @@ impl Replica {
         budget: Budget,
     ) -> Result<Replica, AllocError>
         ensures { IfOk result (λ replica. (r : model.ReplicaState Command)
-            → StandsFor replica (member config.f number image budget.instructions) (world.down r)) }
+            → StandsFor replica (member (group_of config.f image budget.instructions) number) (world.down r)) }
     {
         Ok(Replica {
             core: Core::down(alloc, config, number, image, budget)?,

@@ -18,8 +18,8 @@ use Rattle.vr_schedules.proofs.Tables.{put_cases}
 use Rattle.vr_schedules.specs.declared.world.World as code
 use Rattle.vr_schedules.specs.declared.fault.EventFault.{EventFault}
 use Rattle.vr_schedules.specs.declared.fault.EventFault.TheVariants.{Refused, Memory}
-use Rattle.vr_model.specs.Membership.{Membership}
-use Rattle.vr_schedules.specs.Handed.{numbered, AllStandIn}
+use Rattle.vr_model.specs.Membership.{Group, Membership, member}
+use Rattle.vr_schedules.specs.Handed.{AllStandIn}
 use Rattle.vr_schedules.specs.Members.{Acts, IsTaken, KeepsExecuted, FitsTaken, MayEnd}
 use Rattle.vr_schedules.specs.Standing.{Shows, Leads, IsSettled, Happened, Acted, Went, WentAt, releases_of}
 use Rattle.vr_schedules.proofs.Lists.{stays}
@@ -34,12 +34,12 @@ pub record IsActing (f : ℕ) (answer : List Command → Answer) (w : World Comm
   pub steps : (c : Completion) → steps f answer w e c ≡ if_up f answer w i (does f answer w i (by_rule f i answer (w.replicas i) input) c)
 
 -- and by the code's event, which it may take up
-pub record IsTaking (IsSavedAs : Program → ℕ → List Command → SavedController → Type 0) (g : Membership) (w : World Command Answer) (e : Event Command) (i : ℕ) (event : taken.Event) : Type 0 where
+pub record IsTaking (IsSavedAs : Program → ℕ → List Command → SavedController → Type 0) (g : Group) (w : World Command Answer) (e : Event Command) (i : ℕ) (event : taken.Event) : Type 0 where
   pub input : Input Command Answer
   pub acting : IsActing g.f g.answer w e i input
-  pub taken : IsTaken IsSavedAs (numbered g i) event (Acts input)
-  pub keeps : KeepsExecuted (numbered g i) (w.replicas i) (Acts input)
-  pub fits : FitsTaken IsSavedAs (numbered g i) (w.replicas i) event (Acts input)
+  pub taken : IsTaken IsSavedAs (member g i) event (Acts input)
+  pub keeps : KeepsExecuted (member g i) (w.replicas i) (Acts input)
+  pub fits : FitsTaken IsSavedAs (member g i) (w.replicas i) event (Acts input)
 
 -- a replica that is down loses nothing
 nothing_lost : (f i : ℕ) (answer : List Command → Answer) (r : ReplicaState Command) (g : Option Bool) (c : Completion) → MayEnd r (keep f i answer r) g c → c ≡ Done
@@ -75,7 +75,7 @@ unless_up : (w : World Command Answer) (i : ℕ) (o : Outcome Command Answer) �
 unless_up w i o e = rw e refl
 
 -- what leads to a world leads to each with the same replicas and the same committed list
-leads_same : (g : Membership) (past later : List (Event Command × Completion)) (w v u : World Command Answer) → ((j : ℕ) → v.replicas j ≡ u.replicas j) → v.order ≡ u.order → Leads g past later w v → Leads g past later w u
+leads_same : (g : Group) (past later : List (Event Command × Completion)) (w v u : World Command Answer) → ((j : ℕ) → v.replicas j ≡ u.replicas j) → v.order ≡ u.order → Leads g past later w v → Leads g past later w u
 leads_same g past later w v u same order k = record {
   grows = subst (IsPrefix w.order) order k.grows;
   had = λ i. subst (λ (r : ReplicaState Command). length w.order < r.commit_number → u.order ≡ take r.commit_number (w.replicas i).log) (same i) (λ past. sym order ∙ k.had i past);
@@ -85,7 +85,7 @@ leads_same g past later w v u same order k = record {
 
 module _ (IsSavedAs : Program → ℕ → List Command → SavedController → Type 0) {M : Type 0} (StandsFor : M → Membership → ReplicaState Command → Type 0) where
   -- what shows a world shows each that is the same point by point
-  pub shows_same : (g : Membership) (past : List (Event Command × Completion)) (s : code.World M) (w v : World Command Answer) → ((j : ℕ) → w.replicas j ≡ v.replicas j) → ((j : ℕ) → w.stores j ≡ v.stores j) → ((j : ℕ) → w.failing j ≡ v.failing j)
+  pub shows_same : (g : Group) (past : List (Event Command × Completion)) (s : code.World M) (w v : World Command Answer) → ((j : ℕ) → w.replicas j ≡ v.replicas j) → ((j : ℕ) → w.stores j ≡ v.stores j) → ((j : ℕ) → w.failing j ≡ v.failing j)
       → ((j x : ℕ) → w.used j x ≡ v.used j x) → ((c : ℕ) → w.clients c ≡ v.clients c) → w.sent ≡ v.sent → w.order ≡ v.order → Shows IsSavedAs StandsFor g past s w → Shows IsSavedAs StandsFor g past s v
   shows_same g past s w v a b c d e sent k h = record {
     config = h.config;
@@ -98,7 +98,7 @@ module _ (IsSavedAs : Program → ℕ → List Command → SavedController → T
   }
 
   -- a replica that is down did nothing
-  shows_kept : (g : Membership) (past : List (Event Command × Completion)) (s : code.World M) (w : World Command Answer) (i : ℕ) → IsPrefix (executed (w.replicas i)) w.order
+  shows_kept : (g : Group) (past : List (Event Command × Completion)) (s : code.World M) (w : World Command Answer) (i : ℕ) → IsPrefix (executed (w.replicas i)) w.order
       → Shows IsSavedAs StandsFor g past s (does g.f g.answer w i (keep g.f i g.answer (w.replicas i)) Done) → Shows IsSavedAs StandsFor g past s w
   shows_kept g past s w i k h = shows_same g past s (does g.f g.answer w i (keep g.f i g.answer (w.replicas i)) Done) w
       (λ j. put_cases w.replicas i (w.replicas i) j (λ r. r ≡ w.replicas j) (λ e. ap w.replicas (sym e)) (λ ne. refl))
@@ -106,7 +106,7 @@ module _ (IsSavedAs : Program → ℕ → List Command → SavedController → T
       (λ j. refl) (λ j x. refl) (λ c. refl) (append-nil w.sent) (stays w.order (executed (w.replicas i)) k) h
 
   -- the world goes on by the replica's step as by the event
-  acting_leads : (g : Membership) (past : List (Event Command × Completion)) (w : World Command Answer) (e : Event Command) (i : ℕ) (input : Input Command Answer) → IsActing g.f g.answer w e i input → IsSettled g past w
+  acting_leads : (g : Group) (past : List (Event Command × Completion)) (w : World Command Answer) (e : Event Command) (i : ℕ) (input : Input Command Answer) → IsActing g.f g.answer w e i input → IsSettled g past w
       → (c : Completion) → Leads g past (past ++ (e, c) ∷ []) w (does g.f g.answer w i (acts g.f i g.answer (w.replicas i) input) c)
   acting_leads g past w e i input k settled c = go (is_down (w.replicas i).status) refl
     where
@@ -120,7 +120,7 @@ module _ (IsSavedAs : Program → ℕ → List Command → SavedController → T
       go false up = subst (λ o. Leads g past (past ++ (e, c) ∷ []) w (does g.f g.answer w i o c)) (sym (acts_up g.f i g.answer (w.replicas i) input up))
           (subst (Leads g past (past ++ (e, c) ∷ []) w) (happens_is g.f g.answer w e c k.has_step ∙ k.steps c ∙ is_up g.f g.answer w _ i k.within up) (settled.leads e c))
 
-  acting_happened : (g : Membership) (past : List (Event Command × Completion)) (s v : code.World M) (w : World Command Answer) (e : Event Command) (i : ℕ) (input : Input Command Answer) → IsActing g.f g.answer w e i input → IsSettled g past w
+  acting_happened : (g : Group) (past : List (Event Command × Completion)) (s v : code.World M) (w : World Command Answer) (e : Event Command) (i : ℕ) (input : Input Command Answer) → IsActing g.f g.answer w e i input → IsSettled g past w
       → Acted IsSavedAs StandsFor g past (λ c. past ++ (e, c) ∷ []) s v w i (acts g.f i g.answer (w.replicas i) input) → Happened IsSavedAs StandsFor g past s v w e
   acting_happened g past s v w e i input k settled a = record {
     completion = a.completion;
@@ -151,7 +151,7 @@ module _ (IsSavedAs : Program → ℕ → List Command → SavedController → T
 
   -- where the replica's step is the event's, the event happened
   pub acting_went : (s v : code.World M) (e : Event Command) (i : ℕ) (event : taken.Event) (result : Result (Unit {0}) EventFault)
-      → ((g : Membership) (past : List (Event Command × Completion)) (w : World Command Answer) → Shows IsSavedAs StandsFor g past s w → IsSettled g past w → IsTaking IsSavedAs g w e i event)
+      → ((g : Group) (past : List (Event Command × Completion)) (w : World Command Answer) → Shows IsSavedAs StandsFor g past s w → IsSettled g past w → IsTaking IsSavedAs g w e i event)
       → WentAt IsSavedAs StandsFor s v i event result → Went IsSavedAs StandsFor s v e result
   acting_went s v e i event (Ok u) takes k = record {
     went = λ g past w h settled.

@@ -29,7 +29,7 @@ use Rattle.vr_schedules.specs.declared.fault.Reason.TheVariants.{WaitsOrNot}
 use Rattle.vr_schedules.specs.declared.fault.EventFault.{EventFault}
 use Rattle.vr_schedules.specs.declared.fault.EventFault.TheVariants.{Refused}
 use Rattle.vr_schedules.specs.Events.{number_of}
-use Rattle.vr_model.specs.Membership.{Membership}
+use Rattle.vr_model.specs.Membership.{Group, Membership}
 use Rattle.vr_model.specs.Replicas.{ReplicaState}
 use Rattle.vr_schedules.specs.Clients.{client_of, submit_refusal, restart_refusal, request_to, requests_below}
 use Rattle.vr_schedules.specs.Handed.{AllStandIn}
@@ -41,7 +41,7 @@ use Rattle.vr_schedules.proofs.Acting.{happens_is}
 
 module _ (IsSavedAs : Program → ℕ → List Command → SavedController → Type 0) {M : Type 0} (StandsFor : M → Membership → ReplicaState Command → Type 0) where
   -- an event that is no replica's, and so is always done
-  pub happened_done : (g : Membership) (past : List (Event Command × Completion)) (s v : code.World M) (w : World Command Answer) (e : Event Command) → IsSettled g past w → refusal g.f w e ≡ None → ((n : ℕ) → released n w e ≡ [])
+  pub happened_done : (g : Group) (past : List (Event Command × Completion)) (s v : code.World M) (w : World Command Answer) (e : Event Command) → IsSettled g past w → refusal g.f w e ≡ None → ((n : ℕ) → released n w e ≡ [])
       → Shows IsSavedAs StandsFor g past v (steps g.f g.answer w e Done)
       → v.trace.releases.items ≡ s.trace.releases.items → v.trace.lengths.items ≡ s.trace.lengths.items → v.trace.lost.items ≡ s.trace.lost.items → Happened IsSavedAs StandsFor g past s v w e
   happened_done g past s v w e settled free none shows releases lengths lost = record {
@@ -55,7 +55,7 @@ module _ (IsSavedAs : Program → ℕ → List Command → SavedController → T
   }
 
   -- a client changed, and messages were sent
-  pub shows_client : (g : Membership) (past : List (Event Command × Completion)) (s : code.World M) (w : World Command Answer) (c : ℕ) (k : Client) (next : ClientState Command) (t : Trace) (xs : List (Message Command Answer)) (sub : List (Request Command))
+  pub shows_client : (g : Group) (past : List (Event Command × Completion)) (s : code.World M) (w : World Command Answer) (c : ℕ) (k : Client) (next : ClientState Command) (t : Trace) (xs : List (Message Command Answer)) (sub : List (Request Command))
       → Shows IsSavedAs StandsFor g past s w → c < client_count → client_of k ≡ next → AllStandIn IsSavedAs g past t.sent.items xs → t.order.items ≡ s.trace.order.items
       → Shows IsSavedAs StandsFor g past (record s { clients = slice_set s.clients c k; trace = t }) (record w { clients = put w.clients c next; sent = xs; submitted = sub })
   shows_client g past s w c k next t xs sub h l is sends order = record {
@@ -69,7 +69,7 @@ module _ (IsSavedAs : Program → ℕ → List Command → SavedController → T
   }
 
   -- messages were sent
-  pub shows_sent : (g : Membership) (past : List (Event Command × Completion)) (s : code.World M) (w : World Command Answer) (t : Trace) (xs : List (Message Command Answer))
+  pub shows_sent : (g : Group) (past : List (Event Command × Completion)) (s : code.World M) (w : World Command Answer) (t : Trace) (xs : List (Message Command Answer))
       → Shows IsSavedAs StandsFor g past s w → AllStandIn IsSavedAs g past t.sent.items xs → t.order.items ≡ s.trace.order.items
       → Shows IsSavedAs StandsFor g past (record s { trace = t }) (record w { sent = xs })
   shows_sent g past s w t xs h sends order = record {

@@ -27,12 +27,12 @@ use Rattle.vr_schedules.specs.declared.world.World as code
 use Rattle.vr_schedules.specs.declared.fault.EventFault.{EventFault}
 use Rattle.vr_schedules.specs.declared.fault.Reason.TheVariants.{NotYetSent}
 use Rattle.vr_schedules.specs.declared.fault.EventFault.TheVariants.{Refused, Memory}
-use Rattle.vr_model.specs.Membership.{Membership}
-use Rattle.vr_schedules.specs.Handed.{numbered, IsHandedOn, MayBeHandedOn, HandsOn, StandsIn}
+use Rattle.vr_model.specs.Membership.{Group, Membership, member}
+use Rattle.vr_schedules.specs.Handed.{IsHandedOn, MayBeHandedOn, HandsOn, StandsIn}
 use Rattle.vr_schedules.specs.Members.{Acts, FitsTaken}
 use Rattle.vr_schedules.specs.Standing.{Shows, IsSettled, CameToClient, Went, WentAt, WentToClient, releases_of}
 use Rattle.vr_schedules.proofs.Lists.{take_prefix}
-use Rattle.vr_schedules.proofs.Standings.{log_at, stands_at, all_at, all_count}
+use Rattle.vr_schedules.proofs.Standings.{all_at, all_count}
 use Rattle.vr_schedules.proofs.Shown.{shows_later}
 use Rattle.vr_schedules.proofs.Acting.{IsActing, IsTaking, acting_went, happens_is}
 use Rattle.vr_schedules.proofs.Clients.{happened_done}
@@ -112,7 +112,7 @@ not_sent IsSavedAs StandsFor s n l = record {
 }
 
 module _ (IsSavedAs : Program → ℕ → List Command → SavedController → Type 0) {M : Type 0} (StandsFor : M → Membership → ReplicaState Command → Type 0) (s : code.World M) (n : ℕ) (m : sent.Message) (at : slice_get s.trace.sent.items n ≡ Some m) where
-  module _ (g : Membership) (past : List (Event Command × Completion)) (w : World Command Answer) (h : Shows IsSavedAs StandsFor g past s w) where
+  module _ (g : Group) (past : List (Event Command × Completion)) (w : World Command Answer) (h : Shows IsSavedAs StandsFor g past s w) where
     abbrev stands : (x : Message Command Answer) × (slice_get w.sent n ≡ Some x) × StandsIn IsSavedAs g past m x
     stands = all_at IsSavedAs g past s.trace.sent.items w.sent n m h.sent at
 
@@ -140,7 +140,7 @@ module _ (IsSavedAs : Program → ℕ → List Command → SavedController → T
 
     -- a checkpoint in it is of the log that the rules make of it
     handed : (i : ℕ) (k : KeptLog) → m.to ≡ party.Replica i → IsSettled g past w → IsHandedOn IsSavedAs g past k (message_with log m).body
-        → ((acts g.f i g.answer (w.replicas i) (Takes (message_with log m))).replica ≡ w.replicas i) ⊎ LogStands IsSavedAs (numbered g i) k (acts g.f i g.answer (w.replicas i) (Takes (message_with log m))).replica.log
+        → ((acts g.f i g.answer (w.replicas i) (Takes (message_with log m))).replica ≡ w.replicas i) ⊎ LogStands IsSavedAs g k (acts g.f i g.answer (w.replicas i) (Takes (message_with log m))).replica.log
     handed i k to settled a = go (is_down (w.replicas i).status) refl
       where
         r : ReplicaState Command
@@ -155,15 +155,15 @@ module _ (IsSavedAs : Program → ℕ → List Command → SavedController → T
         makes : is_down r.status ≡ false → ((receives g.f i g.answer r (party_of m.from) handed_on).replica ≡ r) ⊎ ((receives g.f i g.answer r (party_of m.from) handed_on).replica.log ≡ a.whole)
         makes up = settled.hands_on i n a.view a.op_number a.commit_number (party_of m.from) a.whole up sent_is a.within a.was
 
-        stands_for : (o : Outcome Command Answer) → (o.replica ≡ r) ⊎ (o.replica.log ≡ a.whole) → (o.replica ≡ r) ⊎ LogStands IsSavedAs (numbered g i) k o.replica.log
-        stands_for o x = elim x [ inl same ↦ inl same | inr is ↦ inr (subst (LogStands IsSavedAs (numbered g i) k) (sym is) (log_at IsSavedAs g g.number i k a.whole a.stands)) ]
+        stands_for : (o : Outcome Command Answer) → (o.replica ≡ r) ⊎ (o.replica.log ≡ a.whole) → (o.replica ≡ r) ⊎ LogStands IsSavedAs g k o.replica.log
+        stands_for o x = elim x [ inl same ↦ inl same | inr is ↦ inr (subst (LogStands IsSavedAs g k) (sym is) a.stands) ]
 
-        go : (b : Bool) → is_down r.status ≡ b → ((acts g.f i g.answer r (Takes (message_with log m))).replica ≡ r) ⊎ LogStands IsSavedAs (numbered g i) k (acts g.f i g.answer r (Takes (message_with log m))).replica.log
+        go : (b : Bool) → is_down r.status ≡ b → ((acts g.f i g.answer r (Takes (message_with log m))).replica ≡ r) ⊎ LogStands IsSavedAs g k (acts g.f i g.answer r (Takes (message_with log m))).replica.log
         go true down = rw down (inl refl)
-        go false up = rw up (subst (λ b. ((receives g.f i g.answer r (party_of m.from) b).replica ≡ r) ⊎ LogStands IsSavedAs (numbered g i) k (receives g.f i g.answer r (party_of m.from) b).replica.log) (sym a.meant_is)
+        go false up = rw up (subst (λ b. ((receives g.f i g.answer r (party_of m.from) b).replica ≡ r) ⊎ LogStands IsSavedAs g k (receives g.f i g.answer r (party_of m.from) b).replica.log) (sym a.meant_is)
             (stands_for (receives g.f i g.answer r (party_of m.from) handed_on) (makes up)))
 
-    fits : (i : ℕ) → m.to ≡ party.Replica i → IsSettled g past w → FitsTaken IsSavedAs (numbered g i) (w.replicas i) (event.Message m) (Acts (Takes (message_with log m)))
+    fits : (i : ℕ) → m.to ≡ party.Replica i → IsSettled g past w → FitsTaken IsSavedAs (member g i) (w.replicas i) (event.Message m) (Acts (Takes (message_with log m)))
     fits i to settled = go m.body hands_on
       where
         o : Outcome Command Answer
@@ -172,11 +172,11 @@ module _ (IsSavedAs : Program → ℕ → List Command → SavedController → T
         hands_on : HandsOn IsSavedAs g past m.body (message_with log m).body
         hands_on = subst (λ (x : Message Command Answer). HandsOn IsSavedAs g past m.body x.body) stands.2.stands.is stands.2.hands_on
 
-        of : (c : Option SavedCheckpoint) (k : KeptLog) → MayBeHandedOn IsSavedAs g past c k (message_with log m).body → MayFit IsSavedAs (numbered g i) c k (w.replicas i) o
+        of : (c : Option SavedCheckpoint) (k : KeptLog) → MayBeHandedOn IsSavedAs g past c k (message_with log m).body → MayFit IsSavedAs g c k (w.replicas i) o
         of None k a = tt
         of (Some c) k a = handed i k to settled a
 
-        go : (b : body.Body) → HandsOn IsSavedAs g past b (message_with log m).body → Fits IsSavedAs (numbered g i) (w.replicas i) o b
+        go : (b : body.Body) → HandsOn IsSavedAs g past b (message_with log m).body → Fits IsSavedAs g (w.replicas i) o b
         go (says.NewState v p c k) a = of k.checkpoint k a
         go (says.Request x) a = tt
         go (says.Prepare v x p c) a = tt
@@ -194,7 +194,7 @@ module _ (IsSavedAs : Program → ℕ → List Command → SavedController → T
     taking i l to settled = record {
       input = Takes (message_with log m);
       acting = delivers i l to;
-      taken = stands_at IsSavedAs g g.number i m (message_with log m) (record { log = log; carries = stands.2.stands.carries; is = refl });
+      taken = record { log = log; carries = stands.2.stands.carries; is = refl };
       keeps = keeps i to settled;
       fits = fits i to settled;
     }

@@ -21,8 +21,8 @@ use Rattle.vr_schedules.specs.declared.world.Node.{Node}
 use Rattle.vr_schedules.specs.declared.store.Kept.{Kept}
 use Rattle.vr_schedules.specs.declared.fault.EventFault.{EventFault}
 use Rattle.vr_schedules.specs.declared.fault.EventFault.TheVariants.{Refused, Memory}
-use Rattle.vr_model.specs.Membership.{Membership}
-use Rattle.vr_schedules.specs.Handed.{numbered, AllStandIn}
+use Rattle.vr_model.specs.Membership.{Group, Membership, member}
+use Rattle.vr_schedules.specs.Handed.{AllStandIn}
 use Rattle.vr_schedules.specs.Members.{ComesUp, by_rules, keeps_new, failing_of, MayEnd}
 use Rattle.vr_schedules.specs.Events.{IsReason}
 use Rattle.vr_schedules.specs.Standing.{NodeShows, Shows, Leads, IsSettled, Happened, Acted, Went, WentAt, releases_of}
@@ -39,7 +39,7 @@ both_pass false b e = absurd cc
 
 module _ (IsSavedAs : Program → ℕ → List Command → SavedController → Type 0) {M : Type 0} (StandsFor : M → Membership → ReplicaState Command → Type 0) where
   -- one node changed, and nothing else
-  shows_node : (g : Membership) (past : List (Event Command × Completion)) (s : code.World M) (w v : World Command Answer) (i : ℕ) (p : Node M) → Shows IsSavedAs StandsFor g past s w
+  shows_node : (g : Group) (past : List (Event Command × Completion)) (s : code.World M) (w v : World Command Answer) (i : ℕ) (p : Node M) → Shows IsSavedAs StandsFor g past s w
       → NodeShows StandsFor g i p v
       → ((j : ℕ) → (j ≡ i → ⊥) → (w.replicas j ≡ v.replicas j) × (w.stores j ≡ v.stores j) × (w.failing j ≡ v.failing j) × ((x : ℕ) → w.used j x ≡ v.used j x))
       → ((c : ℕ) → w.clients c ≡ v.clients c) → w.sent ≡ v.sent → w.order ≡ v.order
@@ -66,7 +66,7 @@ module _ (IsSavedAs : Program → ℕ → List Command → SavedController → T
         happened_done IsSavedAs StandsFor g past s (record s { nodes = with_item s.nodes i p }) w (Crash i) settled (rw (lt-ltb i (group_size g.f) within) refl) (λ m. refl)
         (shows_node g past s w v i p h
         (record {
-          replica = subst (StandsFor p.member (numbered g i)) (sym (put_same w.replicas i (down (w.replicas i)) i refl)) (stands (numbered g i) (w.replicas i) k.replica);
+          replica = subst (StandsFor p.member (member g i)) (sym (put_same w.replicas i (down (w.replicas i)) i refl)) (stands (member g i) (w.replicas i) k.replica);
           store = put_same w.stores i (w.stores i) i refl ∙ k.store ∙ ap (λ x. x.view) (sym store);
           failing = k.failing ∙ ap failing_of (sym store);
           used = λ x. k.used x ∙ ap (λ u. contains nat_cmp u x) (sym used);
@@ -105,14 +105,14 @@ module _ (IsSavedAs : Program → ℕ → List Command → SavedController → T
   used_there : (w : World Command Answer) (i x j : ℕ) → (j ≡ i → ⊥) → (y : ℕ) → w.used j y ≡ (using_nonce w i x).used j y
   used_there w i x j ne y = ap (λ (t : ℕ → Bool). t y) (sym (put_other w.used i (put (w.used i) x true) j ne))
 
-  shows_nonce : (g : Membership) (past : List (Event Command × Completion)) (s : code.World M) (w : World Command Answer) (i x : ℕ) (n p : Node M) → Shows IsSavedAs StandsFor g past s w → slice_get s.nodes.items i ≡ Some n
+  shows_nonce : (g : Group) (past : List (Event Command × Completion)) (s : code.World M) (w : World Command Answer) (i x : ℕ) (n p : Node M) → Shows IsSavedAs StandsFor g past s w → slice_get s.nodes.items i ≡ Some n
       → p.member ≡ n.member → p.store ≡ n.store → ((y : ℕ) → contains nat_cmp p.used y ≡ put (contains nat_cmp n.used) x true y)
       → Shows IsSavedAs StandsFor g past (record s { nodes = with_item s.nodes i p }) (using_nonce w i x)
-  shows_nonce g past s w i x n p h at member store used =
+  shows_nonce g past s w i x n p h at same_member store used =
       let k : NodeShows StandsFor g i n w = h.nodes i n at in
       shows_node g past s w (using_nonce w i x) i p h
       (record {
-        replica = subst (λ x. StandsFor x (numbered g i) (w.replicas i)) (sym member) k.replica;
+        replica = subst (λ x. StandsFor x (member g i) (w.replicas i)) (sym same_member) k.replica;
         store = k.store ∙ ap (λ z. z.view) (sym store);
         failing = k.failing ∙ ap failing_of (sym store);
         used = λ y. ap (λ (t : ℕ → Bool). t y) (put_same w.used i (put (w.used i) x true) i refl) ∙ ap (λ b. cond (y == x) true b) (k.used y) ∙ sym (used y);
@@ -122,21 +122,21 @@ module _ (IsSavedAs : Program → ℕ → List Command → SavedController → T
 
   module _ (s v : code.World M) (i x : ℕ) (n p : Node M) (l : i < length s.nodes.items) (at : slice_get s.nodes.items i ≡ Some n)
       (may : (m : Membership) (r : ReplicaState Command) → StandsFor n.member m r → unless (not (contains nat_cmp n.used x)) nonce_used (unless (is_down r.status) still_up None) ≡ None)
-      (member : p.member ≡ n.member) (store : p.store ≡ n.store) (used : (y : ℕ) → contains nat_cmp p.used y ≡ put (contains nat_cmp n.used) x true y)
-      (g : Membership) (past : List (Event Command × Completion)) (w : World Command Answer) (h : Shows IsSavedAs StandsFor g past s w) where
+      (same_member : p.member ≡ n.member) (store : p.store ≡ n.store) (used : (y : ℕ) → contains nat_cmp p.used y ≡ put (contains nat_cmp n.used) x true y)
+      (g : Group) (past : List (Event Command × Completion)) (w : World Command Answer) (h : Shows IsSavedAs StandsFor g past s w) where
     down_now : is_down (w.replicas i).status ≡ true
-    down_now = both_pass (not (contains nat_cmp n.used x)) (is_down (w.replicas i).status) (may (numbered g i) (w.replicas i) (h.nodes i n at).replica)
+    down_now = both_pass (not (contains nat_cmp n.used x)) (is_down (w.replicas i).status) (may (member g i) (w.replicas i) (h.nodes i n at).replica)
 
     restart_step : refusal g.f w (Restart i x) ≡ None
     restart_step =
         let within : i < group_size g.f = omega (arith, h.size) in
-        rw (lt-ltb i (group_size g.f) within, (h.nodes i n at).used x) (may (numbered g i) (w.replicas i) (h.nodes i n at).replica)
+        rw (lt-ltb i (group_size g.f) within, (h.nodes i n at).used x) (may (member g i) (w.replicas i) (h.nodes i n at).replica)
 
-    restart_outcome : by_rules (numbered g i) (w.stores i) (w.replicas i) (ComesUp x) ≡ on_restart g.f i g.answer (record (w.replicas i) { stored_view = w.stores i }) x
+    restart_outcome : by_rules (member g i) (w.stores i) (w.replicas i) (ComesUp x) ≡ on_restart g.f i g.answer (record (w.replicas i) { stored_view = w.stores i }) x
     restart_outcome = rw down_now refl
 
     restart_leads : IsSettled g past w → (c : Completion)
-        → Leads g past (past ++ (Restart i x, c) ∷ []) w (does g.f g.answer (using_nonce w i x) i (by_rules (numbered g i) (w.stores i) (w.replicas i) (ComesUp x)) c)
+        → Leads g past (past ++ (Restart i x, c) ∷ []) w (does g.f g.answer (using_nonce w i x) i (by_rules (member g i) (w.stores i) (w.replicas i) (ComesUp x)) c)
     restart_leads settled c = subst (λ o. Leads g past (past ++ (Restart i x, c) ∷ []) w (does g.f g.answer (using_nonce w i x) i o c)) (sym restart_outcome)
         (subst (Leads g past (past ++ (Restart i x, c) ∷ []) w) (happens_is g.f g.answer w (Restart i x) c restart_step) (settled.leads (Restart i x) c))
 
@@ -145,11 +145,11 @@ module _ (IsSavedAs : Program → ℕ → List Command → SavedController → T
     from_nonce later z k = record { grows = k.grows; had = k.had; was = k.was; still = k.still }
 
     restart_acts : IsSettled g past w → (result : Result (Unit {0}) EventFault) → WentAt IsSavedAs StandsFor (record s { nodes = with_item s.nodes i p }) v i (event.Restart x) result
-        → MatchResult result (λ _. Acted IsSavedAs StandsFor g past (λ c. past ++ (Restart i x, c) ∷ []) (record s { nodes = with_item s.nodes i p }) v (using_nonce w i x) i (by_rules (numbered g i) (w.stores i) (w.replicas i) (ComesUp x))) (λ fault. fault ≡ Memory)
-    restart_acts settled result k = k.went g past (using_nonce w i x) (ComesUp x) (λ c. past ++ (Restart i x, c) ∷ []) (shows_nonce g past s w i x n p h at member store used) (settled.agreed i) (settled.within i)
+        → MatchResult result (λ _. Acted IsSavedAs StandsFor g past (λ c. past ++ (Restart i x, c) ∷ []) (record s { nodes = with_item s.nodes i p }) v (using_nonce w i x) i (by_rules (member g i) (w.stores i) (w.replicas i) (ComesUp x))) (λ fault. fault ≡ Memory)
+    restart_acts settled result k = k.went g past (using_nonce w i x) (ComesUp x) (λ c. past ++ (Restart i x, c) ∷ []) (shows_nonce g past s w i x n p h at same_member store used) (settled.agreed i) (settled.within i)
         (λ c. from_nonce (past ++ (Restart i x, c) ∷ []) _ (restart_leads settled c)) refl tt tt
 
-    restart_happened : Acted IsSavedAs StandsFor g past (λ c. past ++ (Restart i x, c) ∷ []) (record s { nodes = with_item s.nodes i p }) v (using_nonce w i x) i (by_rules (numbered g i) (w.stores i) (w.replicas i) (ComesUp x))
+    restart_happened : Acted IsSavedAs StandsFor g past (λ c. past ++ (Restart i x, c) ∷ []) (record s { nodes = with_item s.nodes i p }) v (using_nonce w i x) i (by_rules (member g i) (w.stores i) (w.replicas i) (ComesUp x))
         → Happened IsSavedAs StandsFor g past s v w (Restart i x)
     restart_happened a = record {
       completion = a.completion;
@@ -169,11 +169,11 @@ module _ (IsSavedAs : Program → ℕ → List Command → SavedController → T
       → p.member ≡ n.member → p.store ≡ n.store → ((y : ℕ) → contains nat_cmp p.used y ≡ put (contains nat_cmp n.used) x true y)
       → WentAt IsSavedAs StandsFor (record s { nodes = with_item s.nodes i p }) v i (event.Restart x) result
       → Went IsSavedAs StandsFor s v (Restart number x) result
-  restarts_went s v i number x n p result named l at may member store used k = subst (λ m. Went IsSavedAs StandsFor s v (Restart m x) result) named (go result k)
+  restarts_went s v i number x n p result named l at may same_member store used k = subst (λ m. Went IsSavedAs StandsFor s v (Restart m x) result) named (go result k)
     where
       go : (result : Result (Unit {0}) EventFault) → WentAt IsSavedAs StandsFor (record s { nodes = with_item s.nodes i p }) v i (event.Restart x) result → Went IsSavedAs StandsFor s v (Restart i x) result
-      go (Ok u) k = record { went = λ g past w h settled. restart_happened s v i x n p l at may member store used g past w h (restart_acts s v i x n p l at may member store used g past w h settled (Ok u) k) }
-      go (Err (Refused reason)) k = record { went = λ g past w h settled. absurd (let no_fault : Refused reason ≡ Memory = restart_acts s v i x n p l at may member store used g past w h settled (Err (Refused reason)) k in cc) }
+      go (Ok u) k = record { went = λ g past w h settled. restart_happened s v i x n p l at may same_member store used g past w h (restart_acts s v i x n p l at may same_member store used g past w h settled (Ok u) k) }
+      go (Err (Refused reason)) k = record { went = λ g past w h settled. absurd (let no_fault : Refused reason ≡ Memory = restart_acts s v i x n p l at may same_member store used g past w h settled (Err (Refused reason)) k in cc) }
       go (Err Memory) k = record { went = λ g past w h settled. tt }
 
   -- it can't
@@ -186,6 +186,6 @@ module _ (IsSavedAs : Program → ℕ → List Command → SavedController → T
       go (Refused reason) why = record {
         went = λ g past w h settled.
             let within : i < group_size g.f = omega (arith, h.size) in
-            rw (lt-ltb i (group_size g.f) within, (h.nodes i n at).used x) (why (numbered g i) (w.replicas i) (h.nodes i n at).replica);
+            rw (lt-ltb i (group_size g.f) within, (h.nodes i n at).used x) (why (member g i) (w.replicas i) (h.nodes i n at).replica);
       }
       go Memory why = record { went = λ g past w h settled. tt }

@@ -17,7 +17,7 @@ use Rattle.vr_schedules.specs.Laws.{Laws}
 use Rattle.vr_model.specs.Report.{released, lost_at, report_from, report, refused_at, first_refusal, AllComplete, all_done}
 use Rattle.vr_schedules.specs.declared.world.World as code
 use Rattle.vr_schedules.specs.declared.event.WorldEvent.{WorldEvent}
-use Rattle.vr_model.specs.Membership.{Membership}
+use Rattle.vr_model.specs.Membership.{Group, Membership}
 use Rattle.vr_schedules.specs.Clients.{client_of, fresh_client}
 use Rattle.vr_schedules.specs.declared.fault.EventFault.{EventFault}
 use Rattle.vr_schedules.specs.declared.fault.EventFault.TheVariants.{Refused, Memory}
@@ -128,7 +128,7 @@ was_last f answer es i normal =
       log_is = ap (λ (v : World Command Answer). (v.replicas i).log) same;
     }
 
-leads : Laws → (g : Membership) (es : List (Event Command × Completion)) (e : Event Command) (c : Completion) → Leads g es (es ++ (e, c) ∷ []) (run g.f g.answer es start) (happens g.f g.answer (run g.f g.answer es start) e c)
+leads : Laws → (g : Group) (es : List (Event Command × Completion)) (e : Event Command) (c : Completion) → Leads g es (es ++ (e, c) ∷ []) (run g.f g.answer es start) (happens g.f g.answer (run g.f g.answer es start) e c)
 leads laws g es e c =
     let w : World Command Answer = run g.f g.answer es start in
     let v : World Command Answer = happens g.f g.answer w e c in
@@ -140,7 +140,7 @@ leads laws g es e c =
       still = was_still g.f g.answer es ((e, c) ∷ []);
     }
 
-settled : Laws → (g : Membership) (es : List (Event Command × Completion)) → IsSettled g es (run g.f g.answer es start)
+settled : Laws → (g : Group) (es : List (Event Command × Completion)) → IsSettled g es (run g.f g.answer es start)
 settled laws g es = record {
   leads = leads laws g es;
   agreed = λ i. subst (λ (xs : List (Event Command × Completion)). IsPrefix (executed ((run g.f g.answer xs start).replicas i)) (run g.f g.answer es (start {C = Command} {A = Answer})).order) (take_whole es) ((laws.one_history g.f g.answer es []).executed (length es) i);
@@ -149,7 +149,7 @@ settled laws g es = record {
   hands_on = laws.hands_on g.f g.answer es;
 }
 
-module _ (IsSavedAs : Program → ℕ → List Command → SavedController → Type 0) {M : Type 0} (StandsFor : M → Membership → ReplicaState Command → Type 0) (g : Membership) where
+module _ (IsSavedAs : Program → ℕ → List Command → SavedController → Type 0) {M : Type 0} (StandsFor : M → Membership → ReplicaState Command → Type 0) (g : Group) where
   -- the code has come to the end of these events
   pub record Reached (s : code.World M) (events : List (Event Command × Completion)) : Type 0 where
     pub have_steps : first_refusal g.f g.answer 0 events start ≡ None
@@ -175,7 +175,7 @@ module _ (IsSavedAs : Program → ℕ → List Command → SavedController → T
 
 -- it has come to the end of the first events of a schedule
 pub record IsAt (IsSavedAs : Program → ℕ → List Command → SavedController → Type 0) {M : Type 0} (StandsFor : M → Membership → ReplicaState Command → Type 0) (members : List M) (f : ℕ) (schedule : List WorldEvent) (n : ℕ) (s : code.World M) : Type 0 where
-  pub reached : (g : Membership) → g.f ≡ f → AreNew StandsFor g members
+  pub reached : (g : Group) → g.f ≡ f → AreNew StandsFor g members
       → (events : List (Event Command × Completion)) × (map (λ e. e.0) events ≡ events_of (take n schedule)) × Reached IsSavedAs StandsFor g s events
 
 mapped : {X Y : Type 0} (g : X → Y) (xs : List X) (i : ℕ) (y : Y) → slice_get (map g xs) i ≡ Some y → (x : X) × (slice_get xs i ≡ Some x) × (g x ≡ y)
@@ -189,7 +189,7 @@ replicated (suc n) x zero y e = cc
 replicated (suc n) x (suc i) y e = replicated n x i y e
 
 -- the code's world before the first event shows that of the definitions
-first_shows : (IsSavedAs : Program → ℕ → List Command → SavedController → Type 0) {M : Type 0} (StandsFor : M → Membership → ReplicaState Command → Type 0) (group : Config) (g : Membership) (members : List M) (s : code.World M) → IsFirst group members s → g.f ≡ group.f → AreNew StandsFor g members
+first_shows : (IsSavedAs : Program → ℕ → List Command → SavedController → Type 0) {M : Type 0} (StandsFor : M → Membership → ReplicaState Command → Type 0) (group : Config) (g : Group) (members : List M) (s : code.World M) → IsFirst group members s → g.f ≡ group.f → AreNew StandsFor g members
     → Shows IsSavedAs StandsFor g [] s start
 first_shows IsSavedAs {M} StandsFor group g members s k sized all = record {
   config = ap (λ (x : Config). x.f) k.config ∙ sym sized;
@@ -242,7 +242,7 @@ rest_own schedule n x es at own =
 
 pub fails_at : Laws → (IsSavedAs : Program → ℕ → List Command → SavedController → Type 0) {M : Type 0} (StandsFor : M → Membership → ReplicaState Command → Type 0) (f : ℕ) (members : List M) (schedule : List WorldEvent) (n : ℕ) (x d : WorldEvent) (s v : code.World M) (fault : EventFault) → n < length schedule → x ≡ get_or schedule n d
     → WentOn IsSavedAs StandsFor s v (event_of x) (Err fault) → IsAt IsSavedAs StandsFor members f schedule n s
-    → (g : Membership) → g.f ≡ f → AreNew StandsFor g members → Fails g schedule (error_at n fault)
+    → (g : Group) → g.f ≡ f → AreNew StandsFor g members → Fails g schedule (error_at n fault)
 fails_at laws IsSavedAs StandsFor f members schedule n x d s v Memory within is went k g sized all = tt
 fails_at laws IsSavedAs {M} StandsFor f members schedule n x d s v (Refused reason) within is went k g sized all =
     let at : slice_get schedule n ≡ Some x = slice_get-get_or schedule n d within ∙ ap Some (sym is) in
@@ -260,7 +260,7 @@ fails_at laws IsSavedAs {M} StandsFor f members schedule n x d s v (Refused reas
     }
 
 pub traced_at : Laws → (IsSavedAs : Program → ℕ → List Command → SavedController → Type 0) {M : Type 0} (StandsFor : M → Membership → ReplicaState Command → Type 0) (f : ℕ) (members : List M) (schedule : List WorldEvent) (n : ℕ) (s : code.World M) → length schedule ≤ n → IsAt IsSavedAs StandsFor members f schedule n s
-    → (g : Membership) → g.f ≡ f → AreNew StandsFor g members → IsTraced IsSavedAs g schedule s.trace
+    → (g : Group) → g.f ≡ f → AreNew StandsFor g members → IsTraced IsSavedAs g schedule s.trace
 traced_at laws IsSavedAs StandsFor f members schedule n s past k g sized all =
     let r = k.reached g sized all in
     let h : Shows IsSavedAs StandsFor g r.0 s (run g.f g.answer r.0 start) = r.2.shows in

@@ -22,8 +22,8 @@ use Rattle.vr_schedules.proofs.Tables.{put_same, put_other}
 use Rattle.vr_schedules.specs.declared.world.World as code
 use Rattle.vr_schedules.specs.declared.world.Node.{Node}
 use Rattle.vr_schedules.specs.declared.trace.Trace.{Trace}
-use Rattle.vr_model.specs.Membership.{Membership}
-use Rattle.vr_schedules.specs.Handed.{numbered, AllStandIn}
+use Rattle.vr_model.specs.Membership.{Group, Membership, member}
+use Rattle.vr_schedules.specs.Handed.{AllStandIn}
 use Rattle.vr_schedules.specs.Members.{Taken, IsTaken, Does, by_rules, KeepsExecuted, FitsTaken, MayEnd, failing_of, failing_left, is_lost}
 use Rattle.vr_schedules.specs.Standing.{NodeShows, Shows, Leads, WentAt}
 use Rattle.vr_schedules.proofs.Lists.{set_cases, stays, take_front, settled_order, requests_taken}
@@ -39,37 +39,37 @@ failing_there g i (Ended c) j ne = refl
 failing_there g i (SaveFailed new) j ne = put_other g i None j ne
 
 -- a node shows each world that is the same at its number
-pub node_same : {M : Type 0} (StandsFor : M → Membership → ReplicaState Command → Type 0) (g : Membership) (j : ℕ) (n : Node M) (w v : World Command Answer) → w.replicas j ≡ v.replicas j → w.stores j ≡ v.stores j → w.failing j ≡ v.failing j → ((x : ℕ) → w.used j x ≡ v.used j x)
+pub node_same : {M : Type 0} (StandsFor : M → Membership → ReplicaState Command → Type 0) (g : Group) (j : ℕ) (n : Node M) (w v : World Command Answer) → w.replicas j ≡ v.replicas j → w.stores j ≡ v.stores j → w.failing j ≡ v.failing j → ((x : ℕ) → w.used j x ≡ v.used j x)
     → NodeShows StandsFor g j n w → NodeShows StandsFor g j n v
 node_same StandsFor g j n w v a b c d k = record {
-  replica = subst (StandsFor n.member (numbered g j)) a k.replica;
+  replica = subst (StandsFor n.member (member g j)) a k.replica;
   store = sym b ∙ k.store;
   failing = sym c ∙ k.failing;
   used = λ x. sym (d x) ∙ k.used x;
 }
 
-module _ (IsSavedAs : Program → ℕ → List Command → SavedController → Type 0) {M : Type 0} (StandsFor : M → Membership → ReplicaState Command → Type 0) (g : Membership) (past later : List (Event Command × Completion)) where
+module _ (IsSavedAs : Program → ℕ → List Command → SavedController → Type 0) {M : Type 0} (StandsFor : M → Membership → ReplicaState Command → Type 0) (g : Group) (past later : List (Event Command × Completion)) where
   -- what shows a world shows it also later on
   pub shows_later : (s : code.World M) (w : World Command Answer) → ((view : ℕ) (log : List (Request Command)) → WasLogOf g.f g.answer past view log → WasLogOf g.f g.answer later view log)
       → Shows IsSavedAs StandsFor g past s w → Shows IsSavedAs StandsFor g later s w
   shows_later s w still h = record { config = h.config; size = h.size; nodes = h.nodes; count = h.count; clients = h.clients; sent = all_later IsSavedAs g past later still s.trace.sent.items w.sent h.sent; order = h.order }
 
-  nothing_stands : (i : ℕ) (r : ReplicaState Command) (out : List sent.Message) → AllStandFrom IsSavedAs (numbered g i) r out [] → AllStandIn IsSavedAs g later out []
+  nothing_stands : (i : ℕ) (r : ReplicaState Command) (out : List sent.Message) → AllStandFrom IsSavedAs g r out [] → AllStandIn IsSavedAs g later out []
   nothing_stands i r [] a = tt
   nothing_stands i r (x ∷ xs) a = absurd a
 
   -- what a step sent
   sends_stand : (i : ℕ) (r : ReplicaState Command) (stored : ℕ) (o : Outcome Command Answer) (out : List sent.Message) (e : Ending)
       → (is_normal (effect r stored o e).replica.status ≡ true → WasLogOf g.f g.answer later (effect r stored o e).replica.view (effect r stored o e).replica.log)
-      → AllStandFrom IsSavedAs (numbered g i) o.replica out (effect r stored o e).sends → AllStandIn IsSavedAs g later out (effect r stored o e).sends
-  sends_stand i r stored o out (Ended Done) was a = sent_stand IsSavedAs g later i o.replica out o.sends was a
+      → AllStandFrom IsSavedAs g o.replica out (effect r stored o e).sends → AllStandIn IsSavedAs g later out (effect r stored o e).sends
+  sends_stand i r stored o out (Ended Done) was a = sent_stand IsSavedAs g later o.replica out o.sends was a
   sends_stand i r stored o out (Ended (Lost saved)) was a = nothing_stands i o.replica out a
   sends_stand i r stored o out (SaveFailed new) was a = nothing_stands i o.replica out a
 
   -- replica i did its step
   pub shows_does : (s : code.World M) (w : World Command Answer) (i : ℕ) (n p : Node M) (t : Trace) (o : Outcome Command Answer) (lost : Bool) (out : List sent.Message)
       → Shows IsSavedAs StandsFor g past s w → slice_get s.nodes.items i ≡ Some n → p.used ≡ n.used
-      → (d : Does IsSavedAs (numbered g i) (StandsFor p.member (numbered g i)) (w.replicas i) n.store p.store o lost out)
+      → (d : Does IsSavedAs (member g i) (StandsFor p.member (member g i)) (w.replicas i) n.store p.store o lost out)
       → Leads g past later w (does g.f g.answer w i o d.completion)
       → t.sent.items ≡ s.trace.sent.items ++ out
       → requests_of t.order.items ≡ (does g.f g.answer w i o d.completion).order
@@ -82,14 +82,14 @@ module _ (IsSavedAs : Program → ℕ → List Command → SavedController → T
       let ending : Ending = ending_of d.completion o.saves (w.failing i) in
       let same_ending : ending ≡ ending_of d.completion o.saves (failing_of n.store) = ap (ending_of d.completion o.saves) k.failing in
       let here : v.replicas i ≡ (T (w.stores i) (w.failing i)).replica = put_same w.replicas i (T (w.stores i) (w.failing i)).replica i refl in
-      let went : AllStandFrom IsSavedAs (numbered g i) o.replica out (T (w.stores i) (w.failing i)).sends = subst (λ (e : Effect Command Answer). AllStandFrom IsSavedAs (numbered g i) o.replica out e.sends) (sym same) d.sends in
+      let went : AllStandFrom IsSavedAs g o.replica out (T (w.stores i) (w.failing i)).sends = subst (λ (e : Effect Command Answer). AllStandFrom IsSavedAs g o.replica out e.sends) (sym same) d.sends in
       let stand : AllStandIn IsSavedAs g later out (T (w.stores i) (w.failing i)).sends =
       sends_stand i (w.replicas i) (w.stores i) o out ending (subst (λ (r : ReplicaState Command). is_normal r.status ≡ true → WasLogOf g.f g.answer later r.view r.log) here (leads.was i)) went in
       record {
         config = h.config;
         size = length-set s.nodes.items i p ∙ h.size;
         nodes = set_cases s.nodes.items i p (λ j m. NodeShows StandsFor g j m v) (record {
-          replica = subst (StandsFor p.member (numbered g i)) (ap (λ (e : Effect Command Answer). e.replica) (sym same) ∙ sym here) d.replica;
+          replica = subst (StandsFor p.member (member g i)) (ap (λ (e : Effect Command Answer). e.replica) (sym same) ∙ sym here) d.replica;
           store = put_same w.stores i (T (w.stores i) (w.failing i)).store i refl ∙ ap (λ (e : Effect Command Answer). e.store) same ∙ sym d.store;
           failing = failing_here w.failing i ending ∙ ap (failing_left (w.failing i)) same_ending ∙ ap (λ g. failing_left g (ending_of d.completion o.saves (failing_of n.store))) k.failing ∙ sym d.failing;
           used = λ x. k.used x ∙ ap (λ u. contains nat_cmp u x) (sym used);
@@ -124,10 +124,10 @@ module _ (IsSavedAs : Program → ℕ → List Command → SavedController → T
     (is : slice_get s.nodes.items i ≡ Some n) (used : p.used ≡ n.used)
     (looks : (m : Membership) (r : ReplicaState Command) → StandsFor n.member m r → r.commit_number ≤ length s.trace.order.items → requests_of ahead ≡ requests_of s.trace.order.items ++ drop (length s.trace.order.items) r.log)
     (releases : t.releases.items ≡ s.trace.releases.items) (lengths : t.lengths.items ≡ s.trace.lengths.items) where
-  module _ (g : Membership) (past : List (Event Command × Completion)) (w : World Command Answer) (h : Shows IsSavedAs StandsFor g past s w) where
+  module _ (g : Group) (past : List (Event Command × Completion)) (w : World Command Answer) (h : Shows IsSavedAs StandsFor g past s w) where
     -- the rules' outcome, by the view that the node keeps and by the world's
-    same_outcome : (x : Taken) → by_rules (numbered g i) n.store.view (w.replicas i) x ≡ by_rules (numbered g i) (w.stores i) (w.replicas i) x
-    same_outcome x = ap (λ view. by_rules (numbered g i) view (w.replicas i) x) (sym (h.nodes i n is).store)
+    same_outcome : (x : Taken) → by_rules (member g i) n.store.view (w.replicas i) x ≡ by_rules (member g i) (w.stores i) (w.replicas i) x
+    same_outcome x = ap (λ view. by_rules (member g i) view (w.replicas i) x) (sym (h.nodes i n is).store)
 
     -- and the effect
     same_effect : (o : Outcome Command Answer) (c : Completion)
@@ -142,7 +142,7 @@ module _ (IsSavedAs : Program → ℕ → List Command → SavedController → T
 
     -- what came behind the committed list
     ahead_is : (w.replicas i).commit_number ≤ length w.order → requests_of ahead ≡ w.order ++ drop (length w.order) (w.replicas i).log
-    ahead_is low = looks (numbered g i) (w.replicas i) (h.nodes i n is).replica (omega (arith, long))
+    ahead_is low = looks (member g i) (w.replicas i) (h.nodes i n is).replica (omega (arith, long))
         ∙ ap (λ k. requests_of s.trace.order.items ++ drop k (w.replicas i).log) (sym long) ∙ ap (λ xs. xs ++ drop (length w.order) (w.replicas i).log) (sym h.order)
 
   pub acted_done : (out : List sent.Message) (committed : ℕ)
@@ -155,17 +155,17 @@ module _ (IsSavedAs : Program → ℕ → List Command → SavedController → T
   acted_done out committed does_it sends was order lost = record {
     went = λ g past w x later h before within leads taken keeps fits.
         let k : NodeShows StandsFor g i n w = h.nodes i n is in
-        let o : Outcome Command Answer = by_rules (numbered g i) (w.stores i) (w.replicas i) x in
-        let d : Does IsSavedAs (numbered g i) (StandsFor p.member (numbered g i)) (w.replicas i) n.store p.store o false out =
-        subst (λ y. Does IsSavedAs (numbered g i) (StandsFor p.member (numbered g i)) (w.replicas i) n.store p.store y false out) (same_outcome g past w h x) (does_it (numbered g i) (w.replicas i) x k.replica taken keeps fits) in
+        let o : Outcome Command Answer = by_rules (member g i) (w.stores i) (w.replicas i) x in
+        let d : Does IsSavedAs (member g i) (StandsFor p.member (member g i)) (w.replicas i) n.store p.store o false out =
+        subst (λ y. Does IsSavedAs (member g i) (StandsFor p.member (member g i)) (w.replicas i) n.store p.store y false out) (same_outcome g past w h x) (does_it (member g i) (w.replicas i) x k.replica taken keeps fits) in
         let q : ReplicaState Command = (effect (w.replicas i) (w.stores i) o (ending_of d.completion o.saves (w.failing i))).replica in
-        let stands : StandsFor p.member (numbered g i) q = subst (λ (y : Effect Command Answer). StandsFor p.member (numbered g i) y.replica) (same_effect g past w h o d.completion) d.replica in
+        let stands : StandsFor p.member (member g i) q = subst (λ (y : Effect Command Answer). StandsFor p.member (member g i) y.replica) (same_effect g past w h o d.completion) d.replica in
         let here : (does g.f g.answer w i o d.completion).replicas i ≡ q = put_same w.replicas i q i refl in
         let lead : Leads g past (later d.completion) w (does g.f g.answer w i o d.completion) = leads d.completion in
         let had : length w.order < q.commit_number → longer w.order (executed q) ≡ take q.commit_number (w.replicas i).log =
         subst (λ (r : ReplicaState Command). length w.order < r.commit_number → longer w.order (executed q) ≡ take r.commit_number (w.replicas i).log) here (lead.had i) in
         let now : requests_of t.order.items ≡ (does g.f g.answer w i o d.completion).order =
-        requests_taken t.order.items ahead (max committed q.commit_number) (order (numbered g i) q stands)
+        requests_taken t.order.items ahead (max committed q.commit_number) (order (member g i) q stands)
         ∙ ap (λ l. take (max l q.commit_number) (requests_of ahead)) (was ∙ sym (long g past w h))
         ∙ ap (take (max (length w.order) q.commit_number)) (ahead_is g past w h within)
         ∙ settled_order w.order (w.replicas i).log q.log q.commit_number lead.grows had in
@@ -189,9 +189,9 @@ module _ (IsSavedAs : Program → ℕ → List Command → SavedController → T
   acted_lost committed does_it sends was order lost = record {
     went = λ g past w x later h before within leads taken keeps fits.
         let k : NodeShows StandsFor g i n w = h.nodes i n is in
-        let o : Outcome Command Answer = by_rules (numbered g i) (w.stores i) (w.replicas i) x in
-        let d : Does IsSavedAs (numbered g i) (StandsFor p.member (numbered g i)) (w.replicas i) n.store p.store o true [] =
-        subst (λ y. Does IsSavedAs (numbered g i) (StandsFor p.member (numbered g i)) (w.replicas i) n.store p.store y true []) (same_outcome g past w h x) (does_it (numbered g i) (w.replicas i) x k.replica taken keeps fits) in
+        let o : Outcome Command Answer = by_rules (member g i) (w.stores i) (w.replicas i) x in
+        let d : Does IsSavedAs (member g i) (StandsFor p.member (member g i)) (w.replicas i) n.store p.store o true [] =
+        subst (λ y. Does IsSavedAs (member g i) (StandsFor p.member (member g i)) (w.replicas i) n.store p.store y true []) (same_outcome g past w h x) (does_it (member g i) (w.replicas i) x k.replica taken keeps fits) in
         let now : requests_of t.order.items ≡ (does g.f g.answer w i o d.completion).order =
         requests_taken t.order.items ahead committed order
         ∙ ap (λ l. take l (requests_of ahead)) (was ∙ sym (long g past w h))

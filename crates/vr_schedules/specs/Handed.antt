@@ -12,15 +12,11 @@ use Rattle.vr_model.specs.Logs.{Request}
 use Rattle.vr_model.specs.Messages.{Body, NewState, Message}
 use Rattle.vr_model.specs.World.{Event, Completion}
 use Rattle.vr_model.specs.Views.{WasLogOf}
-use Rattle.vr_model.specs.Membership.{Membership}
+use Rattle.vr_model.specs.Membership.{Group}
 use Rattle.vr_model.specs.Checkpoints.{SavedCheckpoint, KeptLog, LogStands}
 use Rattle.vr_model.specs.StandsFor.{Stands}
 
--- the same member, with another number
-abbrev pub numbered : Membership → ℕ → Membership
-numbered g i = record g { number = i }
-
-module _ (IsSavedAs : Program → ℕ → List Command → SavedController → Type 0) (g : Membership)
+module _ (IsSavedAs : Program → ℕ → List Command → SavedController → Type 0) (g : Group)
     (past : List (Event Command × Completion)) where
   -- it is a NEWSTATE that hands a whole log on, which a replica had that was normal in its view; and its checkpoint and
   -- entries are of that log
@@ -42,7 +38,7 @@ module _ (IsSavedAs : Program → ℕ → List Command → SavedController → T
   HandsOn (says.NewState v p c log) meant = MayBeHandedOn log.checkpoint log meant
   HandsOn _ meant = Unit {0}
 
-  -- the message of the run stands for that one, whatever the number of who takes it
+  -- the message of the run stands for that one, whoever takes it
   pub record StandsIn (m : sent.Message) (meant : Message Command Answer) : Type 0 where
     pub stands : Stands IsSavedAs g m meant
     pub hands_on : HandsOn m.body meant.body

@@ -39,7 +39,7 @@ KeepsExecuted p r (ComesUp x) = Unit {0}
 module _ (IsSavedAs : Program → ℕ → List Command → SavedController → Type 0) (p : Membership) where
   -- the event is this for the rules: a message stands for the one that they take up
   abbrev pub IsTaken : Event → Taken → Type 0
-  IsTaken (event.Message a) (Acts (Takes meant)) = Stands IsSavedAs p a meant
+  IsTaken (event.Message a) (Acts (Takes meant)) = Stands IsSavedAs p.group a meant
   IsTaken event.Timeout (Acts TimesOut) = Unit {0}
   IsTaken event.Resend (Acts Resends) = Unit {0}
   IsTaken (event.Restart x) (ComesUp y) = x ≡ y
@@ -47,7 +47,7 @@ module _ (IsSavedAs : Program → ℕ → List Command → SavedController → T
 
   -- the checkpoint of a NEWSTATE is of the log that the rules make of it
   abbrev pub FitsTaken : ReplicaState Command → Event → Taken → Type 0
-  FitsTaken r (event.Message a) taken = Fits IsSavedAs p r (by_rules p 0 r taken) a.body
+  FitsTaken r (event.Message a) taken = Fits IsSavedAs p.group r (by_rules p 0 r taken) a.body
   FitsTaken r event.Timeout taken = Unit {0}
   FitsTaken r event.Resend taken = Unit {0}
   FitsTaken r (event.Restart x) taken = Unit {0}
@@ -85,5 +85,5 @@ pub record Does (IsSavedAs : Program → ℕ → List Command → SavedControlle
   pub replica : NowStands (effect r before.view o (ending_of completion o.saves (failing_of before))).replica
   pub store : after.view ≡ (effect r before.view o (ending_of completion o.saves (failing_of before))).store
   pub failing : failing_of after ≡ failing_left (failing_of before) (ending_of completion o.saves (failing_of before))
-  pub sends : AllStandFrom IsSavedAs p o.replica out
+  pub sends : AllStandFrom IsSavedAs p.group o.replica out
       (effect r before.view o (ending_of completion o.saves (failing_of before))).sends

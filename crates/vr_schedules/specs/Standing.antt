@@ -25,9 +25,9 @@ use Rattle.vr_schedules.specs.declared.client.Client.{Client}
 use Rattle.vr_schedules.specs.declared.trace.Release as told
 use Rattle.vr_schedules.specs.declared.fault.EventFault.{EventFault}
 use Rattle.vr_schedules.specs.declared.fault.EventFault.TheVariants.{Memory}
-use Rattle.vr_model.specs.Membership.{Membership}
+use Rattle.vr_model.specs.Membership.{Group, Membership, member}
 use Rattle.vr_schedules.specs.Members.{Taken, by_rules, IsTaken, KeepsExecuted, FitsTaken, MayEnd, failing_of}
-use Rattle.vr_schedules.specs.Handed.{numbered, AllStandIn}
+use Rattle.vr_schedules.specs.Handed.{AllStandIn}
 use Rattle.vr_schedules.specs.Clients.{client_of, fresh_client}
 use Rattle.vr_schedules.specs.Events.{IsReason}
 
@@ -52,16 +52,16 @@ pub record IsFirst {M : Type 0} (group : Config) (members : List M) (s : code.Wo
   pub sent : s.trace.sent.items ≡ []
   pub lost : s.trace.lost.items ≡ []
 
-module _ {M : Type 0} (StandsFor : M → Membership → ReplicaState Command → Type 0) (g : Membership) where
+module _ {M : Type 0} (StandsFor : M → Membership → ReplicaState Command → Type 0) (g : Group) where
   -- the node is replica i of this world, with its store and the nonces that it has used
   pub record NodeShows (i : ℕ) (n : Node M) (w : World Command Answer) : Type 0 where
-    pub replica : StandsFor n.member (numbered g i) (w.replicas i)
+    pub replica : StandsFor n.member (member g i) (w.replicas i)
     pub store : w.stores i ≡ n.store.view
     pub failing : w.failing i ≡ failing_of n.store
     pub used : (x : ℕ) → w.used i x ≡ contains nat_cmp n.used x
 
 module _ (IsSavedAs : Program → ℕ → List Command → SavedController → Type 0) {M : Type 0}
-    (StandsFor : M → Membership → ReplicaState Command → Type 0) (g : Membership)
+    (StandsFor : M → Membership → ReplicaState Command → Type 0) (g : Group)
     (past : List (Event Command × Completion)) where
   -- these are the replicas, the clients, the messages and the committed list of this world
   pub record Shows (s : code.World M) (w : World Command Answer) : Type 0 where
@@ -73,7 +73,7 @@ module _ (IsSavedAs : Program → ℕ → List Command → SavedController → T
     pub sent : AllStandIn IsSavedAs g past s.trace.sent.items w.sent
     pub order : w.order ≡ requests_of s.trace.order.items
 
-module _ (g : Membership) (past : List (Event Command × Completion)) where
+module _ (g : Group) (past : List (Event Command × Completion)) where
   -- From w to v, which is the world after these events: the committed list grows, by what the replica that commits it
   -- had in its log before; and who is normal now has a log that some replica had.
   pub record Leads (later : List (Event Command × Completion)) (w v : World Command Answer) : Type 0 where
@@ -111,7 +111,7 @@ module _ (g : Membership) (past : List (Event Command × Completion)) where
         (NewState view op_number commit_number (drop op_number whole))).replica.log ≡ whole)
 
 module _ (IsSavedAs : Program → ℕ → List Command → SavedController → Type 0) {M : Type 0}
-    (StandsFor : M → Membership → ReplicaState Command → Type 0) (g : Membership)
+    (StandsFor : M → Membership → ReplicaState Command → Type 0) (g : Group)
     (past : List (Event Command × Completion)) where
   -- the event happened, and was done or lost
   pub record Happened (old new : code.World M) (w : World Command Answer) (e : Event Command) : Type 0 where
@@ -159,7 +159,7 @@ module _ (IsSavedAs : Program → ℕ → List Command → SavedController → T
 pub record Went (IsSavedAs : Program → ℕ → List Command → SavedController → Type 0) {M : Type 0}
     (StandsFor : M → Membership → ReplicaState Command → Type 0) (old new : code.World M) (e : Event Command)
     (result : Result (Unit {0}) EventFault) : Type 0 where
-  pub went : (g : Membership) (past : List (Event Command × Completion)) (w : World Command Answer)
+  pub went : (g : Group) (past : List (Event Command × Completion)) (w : World Command Answer)
       → Shows IsSavedAs StandsFor g past old w → IsSettled g past w
       → MatchResult result (λ _. Happened IsSavedAs StandsFor g past old new w e) (IsReason (refusal g.f w e))
 
@@ -167,21 +167,21 @@ pub record Went (IsSavedAs : Program → ℕ → List Command → SavedControlle
 pub record WentAt (IsSavedAs : Program → ℕ → List Command → SavedController → Type 0) {M : Type 0}
     (StandsFor : M → Membership → ReplicaState Command → Type 0) (old new : code.World M) (i : ℕ) (e : taken.Event)
     (result : Result (Unit {0}) EventFault) : Type 0 where
-  pub went : (g : Membership) (past : List (Event Command × Completion)) (w : World Command Answer) (t : Taken)
+  pub went : (g : Group) (past : List (Event Command × Completion)) (w : World Command Answer) (t : Taken)
       (later : Completion → List (Event Command × Completion)) → Shows IsSavedAs StandsFor g past old w
       → IsPrefix (executed (w.replicas i)) w.order → (w.replicas i).commit_number ≤ length w.order
       → ((c : Completion) → Leads g past (later c) w
-      (does g.f g.answer w i (by_rules (numbered g i) (w.stores i) (w.replicas i) t) c))
-      → IsTaken IsSavedAs (numbered g i) e t → KeepsExecuted (numbered g i) (w.replicas i) t
-      → FitsTaken IsSavedAs (numbered g i) (w.replicas i) e t
+      (does g.f g.answer w i (by_rules (member g i) (w.stores i) (w.replicas i) t) c))
+      → IsTaken IsSavedAs (member g i) e t → KeepsExecuted (member g i) (w.replicas i) t
+      → FitsTaken IsSavedAs (member g i) (w.replicas i) e t
       → MatchResult result (λ _. Acted IsSavedAs StandsFor g past later old new w i
-      (by_rules (numbered g i) (w.stores i) (w.replicas i) t)) (λ fault. fault ≡ Memory)
+      (by_rules (member g i) (w.stores i) (w.replicas i) t)) (λ fault. fault ≡ Memory)
 
 -- From whatever world it was, the reply came to this client.
 pub record WentToClient (IsSavedAs : Program → ℕ → List Command → SavedController → Type 0) {M : Type 0}
     (StandsFor : M → Membership → ReplicaState Command → Type 0) (old new : code.World M) (c view number : ℕ)
     (a : Answer) (result : Result (Unit {0}) EventFault) : Type 0 where
-  pub went : (g : Membership) (past : List (Event Command × Completion)) (w : World Command Answer)
+  pub went : (g : Group) (past : List (Event Command × Completion)) (w : World Command Answer)
       → Shows IsSavedAs StandsFor g past old w
       → MatchResult result (λ _. CameToClient IsSavedAs StandsFor g past old new w c view number a)
       (λ fault. fault ≡ Memory)
@@ -191,6 +191,6 @@ pub record WentToClient (IsSavedAs : Program → ℕ → List Command → SavedC
 pub record WentOn (IsSavedAs : Program → ℕ → List Command → SavedController → Type 0) {M : Type 0}
     (StandsFor : M → Membership → ReplicaState Command → Type 0) (old new : code.World M) (e : Event Command)
     (result : Result (Unit {0}) EventFault) : Type 0 where
-  pub went : (g : Membership) (past : List (Event Command × Completion)) (w : World Command Answer)
+  pub went : (g : Group) (past : List (Event Command × Completion)) (w : World Command Answer)
       → Shows IsSavedAs StandsFor g past old w → IsSettled g past w
       → MatchResult result (λ _. HappenedOn IsSavedAs StandsFor g past old new w e) (IsReason (refusal g.f w e))

@@ -14,14 +14,13 @@ use Rattle.vr_schedules.specs.declared.event.WorldEvent.{WorldEvent}
 use Rattle.vr_schedules.specs.declared.trace.Trace as code
 use Rattle.vr_schedules.specs.declared.fault.WorldError.{WorldError}
 use Rattle.vr_schedules.specs.declared.fault.WorldError.TheVariants.{BadSchedule, Memory}
-use Rattle.vr_model.specs.Membership.{Membership}
-use Rattle.vr_schedules.specs.Handed.{numbered}
+use Rattle.vr_model.specs.Membership.{Group, Membership, member}
 use Rattle.vr_schedules.specs.Events.{events_of, number_of}
 use Rattle.vr_schedules.specs.Standing.{releases_of}
 
 -- The trace is this report: its order, lengths, releases and lost events, and messages that stand for those that were
 -- sent.
-pub record IsReport (IsSavedAs : Program → ℕ → List Command → SavedController → Type 0) (g : Membership)
+pub record IsReport (IsSavedAs : Program → ℕ → List Command → SavedController → Type 0) (g : Group)
     (trace : code.Trace) (r : Report Command Answer) : Type 0 where
   pub order : requests_of trace.order.items ≡ r.order
   pub lengths : trace.lengths.items ≡ r.lengths
@@ -30,12 +29,12 @@ pub record IsReport (IsSavedAs : Program → ℕ → List Command → SavedContr
   pub lost : trace.lost.items ≡ r.lost
 
 -- they are the replicas of a group, each in its place, and have done nothing yet
-pub record AreNew {M : Type 0} (StandsFor : M → Membership → ReplicaState Command → Type 0) (g : Membership)
+pub record AreNew {M : Type 0} (StandsFor : M → Membership → ReplicaState Command → Type 0) (g : Group)
     (members : List M) : Type 0 where
   pub count : length members ≡ group_size g.f
-  pub each : (i : ℕ) (m : M) → slice_get members i ≡ Some m → StandsFor m (numbered g i) first_replica
+  pub each : (i : ℕ) (m : M) → slice_get members i ≡ Some m → StandsFor m (member g i) first_replica
 
-module _ (IsSavedAs : Program → ℕ → List Command → SavedController → Type 0) (g : Membership)
+module _ (IsSavedAs : Program → ℕ → List Command → SavedController → Type 0) (g : Group)
     (schedule : List WorldEvent) where
   -- there is a run of the schedule, each event done or lost as it may be, of which the trace is the report; and the
   -- report explains the run
@@ -47,7 +46,7 @@ module _ (IsSavedAs : Program → ℕ → List Command → SavedController → T
     pub is_report : IsReport IsSavedAs g trace (report g.f g.answer events)
     pub explains : Explains g.f g.answer events
 
-module _ (g : Membership) (schedule : List WorldEvent) where
+module _ (g : Group) (schedule : List WorldEvent) where
   -- there is a run of the schedule in which this is the first event without a step, and the lowest reason
   pub record IsRefused (index reason : ℕ) : Type 0 where
     pub events : List (Event Command × Completion)

@@ -1,7 +1,7 @@
 //! The run of a schedule.
 
 ghost use Rattle.std.specs.Prelude.{◌≡◌, MatchResult};
-ghost use Rattle.vr_model.specs.Membership.{Membership};
+ghost use Rattle.vr_model.specs.Membership.{Group};
 ghost use Rattle.vr_schedules.specs.Laws.{Laws};
 ghost use Rattle.vr_schedules.specs.Traces.{AreNew, IsTraced, Fails};
 
@@ -40,7 +40,7 @@ pub fn run_schedule<M: Member>(
     members: Vec<M>,
     events: &[WorldEvent],
 ) -> Result<Trace, WorldError>
-    ensures { (g : Membership) → g.f ≡ config.f → AreNew M.StandsFor g members.items
+    ensures { (g : Group) → g.f ≡ config.f → AreNew M.StandsFor g members.items
         → MatchResult result (IsTraced M.IsSavedAs g events.now) (Fails g events.now) }
 {
     laws();

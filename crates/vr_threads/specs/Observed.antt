@@ -34,7 +34,7 @@ abbrev pub AllSaid : Membership → KnownState Command → List (Observation Com
 AllSaid m k [] out = out ≡ []
 AllSaid m k (g ∷ gs) out =
     let now : KnownState Command = next m.f m.number m.answer k g in
-    (first : List code.Message) × (rest : List code.Message) × AllStandFrom IsSavedAs m now.replica first (said g)
+    (first : List code.Message) × (rest : List code.Message) × AllStandFrom IsSavedAs m.group now.replica first (said g)
     × AllSaid m now gs rest × (out ≡ first ++ rest)
 
 module _ (m : Membership) (k : KnownState Command) where

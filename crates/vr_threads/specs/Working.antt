@@ -2,8 +2,8 @@
 use Rattle.std.specs.Prelude.{◌≡◌, ℕ, Bool, Option, Some, None}
 use Rattle.vr_model.specs.declared.event.Event.TheVariants as event
 use Rattle.vr_model.specs.declared.event.Stored.{Stored}
-use Rattle.vr_model.specs.Membership.{Membership}
-use Rattle.vr_core.specs.StandsFor.{member}
+use Rattle.vr_model.specs.Membership.{Membership, member}
+use Rattle.vr_core.specs.StandsFor.{group_of}
 use Rattle.vr_ports.specs.Telling.{Grows}
 use Rattle.vr_replica.specs.declared.state.Replica.{Replica}
 use Rattle.vr_replica.specs.Stepped.{StepResult}
@@ -15,7 +15,7 @@ use Rattle.vr_threads.specs.Starting.{HasStarted}
 
 -- the member that is started by a plan
 abbrev pub planned : Plan → Membership
-planned plan = member plan.config.f plan.number plan.image plan.budget.instructions
+planned plan = member (group_of plan.config.f plan.image plan.budget.instructions) plan.number
 
 -- it is for the replica of this number, of this group and program, with these limits
 abbrev pub IsPlannedFor : ClusterConfig → Program → ℕ → Plan → Type 0

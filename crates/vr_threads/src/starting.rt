@@ -1,7 +1,8 @@
 //! How a replica starts from a store that counts its starts.
 
 ghost use Rattle.std.specs.Prelude.{IfOk};
-ghost use Rattle.vr_core.specs.StandsFor.{member};
+ghost use Rattle.vr_model.specs.Membership.{member};
+ghost use Rattle.vr_core.specs.StandsFor.{group_of};
 ghost use Rattle.vr_threads.specs.Starting.{HasStarted};
 
 use il_loader::Image;
@@ -49,7 +50,8 @@ pub(crate) fn start_from<S: Starts>(
     store: &mut S,
 ) -> Result<Started, AllocError>
     ensures { IfOk result (λ start. HasStarted S.begin_gives
-        (member config.f number image budget.instructions) store.old store.new start.replica start.nonce start.starts) }
+        (member (group_of config.f image budget.instructions) number) store.old store.new start.replica start.nonce
+        start.starts) }
 {
     match store.begin() {
         Ok(stored) if stored.starts == 1 => Ok(Started {

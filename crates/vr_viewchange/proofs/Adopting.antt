@@ -17,10 +17,10 @@ use Rattle.vr_model.specs.Checkpoints.{KeptLog, base_of, end_of}
 use Rattle.vr_model.specs.StandsFor.{IsCarried}
 use Rattle.vr_core.specs.declared.state.Core.{Core}
 use Rattle.vr_model.specs.Membership.{Membership}
-use Rattle.vr_core.specs.StandsFor.{StandsFor, StandsForLog, IsSavedAs, own_member}
+use Rattle.vr_core.specs.StandsFor.{StandsFor, StandsForLog, IsSavedAs, own_group}
 use Rattle.ctl_debugger.specs.Prepared.{Prepared}
 use Rattle.vr_core.specs.Changes.{AreReady, between, IsReadyFor, BecomesIfReady, FollowsIfReady}
-use Rattle.vr_core.proofs.WholeLogs.{is_own, begins, whole_length}
+use Rattle.vr_core.proofs.WholeLogs.{is_own_group, begins, whole_length}
 use Rattle.vr_core.proofs.Sent.{sent_more, sent_none, sent_to}
 use Rattle.vr_core.specs.Follows.{Tells, Says, AreSent, Replaces, Adopts, Leaves, FollowsIfKept, Loses, executed_to, op_number_of, message_from}
 use Rattle.vr_core.proofs.Doing.{lost, does_keep}
@@ -52,18 +52,18 @@ behind_matters f i answer r u o e s v same none =
 
 module _ (core : Core) (handed : KeptLog) (u c : ℕ) (behind_it : Tells core (λ w r. behind w.f w.number w.answer r u) true) (long : core.commit_number ≤ end_of handed) (l : List (Request Command)) (its : StandsForLog core c handed l) where
   same_length : length l ≡ end_of handed
-  same_length = whole_length (own_member core) handed l its.stands
+  same_length = whole_length (own_group core) handed l its.stands
 
   -- it stands for the same in a core of the same member
   carried : (mid : Core) (w : Membership) (r q : ReplicaState Command) → StandsFor core w r → StandsFor mid w q → StandsForLog mid c handed l
-  carried mid w r q st now = subst (λ m. IsCarried IsSavedAs m c handed l) (is_own core w st.member ∙ sym (is_own mid w now.member)) its
+  carried mid w r q st now = subst (λ m. IsCarried IsSavedAs m c handed l) (is_own_group core w st.member ∙ sym (is_own_group mid w now.member)) its
 
   -- what is ready for it
   ready_for : (w : Membership) (r : ReplicaState Command) → StandsFor core w r → (n : ℕ) (ps : List Prepared) → IsReadyFor core handed n ps → AreReady (between l (max r.commit_number (base_of handed.checkpoint)) n) ps
   ready_for w r st n ps ready = subst (λ (k : ℕ). AreReady (between l (max k (base_of handed.checkpoint)) n) ps) (sym st.commit_number) (ready.ready l its.stands)
 
   within : base_of handed.checkpoint ≤ length l
-  within = begins (own_member core) handed.checkpoint l its.stands.first
+  within = begins (own_group core) handed.checkpoint l its.stands.first
 
   abbrev pub adopts_it : Membership → ReplicaState Command → Outcome Command Answer
   adopts_it w r =
@@ -106,7 +106,7 @@ module _ (core : Core) (handed : KeptLog) (u c : ℕ) (behind_it : Tells core (�
         subst (λ o. Leaves core new sends w o) (sym same) (record {
           replica = three;
           saves = saved_above core new w r u st.stored_view (sym three.stored_view ∙ ap (λ n. max n u) st.stored_view);
-          sends = subst (λ (ms : List (Message Command Answer)). AreSent w sends ms)
+          sends = subst (λ (ms : List (Message Command Answer)). AreSent w.group sends ms)
               (ap (λ n. cond (ltb (max r.commit_number (min c n)) n) (send w.f w.number w.answer (primary w.f u) (PrepareOk u n) ∷ []) []) (sym same_length)
               ∙ sym (ap (λ t. cond t (replies w.f w.number w.answer q r.commit_number (k - r.commit_number)) [] ++ goes) other))
               (told.says w r st);
@@ -116,7 +116,7 @@ module _ (core : Core) (handed : KeptLog) (u c : ℕ) (behind_it : Tells core (�
   -- it is the primary, and replies
   pub start_replies : (adopting holding new : Core) (ps : List Prepared) (some more sends : List sent.Message) (k number : ℕ) → base_of handed.checkpoint ≤ core.commit_number → primary core.config.f u ≡ core.number → Adopts core u adopting → Replaces adopting handed c holding
       → k ≡ max core.commit_number (min c (end_of handed)) → number ≡ min k (op_number_of holding) → IsReadyFor core handed k ps → FollowsIfReady holding number ps (λ w r. commits_to w.f w.number w.answer r number) new some
-      → sends ≡ some ++ more → ((w : Membership) (r : ReplicaState Command) → StandsFor new w r → AreSent w more (cond (ltb k (end_of handed)) (send w.f w.number w.answer (primary w.f u) (PrepareOk u (end_of handed)) ∷ []) []))
+      → sends ≡ some ++ more → ((w : Membership) (r : ReplicaState Command) → StandsFor new w r → AreSent w.group more (cond (ltb k (end_of handed)) (send w.f w.number w.answer (primary w.f u) (PrepareOk u (end_of handed)) ∷ []) []))
       → FollowsIfKept core (λ w r. on_start_view w.f w.number w.answer r u c l) new sends
   start_replies adopting holding new ps some more sends k number early own adopts replaces is_k is_number ready commits joined told = record {
     leaves = λ w r st prefix.
@@ -133,7 +133,7 @@ module _ (core : Core) (handed : KeptLog) (u c : ℕ) (behind_it : Tells core (�
         let prim = eq-eqb (primary w.f u) w.number (ap (λ f. primary f u) st.member.f ∙ own ∙ sym st.member.number) in
         let m = max r.commit_number (min c (length l)) in
         let n : length l ≡ end_of handed = same_length in
-        let h : length l ≡ op_number_of holding = whole_length w holding.log l held.log in
+        let h : length l ≡ op_number_of holding = whole_length w.group holding.log l held.log in
         let e1 : k ≡ m = omega arith in
         let e2 : number ≡ m = omega arith in
         let e3 : max r.commit_number number ≡ m = omega arith in
@@ -146,13 +146,13 @@ module _ (core : Core) (handed : KeptLog) (u c : ℕ) (behind_it : Tells core (�
         subst (λ o. Leaves core new sends w o) (sym same) (record {
           replica = three;
           saves = saved_above core new w r u st.stored_view (sym three.stored_view ∙ ap (λ x. max x u) st.stored_view);
-          sends = subst (λ (ms : List (Message Command Answer)). AreSent w sends ms)
+          sends = subst (λ (ms : List (Message Command Answer)). AreSent w.group sends ms)
               (ap (λ ms. ms ++ goes k (end_of handed)) (ap (λ x. replies w.f w.number w.answer mid r.commit_number (x - r.commit_number)) e2 ∙ same_replies w mid m r.commit_number (m - r.commit_number))
               ∙ ap (λ x. replies w.f w.number w.answer q r.commit_number (m - r.commit_number) ++ goes x (end_of handed)) e1
               ∙ ap (λ y. replies w.f w.number w.answer q r.commit_number (m - r.commit_number) ++ goes m y) (sym n)
               ∙ sym (ap (λ t. cond t (replies w.f w.number w.answer q r.commit_number (m - r.commit_number)) [] ++ goes m (length l)) prim))
-              (subst (λ (xs : List sent.Message). AreSent w xs (replies w.f w.number w.answer mid r.commit_number (number - r.commit_number) ++ goes k (end_of handed))) (sym joined)
-              (sent_more w some more (replies w.f w.number w.answer mid r.commit_number (number - r.commit_number)) (goes k (end_of handed)) left.sends (told w q three)));
+              (subst (λ (xs : List sent.Message). AreSent w.group xs (replies w.f w.number w.answer mid r.commit_number (number - r.commit_number) ++ goes k (end_of handed))) (sym joined)
+              (sent_more w.group some more (replies w.f w.number w.answer mid r.commit_number (number - r.commit_number)) (goes k (end_of handed)) left.sends (told w q three)));
         });
   }
     where
@@ -192,20 +192,20 @@ start_short core handed u c l its short sends none = kept_of core (λ w r. on_st
   where
     same : (w : Membership) (r : ReplicaState Command) → StandsFor core w r → on_start_view w.f w.number w.answer r u c l ≡ keep w.f w.number w.answer r
     same w r st =
-        let n : length l ≡ end_of handed = whole_length (own_member core) handed l its.stands in
+        let n : length l ≡ end_of handed = whole_length (own_group core) handed l its.stands in
         let k : r.commit_number ≡ core.commit_number = st.commit_number in
         branch_false (behind w.f w.number w.answer r u) (leb r.commit_number (length l)) _ _ (too_long r.commit_number (length l) (omega arith))
 
 -- a PREPAREOK to itself, where its log goes on past what is executed
 module _ (new : Core) (w : Membership) (r : ReplicaState Command) (st : StandsFor new w r) (u k n : ℕ) where
   abbrev pub Acknowledges : List sent.Message → Type 0
-  Acknowledges more = AreSent w more (cond (ltb k n) (send w.f w.number w.answer (primary w.f u) (PrepareOk u n) ∷ []) [])
+  Acknowledges more = AreSent w.group more (cond (ltb k n) (send w.f w.number w.answer (primary w.f u) (PrepareOk u n) ∷ []) [])
 
   pub acknowledges : (to : ℕ) (m : sent.Message) → m ≡ message_from new.number (says.PrepareOk u n) to → to ≡ primary new.config.f u → k < n → Acknowledges (m ∷ [])
   acknowledges to m is own more =
       let said : m ≡ message_from new.number (says.PrepareOk u n) (primary w.f u) = is ∙ ap (message_from new.number (says.PrepareOk u n)) (own ∙ ap (λ f. primary f u) (sym st.member.f)) in
-      subst (λ t. AreSent w (m ∷ []) (cond t (send w.f w.number w.answer (primary w.f u) (PrepareOk u n) ∷ []) [])) (sym (lt-ltb k n more))
-      (subst (λ (x : sent.Message). AreSent w (x ∷ []) (send w.f w.number w.answer (primary w.f u) (PrepareOk u n) ∷ [])) (sym said) (sent_to w new.number (says.PrepareOk u n) [] (primary w.f u) st.member.number tt))
+      subst (λ t. AreSent w.group (m ∷ []) (cond t (send w.f w.number w.answer (primary w.f u) (PrepareOk u n) ∷ []) [])) (sym (lt-ltb k n more))
+      (subst (λ (x : sent.Message). AreSent w.group (x ∷ []) (send w.f w.number w.answer (primary w.f u) (PrepareOk u n) ∷ [])) (sym said) (sent_to w new.number (says.PrepareOk u n) [] (primary w.f u) st.member.number tt))
 
   pub acknowledges_none : n ≤ k → Acknowledges []
-  acknowledges_none all = subst (λ t. AreSent w [] (cond t (send w.f w.number w.answer (primary w.f u) (PrepareOk u n) ∷ []) [])) (sym (not_below k n all)) (sent_none w)
+  acknowledges_none all = subst (λ t. AreSent w.group [] (cond t (send w.f w.number w.answer (primary w.f u) (PrepareOk u n) ∷ []) [])) (sym (not_below k n all)) (sent_none w.group)

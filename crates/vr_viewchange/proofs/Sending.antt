@@ -22,8 +22,8 @@ use Rattle.vr_model.specs.StandsFor.{DoViewChangeStands}
 use Rattle.vr_core.specs.declared.state.Core.{Core}
 use Rattle.vr_model.specs.declared.standing.Status.TheVariants as status
 use Rattle.vr_model.specs.Membership.{Membership}
-use Rattle.vr_core.specs.StandsFor.{StandsFor, IsSavedAs, AreKept, own_member}
-use Rattle.vr_core.proofs.WholeLogs.{is_own}
+use Rattle.vr_core.specs.StandsFor.{StandsFor, IsSavedAs, AreKept, own_group}
+use Rattle.vr_core.proofs.WholeLogs.{is_own_group}
 use Rattle.vr_core.specs.Follows.{Tells, AreSent, AreSaved, Leaves, FollowsIfKept, Loses, message_from}
 use Rattle.vr_core.proofs.Sent.{sent_to}
 use Rattle.vr_core.proofs.Keeping.{kept_as, kept_after, changing}
@@ -41,17 +41,17 @@ keep_matters core d a first w r st =
 pub keep_fails : (core : Core) (d : code.DoViewChange) (a : DoViewChange Command) (p : Vec code.DoViewChange Global) → Tells core (λ w r. is_some (r.do_view_changes d.replica)) false → p.items ≡ core.do_view_changes.items
     → Loses core (λ w r. keeps_do_view_change w.f w.number w.answer d.replica a r) (record core { do_view_changes = p })
 keep_fails core d a p first as_before = record {
-  same = λ w r st. with_table core p r.do_view_changes w r st (λ e. subst (λ l. AreKept w l r.do_view_changes (group_size w.f)) (sym as_before) (st.do_view_changes e)) st.own;
+  same = λ w r st. with_table core p r.do_view_changes w r st (λ e. subst (λ l. AreKept w.group l r.do_view_changes (group_size w.f)) (sym as_before) (st.do_view_changes e)) st.own;
   matters = keep_matters core d a first;
 }
 
 -- the first of its sender
-module _ (core : Core) (d : code.DoViewChange) (a : DoViewChange Command) (its : DoViewChangeStands IsSavedAs (own_member core) d a) (v : Vec code.DoViewChange Global) (more : v.items ≡ core.do_view_changes.items ++ d ∷ []) where
+module _ (core : Core) (d : code.DoViewChange) (a : DoViewChange Command) (its : DoViewChangeStands IsSavedAs (own_group core) d a) (v : Vec code.DoViewChange Global) (more : v.items ≡ core.do_view_changes.items ++ d ∷ []) where
   kept_stands : d.replica < group_size core.config.f → (d.replica ≡ core.number → core.sent_do_view_change ≡ true) → (w : Membership) (r : ReplicaState Command) → StandsFor core w r → is_some (r.do_view_changes d.replica) ≡ false
       → StandsFor (record core { do_view_changes = v }) w (record r { do_view_changes = put r.do_view_changes d.replica (Some a) })
   kept_stands low own w r st none = with_table core v (put r.do_view_changes d.replica (Some a)) w r st
-      (λ e. subst (λ l. AreKept w l (put r.do_view_changes d.replica (Some a)) (group_size w.f)) (sym more)
-      (kept_one w core.do_view_changes.items r.do_view_changes (group_size w.f) d a (st.do_view_changes e) (subst (λ f. d.replica < group_size f) (sym st.member.f) low) none (subst (λ m. DoViewChangeStands IsSavedAs m d a) (is_own core w st.member) its)))
+      (λ e. subst (λ l. AreKept w.group l (put r.do_view_changes d.replica (Some a)) (group_size w.f)) (sym more)
+      (kept_one w.group core.do_view_changes.items r.do_view_changes (group_size w.f) d a (st.do_view_changes e) (subst (λ f. d.replica < group_size f) (sym st.member.f) low) none (subst (λ m. DoViewChangeStands IsSavedAs m d a) (is_own_group core w st.member) its)))
       (λ e unsent. elim (cases_eq w.number d.replica) [
         | inl same ↦ absurd (let b : true ≡ false = sym (own (sym same ∙ st.member.number)) ∙ sym st.sent_do_view_change ∙ unsent in cc)
         | inr other ↦ put_other r.do_view_changes d.replica w.number (Some a) other ∙ st.own e unsent
@@ -80,7 +80,7 @@ module _ (core : Core) (d : code.DoViewChange) (a : DoViewChange Command) (its :
       → Loses core (λ w r. keeps_do_view_change w.f w.number w.answer d.replica a r) (record other { do_view_changes = p })
   keep_lost first other p is popped = record {
     same = λ w r st. subst (λ x. StandsFor (record x { do_view_changes = p }) w r) (sym is)
-        (with_table core p r.do_view_changes w r st (λ e. subst (λ l. AreKept w l r.do_view_changes (group_size w.f)) (sym as_before) (st.do_view_changes e)) st.own);
+        (with_table core p r.do_view_changes w r st (λ e. subst (λ l. AreKept w.group l r.do_view_changes (group_size w.f)) (sym as_before) (st.do_view_changes e)) st.own);
     matters = λ w r st. keep_matters core d a first w r st;
   }
     where
@@ -115,7 +115,7 @@ pub own_sent : (core : Core) (w : Membership) (r : ReplicaState Command) → Sta
 own_sent core w r st = with_sent core true w r st (λ e unsent. absurd cc)
 
 -- what it says of itself stands for what the rules let it say
-pub own_stands : (core : Core) (w : Membership) (r : ReplicaState Command) → StandsFor core w r → DoViewChangeStands IsSavedAs w (own_of core) (own_do_view_change r)
+pub own_stands : (core : Core) (w : Membership) (r : ReplicaState Command) → StandsFor core w r → DoViewChangeStands IsSavedAs w.group (own_of core) (own_do_view_change r)
 own_stands core w r st = record {
   log = r.log;
   carries = record { reached = subst (λ n. base_of core.log.checkpoint ≤ n) st.commit_number st.reached; stands = st.log };
@@ -127,10 +127,10 @@ own_stands core w r st = record {
 
 -- it is kept
 module _ (core : Core) (own : code.DoViewChange) (unsent : core.sent_do_view_change ≡ false) (primary_told : Tells core (λ w r. is_primary w.f w.number w.answer r) true) (is : own ≡ own_of core) (changes : core.status ≡ status.ViewChange) where
-  its : (w : Membership) (r : ReplicaState Command) → StandsFor core w r → DoViewChangeStands IsSavedAs (own_member core) own (own_do_view_change r)
+  its : (w : Membership) (r : ReplicaState Command) → StandsFor core w r → DoViewChangeStands IsSavedAs (own_group core) own (own_do_view_change r)
   its w r st =
-      subst (λ m. DoViewChangeStands IsSavedAs m own (own_do_view_change r)) (sym (is_own core w st.member))
-      (subst (λ (d : code.DoViewChange). DoViewChangeStands IsSavedAs w d (own_do_view_change r)) (sym is) (own_stands core w r st))
+      subst (λ g. DoViewChangeStands IsSavedAs g own (own_do_view_change r)) (sym (is_own_group core w st.member))
+      (subst (λ (d : code.DoViewChange). DoViewChangeStands IsSavedAs w.group d (own_do_view_change r)) (sym is) (own_stands core w r st))
 
   as_kept : (w : Membership) (r : ReplicaState Command) → StandsFor core w r
       → sends_do_view_change w.f w.number w.answer r ≡ keeps_do_view_change w.f w.number w.answer own.replica (own_do_view_change r) (record r { sent_do_view_change = true })
@@ -148,7 +148,7 @@ module _ (core : Core) (own : code.DoViewChange) (unsent : core.sent_do_view_cha
       (sym (ap is_some (ap r.do_view_changes (sym i) ∙ none)))
 
   pub own_kept : (new : Core) (sends : Vec sent.Message Global)
-      → ((a : DoViewChange Command) → DoViewChangeStands IsSavedAs (own_member core) own a → FollowsIfKept (record core { sent_do_view_change = true }) (λ w r. keeps_do_view_change w.f w.number w.answer own.replica a r) new sends.items)
+      → ((a : DoViewChange Command) → DoViewChangeStands IsSavedAs (own_group core) own a → FollowsIfKept (record core { sent_do_view_change = true }) (λ w r. keeps_do_view_change w.f w.number w.answer own.replica a r) new sends.items)
       → FollowsIfKept core (λ w r. sends_do_view_change w.f w.number w.answer r) new sends.items
   own_kept new sends h = record {
     leaves = λ w r st prefix.
@@ -160,7 +160,7 @@ module _ (core : Core) (own : code.DoViewChange) (unsent : core.sent_do_view_cha
   }
 
   pub own_lost : (new : Core)
-      → ((a : DoViewChange Command) → DoViewChangeStands IsSavedAs (own_member core) own a → Loses (record core { sent_do_view_change = true }) (λ w r. keeps_do_view_change w.f w.number w.answer own.replica a r) new)
+      → ((a : DoViewChange Command) → DoViewChangeStands IsSavedAs (own_group core) own a → Loses (record core { sent_do_view_change = true }) (λ w r. keeps_do_view_change w.f w.number w.answer own.replica a r) new)
       → Loses core (λ w r. sends_do_view_change w.f w.number w.answer r) (record new { sent_do_view_change = false })
   own_lost new h = record {
     same = λ w r st.
@@ -184,12 +184,12 @@ own_goes core sends test is = record {
       ap (λ b. cond b (begins_if_elected w.f w.number w.answer (record r { sent_do_view_change = true; do_view_changes = put r.do_view_changes w.number (Some own) })) o) (sym (test.tells w r st)) in
       let b = says.DoViewChange core.view core.last_normal_view core.commit_number core.log in
       let one = sent_to w core.number b its.log (primary core.config.f core.view) st.member.number its.carries in
-      let two = subst (λ (ms : List (Message Command Answer)). AreSent w (message_from core.number b (primary core.config.f core.view) ∷ []) ms)
+      let two = subst (λ (ms : List (Message Command Answer)). AreSent w.group (message_from core.number b (primary core.config.f core.view) ∷ []) ms)
       (ap (said core.config.f core.view) (sym its.is) ∙ ap (λ f. said f core.view own) (sym st.member.f) ∙ ap (λ v. said w.f v own) (sym st.view)) one in
       subst (λ o. Leaves core (record core { sent_do_view_change = true }) sends w o) (sym same) (record {
         replica = own_sent core w r st;
         saves = refl;
-        sends = subst (λ (xs : List sent.Message). AreSent w xs (said w.f r.view own)) (sym is) two;
+        sends = subst (λ (xs : List sent.Message). AreSent w.group xs (said w.f r.view own)) (sym is) two;
       });
 }
 

@@ -28,7 +28,7 @@ module _ (core mid : Core) (s u : ℕ) (kept : Vec code.DoViewChange Global) (se
   abbrev pub after_it : Core
   after_it = record mid { do_view_changes = kept; sent_do_view_change = true; start_view_changes = set mid.start_view_changes s true }
 
-  stands : (t : ℕ → Option (DoViewChange Command)) (w : Membership) (r : ReplicaState Command) → StandsFor core w r → AreKept w kept.items t (group_size w.f)
+  stands : (t : ℕ → Option (DoViewChange Command)) (w : Membership) (r : ReplicaState Command) → StandsFor core w r → AreKept w.group kept.items t (group_size w.f)
       → StandsFor after_it w (record (noted w.f w.number w.answer r u s) { sent_do_view_change = true; do_view_changes = t })
   stands t w r st are =
       let one = with_sent mid true w (entered w.f w.number w.answer r u) (changed.becomes w r st) (λ e unsent. absurd cc) in
@@ -42,7 +42,7 @@ module _ (core mid : Core) (s u : ℕ) (kept : Vec code.DoViewChange Global) (se
       let c : r.stored_view ≡ core.stored_view = st.stored_view in
       (stored, (let l : core.stored_view < u = omega arith in l))
 
-  told_others : (w : Membership) (r : ReplicaState Command) → StandsFor core w r → AreSent w (map (message_from core.number (says.StartViewChange u)) (others core.number (group_size core.config.f))) (send_others w.f w.number w.answer (StartViewChange u))
+  told_others : (w : Membership) (r : ReplicaState Command) → StandsFor core w r → AreSent w.group (map (message_from core.number (says.StartViewChange u)) (others core.number (group_size core.config.f))) (send_others w.f w.number w.answer (StartViewChange u))
   told_others w r st = sent_others w core.number core.config.f (says.StartViewChange u) [] st.member.number st.member.f tt
 
   abbrev own_body : body.Body
@@ -57,14 +57,14 @@ module _ (core mid : Core) (s u : ℕ) (kept : Vec code.DoViewChange Global) (se
         let number : own.replica ≡ core.number = ap (λ (d : code.DoViewChange). d.replica) own_is in
         let e1 : own.replica ≡ w.number = number ∙ sym st.member.number in
         let a = own_do_view_change r in
-        let stood = subst (λ (d : code.DoViewChange). DoViewChangeStands IsSavedAs w d a) (sym own_is) (own_stands core w r st) in
+        let stood = subst (λ (d : code.DoViewChange). DoViewChangeStands IsSavedAs w.group d a) (sym own_is) (own_stands core w r st) in
         let low_own = subst (λ j. j < group_size w.f) (sym number) (subst (λ f. core.number < group_size f) (sym st.member.f) within) in
-        let first = kept_one w [] (λ j. None) (group_size w.f) own a (kept_nothing w (group_size w.f)) low_own refl stood in
-        let second = subst (λ j. AreKept w ([] ++ own ∷ []) (put (λ k. None) j (Some a)) (group_size w.f)) e1 first in
-        let are = subst (λ l. AreKept w l (put (λ k. None) w.number (Some a)) (group_size w.f)) (sym items) second in
+        let first = kept_one w.group [] (λ j. None) (group_size w.f) own a (kept_nothing w.group (group_size w.f)) low_own refl stood in
+        let second = subst (λ j. AreKept w.group ([] ++ own ∷ []) (put (λ k. None) j (Some a)) (group_size w.f)) e1 first in
+        let are = subst (λ l. AreKept w.group l (put (λ k. None) w.number (Some a)) (group_size w.f)) (sym items) second in
         subst (λ o. Leaves core after_it sends w o)
         (sym (enters_own w.f w.number w.answer r u s (st.member.f ∙ small) (subst (λ f. s < group_size f) (sym st.member.f) member) prim))
-        (record { replica = stands (put (λ k. None) w.number (Some a)) w r st are; saves = saves w r st; sends = subst (λ (xs : List sent.Message). AreSent w xs (send_others w.f w.number w.answer (StartViewChange u))) (sym goes) (told_others w r st) });
+        (record { replica = stands (put (λ k. None) w.number (Some a)) w r st are; saves = saves w r st; sends = subst (λ (xs : List sent.Message). AreSent w.group xs (send_others w.f w.number w.answer (StartViewChange u))) (sym goes) (told_others w r st) });
   }
 
   pub own_is_sent : (primary core.config.f u ≡ core.number → ⊥) → kept.items ≡ []
@@ -73,10 +73,10 @@ module _ (core mid : Core) (s u : ℕ) (kept : Vec code.DoViewChange Global) (se
   own_is_sent ne items goes = record {
     leaves = λ w r st.
         let other = ne_eqb (primary w.f u) w.number (λ e. ne (ap (λ f. primary f u) (sym st.member.f) ∙ e ∙ st.member.number)) in
-        let are = subst (λ l. AreKept w l (λ k. None) (group_size w.f)) (sym items) (kept_nothing w (group_size w.f)) in
+        let are = subst (λ l. AreKept w.group l (λ k. None) (group_size w.f)) (sym items) (kept_nothing w.group (group_size w.f)) in
         let its = own_stands core w r st in
         let said : ℕ → DoViewChange Command → List (Message Command Answer) = λ f x. send w.f w.number w.answer (primary f u) (DoViewChangeMessage u x) ∷ [] in
-        let one : AreSent w (message_from core.number own_body (primary core.config.f u) ∷ []) (said w.f (own_do_view_change r)) = subst (λ (ms : List (Message Command Answer)). AreSent w (message_from core.number own_body (primary core.config.f u) ∷ []) ms)
+        let one : AreSent w.group (message_from core.number own_body (primary core.config.f u) ∷ []) (said w.f (own_do_view_change r)) = subst (λ (ms : List (Message Command Answer)). AreSent w.group (message_from core.number own_body (primary core.config.f u) ∷ []) ms)
         (ap (said core.config.f) (sym its.is) ∙ ap (λ f. said f (own_do_view_change r)) (sym st.member.f))
         (sent_to w core.number own_body its.log (primary core.config.f u) st.member.number its.carries) in
         subst (λ o. Leaves core after_it sends w o)
@@ -84,8 +84,8 @@ module _ (core mid : Core) (s u : ℕ) (kept : Vec code.DoViewChange Global) (se
         (record {
           replica = stands (λ k. None) w r st are;
           saves = saves w r st;
-          sends = subst (λ (xs : List sent.Message). AreSent w xs (send_others w.f w.number w.answer (StartViewChange u) ++ said w.f (own_do_view_change r))) (sym goes)
-              (sent_more w (map (message_from core.number (says.StartViewChange u)) (others core.number (group_size core.config.f))) (message_from core.number own_body (primary core.config.f u) ∷ [])
+          sends = subst (λ (xs : List sent.Message). AreSent w.group xs (send_others w.f w.number w.answer (StartViewChange u) ++ said w.f (own_do_view_change r))) (sym goes)
+              (sent_more w.group (map (message_from core.number (says.StartViewChange u)) (others core.number (group_size core.config.f))) (message_from core.number own_body (primary core.config.f u) ∷ [])
               (send_others w.f w.number w.answer (StartViewChange u)) (said w.f (own_do_view_change r)) (told_others w r st) one);
         });
   }

@@ -17,7 +17,7 @@ use Rattle.vr_model.specs.World as world
 use Rattle.vr_model.specs.World.{run, start}
 use Rattle.vr_model.specs.Report.{Report, Each, IsReleased, report, last_or}
 use Rattle.vr_core.specs.Answers.{last_of, answer_to}
-use Rattle.vr_core.specs.StandsFor.{member, IsSavedAs}
+use Rattle.vr_core.specs.StandsFor.{group_of, IsSavedAs}
 use Rattle.vr_schedules.specs.declared.event.WorldEvent.{WorldEvent}
 use Rattle.vr_schedules.specs.declared.event.WorldEvent.TheVariants as code
 use Rattle.vr_schedules.specs.declared.fault.WorldError.{WorldError}
@@ -103,7 +103,7 @@ below_last (x ∷ xs) (suc p) m s is e = below_last xs p m s is (above_rest (con
 
 -- ---- the trace of a run
 
-module _ (f : ℕ) (Q : Program) (budget : ℕ) (schedule : List WorldEvent) (trace : Trace) (t : IsTraced IsSavedAs (member f 0 Q budget) schedule trace) where
+module _ (f : ℕ) (Q : Program) (budget : ℕ) (schedule : List WorldEvent) (trace : Trace) (t : IsTraced IsSavedAs (group_of f Q budget) schedule trace) where
   abbrev answer : List Command → Answer
   answer = answer_to Q budget
 
@@ -194,7 +194,7 @@ module _ (f : ℕ) (Q : Program) (budget : ℕ) (schedule : List WorldEvent) (tr
   pub one_history : IsOneHistory (answers_of Q budget) schedule trace
   one_history = record { counted = counted; grows = grows; ends = ends; submitted = submitted; rising = rising; released = released }
 
-pub history_of : (f : ℕ) (Q : Program) (budget : ℕ) (schedule : List WorldEvent) (result : Result Trace WorldError) (Fails : WorldError → Type 0) → MatchResult result (IsTraced IsSavedAs (member f 0 Q budget) schedule) Fails
+pub history_of : (f : ℕ) (Q : Program) (budget : ℕ) (schedule : List WorldEvent) (result : Result Trace WorldError) (Fails : WorldError → Type 0) → MatchResult result (IsTraced IsSavedAs (group_of f Q budget) schedule) Fails
     → IfOk result (IsOneHistory (answers_of Q budget) schedule)
 history_of f Q budget schedule (Ok trace) Fails h = one_history f Q budget schedule trace h
 history_of f Q budget schedule (Err e) Fails h = tt

@@ -47,7 +47,7 @@ module _ (NowStands : ReplicaState Command → Type 0) (m : Membership) (r : Rep
   ends_so : (o : Outcome Command Answer) (lost : Bool) (out : List code.Message) (c : world.Completion) (e : world.Ending) → world.ending_of c o.saves (failing_of s.store) ≡ e
       → lost ≡ is_lost c → MayEnd r o (failing_of s.store) c
       → NowStands (world.effect r s.store.view o e).replica → t.store.view ≡ (world.effect r s.store.view o e).store → failing_of t.store ≡ failing_left (failing_of s.store) e
-      → AllStandFrom IsSavedAs m o.replica out (world.effect r s.store.view o e).sends
+      → AllStandFrom IsSavedAs m.group o.replica out (world.effect r s.store.view o e).sends
       → Does IsSavedAs m NowStands r s.store t.store o lost out
   ends_so o lost out c e is tells may replica store failing sends = record {
     completion = c;
@@ -56,7 +56,7 @@ module _ (NowStands : ReplicaState Command → Type 0) (m : Membership) (r : Rep
     replica = subst (λ x. NowStands (world.effect r s.store.view o x).replica) (sym is) replica;
     store = store ∙ ap (λ x. (world.effect r s.store.view o x).store) (sym is);
     failing = failing ∙ ap (failing_left (failing_of s.store)) (sym is);
-    sends = subst (λ x. AllStandFrom IsSavedAs m o.replica out (world.effect r s.store.view o x).sends) (sym is) sends;
+    sends = subst (λ x. AllStandFrom IsSavedAs m.group o.replica out (world.effect r s.store.view o x).sends) (sym is) sends;
   }
 
   done : (o : Outcome Command Answer) (out : List code.Message) → step.Done shelf_loads shelf_saves IsSavedAs NowStands m r s t o out → Does IsSavedAs m NowStands r s.store t.store o false out
@@ -100,7 +100,7 @@ module _ (NowStands : ReplicaState Command → Type 0) (m : Membership) (r : Rep
   came_up x out k =
       let from : ℕ → Outcome Command Answer = λ view. on_restart m.f m.number m.answer (record r { stored_view = view }) x in
       ends_so (from s.store.view) false out world.Done (world.Went world.Done) refl refl tt (subst (λ v. NowStands (from v).replica) k.loaded.0 k.replica) (ap (λ (z : Shelf). z.store.view) k.loaded.1) (ap (λ (z : Shelf). failing_of z.store) k.loaded.1)
-      (subst (λ v. AllStandFrom IsSavedAs m (from v).replica out (from v).sends) k.loaded.0 k.sends)
+      (subst (λ v. AllStandFrom IsSavedAs m.group (from v).replica out (from v).sends) k.loaded.0 k.sends)
 
   stayed_down : (x : ℕ) → is_down r.status ≡ true → step.StayedDown shelf_loads shelf_saves IsSavedAs NowStands m r s t → Does IsSavedAs m NowStands r s.store t.store (restarting x) true []
   stayed_down x down k = ends_so (restarting x) true [] (world.Lost false) (world.Went (world.Lost false)) refl refl (restart_matters x down, refl) k.replica (ap (λ (z : Shelf). z.store.view) same) (ap (λ (z : Shelf). failing_of z.store) same) tt

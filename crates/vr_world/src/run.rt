@@ -1,7 +1,7 @@
 //! The run of a schedule.
 
 ghost use Rattle.std.specs.Prelude.{IfOk, MatchResult};
-ghost use Rattle.vr_core.specs.StandsFor.{member, IsSavedAs};
+ghost use Rattle.vr_core.specs.StandsFor.{group_of, IsSavedAs};
 ghost use Rattle.vr_replica.specs.Standing.{StandsFor};
 ghost use Rattle.vr_schedules.specs.Traces.{AreNew, IsTraced, Fails};
 ghost use Rattle.ctl_debugger.specs.Outcome.{answers_of};
@@ -23,7 +23,7 @@ fn group(
     budget: Budget,
 ) -> Result<Vec<Seat>, AllocError>
     ensures { IfOk result (λ seats. AreNew (λ seat. StandsFor seat.replica)
-        (member config.f 0 image.now budget.instructions) seats.items) }
+        (group_of config.f image.now budget.instructions) seats.items) }
 {
     let mut seats = Vec::new(alloc);
     for number in 0..config.group_size() {
@@ -52,8 +52,8 @@ pub fn run_world(
 ) -> Result<Trace, WorldError>
     ensures history { IfOk result (IsOneHistory (answers_of image.now budget.instructions) events.now) }
     ensures traced { MatchResult result
-        (IsTraced IsSavedAs (member config.now.f 0 image.now budget.instructions) events.now)
-        (Fails (member config.now.f 0 image.now budget.instructions) events.now) }
+        (IsTraced IsSavedAs (group_of config.now.f image.now budget.instructions) events.now)
+        (Fails (group_of config.now.f image.now budget.instructions) events.now) }
 {
     let seats = group(alloc, *config, image, budget)?;
     run_schedule(alloc, *config, seats, events)

@@ -1,13 +1,13 @@
 use Rattle.std.proofs.Common.{rules, true, false, Ok, ap, ◌∙◌, ◌-◌}
 use Rattle.vr_model.specs.Rules.{on_new_state}
-use Rattle.vr_core.specs.StandsFor.{own_member}
+use Rattle.vr_core.specs.StandsFor.{own_group}
 use Rattle.vr_recovery.proofs.Telling.{told_by}
 use Rattle.vr_recovery.proofs.OnNewState.{whole_of, past_size, goes_fits, joins_fits, fits_of, not_past, not_catching}
 use Rattle.vr_recovery.proofs.catching_up.on_checkpoint.Goals as goal
 
 pub returns-then-not-is_reached-clause-rule : goal.returns-then-not-is_reached-clause-rule
 returns-then-not-is_reached-clause-rule c = λ l its.
-    let w = whole_of (own_member c.args.core.now) c.args.op_number c.args.commit_number c.args.log l c.requires its in
+    let w = whole_of (own_group c.args.core.now) c.args.op_number c.args.commit_number c.args.log l c.requires its in
     absurd (c.is_reached.ensures.stands (search rules) c.args.core.now w.whole w.carried)
 
 pub returns-then-goes_past-clause-rule : goal.returns-then-goes_past-clause-rule

@@ -1,7 +1,7 @@
 use Rattle.std.proofs.Common.{refl, sym, subst}
 use Rattle.vr_model.specs.declared.message.Body.TheVariants as says
 use Rattle.vr_model.specs.StandsFor.{body_with, Carries}
-use Rattle.vr_core.specs.StandsFor.{IsSavedAs, own_member}
+use Rattle.vr_core.specs.StandsFor.{IsSavedAs, own_group}
 use Rattle.vr_core.specs.Follows.{receives_from}
 use Rattle.vr_replica.specs.Ruled.{DoesFrom}
 use Rattle.vr_replica.proofs.Dispatched.{asking_keeps, sender_sends_none}
@@ -22,7 +22,7 @@ returns-in-RecoveryResponse-clause-rule c = λ l carries.
     let s = c.args.sender in
     subst (λ b. DoesFrom core b (receives_from s (body_with l b)) c.on_recovery_response.new.core c.on_recovery_response.result) (sym c.in-RecoveryResponse.is)
     (from_kept core _ _ c.on_recovery_response.new.core (λ w r. sender_sends_none w r s (body_with l (says.RecoveryResponse c.in-RecoveryResponse.view c.in-RecoveryResponse.nonce c.in-RecoveryResponse.state)) tt) c.on_recovery_response.result
-    (c.on_recovery_response.ensures.rule _ (record { log = l; carries = subst (λ b. Carries IsSavedAs (own_member core) b l) c.in-RecoveryResponse.is carries; is = refl })))
+    (c.on_recovery_response.ensures.rule _ (record { log = l; carries = subst (λ b. Carries IsSavedAs (own_group core) b l) c.in-RecoveryResponse.is carries; is = refl })))
 
 pub returns-in-GetState-clause-rule : goal.returns-in-GetState-clause-rule
 returns-in-GetState-clause-rule c = λ l carries.
@@ -37,7 +37,7 @@ returns-in-NewState-clause-rule c = λ l carries.
     let s = c.args.sender in
     subst (λ b. DoesFrom core b (receives_from s (body_with l b)) c.on_new_state.new.core c.on_new_state.result) (sym c.in-NewState.is)
     (from_fits core _ _ c.on_new_state.new.core (λ w r. sender_sends_none w r s (body_with l (says.NewState c.in-NewState.view c.in-NewState.op_number c.in-NewState.commit_number c.in-NewState.log)) tt) c.on_new_state.result
-    (c.on_new_state.ensures.rule l (subst (λ b. Carries IsSavedAs (own_member core) b l) c.in-NewState.is carries)))
+    (c.on_new_state.ensures.rule l (subst (λ b. Carries IsSavedAs (own_group core) b l) c.in-NewState.is carries)))
 
 pub returns-in-Recovery-clause-dropped : goal.returns-in-Recovery-clause-dropped
 returns-in-Recovery-clause-dropped c = λ unfit. absurd (subst (IsUnfitBody c.args.core.now c.args.sender) c.in-Recovery.is unfit)

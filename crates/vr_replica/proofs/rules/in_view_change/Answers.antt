@@ -1,6 +1,6 @@
 use Rattle.std.proofs.Common.{refl, sym, subst}
 use Rattle.vr_model.specs.StandsFor.{body_with, Carries}
-use Rattle.vr_core.specs.StandsFor.{IsSavedAs, own_member}
+use Rattle.vr_core.specs.StandsFor.{IsSavedAs, own_group}
 use Rattle.vr_core.specs.Follows.{DoesIfKept, receives_from}
 use Rattle.vr_replica.specs.Dropped.{IsUnfitBody}
 use Rattle.vr_replica.proofs.rules.in_view_change.Goals as goal
@@ -14,13 +14,13 @@ pub returns-in-DoViewChange-clause-rule : goal.returns-in-DoViewChange-clause-ru
 returns-in-DoViewChange-clause-rule c = λ l carries.
     let core = c.args.core.now in
     subst (λ b. DoesIfKept core (receives_from c.args.sender (body_with l b)) c.on_do_view_change.new.core c.on_do_view_change.result) (sym c.in-DoViewChange.is)
-    (c.on_do_view_change.ensures.rule _ (record { log = l; carries = subst (λ b. Carries IsSavedAs (own_member core) b l) c.in-DoViewChange.is carries; is = refl }))
+    (c.on_do_view_change.ensures.rule _ (record { log = l; carries = subst (λ b. Carries IsSavedAs (own_group core) b l) c.in-DoViewChange.is carries; is = refl }))
 
 pub returns-in-StartView-clause-rule : goal.returns-in-StartView-clause-rule
 returns-in-StartView-clause-rule c = λ l carries.
     let core = c.args.core.now in
     subst (λ b. DoesIfKept core (receives_from c.args.sender (body_with l b)) c.on_start_view.new.core c.on_start_view.result) (sym c.in-StartView.is)
-    (c.on_start_view.ensures.rule l (subst (λ b. Carries IsSavedAs (own_member core) b l) c.in-StartView.is carries))
+    (c.on_start_view.ensures.rule l (subst (λ b. Carries IsSavedAs (own_group core) b l) c.in-StartView.is carries))
 
 pub returns-in-StartViewChange-clause-dropped : goal.returns-in-StartViewChange-clause-dropped
 returns-in-StartViewChange-clause-dropped c = λ unfit. absurd (subst (IsUnfitBody c.args.core.now c.args.sender) c.in-StartViewChange.is unfit)

@@ -16,6 +16,6 @@ returns-clause-row g c = λ m r st.
       stored = stored;
       loaded = c.in_ok-stored.ensures.gives;
       replica = stands_up new m (restarted m.f m.number m.answer stored.view c.args.nonce) (begun.stands m st.member) refl (λ e. refl);
-      sends = all_from m (restarted m.f m.number m.answer stored.view c.args.nonce) c.in_ok-sends.sends.items (send_others m.f m.number m.answer (Recovery c.args.nonce stored.view)) (begun.asks m st.member)
+      sends = all_from m.group (restarted m.f m.number m.answer stored.view c.args.nonce) c.in_ok-sends.sends.items (send_others m.f m.number m.answer (Recovery c.args.nonce stored.view)) (begun.asks m st.member)
           (restart_sends_none m.f m.number m.answer (record r { stored_view = stored.view }) c.args.nonce);
     }
