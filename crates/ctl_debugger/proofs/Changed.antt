@@ -7,7 +7,7 @@ use Rattle.il_model.specs.declared.kind.BlockKind.{BlockKind}
 use Rattle.il_model.specs.declared.kind.BlockKind.TheVariants as kinds
 use Rattle.il_model.specs.declared.program.Instance.{Instance}
 use Rattle.ctl_blocks.specs.Blocks.{cold_block, is_block}
-use Rattle.ctl_scan.specs.Parts.{AreLawful}
+use Rattle.ctl_scan.specs.Kept.{AreLawful}
 use Rattle.il_model.specs.declared.command.Command.TheVariants as commands
 use Rattle.il_model.specs.declared.command.Answer.{Answer}
 use Rattle.il_model.specs.declared.command.Answer.TheVariants as answers
@@ -18,8 +18,7 @@ use Rattle.il_loader.specs.declared.fault.LoadFault.{LoadFault}
 use Rattle.il_loader.specs.Images.{IsWellFormed, Reading, AreBytes, ReadsImages}
 use Rattle.ctl_model.specs.declared.phase.Phase.{Phase}
 use Rattle.ctl_model.specs.declared.phase.Phase.TheVariants as phases
-use Rattle.ctl_model.specs.State.{State, BlockInstance}
-use Rattle.ctl_model.specs.Cold.{cold_instance}
+use Rattle.ctl_model.specs.State.{State, BlockInstance, cold_instance}
 use Rattle.ctl_model.specs.Suits.{HasValues, Suits}
 use Rattle.ctl_model.specs.Changes.{goes_on_as, carried_instance, carried_state, CarriesOver}
 use Rattle.ctl_debugger.specs.Owned.{Owned, IsController}

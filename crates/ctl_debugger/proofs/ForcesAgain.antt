@@ -19,7 +19,7 @@ use Rattle.ctl_model.specs.Snapshots.{forced_bits, forced_words, forced_slots, f
 use Rattle.ctl_model.proofs.Rising.{forces_from, forces_fit}
 use Rattle.ctl_model.proofs.Fitting.{and_both}
 use Rattle.ctl_model.proofs.ForcedSlots.{slot_as, listed, bits_listed, words_listed, bit_there, word_there, input_there, output_there}
-use Rattle.ctl_scan.specs.Parts.{AreMasks}
+use Rattle.ctl_scan.specs.Kept.{AreMasks}
 
 -- ---- it fits
 

@@ -22,16 +22,14 @@ use Rattle.il_model.specs.Checking.{shape_at}
 use Rattle.il_model.proofs.RowTypes.{and_yes}
 use Rattle.ctl_model.specs.declared.phase.Phase.{Phase}
 use Rattle.ctl_model.specs.declared.phase.Phase.TheVariants as phases
-use Rattle.ctl_model.specs.State.{State}
-use Rattle.ctl_model.specs.Cold.{at_rest}
+use Rattle.ctl_model.specs.State.{State, at_rest}
 use Rattle.ctl_model.specs.Scan.{Cycle}
 use Rattle.ctl_model.specs.Suits.{held_of}
 use Rattle.ctl_model.specs.Snapshots.{break_positions, saved_phase, snapshot_of, own_types, are_types, fit_instances, fit_breaks, fit_forces, fits_types, fits_run, is_at_rest, fits_phase, fits}
 use Rattle.il_model.proofs.Judged.{arrives}
 use Rattle.ctl_model.proofs.Fitting.{typed_so, types_fit}
-use Rattle.ctl_scan.specs.Parts.{FitsMachine, AreLawful}
-use Rattle.ctl_scan.specs.Kept.{KeptCycle, IsCycleOf}
-use Rattle.ctl_scan.specs.Parts.{HasCycle, performed_in, RestoresCycle, AreMasks}
+use Rattle.ctl_scan.specs.Kept.{FitsMachine, AreLawful, KeptCycle, IsCycleOf, HasCycle, performed_in, RestoresCycle}
+use Rattle.ctl_scan.specs.Kept.{AreMasks}
 use Rattle.ctl_debugger.specs.Owned.{IsOpen, IsKept}
 use Rattle.ctl_debugger.specs.Restored.{IsRestored}
 

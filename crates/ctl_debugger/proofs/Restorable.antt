@@ -4,7 +4,7 @@ use Rattle.std.specs.Prelude.{MatchBool}
 use Rattle.il_model.specs.Snapshots.{SavedBlock, SavedController}
 use Rattle.il_model.specs.Program.{Program}
 use Rattle.ctl_model.specs.Snapshots.{fits}
-use Rattle.ctl_scan.specs.Parts.{HaveBlocks, HasNoState}
+use Rattle.ctl_scan.specs.Kept.{HaveBlocks, HasNoState}
 use Rattle.ctl_debugger.specs.Restored.{CanRestore}
 
 -- it doesn't fit

@@ -3,7 +3,7 @@ use Rattle.std.proofs.Common.{◌≡◌, List, [], ◌∷◌, map, sym, ap}
 use Rattle.il_model.specs.Snapshots.{SavedBlock}
 use Rattle.ctl_model.specs.State.{BlockInstance}
 use Rattle.ctl_model.specs.Snapshots.{saved_instance}
-use Rattle.ctl_scan.specs.Parts.{AreLawful, HasNoState, Here, Later}
+use Rattle.ctl_scan.specs.Kept.{AreLawful, HasNoState, Here, Later}
 
 head_same : {A : Type 0} (x y : A) (xs ys : List A) → x ∷ xs ≡ y ∷ ys → x ≡ y
 head_same x y xs ys e = cc

@@ -19,10 +19,9 @@ use Rattle.il_model.specs.declared.command.Command.TheVariants as commands
 use Rattle.il_model.specs.declared.command.Answer.{Answer}
 use Rattle.il_model.specs.declared.command.Answer.TheVariants as answers
 use Rattle.il_model.specs.declared.command.Refusal.TheVariants as refusals
-use Rattle.il_model.specs.Cells.{clear_inputs, safe_image}
+use Rattle.il_model.specs.Locations.{clear_inputs, safe_image}
 use Rattle.il_model.specs.Program.{Program}
-use Rattle.il_model.specs.Names.{is_well_spelled}
-use Rattle.il_model.specs.Words.{plain, spells, look, mnemonic_of}
+use Rattle.il_model.specs.Words.{is_well_spelled, plain, spells, look, mnemonic_of}
 use Rattle.il_model.specs.Codes.{usage_of, allows, has_form}
 use Rattle.il_model.specs.Image.{spelling}
 use Rattle.il_model.proofs.Judged.{is_typed}

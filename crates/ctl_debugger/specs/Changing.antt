@@ -8,7 +8,7 @@ use Rattle.il_model.specs.Program.{Program}
 use Rattle.il_model.specs.Image.{spelling}
 use Rattle.il_loader.specs.Images.{IsWellFormed, Reading, AreBytes, ReadsImages}
 use Rattle.ctl_model.specs.declared.phase.Phase.TheVariants.{Idle}
-use Rattle.ctl_model.specs.Cold.{at_rest}
+use Rattle.ctl_model.specs.State.{at_rest}
 use Rattle.ctl_model.specs.Changes.{CarriesOver}
 use Rattle.ctl_model.specs.Commands.{no_breaks}
 use Rattle.ctl_debugger.specs.Owned.{Owned, IsController}

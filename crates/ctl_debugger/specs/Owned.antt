@@ -4,13 +4,11 @@ use Rattle.il_model.specs.declared.command.Answer.{Answer}
 use Rattle.il_model.specs.Program.{Program}
 use Rattle.ctl_model.specs.declared.phase.Phase.{Phase}
 use Rattle.ctl_model.specs.declared.phase.Phase.TheVariants as phases
-use Rattle.ctl_model.specs.Cold.{at_rest}
+use Rattle.ctl_model.specs.State.{at_rest}
 use Rattle.ctl_model.specs.Scan.{Cycle}
 use Rattle.ctl_model.specs.Suits.{Suits}
 use Rattle.ctl_model.specs.Commands.{Control, cold_control}
-use Rattle.ctl_scan.specs.Parts.{AreLawful}
-use Rattle.ctl_scan.specs.Kept.{KeptCycle, IsCycleOf}
-use Rattle.ctl_scan.specs.Parts.{AreMasks}
+use Rattle.ctl_scan.specs.Kept.{AreLawful, KeptCycle, IsCycleOf, AreMasks}
 
 pub record Owned : Type 0 where
   pub program : Program

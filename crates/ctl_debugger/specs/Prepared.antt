@@ -5,7 +5,7 @@ use Rattle.il_model.specs.declared.command.Command.TheVariants as commands
 use Rattle.il_model.specs.declared.command.Answer.{Answer}
 use Rattle.il_model.specs.declared.command.Answer.TheVariants as answers
 use Rattle.il_model.specs.declared.command.Refusal.TheVariants as refusals
-use Rattle.il_model.specs.Numbers.{is_change}
+use Rattle.il_model.specs.Answers.{is_change}
 use Rattle.il_model.specs.Program.{Program}
 use Rattle.il_loader.specs.declared.fault.LoadFault.{LoadFault}
 use Rattle.il_loader.specs.Judging.{image_of}

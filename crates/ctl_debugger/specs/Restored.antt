@@ -3,7 +3,7 @@ use Rattle.std.specs.Prelude.{◌≡◌, ℕ, Bool, true, false, Result, Ok, Err
 use Rattle.il_model.specs.Snapshots.{SavedController}
 use Rattle.il_model.specs.Program.{Program}
 use Rattle.ctl_model.specs.Snapshots.{snapshot_of, fits}
-use Rattle.ctl_scan.specs.Parts.{HaveBlocks, HasNoState}
+use Rattle.ctl_scan.specs.Kept.{HaveBlocks, HasNoState}
 use Rattle.ctl_debugger.specs.declared.snap_error.SnapError.{SnapError}
 use Rattle.ctl_debugger.specs.declared.snap_error.SnapError.TheVariants.{BadBlock, BadShape, Memory}
 use Rattle.ctl_debugger.specs.Owned.{Owned, IsController}

@@ -6,8 +6,7 @@ use Rattle.il_model.specs.declared.program.Area.{Area}
 use Rattle.il_model.specs.declared.program.Variable.{Variable}
 use Rattle.il_model.specs.declared.program.Instance.{Instance}
 use Rattle.il_model.specs.Program.{Program}
-use Rattle.ctl_model.specs.State.{State, BlockInstance}
-use Rattle.ctl_model.specs.Cold.{first_cells, cold_instance, cold}
+use Rattle.ctl_model.specs.State.{State, BlockInstance, first_cells, cold_instance, cold}
 
 pub is_cold : (Q : Program) (vs : List Variable) (ds : List Instance) (own : List Value) (xs : List BlockInstance) (input output memory : Cells)
     → vs ≡ Q.variables → ds ≡ Q.instances → own ≡ map (λ (v : Variable). v.initial) vs → xs ≡ map cold_instance ds → input ≡ first_cells Area.Input vs → output ≡ first_cells Area.Output vs → memory ≡ first_cells Area.Memory vs

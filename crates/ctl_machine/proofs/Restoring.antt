@@ -19,8 +19,8 @@ use Rattle.il_model.proofs.Judged.{arrived}
 use Rattle.ctl_model.proofs.ColdSuits.{firsts_typed}
 use Rattle.ctl_model.proofs.Fitting.{instances_of, few_deferred}
 use Rattle.ctl_machine.proofs.Values.{are_all}
-use Rattle.ctl_machine.specs.Kept.{IsMachineOf}
-use Rattle.ctl_machine.specs.Parts.{HasState, all_values, FitsMachine, RestoresState, HasNoBlock, HasNoState, Here, Later}
+use Rattle.ctl_machine.specs.Kept.{IsMachineOf, HasState, all_values, FitsMachine, RestoresState, HasNoBlock}
+use Rattle.ctl_machine.specs.Kept.{HasNoState, Here, Later}
 
 pub lost_at : (xs : List SavedBlock) (i : ℕ) (x : SavedBlock) → i < length xs → x ≡ get_or xs i x → HasNoBlock x → HasNoState xs
 lost_at [] i x lt e none = absurd (omega (arith, lt))

@@ -11,7 +11,7 @@ use Rattle.ctl_model.specs.State.{has_own}
 use Rattle.ctl_model.specs.Suits.{KeepFirsts}
 use Rattle.ctl_model.specs.Snapshots.{own_values, own_types, are_types}
 use Rattle.ctl_model.proofs.OwnValues.{both_same, own_before, first_before}
-use Rattle.ctl_machine.specs.Parts.{all_values}
+use Rattle.ctl_machine.specs.Kept.{all_values}
 
 head_same : {A : Type 0} (a b : A) (xs ys : List A) → a ∷ xs ≡ b ∷ ys → a ≡ b
 head_same a b xs ys e = cc

@@ -1,4 +1,2 @@
-pub mod Attempt
 pub mod Runs
 pub mod Kept
-pub mod Parts

@@ -1,9 +1,8 @@
 //! The cells of an area: values at locations, and those before the first scan.
 
 ghost use Rattle.std.specs.Prelude.{◌≡◌, unwrap_or, option_map};
-ghost use Rattle.il_model.specs.Areas.{area_of};
-ghost use Rattle.ctl_model.specs.Cold.{same_area, with_first, first_cells};
-ghost use Rattle.ctl_model.specs.State.{value_in, with_value_in};
+ghost use Rattle.il_model.specs.Locations.{area_of};
+ghost use Rattle.ctl_model.specs.State.{same_area, with_first, first_cells, value_in, with_value_in};
 
 use il_model::{Area, BITS, Cells, Loc, Value, Variable, WORDS};
 

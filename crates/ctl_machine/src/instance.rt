@@ -1,11 +1,10 @@
 //! A function block instance of a run.
 
 ghost use Rattle.std.specs.Prelude.{◌≡◌, ◌≤◌, length, slice_get, IfOk, option_map};
-ghost use Rattle.ctl_model.specs.State.{field_value, with_input};
+ghost use Rattle.ctl_model.specs.State.{field_value, with_input, cold_inputs, cold_instance};
 ghost use Rattle.ctl_model.specs.Step.{instance_after};
-ghost use Rattle.ctl_model.specs.Cold.{cold_inputs, cold_instance};
 ghost use Rattle.ctl_model.specs.Snapshots.{saved_instance};
-ghost use Rattle.ctl_machine.specs.Parts.{IsLawful, HasFewInputs, Restores};
+ghost use Rattle.ctl_machine.specs.Kept.{IsLawful, HasFewInputs, Restores};
 
 use arrayvec::ArrayVec;
 use ctl_blocks::Block;
@@ -25,7 +24,7 @@ pub struct InstanceState {
 
 impl Model for InstanceState {
     ghost use Rattle.ctl_model.specs.State.{BlockInstance};
-    ghost use Rattle.ctl_machine.specs.Parts.{KeepsOutputs};
+    ghost use Rattle.ctl_machine.specs.Kept.{KeepsOutputs};
 
     ghost Value = { BlockInstance };
 

@@ -4,7 +4,7 @@ ghost use Rattle.std.specs.Prelude.{◌≡◌, ◌≤◌, length, map, IfOk, opt
 ghost use Rattle.std.specs.List.{AllByRecursion};
 ghost use Rattle.il_model.specs.Snapshots.{SavedBlock};
 ghost use Rattle.ctl_model.specs.Snapshots.{own_values, saved_instance};
-ghost use Rattle.ctl_machine.specs.Parts.{all_values, AreLawful, HasFewInputs, RestoresAll};
+ghost use Rattle.ctl_machine.specs.Kept.{all_values, AreLawful, HasFewInputs, RestoresAll};
 
 use crate::instance::InstanceState;
 use arrayvec::ArrayVec;

@@ -3,7 +3,7 @@
 ghost use Rattle.std.specs.Prelude.{◌≡◌, ◌&&◌, length, nat_lt, MatchBool};
 ghost use Rattle.ctl_model.specs.Suits.{input_types};
 ghost use Rattle.ctl_model.specs.Snapshots.{own_types, are_types, fits_instance, fit_instances, fits_run};
-ghost use Rattle.ctl_machine.specs.Parts.{HasBlock, HaveBlocks, HasNoBlock, HasNoState};
+ghost use Rattle.ctl_machine.specs.Kept.{HasBlock, HaveBlocks, HasNoBlock, HasNoState};
 
 use crate::arrival::{are_of, has_type, types_at};
 use ctl_blocks::Block;

@@ -6,7 +6,7 @@ use Rattle.std.specs.Option.{option_map}
 use Rattle.std.proofs.lemmas.Slice.Eq.{bytes_eq-Decides}
 use Rattle.il_model.specs.declared.program.Variable.{Variable}
 use Rattle.il_model.specs.declared.program.Instance.{Instance}
-use Rattle.il_model.specs.Names.{same_name, is_lawful_name}
+use Rattle.il_model.specs.Words.{same_name, is_lawful_name}
 use Rattle.il_model.specs.Codes.{is_new_name}
 use Rattle.il_model.specs.Fits.{IsVariable, IsInstance, AreItems}
 use Rattle.il_model.proofs.RowTypes.{and_yes}

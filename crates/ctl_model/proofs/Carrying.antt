@@ -12,15 +12,14 @@ use Rattle.il_model.specs.declared.program.Variable.{Variable}
 use Rattle.il_model.specs.declared.program.Instance.{Instance}
 use Rattle.il_model.specs.declared.program.Loc.{Loc}
 use Rattle.il_model.specs.Values.{ty_of}
-use Rattle.il_model.specs.Names.{same_name}
+use Rattle.il_model.specs.Words.{same_name}
 use Rattle.il_model.specs.Row.{same_type}
 use Rattle.il_model.specs.Kinds.{kind_code}
 use Rattle.il_model.specs.Program.{Program}
 use Rattle.il_model.specs.Fits.{IsVariable, IsInstance, AreItems, IsProgram}
 use Rattle.il_model.proofs.RowTypes.{and_yes, same_type_is}
 use Rattle.il_model.proofs.Positions.{position_first, position_later}
-use Rattle.ctl_model.specs.State.{State, BlockInstance, has_own}
-use Rattle.ctl_model.specs.Cold.{cold_instance}
+use Rattle.ctl_model.specs.State.{State, BlockInstance, has_own, cold_instance}
 use Rattle.ctl_model.specs.Suits.{KeepFirsts, HasValues, Suits, IsInstanceOf, AreInstances}
 use Rattle.ctl_model.specs.Changes.{GoesOn, GoesOnAs, goes_on, goes_on_as, kept_by, kept_value, kept_instance, carried_value, carried_instance, carried_state, CarriesOver}
 use Rattle.ctl_model.proofs.Apart.{variables_apart, instances_apart}

@@ -16,10 +16,9 @@ use Rattle.il_model.specs.Program.{Program}
 use Rattle.il_model.specs.Values.{ty_of, number_of, is_within, truth_made, typed_value}
 use Rattle.il_model.specs.Codes.{if_passes, may_start_with}
 use Rattle.il_model.specs.Fits.{IsVariable, AreItems, IsProgram}
-use Rattle.ctl_model.specs.State.{State, with_value_in}
-use Rattle.il_model.specs.Areas.{area_of}
-use Rattle.il_model.specs.Cells.{clear_cells}
-use Rattle.ctl_model.specs.Cold.{same_area, with_first, with_firsts, first_cells, cold, scan_start_state, at_rest}
+use Rattle.ctl_model.specs.State.{State, with_value_in, same_area, with_first, with_firsts, first_cells, cold}
+use Rattle.ctl_model.specs.State.{scan_start_state, at_rest}
+use Rattle.il_model.specs.Locations.{area_of, clear_cells}
 use Rattle.il_model.specs.Typing.{Shape, Arrives}
 use Rattle.ctl_model.specs.Suits.{AreCells, HasValues, Suits, held_of}
 use Rattle.ctl_model.proofs.Instances.{all_cold}

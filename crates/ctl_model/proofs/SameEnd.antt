@@ -8,7 +8,8 @@ use Rattle.il_model.specs.Program.{Program}
 use Rattle.ctl_model.specs.State.{State}
 use Rattle.ctl_model.specs.Scan.{Cycle, RunEnd, Done, Held, Stopped, run_from, run_from_break, one_step_run, is_past_end, is_break, scan_result, scan_start}
 use Rattle.ctl_model.specs.Commands.{Control, no_breaks, command_outcome, scan_answer, on_scan}
-use Rattle.ctl_model.specs.Carried.{Onward, Step, Continue, outcome_after_all, outcome_after, is_held, without_breaks, EndsTheSame}
+use Rattle.ctl_model.specs.Runs.{Onward, Step, Continue, outcome_after_all, outcome_after, is_held, without_breaks}
+use Rattle.ctl_model.specs.Runs.{EndsTheSame}
 use Rattle.ctl_model.proofs.Agrees.{Agrees, HasNone, run_agrees, over_agrees, one_agrees}
 
 none_in : (n p : ℕ) → is_break (replicate n false) p ≡ false

@@ -6,13 +6,12 @@ use Rattle.std.specs.Option.{option_and_then}
 use Rattle.il_model.specs.declared.value.Value.{Value}
 use Rattle.il_model.specs.declared.program.Variable.{Variable}
 use Rattle.il_model.specs.declared.program.Instance.{Instance}
-use Rattle.il_model.specs.Names.{same_name}
+use Rattle.il_model.specs.Words.{same_name}
 use Rattle.il_model.specs.Row.{same_type}
 use Rattle.il_model.specs.Kinds.{kind_code}
 use Rattle.il_model.specs.Program.{Program}
 use Rattle.ctl_model.specs.declared.phase.Phase.TheVariants as phases
-use Rattle.ctl_model.specs.State.{State, BlockInstance, has_own}
-use Rattle.ctl_model.specs.Cold.{cold_instance}
+use Rattle.ctl_model.specs.State.{State, BlockInstance, has_own, cold_instance}
 use Rattle.ctl_model.specs.Commands.{Control, no_breaks}
 
 -- ---- what goes on

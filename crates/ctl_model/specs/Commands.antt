@@ -14,8 +14,7 @@ use Rattle.il_model.specs.declared.command.Answer.{Answer}
 use Rattle.il_model.specs.declared.command.Answer.TheVariants as answers
 use Rattle.il_model.specs.declared.command.Refusal.{Refusal}
 use Rattle.il_model.specs.declared.command.Refusal.TheVariants as refusals
-use Rattle.il_model.specs.Areas.{area_of}
-use Rattle.il_model.specs.Cells.{safe_image}
+use Rattle.il_model.specs.Locations.{area_of, safe_image}
 use Rattle.il_model.specs.CodedOperands.{any_loc}
 use Rattle.il_model.specs.Program.{Program}
 use Rattle.ctl_model.specs.declared.phase.Phase.{Phase}

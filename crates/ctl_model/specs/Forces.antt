@@ -10,7 +10,7 @@ use Rattle.il_model.specs.declared.program.Area.{Area}
 use Rattle.il_model.specs.declared.program.Area.TheVariants as areas
 use Rattle.il_model.specs.declared.program.Loc.{Loc}
 use Rattle.il_model.specs.declared.program.Loc.TheVariants.{Bit, Word}
-use Rattle.il_model.specs.Areas.{area_of}
+use Rattle.il_model.specs.Locations.{area_of}
 use Rattle.ctl_model.specs.declared.forces.Mask.{Mask}
 use Rattle.ctl_model.specs.declared.forces.Forces.{Forces}
 

@@ -1,12 +1,10 @@
 pub mod State
 pub mod Step
 pub mod Suits
-pub mod Cold
 pub mod Slots
 pub mod Forces
 pub mod Scan
 pub mod Commands
 pub mod Runs
-pub mod Carried
 pub mod Snapshots
 pub mod Changes

@@ -14,7 +14,7 @@ use Rattle.ctl_model.specs.Forces.{put_force, no_forces}
 use Rattle.ctl_model.specs.Commands.{forcible_at}
 use Rattle.ctl_model.specs.Snapshots.{forced_bits, forced_words, forced_slots, fits_location, fit_forces}
 use Rattle.ctl_model.proofs.Rising.{forces_from, forces_fit}
-use Rattle.ctl_scan.specs.Parts.{forced_word}
+use Rattle.ctl_scan.specs.Kept.{forced_word}
 use Rattle.ctl_model.proofs.ForcedSlots.{slot_as, listed, bits_listed, words_listed, AreFree, IsTaken, forcible_by, taken, no_forces_free}
 
 -- ---- to slots

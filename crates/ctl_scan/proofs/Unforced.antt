@@ -4,7 +4,7 @@ use Rattle.std.specs.Prelude.{replicate}
 use Rattle.il_model.specs.declared.cells.Cells.{Cells}
 use Rattle.ctl_model.specs.declared.forces.Forces.{Forces}
 use Rattle.ctl_model.specs.Forces.{overlay, with_forces, no_mask}
-use Rattle.ctl_scan.specs.Parts.{MayForce}
+use Rattle.ctl_scan.specs.Kept.{MayForce}
 
 none_laid : {A : Type 0} (n : ℕ) (xs : List A) → overlay (replicate n None) xs ≡ xs
 none_laid zero xs = refl

@@ -9,9 +9,8 @@ ghost use Rattle.ctl_model.specs.Scan.{scan_start, scan_run, scan_run_over, scan
 ghost use Rattle.ctl_model.specs.Scan.{without_force, cold_again};
 ghost use Rattle.ctl_model.specs.Runs.{ScanRuns, ScanRunsOver};
 ghost use Rattle.ctl_model.specs.Snapshots.{fit_forces};
-ghost use Rattle.ctl_machine.specs.Parts.{FitsMachine, AreLawful};
-ghost use Rattle.ctl_scan.specs.Kept.{cold_kept, IsCycleOf};
-ghost use Rattle.ctl_scan.specs.Parts.{HasCycle, performed_in, RestoresCycle, AreMasks};
+ghost use Rattle.ctl_machine.specs.Kept.{FitsMachine, AreLawful};
+ghost use Rattle.ctl_scan.specs.Kept.{cold_kept, IsCycleOf, HasCycle, performed_in, RestoresCycle, AreMasks};
 ghost use Rattle.ctl_scan.specs.Told.{came_to, IsWithin};
 
 use crate::breakpoints::Breakpoints;

@@ -3,7 +3,7 @@
 ghost use Rattle.std.specs.Prelude.{◌≡◌, true, is_some, unwrap_or, IfOk};
 ghost use Rattle.ctl_model.specs.Forces.{with_forces, no_forces, put_force, lift_force};
 ghost use Rattle.ctl_model.specs.Snapshots.{forced_slots, fit_forces};
-ghost use Rattle.ctl_scan.specs.Parts.{AreMasks};
+ghost use Rattle.ctl_scan.specs.Kept.{AreMasks};
 
 use crate::forces::{
     force, know_whole_forces, no_forces, restored_forces, saved_forces, unforce, with_forces,
@@ -22,7 +22,7 @@ pub struct ForceTable {
 
 impl Model for ForceTable {
     ghost use Rattle.ctl_model.specs.declared.forces.Forces.{Forces};
-    ghost use Rattle.ctl_scan.specs.Parts.{MayForce};
+    ghost use Rattle.ctl_scan.specs.Kept.{MayForce};
 
     ghost Value = { Forces };
 

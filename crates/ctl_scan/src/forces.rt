@@ -5,7 +5,7 @@ ghost use Rattle.std.specs.Prelude.{IfOk};
 ghost use Rattle.ctl_model.specs.Forces.{overlay, with_forces, no_mask, no_forces, with_forced, with_freed};
 ghost use Rattle.ctl_model.specs.Forces.{put_force, lift_force};
 ghost use Rattle.ctl_model.specs.Snapshots.{forced_bits, forced_words, forced_in, forced_slots, fit_forces};
-ghost use Rattle.ctl_scan.specs.Parts.{forced_word, IsMask, AreMasks};
+ghost use Rattle.ctl_scan.specs.Kept.{forced_word, IsMask, AreMasks};
 
 use ctl_model::{Forces, Mask};
 use il_model::{Area, BITS, Cells, ForcedSlot, Loc, Slot, Value, WORDS};

@@ -8,9 +8,8 @@ use Rattle.io_image.specs.Book.{Change}
 use Rattle.modbus_wire.specs.declared.reply.Reply.{Reply}
 use Rattle.field_map.specs.declared.device.Device.{Device}
 use Rattle.field_map.specs.declared.reading.Reading.{Reading}
-use Rattle.field_map.specs.Asking.{shown_by}
-use Rattle.field_map.specs.Carrying.{after_some}
-use Rattle.field_map.specs.Gathered.{gathered_of, AreShown}
+use Rattle.field_map.specs.Asking.{shown_by, after_some}
+use Rattle.field_map.specs.Carried.{gathered_of, AreShown}
 use Rattle.field_map.specs.Rounds.{steps_of, taken_at, is_taken_at, is_done}
 use Rattle.field_cycle.specs.declared.round.Round.{Round}
 use Rattle.field_cycle.specs.Links.{later}

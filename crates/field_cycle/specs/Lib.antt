@@ -1,5 +1,3 @@
 pub mod Links
-pub mod Fresh
-pub mod Hands
-pub mod Rounds
 pub mod Stations
+pub mod Rounds

@@ -1,11 +1,11 @@
 -- A round of a device.
 use Rattle.std.specs.Prelude.{◌≡◌, ℕ, ◌+◌, ◌^◌, ◌<◌, ◌≤◌, ◌⊎◌, if◌then◌else◌, List, [], ◌∷◌, length, Option, Some, None, IsSome}
 use Rattle.il_model.specs.declared.cells.Cells.{Cells}
-use Rattle.il_model.specs.Cells.{clear_cells}
+use Rattle.il_model.specs.Locations.{clear_cells}
 use Rattle.modbus_wire.specs.declared.reply.Reply.{Reply}
 use Rattle.field_map.specs.declared.device.Device.{Device}
-use Rattle.field_map.specs.Carrying.{after_some}
-use Rattle.field_map.specs.Gathered.{gathered_of, AreShown}
+use Rattle.field_map.specs.Asking.{after_some}
+use Rattle.field_map.specs.Carried.{gathered_of, AreShown}
 use Rattle.field_map.specs.Rounds.{steps_of, asked_at, both_at, taken_at, is_taken_at}
 use Rattle.modbus_wire.specs.declared.request.Request.{Request}
 use Rattle.field_cycle.specs.declared.round.Round.{Round}

@@ -1,20 +1,78 @@
--- Devices, as they are asked, and what is handed over of them.
-use Rattle.std.specs.Prelude.{◌≡◌, ◌≤◌, ℕ, Bool, ◌&&◌, ◌||◌, if◌then◌else◌, Option, Some, None, is_some, is_none}
+-- Devices, as they are asked: what is handed over of them, in order, and whether the controller's outputs are known.
+use Rattle.std.specs.Prelude.{ℕ, ℤ, Bool, false, true, not, ◌&&◌, ◌||◌, nat_le, if◌then◌else◌, Option, Some, None, ◌≡◌}
+use Rattle.std.specs.Prelude.{◌≤◌, is_some, is_none}
+use Rattle.std.specs.Ordering.{int_eq}
 use Rattle.il_model.specs.declared.cells.Cells.{Cells}
+use Rattle.modbus_wire.specs.declared.request.Request.{Request}
+use Rattle.field_map.specs.declared.device.Device.{Device}
+use Rattle.field_map.specs.Rounds.{handed_inputs, handed_alive, steps_of}
+use Rattle.field_cycle.specs.declared.freshness.Freshness.{Freshness}
+use Rattle.field_cycle.specs.declared.hands.Hands.{Hands}
 use Rattle.field_cycle.specs.declared.link.LinkFault.{LinkFault}
 use Rattle.field_cycle.specs.declared.round.Round.{Round}
 use Rattle.field_cycle.specs.declared.station.Change.{Change}
-use Rattle.field_cycle.specs.declared.station.Change.TheVariants as changes
 use Rattle.field_cycle.specs.declared.station.Standing.{Standing}
-use Rattle.field_cycle.specs.declared.station.Standing.TheVariants as standings
 use Rattle.field_cycle.specs.declared.station.Station.{Station}
 use Rattle.field_cycle.specs.declared.controller.Controller.{Controller}
-use Rattle.field_map.specs.declared.device.Device.{Device}
-use Rattle.field_map.specs.Rounds.{steps_of}
-use Rattle.field_cycle.specs.Hands.{answered}
-use Rattle.field_cycle.specs.Links.{is_idle, is_up}
-use Rattle.field_cycle.specs.Fresh.{is_fresh}
+use Rattle.field_cycle.specs.declared.station.Change.TheVariants as changes
+use Rattle.field_cycle.specs.declared.station.Standing.TheVariants as standings
+use Rattle.field_cycle.specs.Links.{later, is_idle, is_up}
 use Rattle.field_cycle.specs.Rounds.{begun, only_reading}
+
+-- ---- whether the controller's outputs are known
+
+-- it never answered
+abbrev pub never : Freshness
+never = record { answered = None; count = None; counted = None }
+
+-- a moment no longer ago than so long
+abbrev pub is_recent : Option ℕ → ℕ → ℕ → Bool
+is_recent None now fresh = false
+is_recent (Some moment) now fresh = nat_le now (later moment fresh)
+
+-- two counts that differ
+abbrev pub is_other : Option ℤ → Option ℤ → Bool
+is_other (Some before) (Some count) = not (int_eq before count)
+is_other _ _ = false
+
+-- it answered now, with this count
+abbrev pub heard_at : Freshness → ℕ → Option ℤ → Freshness
+heard_at f now count = record { answered = Some now; count = count; counted = if is_other f.count count then Some now else f.counted }
+
+-- it answered lately, and where scans are counted, the count changed lately
+abbrev pub is_fresh : Freshness → ℕ → ℕ → Bool → Bool
+is_fresh f now fresh counts = is_recent f.answered now fresh && (not counts || is_recent f.counted now fresh)
+
+-- ---- what is handed over of a device, in order
+
+abbrev pub nothing : Hands
+nothing = record { first = None; second = None }
+
+-- the inputs that were gathered, whole, and then that it answers, if that is to be told
+abbrev pub answered : Hands → Device → Cells → Bool → Hands
+answered h d gathered tells =
+    record { first = handed_inputs d (Some gathered); second = if tells then handed_alive d true else h.second }
+
+-- that it's lost, and then the inputs by their fallback
+abbrev pub losing : Device → Hands
+losing d = record { first = handed_alive d false; second = handed_inputs d None }
+
+abbrev pub next_by : Option Request → Option Request → Option Request
+next_by (Some request) second = Some request
+next_by None second = second
+
+abbrev pub next_of : Hands → Option Request
+next_of h = next_by h.first h.second
+
+abbrev pub left_by : Option Request → Option Request → Hands
+left_by (Some request) second = record { first = None; second = second }
+left_by None second = nothing
+
+-- what is left once the next one is taken
+abbrev pub left : Hands → Hands
+left h = left_by h.first h.second
+
+-- ---- devices
 
 -- what changes where one answers
 abbrev pub found_by : Standing → Option Change

@@ -1,7 +1,7 @@
 //! Whether what the controller released is worth anything.
 
 ghost use Rattle.std.specs.Prelude.{◌≡◌};
-ghost use Rattle.field_cycle.specs.Fresh.{never, is_recent, heard_at, is_fresh, is_other};
+ghost use Rattle.field_cycle.specs.Stations.{never, is_recent, heard_at, is_fresh, is_other};
 
 use crate::link::Moment;
 

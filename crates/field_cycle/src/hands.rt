@@ -14,7 +14,7 @@ pub struct Hands {
 }
 
 impl Hands {
-    ghost use Rattle.field_cycle.specs.Hands.{nothing, answered, losing, left, next_of};
+    ghost use Rattle.field_cycle.specs.Stations.{nothing, answered, losing, left, next_of};
 
     /// Nothing.
     pub fn none() -> Hands

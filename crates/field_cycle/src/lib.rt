@@ -18,12 +18,12 @@
 //! In each cycle the outputs of the controller are taken; then each device has a round: what is written there, and then
 //! what is read. What a round gathered is handed over once it's whole. A device that is late costs the others nothing.
 //!
-//! Proved (`specs/Links`, `specs/Fresh`, `specs/Rounds`, `specs/Stations`, `specs/Hands`): a reply is taken only of the
-//! transaction and the unit that were asked, and as `modbus_wire` reads it; what else comes is its named fault. A pause
-//! is 100 ms at first and doubles up to 5 s. A round takes what each reply shows, step by step, and is handed over only
-//! once each step is done, whole; then it has what the replies show (`know_a_round`). A round is begun with the outputs
-//! only while there is a connection to the controller and it's fresh; else by what the writings fall back to, if the
-//! device has outputs, and else it only reads. After a whole round without outputs the device has none.
+//! Proved (`specs/Links`, `specs/Stations`, `specs/Rounds`): a reply is taken only of the transaction and the unit that
+//! were asked, and as `modbus_wire` reads it; what else comes is its named fault. A pause is 100 ms at first and
+//! doubles up to 5 s. A round takes what each reply shows, step by step, and is handed over only once each step is
+//! done, whole; then it has what the replies show (`know_a_round`). A round is begun with the outputs only while there
+//! is a connection to the controller and it's fresh; else by what the writings fall back to, if the device has outputs,
+//! and else it only reads. After a whole round without outputs the device has none.
 //!
 //! By its code alone, and shown by rows (`fields.rows` of `tests_bytes`): the order of what is done, notices, that a
 //! late device doesn't hold up, and that no device is asked while the controller is lost.

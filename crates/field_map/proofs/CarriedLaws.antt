@@ -4,20 +4,18 @@ use Rattle.std.specs.Prelude.{◌||◌, if◌then◌else◌, Option, Some, None,
 use Rattle.std.specs.List.{flat_map, list_all, AllByRecursion}
 use Rattle.std.proofs.lemmas.Option.{same_Some}
 use Rattle.il_model.specs.declared.cells.Cells.{Cells}
-use Rattle.il_model.specs.Cells.{clear_cells}
+use Rattle.il_model.specs.Locations.{clear_cells}
 use Rattle.modbus_wire.specs.declared.reply.Reply.{Reply}
 use Rattle.field_map.specs.declared.places.Kind.{Kind}
 use Rattle.field_map.specs.declared.places.Places.{Places}
 use Rattle.field_map.specs.declared.reading.Reading.{Reading}
 use Rattle.field_map.specs.declared.device.Device.{Device}
-use Rattle.field_map.specs.Apart.{are_apart}
-use Rattle.field_map.specs.Asking.{shown_by}
-use Rattle.field_map.specs.Carried.{gathered_by, with_gathered, after_cycle, HasAnswered, IsEachCarried}
-use Rattle.field_map.specs.Carrying.{after_some, all_cells}
-use Rattle.field_map.specs.Field.{filled_by, places_read, places_alive}
-use Rattle.field_map.specs.Filled.{is_in, is_in_some, is_in_any, is_read, are_all_apart}
-use Rattle.field_map.specs.Gathered.{gathered_of, value_shown, AreShown}
-use Rattle.field_map.specs.Given.{Cell, cell_at, IsWhole, IsWholeIf, given_by, shown_at_place, HasGiven}
+use Rattle.field_map.specs.Filled.{are_apart, filled_by, places_read, places_alive, is_in, is_in_some, is_in_any}
+use Rattle.field_map.specs.Filled.{is_read, are_all_apart}
+use Rattle.field_map.specs.Asking.{shown_by, after_some, all_cells}
+use Rattle.field_map.specs.Carried.{gathered_by, with_gathered, after_cycle, HasAnswered, IsEachCarried, gathered_of}
+use Rattle.field_map.specs.Carried.{value_shown, AreShown, Cell, cell_at, IsWhole, IsWholeIf, given_by, shown_at_place}
+use Rattle.field_map.specs.Carried.{HasGiven}
 use Rattle.field_map.specs.Rounds.{handed_cells}
 use Rattle.field_map.proofs.ApartLaws.{and_first, and_second, and_both, list_all-append, apart_behind, in_front_alone, is_in_any-append, is_in_any-read}
 use Rattle.field_map.proofs.GatheredLaws.{choose_false, choose_true, reading_whole, each_gathered}

@@ -8,12 +8,13 @@ use Rattle.field_map.specs.declared.places.Places.{Places}
 use Rattle.field_map.specs.declared.device.Device.{Device}
 use Rattle.field_map.specs.declared.reading.Fallback.{Fallback}
 use Rattle.field_map.specs.declared.reading.Fallback.TheVariants.{Hold, Zero}
-use Rattle.il_model.specs.Cells.{clear_cells}
-use Rattle.field_map.specs.Carrying.{all_cells}
-use Rattle.field_map.specs.Filled.{is_in, is_in_some, is_in_any, is_read, are_all_apart}
-use Rattle.field_map.specs.Field.{filled_by, places_read, places_alive}
+use Rattle.il_model.specs.Locations.{clear_cells}
+use Rattle.field_map.specs.Asking.{all_cells}
+use Rattle.field_map.specs.Filled.{is_in, is_in_some, is_in_any, is_read, are_all_apart, filled_by, places_read}
+use Rattle.field_map.specs.Filled.{places_alive}
 use Rattle.field_map.specs.Rounds.{handed_cells}
-use Rattle.field_map.specs.Given.{Cell, cell_at, IsWhole, IsWholeIf, handed_over, after_device, after_devices, is_filled, given_by, shown_at_place, IsEachGiven}
+use Rattle.field_map.specs.Carried.{Cell, cell_at, IsWhole, IsWholeIf, handed_over, after_device, after_devices}
+use Rattle.field_map.specs.Carried.{is_filled, given_by, shown_at_place, IsEachGiven}
 use Rattle.field_map.proofs.ApartLaws.{apart_behind, bool_cases, in_front_alone, is_in_any-append, is_in_any-read}
 use Rattle.std.proofs.lemmas.Option.{same_Some}
 use Rattle.field_map.proofs.PlaceLaws.{cell_at-carried, carried_is_whole}

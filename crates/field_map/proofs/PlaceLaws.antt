@@ -13,8 +13,8 @@ use Rattle.field_map.specs.declared.places.Kind.TheVariants.{Bits, Words}
 use Rattle.field_map.specs.declared.places.Places.{Places}
 use Rattle.field_map.specs.Areas.{area_length, is_one_kind}
 use Rattle.field_map.specs.Filled.{is_in}
-use Rattle.field_map.specs.Carrying.{carried, carried_by}
-use Rattle.field_map.specs.Given.{bit, word, cell_at, IsWhole}
+use Rattle.field_map.specs.Asking.{carried, carried_by}
+use Rattle.field_map.specs.Carried.{bit, word, cell_at, IsWhole}
 
 -- a part of one list over the same part of another
 abbrev pub laid : {A : Type 0} → List A → List A → ℕ → ℕ → List A

@@ -1,10 +1,5 @@
-pub mod Apart
+pub mod Filled
 pub mod Areas
 pub mod Asking
-pub mod Carrying
-pub mod Field
-pub mod Filled
 pub mod Rounds
-pub mod Given
-pub mod Gathered
 pub mod Carried

@@ -2,7 +2,7 @@
 use Rattle.std.specs.Prelude.{ℕ, ◌+◌, ◌-◌, ◌==◌, ◌&&◌, Bool, true, false, nat_lt, if◌then◌else◌, length, slice_get}
 use Rattle.std.specs.Prelude.{Option, Some, None, option_map, option_and_then, is_some}
 use Rattle.il_model.specs.declared.cells.Cells.{Cells}
-use Rattle.il_model.specs.Cells.{clear_cells}
+use Rattle.il_model.specs.Locations.{clear_cells}
 use Rattle.io_image.specs.Book.{Change}
 use Rattle.modbus_wire.specs.declared.request.Request.{Request}
 use Rattle.modbus_wire.specs.declared.reply.Reply.{Reply}
@@ -11,8 +11,7 @@ use Rattle.field_map.specs.declared.places.Places.{Places}
 use Rattle.field_map.specs.declared.reading.Fallback.{Fallback}
 use Rattle.field_map.specs.declared.reading.Fallback.TheVariants.{Hold, Zero}
 use Rattle.field_map.specs.declared.device.Device.{Device}
-use Rattle.field_map.specs.Carrying.{all_cells}
-use Rattle.field_map.specs.Asking.{joined, read_request, output_request, write_request, shown_by}
+use Rattle.field_map.specs.Asking.{all_cells, joined, read_request, output_request, write_request, shown_by}
 
 -- how many writings and readings a device has
 abbrev pub steps_of : Device → ℕ

@@ -4,8 +4,7 @@ ghost use Rattle.std.specs.Prelude.{◌≡◌, ◌≤◌, true, length, IfSome};
 ghost use Rattle.std.specs.Option.{option_copied};
 ghost use Rattle.modbus_wire.specs.Requests.{is_request};
 ghost use Rattle.field_map.specs.declared.device.TheConstants.{MOST_WRITINGS};
-ghost use Rattle.field_map.specs.Asking.{joined};
-ghost use Rattle.field_map.specs.Carrying.{after_some, all_cells};
+ghost use Rattle.field_map.specs.Asking.{joined, after_some, all_cells};
 
 use crate::inputs::Inputs;
 use crate::places::Places;

@@ -2,8 +2,7 @@
 
 ghost use Rattle.std.specs.Prelude.{◌≡◌, [], ◌∷◌, ◌++◌, true, false, Ok, OnOk, OnErr};
 ghost use Rattle.std.specs.List.{list_all};
-ghost use Rattle.field_map.specs.Apart.{are_apart};
-ghost use Rattle.field_map.specs.Filled.{are_all_apart};
+ghost use Rattle.field_map.specs.Filled.{are_apart, are_all_apart};
 
 use crate::places::Places;
 use std::alloc::{AllocError, Global};

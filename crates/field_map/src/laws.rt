@@ -1,8 +1,6 @@
 //! What comes of handing devices over.
 
-ghost use Rattle.field_map.specs.Carried.{IsEachCarried};
-ghost use Rattle.field_map.specs.Gathered.{IsEachGathered};
-ghost use Rattle.field_map.specs.Given.{IsEachGiven};
+ghost use Rattle.field_map.specs.Carried.{IsEachCarried, IsEachGathered, IsEachGiven};
 
 /// Where no place is filled twice, as in each `FieldMap`, and the devices were handed over one after the other, each
 /// place that a reading fills has what was gathered there, or what its device's fallback says; each alive bit says

@@ -47,7 +47,7 @@ pub struct Places {
 }
 
 impl Places {
-    ghost use Rattle.field_map.specs.Apart.{are_apart};
+    ghost use Rattle.field_map.specs.Filled.{are_apart};
 
     /// Whether they have no cell in common, if both are of one area.
     pub fn is_apart(&self, other: &Places) -> bool

@@ -3,8 +3,7 @@
 ghost use Rattle.std.specs.Prelude.{◌≡◌, ◌≤◌, true, length, is_some, IfSome};
 ghost use Rattle.std.specs.Option.{option_copied};
 ghost use Rattle.modbus_wire.specs.Requests.{is_request};
-ghost use Rattle.field_map.specs.Asking.{read_request, shown_by, write_request, output_request};
-ghost use Rattle.field_map.specs.Carrying.{after_some};
+ghost use Rattle.field_map.specs.Asking.{read_request, shown_by, write_request, output_request, after_some};
 
 use crate::places::{Kind, Places};
 use il_model::Cells;

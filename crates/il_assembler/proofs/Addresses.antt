@@ -12,7 +12,7 @@ use Rattle.il_model.specs.Resolved.{has_label, target_of}
 use Rattle.il_model.specs.Marks.{Mark, with_mark, marks_from, word_count, words_in, address_of}
 use Rattle.il_model.specs.Image.{mark_bytes}
 use Rattle.il_model.proofs.TypedLines.{position_at}
-use Rattle.il_assembler.specs.Encoded.{HasFewArguments, addresses_from}
+use Rattle.il_assembler.specs.Walk.{HasFewArguments, addresses_from}
 
 address_from : (code : List Instr) (m n : ℕ) → n < length code → slice_get (addresses_from m code) n ≡ Some (m + address_of code n)
 address_from [] m n lt = absurd (omega arith)

@@ -25,7 +25,8 @@ use Rattle.il_model.specs.Image.{number_or_unused, coded_operand, operand_code, 
 use Rattle.il_model.specs.Settled.{settled_argument, settled_line, typed_program_of}
 use Rattle.il_model.proofs.ArgumentFaults.{settled_argument_none}
 use Rattle.il_model.proofs.SettledPrograms.{Alike, literal_is, settled_none, called_settled, is_settling, settling_alike, target_alike, typed_program}
-use Rattle.il_assembler.specs.Encoded.{literals_of, constants_in, literals_in, all_literals, settled_code, settled_passing_word, settled_instruction, settled_words, settled_bytes}
+use Rattle.il_assembler.specs.Walk.{literals_of, constants_in, literals_in, all_literals, settled_code}
+use Rattle.il_assembler.specs.Walk.{settled_passing_word, settled_instruction, settled_words, settled_bytes}
 use Rattle.il_assembler.proofs.Gathered.{passing_literals}
 use Rattle.il_assembler.proofs.SettledLines.{AreSettledLines, settled_lines, same_words, same_address, same_marks, same_long}
 

@@ -18,8 +18,8 @@ use Rattle.il_model.proofs.SettledPrograms.{goes_settled, fails_settled, stays_o
 use Rattle.il_model.proofs.Declaring.{declared_image}
 use Rattle.il_assembler.specs.declared.fault.AsmError.{AsmError}
 use Rattle.il_assembler.specs.declared.fault.AsmError.TheVariants as errors
-use Rattle.il_assembler.specs.FirstFault.{Arrives, begins, passes, IsFaultHere, IsFirstFault}
-use Rattle.il_assembler.specs.Assembled.{IsSpelled, IsGiven, TellsFirst, IsTold, IsImageBytes}
+use Rattle.il_assembler.specs.Assembled.{Arrives, begins, passes, IsFaultHere, IsFirstFault, IsSpelled, IsGiven}
+use Rattle.il_assembler.specs.Assembled.{TellsFirst, IsTold, IsImageBytes}
 use Rattle.il_assembler.specs.Walk.{GivesImage}
 
 abbrev typed : Program → Result Program (TypeFault × ℕ)

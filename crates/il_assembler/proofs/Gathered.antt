@@ -6,7 +6,7 @@ use Rattle.il_model.specs.declared.program.Argument.{Argument}
 use Rattle.il_model.specs.declared.program.Instr.{Instr}
 use Rattle.il_model.specs.Settled.{settled_argument}
 use Rattle.il_model.specs.Constants.{same_value, operand_literal, joined_constants}
-use Rattle.il_assembler.specs.Encoded.{constants_in, literals_in, all_literals}
+use Rattle.il_assembler.specs.Walk.{constants_in, literals_in, all_literals}
 use Rattle.il_assembler.proofs.Addresses.{here_drop}
 
 -- the literals that arguments are

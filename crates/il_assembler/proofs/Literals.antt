@@ -11,7 +11,7 @@ use Rattle.il_model.specs.Typing.{Shape}
 use Rattle.il_model.specs.Checking.{shape_at}
 use Rattle.il_model.specs.Settled.{settled_operand, settled_line, settled_text, typed_program_of}
 use Rattle.il_model.proofs.SettledPrograms.{here_settled, text_count, stays_open, ends_settled, typed_program}
-use Rattle.il_assembler.specs.Encoded.{literals_of}
+use Rattle.il_assembler.specs.Walk.{literals_of}
 
 more : (code : List Instr) (n : ℕ) (line : Instr) → slice_get code n ≡ Some line → literals_of (take n code) ++ operand_literal line.operand ∷ [] ≡ literals_of (take (suc n) code)
 more [] n line e = absurd cc

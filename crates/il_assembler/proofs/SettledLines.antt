@@ -16,7 +16,7 @@ use Rattle.il_model.proofs.SettledPrograms.{some_is, typed_program}
 use Rattle.il_model.proofs.TypedLines.{bind_ok, ok_before}
 use Rattle.il_model.proofs.Calls.{IsTypedLine, typed_lines, words_few}
 use Rattle.il_model.proofs.Judged.{arrives, faultless}
-use Rattle.il_assembler.specs.Encoded.{HasFewArguments}
+use Rattle.il_assembler.specs.Walk.{HasFewArguments}
 
 -- each of the second is one of the first with its bare numbers typed
 abbrev pub AreSettledLines : List Instr → List Instr → Type 0

@@ -2,7 +2,7 @@
 
 ghost use Rattle.std.specs.Prelude.{◌≡◌, IfOk, [], length};
 ghost use Rattle.il_model.specs.Constants.{same_value, joined_constants};
-ghost use Rattle.il_assembler.specs.Encoded.{constants_in, literals_in, all_literals};
+ghost use Rattle.il_assembler.specs.Walk.{constants_in, literals_in, all_literals};
 
 use il_model::{Constants, Instr, Value, argument_literal};
 use std::alloc::{AllocError, Global};

@@ -2,9 +2,9 @@
 
 ghost use Rattle.std.specs.Prelude.{◌≡◌, ◌≤◌, ◌++◌, OnOk, IfOk, length, count_by, is_some, [], slice_get, true, false};
 ghost use Rattle.std.specs.Option.{option_and_then};
-ghost use Rattle.il_assembler.specs.Encoded.{constants_in, all_literals, settled_code, settled_passing_word};
-ghost use Rattle.il_assembler.specs.Encoded.{settled_instruction, settled_words, settled_bytes, HasFewArguments};
-ghost use Rattle.il_assembler.specs.Encoded.{addresses_from};
+ghost use Rattle.il_assembler.specs.Walk.{constants_in, all_literals, settled_code, settled_passing_word};
+ghost use Rattle.il_assembler.specs.Walk.{settled_instruction, settled_words, settled_bytes, HasFewArguments};
+ghost use Rattle.il_assembler.specs.Walk.{addresses_from};
 ghost use Rattle.std.specs.Int.{w8, w16, w32, w64, to_be_bytes, cast_unsigned};
 ghost use Rattle.std.specs.List.{AllByRecursion, flat_map, list_any};
 ghost use Rattle.il_model.specs.Values.{number_of};

@@ -5,7 +5,7 @@ ghost use Rattle.std.specs.Prelude.{◌≡◌, ◌⊎◌, ℕ};
 ghost use Rattle.il_model.specs.Program.{Program};
 ghost use Rattle.il_model.specs.declared.typing.TypeFault.{TypeFault};
 ghost use Rattle.il_model.specs.Settled.{IsTypedProgramOf};
-ghost use Rattle.il_assembler.specs.FirstFault.{IsFirstFault};
+ghost use Rattle.il_assembler.specs.Assembled.{IsFirstFault};
 
 /// A program has one typed program, or it has one first fault, and never both. So what `assemble` answers is one thing,
 /// unless memory runs out.

@@ -8,7 +8,7 @@
 //!
 //! Proved: Ok exactly where the program has a typed program, each bare number with the type of its place, and then with
 //! exactly the bytes of that one's image; else the first fault of the least instruction that has one
-//! (`specs/FirstFault`). Each program has the one or the other, and never both (`a_program_is_typed_or_refused`). Of a
+//! (`specs/Assembled`). Each program has the one or the other, and never both (`a_program_is_typed_or_refused`). Of a
 //! program that a text declares these bytes are an image, which the loader takes back (`image`).
 //!
 //! Only tested: nothing; `types.rows` and `images.rows` of `tests_rows` have faults, and images byte by byte.

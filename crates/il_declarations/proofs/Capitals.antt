@@ -3,8 +3,8 @@ use Rattle.std.proofs.Common.{◌≡◌, ℕ, ◌-◌, ◌<◌, ◌≤◌, Bool,
 use Rattle.std.specs.List.{list_all}
 use Rattle.std.proofs.lemmas.Bool.{leb-true, le-leb, ne_eqb}
 use Rattle.std.proofs.Math.ListN.{length-map}
-use Rattle.il_model.specs.Names.{is_first_byte, is_name_byte, begins_name, begins_with, is_well_spelled, is_reserved, is_lawful_name}
-use Rattle.il_model.specs.Words.{upper}
+use Rattle.il_model.specs.Words.{is_first_byte, is_name_byte, begins_name, begins_with, is_well_spelled, is_reserved}
+use Rattle.il_model.specs.Words.{is_lawful_name, upper}
 use Rattle.il_reader.specs.Tokens.{is_letter_byte, is_word_byte, is_within}
 use Rattle.il_reader.specs.Words.{IsWordText, begins_letter}
 use Rattle.il_declarations.specs.Resolution.{capitals}

@@ -14,11 +14,11 @@ use Rattle.std.specs.Global.{Global}
 use Rattle.std.proofs.lemmas.Map.Text.{is_eq-slice_cmp}
 use Rattle.il_model.specs.declared.program.Variable.{Variable}
 use Rattle.il_model.specs.declared.program.Instance.{Instance}
-use Rattle.il_model.specs.Names.{same_name}
+use Rattle.il_model.specs.Words.{same_name}
 use Rattle.il_model.specs.Resolved.{instance_in}
 use Rattle.il_model.specs.Codes.{is_number}
 use Rattle.il_model.proofs.LocationTables.{found}
-use Rattle.il_model.specs.LocationTables.{AreCodes}
+use Rattle.il_model.specs.Tables.{AreCodes}
 use Rattle.il_declarations.specs.DeclaredTables.{is_in, AddsName, AreDeclaredTables}
 
 -- ---- a table whose keys are bytes, after a change at one of them

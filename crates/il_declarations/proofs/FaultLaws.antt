@@ -11,11 +11,11 @@ use Rattle.il_model.specs.declared.program.Argument.{Argument}
 use Rattle.il_model.specs.declared.program.Instr.{Instr}
 use Rattle.il_model.specs.Program.{Program}
 use Rattle.il_reader.specs.Grammar.{ArgumentText, OperationText, LineText, Labelled, Plain, ProgramText}
-use Rattle.il_reader.specs.Place.{place_at}
-use Rattle.il_reader.specs.Texts.{SourceText, IsSource}
+use Rattle.il_reader.specs.Texts.{place_at, SourceText, IsSource}
 use Rattle.std.specs.Prelude.{IfOk}
 use Rattle.il_reader.specs.declared.place.Place.{Place}
-use Rattle.il_declarations.specs.Faults.{kind_number}
+use Rattle.il_declarations.specs.FirstFault.{kind_number, HasNoFault, IsNoLater, IsFirstFault, IsRefused, IsGiven}
+use Rattle.il_declarations.specs.FirstFault.{TellsFirst, IsTold}
 use Rattle.il_declarations.specs.declared.fault.DeclKind.{DeclKind}
 use Rattle.il_declarations.specs.declared.fault.DeclKind.TheVariants as kinds
 use Rattle.il_declarations.specs.declared.fault.FaultAt.{FaultAt}
@@ -28,7 +28,6 @@ use Rattle.il_declarations.specs.Declaring.{arguments_behind, IsArgumentOf, IsOp
 use Rattle.il_declarations.proofs.FaultList.{faults_of, Among}
 use Rattle.il_declarations.proofs.FaultRules.{had, listed}
 use Rattle.il_declarations.specs.TextFaults.{HasFault}
-use Rattle.il_declarations.specs.FirstFault.{HasNoFault, IsNoLater, IsFirstFault, IsRefused, IsGiven, TellsFirst, IsTold}
 use Rattle.il_declarations.proofs.Agreeing.{Agrees}
 use Rattle.il_declarations.proofs.InstructionFaults.{program_agrees, program_kept}
 use Rattle.il_declarations.proofs.Ordered.{InOrder, text_ordered, first_told}

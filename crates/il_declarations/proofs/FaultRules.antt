@@ -4,7 +4,7 @@ use Rattle.std.specs.Prelude.{is_none, nat_le}
 use Rattle.std.specs.List.{flat_map}
 use Rattle.std.proofs.lemmas.List.{append-nil}
 use Rattle.il_model.specs.declared.program.Loc.{Loc}
-use Rattle.il_model.specs.Names.{is_reserved}
+use Rattle.il_model.specs.Words.{is_reserved}
 use Rattle.il_model.specs.Locations.{location_of}
 use Rattle.il_reader.specs.Tokens.{Token}
 use Rattle.il_reader.specs.Grammar.{OperandText, Constant, Direct, Named, Field, BehindText, Nothing, Given, Target, Opened, Called, ArgumentText, arguments_of, OperationText, LineText, Labelled, Plain, NamesText, Located, More, DeclarationText, ProgramText}

@@ -6,7 +6,7 @@ use Rattle.std.specs.Option.{option_map}
 use Rattle.std.specs.Cmp.Lexicographic.{nat_list_eq_equiv}
 use Rattle.std.proofs.lemmas.List.{length-append, append-nil}
 use Rattle.std.proofs.lemmas.Bool.{lt-ltb, le-ltb, leb-false}
-use Rattle.il_model.specs.Limits.{program_of}
+use Rattle.il_model.specs.Program.{program_of, Program, Declarations}
 use Rattle.il_model.specs.declared.value.Ty.{Ty}
 use Rattle.il_model.specs.declared.value.Ty.TheVariants as types
 use Rattle.il_model.specs.declared.value.Value.{Value}
@@ -28,15 +28,13 @@ use Rattle.il_model.specs.declared.program.Instr.{Instr}
 use Rattle.il_model.specs.declared.codes.Usage.{Usage}
 use Rattle.il_model.specs.declared.codes.OperandForm as usage
 use Rattle.il_model.specs.declared.codes.OperandForm.TheVariants as usages
-use Rattle.il_model.specs.Program.{Program, Declarations}
 use Rattle.il_model.specs.Values.{ty_of, number_of, typed_value, zero_of}
 use Rattle.il_model.specs.Literals.{literal_of}
-use Rattle.il_model.specs.Names.{same_name, is_reserved, is_lawful_name}
+use Rattle.il_model.specs.Words.{same_name, is_reserved, is_lawful_name, spells, look, mnemonic_of, mnemonic_table}
 use Rattle.il_model.specs.Resolved.{instance_in}
-use Rattle.il_model.specs.Words.{spells, look, mnemonic_of, mnemonic_table}
 use Rattle.il_model.specs.CodedOperands.{loc_code, IsCell}
 use Rattle.il_model.specs.Image.{type_code}
-use Rattle.il_model.specs.Areas.{area_of}
+use Rattle.il_model.specs.Locations.{area_of}
 use Rattle.il_model.specs.Typing.{is_writable_area}
 use Rattle.il_model.specs.Codes as codes_of
 use Rattle.il_model.specs.Codes.{is_new_name, is_taken, length_of, may_start_with, initial_of, usage_of, has_form, allowed_by, formed_by, is_empty}

@@ -12,7 +12,7 @@ use Rattle.il_model.specs.declared.program.Operand.TheVariants as operands
 use Rattle.il_model.specs.declared.program.Argument.{Argument}
 use Rattle.il_model.specs.declared.program.Instr.{Instr}
 use Rattle.il_model.specs.Program.{Program, Declarations}
-use Rattle.il_model.specs.Names.{is_reserved}
+use Rattle.il_model.specs.Words.{is_reserved}
 use Rattle.il_model.specs.Literals.{literal_of}
 use Rattle.il_model.specs.Locations as written
 use Rattle.il_reader.specs.Tokens.{Token}

@@ -13,7 +13,7 @@ use Rattle.il_model.specs.declared.program.Loc.{Loc}
 use Rattle.il_model.specs.declared.program.Variable.{Variable}
 use Rattle.il_model.specs.declared.program.Instance.{Instance}
 use Rattle.il_model.specs.Program.{Declarations}
-use Rattle.il_model.specs.Names.{same_name}
+use Rattle.il_model.specs.Words.{same_name}
 use Rattle.il_model.specs.Codes.{is_taken, has_code}
 use Rattle.il_model.proofs.Positions.{position_first, position_later}
 use Rattle.il_reader.specs.Tokens.{Token}

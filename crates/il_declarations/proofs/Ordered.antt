@@ -6,7 +6,7 @@ use Rattle.std.proofs.lemmas.List.{append-nil}
 use Rattle.il_model.specs.declared.program.Loc.{Loc}
 use Rattle.il_model.specs.declared.program.Side.{Side}
 use Rattle.il_model.specs.declared.program.Side.TheVariants as sides
-use Rattle.il_model.specs.Names.{is_reserved}
+use Rattle.il_model.specs.Words.{is_reserved}
 use Rattle.il_model.specs.Literals.{literal_of}
 use Rattle.il_model.specs.CodedOperands.{loc_code}
 use Rattle.il_model.specs.Locations.{location_of}
@@ -18,13 +18,12 @@ use Rattle.il_declarations.specs.declared.variables.DeclaredType.TheVariants.{El
 use Rattle.il_declarations.specs.declared.fault.DeclKind.{DeclKind}
 use Rattle.il_declarations.specs.declared.fault.DeclKind.TheVariants as kinds
 use Rattle.il_declarations.specs.declared.fault.FaultAt.{FaultAt}
-use Rattle.il_declarations.specs.Faults.{kind_number}
+use Rattle.il_declarations.specs.FirstFault.{kind_number, IsNoLater}
 use Rattle.il_declarations.specs.Resolution.{capitals, suits, written_value}
 use Rattle.il_declarations.specs.Declaring.{DeclaredName, named_in, other_names, names_in, names_of, type_in, location_in, is_declared, is_occupied, names_variable, names_instance, arguments_behind}
 use Rattle.il_declarations.specs.TextFaults.{has_no_room}
 use Rattle.il_declarations.proofs.Agreeing.{beside_append}
 use Rattle.il_declarations.proofs.FaultList.{when, beside, name_faults, place_faults, location_faults, start_faults, declaration_faults, operand_faults, behind_faults, operation_faults, line_faults, faults_of, Among}
-use Rattle.il_declarations.specs.FirstFault.{IsNoLater}
 use Rattle.il_declarations.proofs.Falling.{Falls, split, at_most, text_falls, operator_at}
 
 -- each is told no later than all behind it

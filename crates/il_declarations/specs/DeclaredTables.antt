@@ -7,10 +7,10 @@ use Rattle.std.specs.Ordering.{nat_cmp}
 use Rattle.std.specs.Global.{Global}
 use Rattle.il_model.specs.declared.program.Variable.{Variable}
 use Rattle.il_model.specs.declared.program.Instance.{Instance}
-use Rattle.il_model.specs.Names.{same_name}
+use Rattle.il_model.specs.Words.{same_name}
 use Rattle.il_model.specs.Resolved.{instance_in}
 use Rattle.il_model.specs.Codes.{is_number}
-use Rattle.il_model.specs.LocationTables.{AreCodes}
+use Rattle.il_model.specs.Tables.{AreCodes}
 
 -- whether a table has a name
 abbrev pub is_in : BTreeSet (Vec ℕ Global) → List ℕ → Bool

@@ -16,7 +16,7 @@ use Rattle.il_model.specs.declared.program.Instance.{Instance}
 use Rattle.il_model.specs.declared.program.Argument.{Argument}
 use Rattle.il_model.specs.declared.program.Instr.{Instr}
 use Rattle.il_model.specs.Program.{Program}
-use Rattle.il_model.specs.Names.{same_name}
+use Rattle.il_model.specs.Words.{same_name}
 use Rattle.il_model.specs.Values.{zero_of}
 use Rattle.il_model.specs.Literals.{literal_of}
 use Rattle.il_model.specs.Codes.{has_code}

@@ -1,17 +1,35 @@
 -- The first fault of a text: the one that stands first, and of two at one place the one with the least number.
-use Rattle.std.specs.Prelude.{◌≡◌, ◌⊎◌, ◌<◌, ◌≤◌, Result, Ok, Err}
+use Rattle.std.specs.Prelude.{ℕ, ◌≡◌, ◌⊎◌, ◌<◌, ◌≤◌, Result, Ok, Err}
 use Rattle.il_model.specs.Program.{Program}
 use Rattle.il_reader.specs.Grammar.{ProgramText}
-use Rattle.il_reader.specs.Place.{place_at}
-use Rattle.il_reader.specs.Texts.{SourceText}
+use Rattle.il_reader.specs.Texts.{place_at, SourceText}
+use Rattle.il_declarations.specs.declared.fault.DeclKind.{DeclKind}
+use Rattle.il_declarations.specs.declared.fault.DeclError.{DeclError}
 use Rattle.il_declarations.specs.declared.fault.FaultAt.{FaultAt}
 use Rattle.il_declarations.specs.declared.fault.Fault.{Fault}
-use Rattle.il_declarations.specs.declared.fault.DeclError.{DeclError}
+use Rattle.il_declarations.specs.declared.fault.DeclKind.TheVariants as kinds
 use Rattle.il_declarations.specs.declared.fault.DeclError.TheVariants as errors
-use Rattle.il_declarations.specs.Faults.{kind_number}
 use Rattle.il_declarations.specs.Resolution.{Answers}
 use Rattle.il_declarations.specs.Declaring.{IsProgramOf}
 use Rattle.il_declarations.specs.TextFaults.{HasFault}
+
+-- ---- the numbers of faults, as the program prints them
+
+abbrev pub kind_number : DeclKind → ℕ
+kind_number kinds.Duplicate = 1
+kind_number kinds.UnknownType = 2
+kind_number kinds.UnknownName = 3
+kind_number kinds.BadLocation = 4
+kind_number kinds.Overlap = 5
+kind_number kinds.BadInitial = 6
+kind_number kinds.ReservedName = 7
+kind_number kinds.TooMany = 8
+
+abbrev pub error_number : DeclError → ℕ
+error_number (errors.Fault f) = kind_number f.kind
+error_number errors.Memory = 9
+
+-- ---- the first fault
 
 abbrev pub HasNoFault : ProgramText → Type 0
 HasNoFault p = (f : FaultAt) → HasFault p f → ⊥

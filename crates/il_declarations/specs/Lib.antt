@@ -1,6 +1,5 @@
 pub mod DeclaredTables
 pub mod Declaring
-pub mod Faults
 pub mod FirstFault
 pub mod Resolution
 pub mod TextFaults

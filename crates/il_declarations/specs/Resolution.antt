@@ -17,7 +17,7 @@ pub use Rattle.il_model.specs.Words.{plain}
 pub use Rattle.il_model.specs.Row.{same_type}
 use Rattle.il_model.specs.Values.{ty_of, number_of, typed_value}
 use Rattle.il_model.specs.Literals.{literal_of}
-use Rattle.il_model.specs.Areas.{area_of}
+use Rattle.il_model.specs.Locations.{area_of}
 use Rattle.il_model.specs.Typing.{loc_type, is_writable_area}
 use Rattle.il_model.specs.Codes.{is_type}
 use Rattle.il_reader.specs.Tokens.{Token}

@@ -5,7 +5,7 @@ use Rattle.std.specs.Prelude.{false, not, nat_le}
 use Rattle.std.specs.List.{flat_map, filter}
 use Rattle.il_model.specs.declared.limits.TheConstants.{MOST_VARIABLES, MOST_INSTANCES, MOST_INSTRUCTIONS}
 use Rattle.il_model.specs.declared.program.Loc.{Loc}
-use Rattle.il_model.specs.Names.{is_reserved}
+use Rattle.il_model.specs.Words.{is_reserved}
 use Rattle.il_model.specs.Literals.{literal_of}
 use Rattle.il_model.specs.CodedOperands.{loc_code}
 use Rattle.il_model.specs.Locations.{location_of}

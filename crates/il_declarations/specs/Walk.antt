@@ -20,7 +20,7 @@ use Rattle.il_model.specs.declared.program.Argument.{Argument}
 use Rattle.il_model.specs.declared.program.Instr.{Instr}
 use Rattle.il_model.specs.Program.{Program, Declarations}
 use Rattle.il_model.specs.Resolved.{instance_in}
-use Rattle.il_model.specs.Names.{is_reserved}
+use Rattle.il_model.specs.Words.{is_reserved}
 use Rattle.il_model.specs.Values.{zero_of}
 use Rattle.il_model.specs.Literals.{literal_of}
 use Rattle.il_model.specs.CodedOperands.{loc_code}
@@ -29,8 +29,7 @@ use Rattle.il_reader.specs.Tokens.{Token}
 use Rattle.il_reader.specs.Grammar.{OperandText, Constant, Direct, Named, Field, BehindText, Nothing, Given, Target}
 use Rattle.il_reader.specs.Grammar.{Opened, Called, ArgumentText, arguments_of, OperationText, LineText, Labelled}
 use Rattle.il_reader.specs.Grammar.{Plain, NamesText, Located, More, DeclarationText, ProgramText}
-use Rattle.il_reader.specs.Place.{place_at}
-use Rattle.il_reader.specs.Texts.{SourceText}
+use Rattle.il_reader.specs.Texts.{place_at, SourceText}
 use Rattle.il_declarations.specs.declared.variables.Plan.{Plan}
 use Rattle.il_declarations.specs.declared.variables.DeclaredType.{DeclaredType}
 use Rattle.il_declarations.specs.declared.variables.DeclaredType.TheVariants as declared

@@ -54,7 +54,7 @@ pub enum DeclError {
 }
 
 impl DeclKind {
-    ghost use Rattle.il_declarations.specs.Faults.{kind_number};
+    ghost use Rattle.il_declarations.specs.FirstFault.{kind_number};
 
     /// The number of a fault, from 1: duplicate, unknown type, unknown name, bad location, overlap, bad initial value,
     /// reserved name, too many.
@@ -75,7 +75,7 @@ impl DeclKind {
 }
 
 impl DeclError {
-    ghost use Rattle.il_declarations.specs.Faults.{error_number};
+    ghost use Rattle.il_declarations.specs.FirstFault.{error_number};
 
     /// The number of an error: that of its fault, or 9 for memory.
     pub fn number(self) -> u8

@@ -6,7 +6,7 @@ use Rattle.std.proofs.lemmas.List.{take_min, take-append-le, take-append-drop}
 use Rattle.std.proofs.lemmas.Grind.{flat_map-append}
 use Rattle.std.proofs.Math.Seq.{take-suc, take-append-add}
 use Rattle.std.specs.List.{flat_map}
-use Rattle.io_model.specs.Counted.{Failed}
+use Rattle.io_model.specs.Streams.{Failed}
 use Rattle.io_model.specs.declared.counted.CountedWrite.{Ghosts as CountedWriter}
 use Rattle.il_lister.specs.declared.fault.ListFault.{ListFault}
 use Rattle.il_lister.specs.Writing.{Writes}

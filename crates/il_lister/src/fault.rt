@@ -14,7 +14,7 @@ pub enum ListFault {
 }
 
 impl ListFault {
-    ghost use Rattle.il_lister.specs.Faults.{fault_number};
+    ghost use Rattle.il_lister.specs.Writing.{fault_number};
 
     /// The number of a fault: 1.
     pub fn number(self) -> u8

@@ -2,7 +2,7 @@
 
 ghost use Rattle.std.specs.Prelude.{◌≤◌, ℕ, OnErr, OnOk, take};
 ghost use Rattle.std.specs.Io.KnownBytes.{Appends};
-ghost use Rattle.io_model.specs.Counted.{Failed};
+ghost use Rattle.io_model.specs.Streams.{Failed};
 ghost use Rattle.il_lister.specs.Listing.{listing};
 ghost use Rattle.il_lister.specs.Writing.{Writes};
 

@@ -12,8 +12,7 @@ use Rattle.il_model.specs.declared.program.Instance.{Instance}
 use Rattle.il_model.specs.declared.program.Operand.{Operand}
 use Rattle.il_model.specs.declared.program.Argument.{Argument}
 use Rattle.il_model.specs.declared.program.Instr.{Instr}
-use Rattle.il_model.specs.Program.{Program, Declarations}
-use Rattle.il_model.specs.Limits.{is_too_large, program_of}
+use Rattle.il_model.specs.Program.{Program, Declarations, is_too_large, program_of}
 use Rattle.il_model.specs.Resolved.{kind_in}
 use Rattle.il_model.specs.Marks.{Mark, words_in, starts_from, AreRising, AreStarts}
 use Rattle.il_model.specs.Constants.{operands_of}

@@ -9,8 +9,7 @@ use Rattle.il_model.specs.declared.codes.Version.{Version}
 use Rattle.il_model.specs.declared.program.Instance.{Instance}
 use Rattle.il_model.specs.declared.program.Instr.{Instr}
 use Rattle.il_model.specs.declared.typing.TypeFault.{TypeFault}
-use Rattle.il_model.specs.Program.{Program}
-use Rattle.il_model.specs.Limits.{program_of}
+use Rattle.il_model.specs.Program.{Program, program_of}
 use Rattle.il_model.specs.Typing.{IsTyped}
 use Rattle.il_model.specs.Checking.{judgement_of}
 use Rattle.il_model.specs.Marks.{Mark, marks_from, words_in, AreRising, AreStarts}

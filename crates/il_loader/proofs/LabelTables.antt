@@ -9,7 +9,7 @@ use denote.Ref.{Bor}
 use Rattle.il_model.specs.Marks.{Mark}
 use Rattle.il_model.specs.Codes.{label_there}
 use Rattle.il_model.proofs.LocationTables.{code_key}
-use Rattle.il_loader.specs.LabelTables.{AreNames}
+use Rattle.il_loader.specs.NameTables.{AreNames}
 
 -- the first, or else the second
 abbrev or_else : Option (List ℕ) → Option (List ℕ) → Option (List ℕ)

@@ -33,8 +33,8 @@ use Rattle.il_model.specs.declared.coded_operand.CodedOperand.{CodedOperand}
 use Rattle.il_model.specs.declared.coded_operand.CodedOperand.TheVariants as coded
 use Rattle.il_model.specs.Values.{ty_of, zero_of, number_of, typed_value}
 use Rattle.il_model.specs.Operators.{is_zero}
-use Rattle.il_model.specs.Names.{AreDistinct, same_name, is_lawful_name}
-use Rattle.il_model.specs.Areas.{area_of}
+use Rattle.il_model.specs.Words.{AreDistinct, same_name, is_lawful_name}
+use Rattle.il_model.specs.Locations.{area_of}
 use Rattle.il_model.specs.Kinds.{kind_fields, field_name, field_type}
 use Rattle.il_model.specs.Program.{Program, Declarations, declared_by}
 use Rattle.il_model.specs.Resolved.{variable_place, place_of, variable_number, instance_in, instance_number, numbered_field, field_of, target_of, source_of, called_kind}

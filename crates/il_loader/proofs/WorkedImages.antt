@@ -18,8 +18,7 @@ use Rattle.il_model.specs.declared.program.Operand.{Operand}
 use Rattle.il_model.specs.declared.program.Operand.TheVariants as operands
 use Rattle.il_model.specs.declared.program.Instr.{Instr}
 use Rattle.il_model.specs.Program.{Program}
-use Rattle.il_model.specs.Names.{is_well_spelled}
-use Rattle.il_model.specs.Words.{plain, letter_n, spells, look, mnemonic_of}
+use Rattle.il_model.specs.Words.{is_well_spelled, plain, letter_n, spells, look, mnemonic_of}
 use Rattle.il_model.specs.Image.{spelling}
 use Rattle.il_model.proofs.Judged.{is_typed, faultless}
 use Rattle.il_loader.specs.Images.{IsName, MayLieAt, IsVariable, IsInstruction, IsWellFormed, Reading, AreBytes, ReadsImages}

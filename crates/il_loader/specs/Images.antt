@@ -1,26 +1,28 @@
 -- Which programs have an image, and what it is to read images: from the bytes of one its program, and from others none.
-use Rattle.std.specs.Prelude.{◌≡◌, ◌<◌, ◌≤◌, ℕ, false, true, List, ◌++◌, length, map, get_or, Some}
-use Rattle.std.specs.Prelude.{is_some, Result, Ok}
+use Rattle.std.specs.Prelude.{◌≡◌, ◌<◌, ◌≤◌, ℕ, false, true, List, ◌++◌, length, map, get_or, Some, is_some, Result, Ok}
 use Rattle.std.specs.List.{AllByRecursion, filter_map}
 use Rattle.il_model.specs.declared.limits.TheConstants.{LONGEST_NAME}
 use Rattle.il_model.specs.declared.value.Value.{Value}
-use Rattle.il_model.specs.declared.op.Op.TheVariants as ops
 use Rattle.il_model.specs.declared.program.Loc.{Loc}
 use Rattle.il_model.specs.declared.program.Variable.{Variable}
 use Rattle.il_model.specs.declared.program.Instance.{Instance}
 use Rattle.il_model.specs.declared.program.Operand.{Operand}
-use Rattle.il_model.specs.declared.program.Operand.TheVariants as operands
 use Rattle.il_model.specs.declared.program.Instr.{Instr}
+use Rattle.il_model.specs.declared.op.Op.TheVariants as ops
+use Rattle.il_model.specs.declared.program.Operand.TheVariants as operands
 use Rattle.il_model.specs.Values.{ty_of, zero_of, number_of, typed_value}
-use Rattle.il_model.specs.Names.{AreDistinct, is_lawful_name}
-use Rattle.il_model.specs.Areas.{area_of}
-use Rattle.il_model.specs.Program.{Program}
-use Rattle.il_model.specs.Limits.{IsSmall}
+use Rattle.il_model.specs.Words.{AreDistinct, is_lawful_name}
+use Rattle.il_model.specs.Locations.{area_of}
+use Rattle.il_model.specs.Program.{Program, IsSmall}
 use Rattle.il_model.specs.Typing.{loc_type, is_writable_area, IsTyped}
 use Rattle.il_model.specs.Constants.{operands_in}
 use Rattle.il_model.specs.Codes.{usage_of, allows, has_form}
 use Rattle.il_model.specs.Image.{spelling}
 use Rattle.il_loader.specs.declared.fault.LoadFault.{LoadFault}
+use Rattle.il_loader.specs.declared.fault.LoadFault.TheVariants.{Truncated, BadMagic, BadVersion, BadCount, BadWord}
+use Rattle.il_loader.specs.declared.fault.LoadFault.TheVariants.{BadType, BadTarget, Trailing}
+use Rattle.il_loader.specs.declared.fault.LoadError.{LoadError}
+use Rattle.il_loader.specs.declared.fault.LoadError.TheVariants as errors
 
 -- ---- well-formed programs
 
@@ -83,3 +85,16 @@ pub record ReadsImages (reading : Reading) : Type 0 where
   pub read : (Q : Program) → IsWellFormed Q → reading (spelling Q) ≡ Ok Q
   pub only : (bytes : List ℕ) (Q : Program) → AreBytes bytes → reading bytes ≡ Ok Q
       → IsWellFormed Q × (bytes ≡ spelling Q)
+
+-- ---- the numbers of errors
+
+abbrev pub error_number : LoadError → ℕ
+error_number (errors.Fault Truncated) = 1
+error_number (errors.Fault BadMagic) = 2
+error_number (errors.Fault BadVersion) = 3
+error_number (errors.Fault BadCount) = 4
+error_number (errors.Fault (BadWord position)) = 5
+error_number (errors.Fault (BadType position)) = 6
+error_number (errors.Fault (BadTarget position)) = 7
+error_number (errors.Fault Trailing) = 8
+error_number errors.Memory = 9

@@ -11,9 +11,8 @@ use Rattle.il_model.specs.declared.coded_operand.CodedOperand.TheVariants as cod
 use Rattle.il_model.specs.declared.typing.TypeFault.{TypeFault}
 use Rattle.il_model.specs.declared.typing.TypeFault.TheVariants.{UnknownLabel}
 use Rattle.il_model.specs.declared.codes.Version.{Version}
-use Rattle.il_model.specs.Program.{Program}
+use Rattle.il_model.specs.Program.{Program, program_of}
 use Rattle.il_model.specs.Image.{version_number, number_width, version_with}
-use Rattle.il_model.specs.Limits.{program_of}
 use Rattle.il_model.specs.Checking.{judgement_of}
 use Rattle.il_model.specs.Marks.{Mark, address_of}
 use Rattle.il_model.specs.Faulty.{faulty_word}

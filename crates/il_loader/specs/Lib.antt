@@ -1,11 +1,7 @@
 pub mod Tables
-pub mod Lines
-pub mod LabelTables
+pub mod NameTables
 pub mod Reading
 pub mod Judging
 pub mod Images
 pub mod Linked
 pub mod Actions
-pub mod Faults
-pub mod VariableTables
-pub mod InstanceTables

@@ -1,5 +1,5 @@
 -- The tables of an image, as they are read.
-use Rattle.std.specs.Prelude.{Bool, true, false, List, [], ◌∷◌, Option}
+use Rattle.std.specs.Prelude.{Bool, true, false, List, [], ◌∷◌, Option, ℕ, ◌++◌, Some, None}
 use Rattle.il_model.specs.declared.codes.Version.{Version}
 use Rattle.il_model.specs.declared.value.Value.{Value}
 use Rattle.il_model.specs.declared.kind.BlockKind.{BlockKind}
@@ -8,6 +8,7 @@ use Rattle.il_model.specs.declared.program.Instance.{Instance}
 use Rattle.il_model.specs.declared.program.Operand.{Operand}
 use Rattle.il_model.specs.declared.program.Argument.{Argument}
 use Rattle.il_model.specs.declared.program.Instr.{Instr}
+use Rattle.il_model.specs.declared.program.Side.{Side}
 use Rattle.il_model.specs.Program.{Declarations}
 use Rattle.il_model.specs.Resolved.{kind_in}
 use Rattle.il_model.specs.Marks.{Mark}
@@ -56,3 +57,18 @@ with_line xs (contents.Argument side number operand) ws more = more
 abbrev pub lines_of : List Instance → List Word → List Instr
 lines_of xs [] = []
 lines_of xs (w ∷ ws) = with_line xs w.content ws (lines_of xs ws)
+
+-- ---- instructions, while their words are gone over
+
+-- the last instruction, if one has begun
+abbrev pub last_line : Option Instr → List Instr
+last_line None = []
+last_line (Some line) = line ∷ []
+
+-- an instruction with one argument more
+abbrev pub line_with : List Instance → Side → ℕ → Operand → Instr → Instr
+line_with xs side number operand line =
+    record line {
+      arguments = line.arguments
+          ++ record { field = argument_name (kind_in xs line.operand) number; side = side; operand = operand } ∷ [];
+    }

@@ -45,7 +45,7 @@ pub enum LoadError {
 }
 
 impl LoadError {
-    ghost use Rattle.il_loader.specs.Faults.{error_number};
+    ghost use Rattle.il_loader.specs.Images.{error_number};
 
     /// The number of an error, from 1 in the order of this page; want of memory is 9.
     pub fn number(self) -> u8

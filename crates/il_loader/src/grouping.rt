@@ -2,8 +2,7 @@
 
 ghost use Rattle.std.specs.Prelude.{◌≡◌, ◌++◌, IfOk, OnOk, option_map};
 ghost use Rattle.il_model.specs.Codes.{argument_name};
-ghost use Rattle.il_loader.specs.Tables.{lines_of};
-ghost use Rattle.il_loader.specs.Lines.{last_line, line_with};
+ghost use Rattle.il_loader.specs.Tables.{lines_of, last_line, line_with};
 
 use crate::instance::Instances;
 use crate::word::{Content, Word};

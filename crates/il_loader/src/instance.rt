@@ -1,7 +1,7 @@
 //! Function block instances as they are read.
 
 ghost use Rattle.std.specs.Prelude.{◌≡◌, ◌++◌, [], ◌∷◌, OnOk};
-ghost use Rattle.il_loader.specs.InstanceTables.{AreInstanceNumbers};
+ghost use Rattle.il_loader.specs.NameTables.{AreInstanceNumbers};
 
 use il_model::{BlockKind, Instance, Operand};
 use std::alloc::{AllocError, Global};
@@ -17,7 +17,7 @@ pub struct Instances<'a> {
 }
 
 impl<'a> Model for Instances<'a> {
-    ghost use Rattle.il_loader.specs.InstanceTables.{InstanceList, AreInstanceNumbers};
+    ghost use Rattle.il_loader.specs.NameTables.{InstanceList, AreInstanceNumbers};
 
     ghost Value = { InstanceList };
 

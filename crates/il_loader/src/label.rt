@@ -2,7 +2,7 @@
 
 ghost use Rattle.std.specs.Prelude.{◌≡◌, ◌++◌, [], ◌∷◌, OnOk, IfOk, option_map};
 ghost use Rattle.il_model.specs.Codes.{label_there, is_new_label};
-ghost use Rattle.il_loader.specs.LabelTables.{AreNumbers, AreNames};
+ghost use Rattle.il_loader.specs.NameTables.{AreNumbers, AreNames};
 
 use il_model::is_lawful_name;
 use std::alloc::{AllocError, Global};
@@ -34,7 +34,7 @@ pub struct Labels<'a> {
 }
 
 impl<'a> Model for Labels<'a> {
-    ghost use Rattle.il_loader.specs.LabelTables.{Marks, AreLabelTables};
+    ghost use Rattle.il_loader.specs.NameTables.{Marks, AreLabelTables};
 
     ghost Value = { Marks };
 

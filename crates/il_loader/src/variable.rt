@@ -1,7 +1,7 @@
 //! Variables as they are read.
 
 ghost use Rattle.std.specs.Prelude.{◌≡◌, ◌++◌, [], ◌∷◌, OnOk};
-ghost use Rattle.il_loader.specs.VariableTables.{AreNumbered};
+ghost use Rattle.il_loader.specs.NameTables.{AreNumbered};
 
 use il_model::{Loc, Variable, is_lawful_name, put_code};
 use std::alloc::{AllocError, Global};
@@ -18,7 +18,7 @@ pub struct Variables<'a> {
 }
 
 impl<'a> Model for Variables<'a> {
-    ghost use Rattle.il_loader.specs.VariableTables.{VariableList, AreVariableTables};
+    ghost use Rattle.il_loader.specs.NameTables.{VariableList, AreVariableTables};
 
     ghost Value = { VariableList };
 

@@ -18,7 +18,7 @@ use Rattle.il_model.specs.declared.typing.TypeFault.TheVariants.{TypeMismatch, N
 use Rattle.il_model.specs.declared.typing.OperandKind.{OperandKind}
 use Rattle.il_model.specs.declared.typing.OperandKind.TheVariants as kinds
 use Rattle.il_model.specs.Program.{Program}
-use Rattle.il_model.specs.Names.{same_name}
+use Rattle.il_model.specs.Words.{same_name}
 use Rattle.il_model.specs.Kinds.{field_type, any_field}
 use Rattle.il_model.specs.Values.{typed_value}
 use Rattle.il_model.specs.Row.{same_type}

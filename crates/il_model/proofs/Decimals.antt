@@ -4,9 +4,9 @@ use Rattle.std.proofs.Math.Nat.{mul-le-mul_left, pow-succ', one-le-pow}
 use Rattle.std.proofs.lemmas.Nat.{mul-le, div-mul-add, mod-mul-add, div-add-mod'}
 use Rattle.std.proofs.lemmas.Bool.{eqb-true, eq-eqb, ne_eqb, lt-ltb, le-ltb}
 use Rattle.std.proofs.lemmas.List.{take_more, length-append}
-use Rattle.il_model.specs.Literal.{digit_of, decimals, held_integer}
+use Rattle.il_model.specs.Literals.{digit_of, decimals, held_integer, digit_list, whole_part, PartText, part_by}
+use Rattle.il_model.specs.Literals.{sum_of_parts, parts_by, past_join}
 use Rattle.std.specs.Prelude.{option_map}
-use Rattle.il_model.specs.Durations.{digit_list, whole_part, PartText, part_by, sum_of_parts, parts_by, past_join}
 
 pub small_product : (n u : ℕ) → n < 2 ^ 64 → u ≤ 86400000 → n * u ≤ 18446744073709551615 * 86400000
 small_product n u a b = mul-le n u 18446744073709551615 86400000 (omega (arith, a)) b

@@ -18,7 +18,7 @@ use Rattle.il_model.specs.declared.program.Operand.TheVariants as operands
 use Rattle.il_model.specs.declared.value.Value.{Value}
 use Rattle.il_model.specs.declared.coded_operand.CodedOperand.{CodedOperand}
 use Rattle.il_model.specs.declared.coded_operand.CodedOperand.TheVariants as coded
-use Rattle.il_model.specs.Names.{same_name}
+use Rattle.il_model.specs.Words.{same_name}
 use Rattle.il_model.specs.Kinds.{kind_fields, field_name, field_number}
 use Rattle.il_model.specs.Program.{Declarations}
 use Rattle.il_model.specs.Resolved.{instance_in, numbered_field, field_in}

@@ -25,7 +25,7 @@ use Rattle.il_model.specs.declared.typing.Held.{Held}
 use Rattle.il_model.specs.declared.typing.Effect.{Effect}
 use Rattle.il_model.specs.declared.typing.Effect.TheVariants.{Sets}
 use Rattle.il_model.specs.Program.{Program}
-use Rattle.il_model.specs.Names.{same_name}
+use Rattle.il_model.specs.Words.{same_name}
 use Rattle.il_model.specs.Kinds.{field_type}
 use Rattle.il_model.specs.Operators.{joined_type}
 use Rattle.il_model.specs.Codes.{is_jump, is_call}

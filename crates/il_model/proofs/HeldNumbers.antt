@@ -8,9 +8,11 @@ use Rattle.il_model.specs.declared.value.Ty.TheVariants as types
 use Rattle.il_model.specs.declared.duration.TimeUnit.{TimeUnit}
 use Rattle.il_model.specs.Values.{is_within}
 use Rattle.il_model.specs.Words.{spells}
-use Rattle.il_model.specs.Literal.{integer_of, held_integer}
-use Rattle.il_model.specs.Durations.{PartText, unit_of, unit_len, digits_len, fraction_of, plain_part, broken_part, at_unit, at_decimals, begins_dot, behind_number, part_by, past_join, sum_of_parts, parts_by, duration_by}
-use Rattle.il_model.specs.Literals.{positive, minus, signed_by, hash_at, based_by, whole_by, time_by, typed_literal, bare_literal, prefixed_literal, literal_by, literal_of}
+use Rattle.il_model.specs.Literals.{integer_of, held_integer, PartText, unit_of, unit_len, digits_len, fraction_of}
+use Rattle.il_model.specs.Literals.{plain_part, broken_part, at_unit, at_decimals, begins_dot, behind_number, part_by}
+use Rattle.il_model.specs.Literals.{past_join, sum_of_parts, parts_by, duration_by, positive, minus, signed_by, hash_at}
+use Rattle.il_model.specs.Literals.{based_by, whole_by, time_by, typed_literal, bare_literal, prefixed_literal}
+use Rattle.il_model.specs.Literals.{literal_by, literal_of}
 
 abbrev top : ℕ
 top = 18446744073709551615

@@ -12,7 +12,7 @@ use Rattle.std.proofs.lemmas.Map.Text.{btree_map_updates_str}
 use denote.Ref.{Bor}
 use Rattle.il_model.specs.declared.program.Instr.{Instr}
 use Rattle.il_model.specs.Resolved.{has_label}
-use Rattle.il_model.specs.NameTables.{first_in}
+use Rattle.il_model.specs.Tables.{first_in}
 use Rattle.il_model.proofs.Positions.{position_behind, position_past, position_kept}
 
 -- the number of the first that passes, where they are numbered from n on

@@ -34,7 +34,7 @@ use Rattle.il_model.specs.declared.typing.Effect.TheVariants.{Sets, Opens, Close
 use Rattle.il_model.specs.Program.{Program}
 use Rattle.il_model.specs.Values.{ty_of}
 use Rattle.il_model.specs.Kinds.{kind_fields, field_type, is_input}
-use Rattle.il_model.specs.Names.{same_name, AreDistinct}
+use Rattle.il_model.specs.Words.{same_name, AreDistinct}
 use Rattle.il_model.specs.Operators.{joined_type}
 use Rattle.il_model.specs.Resolved.{source_of, target_of, place_of, field_of, instance_number, is_labelled, called_kind}
 use Rattle.il_model.specs.Row.{row, same_type, is_bool, negatable, load_row, store_row, set_row, truth_row, leave_row, jump_row, call_row, close_row, closes_to, convert_row, open_row, opened_row, opens_with, combine_row, sets_to, outside}

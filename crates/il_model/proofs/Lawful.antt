@@ -33,7 +33,7 @@ use Rattle.il_model.specs.declared.codes.OperandForm.{OperandForm}
 use Rattle.il_model.specs.declared.codes.OperandForm.TheVariants as forms
 use Rattle.il_model.specs.Values.{ty_of, number_of, typed_value}
 use Rattle.il_model.specs.Operators.{same_truth, same_number}
-use Rattle.il_model.specs.Names.{same_name, is_lawful_name}
+use Rattle.il_model.specs.Words.{same_name, is_lawful_name}
 use Rattle.il_model.specs.Kinds.{field_name}
 use Rattle.il_model.specs.Program.{Program, Declarations, declared_by}
 use Rattle.il_model.specs.Resolved.{has_label, target_of, instance_in, field_of, source_of, called_kind}

@@ -12,8 +12,8 @@ use Rattle.il_model.specs.declared.literal.Literal.TheVariants.{Bare, Typed}
 use Rattle.il_model.specs.Values.{ty_of, number_of, is_within, truth_made, typed_value}
 use Rattle.il_model.specs.Words.{spells}
 use Rattle.il_model.specs.Codes.{may_start_with, initial_of}
-use Rattle.il_model.specs.Literal.{integer_of}
-use Rattle.il_model.specs.Literals.{hash_at, signed_by, based_by, whole_by, time_by, truth_literal, typed_literal, bare_literal, prefixed_literal, is_word, literal_of}
+use Rattle.il_model.specs.Literals.{integer_of, hash_at, signed_by, based_by, whole_by, time_by, truth_literal}
+use Rattle.il_model.specs.Literals.{typed_literal, bare_literal, prefixed_literal, is_word, literal_of}
 
 -- a value of its type's range
 abbrev pub IsValue : Value → Type 0

@@ -3,7 +3,7 @@ use Rattle.std.proofs.Common.{◌≡◌, ℕ, suc, ◌+◌, ◌*◌, ◌<◌, �
 use Rattle.std.proofs.Math.Nat.{mul-le-mul_left}
 use Rattle.std.proofs.lemmas.Bool.{cases_lt, eqb-true, lt-ltb}
 use Rattle.std.specs.Prelude.{option_map}
-use Rattle.il_model.specs.Literal.{digit_of, are_digits, value_behind, integer_behind}
+use Rattle.il_model.specs.Literals.{digit_of, are_digits, value_behind, integer_behind}
 
 min-step : (top base x d : ℕ) → 0 < base → min (min x top * base + d) top ≡ min (x * base + d) top
 min-step top base x d pos =

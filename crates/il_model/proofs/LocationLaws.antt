@@ -5,7 +5,7 @@ use Rattle.std.specs.Prelude.{option_map}
 use Rattle.std.proofs.lemmas.Bool.{cases_lt, le-ltb}
 use Rattle.il_model.specs.declared.program.Area.{Area}
 use Rattle.il_model.specs.declared.program.Loc.TheVariants.{Bit, Word}
-use Rattle.il_model.specs.Literal.{integer_of, are_digits}
+use Rattle.il_model.specs.Literals.{integer_of, are_digits}
 use Rattle.il_model.specs.Locations.{bit_of, word_of, dot_at, bit_at}
 
 abbrev pub held : ℕ → ℕ

@@ -11,7 +11,7 @@ use Rattle.il_model.specs.declared.program.Variable.{Variable}
 use Rattle.il_model.specs.declared.program.Loc.{Loc}
 use Rattle.il_model.specs.CodedOperands.{loc_code}
 use Rattle.il_model.specs.Codes.{has_code}
-use Rattle.il_model.specs.LocationTables.{AreCodes}
+use Rattle.il_model.specs.Tables.{AreCodes}
 use Rattle.il_model.proofs.Positions.{position_past, found_last}
 
 -- what is found behind one more

@@ -7,7 +7,7 @@ use Rattle.std.proofs.lemmas.Option.{slice_get-get_or}
 use Rattle.std.proofs.lemmas.List.Quantifiers.{position-Some}
 use Rattle.std.proofs.lemmas.Slice.Eq.{bytes_eq-Decides}
 use Rattle.il_model.specs.declared.program.Instr.{Instr}
-use Rattle.il_model.specs.Names.{same_name}
+use Rattle.il_model.specs.Words.{same_name}
 use Rattle.il_model.specs.Resolved.{has_label}
 use Rattle.il_model.specs.Marks.{Mark, with_mark, word_count, words_in, address_of, marks_from, starts_from, AreRising, AreStarts}
 use Rattle.il_model.specs.Codes.{label_there}

@@ -5,7 +5,7 @@ use Rattle.il_model.specs.declared.program.Area.{Area}
 use Rattle.il_model.specs.declared.program.Loc.{Loc}
 use Rattle.il_model.specs.declared.program.Loc.TheVariants.{Bit, Word}
 use Rattle.il_model.specs.Words.{upper}
-use Rattle.il_model.specs.Literal.{integer_of}
+use Rattle.il_model.specs.Literals.{integer_of}
 use Rattle.il_model.specs.CodedOperands.{IsCell}
 use Rattle.il_model.specs.Locations.{bit_of, word_of, letter_area, bit_at, word_at, place_at, place_in, dot_at, location_of}
 

@@ -26,7 +26,7 @@ use Rattle.il_model.specs.declared.typing.Effect.TheVariants.{Sets, Opens, Close
 use Rattle.il_model.specs.Program.{Program}
 use Rattle.il_model.specs.Values.{ty_of}
 use Rattle.il_model.specs.Kinds.{field_type, is_input}
-use Rattle.il_model.specs.Names.{same_name}
+use Rattle.il_model.specs.Words.{same_name}
 use Rattle.il_model.specs.Resolved.{source_of, target_of, called_kind}
 use Rattle.il_model.specs.Row.{row, same_type}
 use Rattle.il_model.specs.Typing.{Shape, place_type, is_writable, kind_field, shape_on_arrival}

@@ -28,11 +28,11 @@ use Rattle.il_model.specs.declared.codes.OperandForm.TheVariants as forms
 use Rattle.il_model.specs.declared.codes.Usage.{Usage}
 use Rattle.il_model.specs.Values.{typed_value, number_of}
 use Rattle.il_model.specs.Operators.{is_zero}
-use Rattle.il_model.specs.Names.{same_name, is_lawful_name}
+use Rattle.il_model.specs.Words.{same_name, is_lawful_name}
 use Rattle.il_model.specs.Kinds.{kind_fields, field_name}
 use Rattle.il_model.specs.Program.{Declarations}
 use Rattle.il_model.specs.Resolved.{instance_in}
-use Rattle.il_model.specs.Areas.{area_of}
+use Rattle.il_model.specs.Locations.{area_of}
 use Rattle.il_model.specs.Typing.{loc_type, is_writable_area}
 use Rattle.il_model.specs.Marks.{Mark}
 use Rattle.il_model.specs.Constants.{same_value}

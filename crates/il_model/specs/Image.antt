@@ -28,7 +28,7 @@ use Rattle.il_model.specs.declared.value.Value.{Value}
 use Rattle.il_model.specs.declared.coded_operand.CodedOperand.{CodedOperand}
 use Rattle.il_model.specs.declared.coded_operand.CodedOperand.TheVariants as coded
 use Rattle.il_model.specs.Values.{ty_of, number_of}
-use Rattle.il_model.specs.Names.{same_name}
+use Rattle.il_model.specs.Words.{same_name}
 use Rattle.std.specs.List.{position}
 use Rattle.il_model.specs.CodedOperands.{code_of}
 use Rattle.il_model.specs.Program.{Program, Declarations, declared_by}

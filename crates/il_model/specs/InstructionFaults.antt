@@ -24,7 +24,7 @@ use Rattle.il_model.specs.declared.typing.Held.{Held}
 use Rattle.il_model.specs.declared.limits.TheConstants.{MOST_OPEN_PARENTHESES}
 use Rattle.il_model.specs.Operators.{joined_type}
 use Rattle.il_model.specs.Kinds.{field_type}
-use Rattle.il_model.specs.Names.{same_name}
+use Rattle.il_model.specs.Words.{same_name}
 use Rattle.il_model.specs.Codes.{is_jump, is_call}
 use Rattle.il_model.specs.Program.{Program}
 use Rattle.il_model.specs.Resolved.{source_of, target_of, called_kind}

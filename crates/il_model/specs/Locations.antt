@@ -1,15 +1,37 @@
--- Locations as they are written (IEC 61131-3:2003, 2.4.1.1): %IXb.n, where X may be missing, and %IWk, of inputs,
--- outputs and memory, without regard to case.
-use Rattle.std.specs.Prelude.{ℕ, ◌+◌, ◌*◌, Bool, not, ◌&&◌, ◌==◌, List, [], ◌∷◌, take, drop, Option, Some, None, nat_lt}
-use Rattle.std.specs.Prelude.{if◌then◌else◌}
+-- The places of inputs, outputs and memory: areas and their cells, and locations as they are written.
+use Rattle.std.specs.Prelude.{replicate, false, pos, ℕ, ◌+◌, ◌*◌, Bool, not, ◌&&◌, ◌==◌, List, [], ◌∷◌, take, drop}
+use Rattle.std.specs.Prelude.{Option, Some, None, nat_lt, if◌then◌else◌}
 use Rattle.std.specs.List.{prefix_len}
 use Rattle.il_model.specs.declared.program.Area.{Area}
-use Rattle.il_model.specs.declared.program.Area.TheVariants as areas
 use Rattle.il_model.specs.declared.program.Loc.{Loc}
 use Rattle.il_model.specs.declared.program.Loc.TheVariants.{Bit, Word}
-use Rattle.il_model.specs.declared.limits.TheConstants.{WORDS}
+use Rattle.il_model.specs.declared.limits.TheConstants.{BITS, WORDS}
+use Rattle.il_model.specs.declared.cells.Cells.{Cells}
+use Rattle.il_model.specs.declared.cells.InImage.{InImage}
+use Rattle.il_model.specs.declared.cells.OutImage.{OutImage}
+use Rattle.il_model.specs.declared.program.Area.TheVariants as areas
 use Rattle.il_model.specs.Words.{upper}
-use Rattle.il_model.specs.Literal.{integer_of}
+use Rattle.il_model.specs.Literals.{integer_of}
+
+abbrev pub area_of : Loc → Area
+area_of (Bit a n) = a
+area_of (Word a n) = a
+
+-- ---- the cells of an area, and the images of inputs and outputs
+
+-- all bits FALSE and all words 0
+abbrev pub clear_cells : Cells
+clear_cells = record { bits = replicate BITS false; words = replicate WORDS (pos 0) }
+
+-- the input image with all bits FALSE and all words 0
+abbrev pub clear_inputs : InImage
+clear_inputs = record { cells = clear_cells }
+
+-- the safe image: all bits FALSE and all words 0
+abbrev pub safe_image : OutImage
+safe_image = record { cells = clear_cells }
+
+-- ---- locations in a text (IEC 61131-3:2003, 2.4.1.1): %IXb.n, where X may be missing, and %IWk, in either case
 
 abbrev pub is_no_dot : ℕ → Bool
 is_no_dot b = not (b == 46)

@@ -30,9 +30,9 @@ use Rattle.il_model.specs.declared.fetched.Source.TheVariants as sources
 use Rattle.il_model.specs.declared.typing.Held.{Held}
 use Rattle.il_model.specs.Program.{Program}
 use Rattle.il_model.specs.Values.{ty_of}
-use Rattle.il_model.specs.Areas.{area_of}
+use Rattle.il_model.specs.Locations.{area_of}
 use Rattle.il_model.specs.Kinds.{kind_fields, field_number, field_type, is_input}
-use Rattle.il_model.specs.Names.{AreDistinct}
+use Rattle.il_model.specs.Words.{AreDistinct}
 use Rattle.il_model.specs.Operators.{joined_type}
 use Rattle.il_model.specs.Resolved.{source_of, target_of, is_labelled, called_kind}
 

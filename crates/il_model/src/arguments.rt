@@ -2,7 +2,7 @@
 
 ghost use Rattle.std.specs.Prelude.{◌≡◌, [], map, option_and_then, if◌then◌else◌};
 ghost use Rattle.std.specs.List.{list_any};
-ghost use Rattle.il_model.specs.Names.{same_name};
+ghost use Rattle.il_model.specs.Words.{same_name};
 ghost use Rattle.il_model.specs.Constants.{operand_literal};
 ghost use Rattle.il_model.specs.Checking.{fault_rank, tried_first, first_fault, operand_kind, unless_same};
 ghost use Rattle.il_model.specs.Checking.{passing_fault};

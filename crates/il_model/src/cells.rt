@@ -11,7 +11,7 @@ pub struct Cells {
 
 impl Cells {
     ghost use Rattle.std.specs.Prelude.{◌≡◌};
-    ghost use Rattle.il_model.specs.Cells.{clear_cells};
+    ghost use Rattle.il_model.specs.Locations.{clear_cells};
 
     /// All bits FALSE and all words 0.
     pub const fn clear() -> Cells
@@ -32,7 +32,7 @@ pub struct InImage {
 
 impl InImage {
     ghost use Rattle.std.specs.Prelude.{◌≡◌};
-    ghost use Rattle.il_model.specs.Cells.{clear_inputs};
+    ghost use Rattle.il_model.specs.Locations.{clear_inputs};
 
     /// All bits FALSE and all words 0.
     pub const fn clear() -> InImage
@@ -52,7 +52,7 @@ pub struct OutImage {
 
 impl OutImage {
     ghost use Rattle.std.specs.Prelude.{◌≡◌};
-    ghost use Rattle.il_model.specs.Cells.{safe_image};
+    ghost use Rattle.il_model.specs.Locations.{safe_image};
 
     /// The safe image: all bits FALSE and all words 0.
     pub const fn safe() -> OutImage

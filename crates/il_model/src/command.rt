@@ -76,7 +76,7 @@ pub enum Answer {
 
 impl Command {
     ghost use Rattle.std.specs.Prelude.{◌≡◌, IfOk};
-    ghost use Rattle.il_model.specs.Numbers.{is_change};
+    ghost use Rattle.il_model.specs.Answers.{is_change};
 
     /// Whether it changes the program.
     pub fn is_change(&self) -> bool
@@ -113,7 +113,7 @@ impl Command {
 
 impl Refusal {
     ghost use Rattle.std.specs.Prelude.{◌≡◌};
-    ghost use Rattle.il_model.specs.Numbers.{refusal_number};
+    ghost use Rattle.il_model.specs.Answers.{refusal_number};
 
     /// The number by which frames and printed lines name it, from 1.
     pub fn number(self) -> u8
@@ -133,7 +133,7 @@ impl Refusal {
 
 impl Answer {
     ghost use Rattle.std.specs.Prelude.{◌≡◌};
-    ghost use Rattle.il_model.specs.Numbers.{released_image};
+    ghost use Rattle.il_model.specs.Answers.{released_image};
 
     /// The image that the answer releases: a scan's that was done, or the safe one of a scan that stopped.
     pub fn image(&self) -> Option<OutImage>

@@ -1,7 +1,7 @@
 //! Constants in a table, so that a look-up takes a time that grows as the logarithm of their number.
 
 ghost use Rattle.std.specs.Prelude.{◌≡◌, ◌++◌, [], ◌∷◌, OnOk};
-ghost use Rattle.il_model.specs.ConstantTables.{key_of, place_in, IsConstantTable};
+ghost use Rattle.il_model.specs.Tables.{key_of, place_in, IsConstantTable};
 
 use crate::Value;
 use crate::codes::type_code;
@@ -17,7 +17,7 @@ pub struct Constants {
 }
 
 impl Model for Constants {
-    ghost use Rattle.il_model.specs.ConstantTables.{ConstantList, IsConstantTable};
+    ghost use Rattle.il_model.specs.Tables.{ConstantList, IsConstantTable};
 
     ghost Value = { ConstantList };
 

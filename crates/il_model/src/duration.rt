@@ -1,10 +1,9 @@
 //! Durations (IEC 61131-3:2003, B.1.2.3.1), in milliseconds.
 
 ghost use Rattle.std.specs.Prelude.{◌≡◌, ◌≤◌, ◌<◌, ◌*◌, ◌^◌, length, option_map, IfSome};
-ghost use Rattle.il_model.specs.Literal.{held_integer};
-ghost use Rattle.il_model.specs.Durations.{digits_len, is_digit_byte, is_unit_byte, unit_len, unit_of, digit_list};
-ghost use Rattle.il_model.specs.Durations.{whole_part, fraction_of, part_text, at_unit, decimals_unit, at_decimals};
-ghost use Rattle.il_model.specs.Durations.{begins_dot, behind_number, part_by, past_join, duration_by};
+ghost use Rattle.il_model.specs.Literals.{held_integer, digits_len, is_digit_byte, is_unit_byte, unit_len, unit_of};
+ghost use Rattle.il_model.specs.Literals.{digit_list, whole_part, fraction_of, part_text, at_unit, decimals_unit};
+ghost use Rattle.il_model.specs.Literals.{at_decimals, begins_dot, behind_number, part_by, past_join, duration_by};
 
 use crate::literal::{digit, integer};
 use crate::words::{capital, is_spelled};

@@ -2,9 +2,9 @@
 
 ghost use Rattle.std.specs.Prelude.{◌≡◌, ◌≤◌, ℕ, List, length, IfOk};
 ghost use Rattle.std.specs.List.{position};
-ghost use Rattle.il_model.specs.Names.{same_name};
+ghost use Rattle.il_model.specs.Words.{same_name};
 ghost use Rattle.il_model.specs.Resolved.{has_label, instance_in};
-ghost use Rattle.il_model.specs.NameTables.{first_in};
+ghost use Rattle.il_model.specs.Tables.{first_in};
 
 use crate::limits::{MOST_INSTANCES, MOST_INSTRUCTIONS, MOST_VARIABLES};
 use crate::{BlockKind, Instance, Instr, Name, Operand, Place, Program, Source, Variable};
@@ -75,7 +75,7 @@ pub struct IndexedProgram<'a> {
 
 impl<'a> Model for IndexedProgram<'a> {
     ghost use Rattle.il_model.specs.Program.{Program};
-    ghost use Rattle.il_model.specs.NameTables.{AreNameTables};
+    ghost use Rattle.il_model.specs.Tables.{AreNameTables};
 
     ghost Value = { Program };
 

@@ -1,7 +1,7 @@
 //! Literals: digits and what they stand for (IEC 61131-3:2003, B.1.2.1).
 
 ghost use Rattle.std.specs.Prelude.{◌≡◌, ◌≤◌, ◌<◌, IfSome};
-ghost use Rattle.il_model.specs.Literal.{digit_of, held_integer};
+ghost use Rattle.il_model.specs.Literals.{digit_of, held_integer};
 
 use crate::value::Value;
 

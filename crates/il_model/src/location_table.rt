@@ -2,7 +2,7 @@
 //! number.
 
 ghost use Rattle.std.specs.Prelude.{◌++◌, [], ◌∷◌, OnOk};
-ghost use Rattle.il_model.specs.LocationTables.{AreCodes};
+ghost use Rattle.il_model.specs.Tables.{AreCodes};
 
 use crate::program::Variable;
 use std::alloc::AllocError;

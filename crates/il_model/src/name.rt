@@ -3,8 +3,8 @@
 ghost use Rattle.std.specs.Prelude.{◌≡◌, IfOk, List, ℕ};
 ghost use Rattle.std.specs.List.{list_all, list_any};
 ghost use Rattle.std.specs.Str.{bytes_eq};
-ghost use Rattle.il_model.specs.Names.{same_name, is_first_byte, is_name_byte, begins_name, begins_with};
-ghost use Rattle.il_model.specs.Names.{is_well_spelled, is_reserved_operator, is_reserved, is_lawful_name};
+ghost use Rattle.il_model.specs.Words.{same_name, is_first_byte, is_name_byte, begins_name, begins_with};
+ghost use Rattle.il_model.specs.Words.{is_well_spelled, is_reserved_operator, is_reserved, is_lawful_name};
 
 use crate::kind::BlockKind;
 use crate::words::mnemonic_from;

@@ -60,7 +60,7 @@ impl Area {
 
 impl Loc {
     ghost use Rattle.std.specs.Prelude.{◌≡◌};
-    ghost use Rattle.il_model.specs.Areas.{area_of};
+    ghost use Rattle.il_model.specs.Locations.{area_of};
     ghost use Rattle.il_model.specs.CodedOperands.{loc_code, any_loc};
 
     /// The area that it lies in.
@@ -219,7 +219,7 @@ impl Model for Program {
 
 impl Program {
     ghost use Rattle.std.specs.Prelude.{◌≡◌};
-    ghost use Rattle.il_model.specs.Limits.{program_of};
+    ghost use Rattle.il_model.specs.Program.{program_of};
 
     /// The program of these parts, or none where they are too many.
     pub fn new(

@@ -4,7 +4,7 @@ ghost use Rattle.std.specs.Prelude.{◌≡◌, slice_get};
 ghost use Rattle.il_model.specs.Kinds.{kind_fields};
 ghost use Rattle.il_model.specs.Typing.{place_type, loc_type, field_at, is_input_field, is_writable, is_writable_area};
 ghost use Rattle.il_model.specs.Checking.{source_kind, missing_kind};
-ghost use Rattle.il_model.specs.Areas.{area_of};
+ghost use Rattle.il_model.specs.Locations.{area_of};
 
 use crate::limits::{BITS, WORDS};
 use crate::{Area, Field, Loc, Operand, OperandKind, Place, Program, Source, Ty};

@@ -35,7 +35,7 @@ pub enum Stop {
 }
 
 impl Stop {
-    ghost use Rattle.il_model.specs.Numbers.{stop_number};
+    ghost use Rattle.il_model.specs.Answers.{stop_number};
 
     /// The number by which frames and printed lines name it, from 1.
     pub fn number(self) -> u8

@@ -1,11 +1,10 @@
 //! Literals as they are written (IEC 61131-3:2003, B.1.2).
 
 ghost use Rattle.std.specs.Prelude.{◌≡◌, ◌≤◌, ◌<◌, ◌^◌, length, option_map, IfSome};
-ghost use Rattle.il_model.specs.Literal.{held_integer};
+ghost use Rattle.il_model.specs.Literals.{held_integer, positive, minus, signed_by, is_no_hash, hash_at, based_by};
+ghost use Rattle.il_model.specs.Literals.{whole_by, time_by, truth_literal, typed_literal, bare_literal};
+ghost use Rattle.il_model.specs.Literals.{prefixed_literal, is_word, literal_by, literal_of};
 ghost use Rattle.il_model.specs.Values.{typed_value};
-ghost use Rattle.il_model.specs.Literals.{positive, minus, signed_by, is_no_hash, hash_at, based_by, whole_by, time_by};
-ghost use Rattle.il_model.specs.Literals.{truth_literal, typed_literal, bare_literal, prefixed_literal, is_word};
-ghost use Rattle.il_model.specs.Literals.{literal_by, literal_of};
 
 use crate::duration::duration;
 use crate::literal::{Literal, integer};

@@ -5,7 +5,7 @@ use Rattle.std.proofs.lemmas.Bool.{ltb-false}
 use Rattle.std.proofs.lemmas.List.Concat.{flat_map-cons}
 use Rattle.std.proofs.Common.{append_assoc}
 use Rattle.std.specs.Prelude.{is_some}
-use Rattle.il_model.specs.Names.{is_well_spelled}
+use Rattle.il_model.specs.Words.{is_well_spelled}
 use Rattle.il_model.specs.Literals.{literal_of}
 use Rattle.il_reader.specs.declared.lexeme.Piece.{Piece}
 use Rattle.il_reader.specs.declared.lexeme.Sign.TheVariants as signs

@@ -1,7 +1,6 @@
 -- What the law says of worked texts.
 use Rattle.std.proofs.Common.{◌≡◌, ℕ, List, Result, Err, refl, sym, ap, ◌∙◌, arith, codes}
-use Rattle.il_model.specs.Words.{spells, look, mnemonic_of}
-use Rattle.il_model.specs.Names.{is_well_spelled}
+use Rattle.il_model.specs.Words.{spells, look, mnemonic_of, is_well_spelled}
 use Rattle.il_reader.specs.declared.fault.FaultAt.{FaultAt}
 use Rattle.il_reader.specs.Tokens.{name_of, word_piece, solid_piece, piece_of, sign_of, tokens_behind}
 use Rattle.il_reader.specs.Front.{skip_breaks}

@@ -1,7 +1,6 @@
 -- Tokens that are written, each with a blank behind it.
 use Rattle.std.proofs.Common.{◌≡◌, ℕ, Bool, true, false, not, List, [], ◌∷◌, ◌++◌, length, refl, codes, ◌&&◌}
-use Rattle.il_model.specs.Names.{is_well_spelled}
-use Rattle.il_model.specs.Words.{spells}
+use Rattle.il_model.specs.Words.{is_well_spelled, spells}
 use Rattle.il_reader.specs.declared.lexeme.Sign.{Sign}
 use Rattle.il_reader.specs.declared.lexeme.Sign.TheVariants as signs
 use Rattle.il_reader.specs.declared.lexeme.Class.{Class}

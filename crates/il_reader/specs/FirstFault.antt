@@ -1,16 +1,33 @@
--- The first fault of a text, by the grammar alone.
-use Rattle.std.specs.Prelude.{◌≡◌, ◌<◌, ◌≤◌, ◌⊎◌, ℕ, List, [], ◌∷◌, ◌++◌, length, Result, Ok, Err, codes}
+-- The first fault of a text, by the grammar alone; and the numbers of faults.
+use Rattle.std.specs.Prelude.{ℕ, ◌≡◌, ◌<◌, ◌≤◌, ◌⊎◌, List, [], ◌∷◌, ◌++◌, length, Result, Ok, Err, codes}
+use Rattle.il_reader.specs.declared.fault.FaultKind.{FaultKind}
+use Rattle.il_reader.specs.declared.fault.ReadError.{ReadError}
 use Rattle.il_reader.specs.declared.source.TheConstants.{TEXT_LIMIT}
-use Rattle.il_reader.specs.declared.fault.FaultKind.TheVariants as kinds
 use Rattle.il_reader.specs.declared.fault.FaultAt.{FaultAt}
 use Rattle.il_reader.specs.declared.fault.Fault.{Fault}
-use Rattle.il_reader.specs.declared.fault.ReadError.{ReadError}
+use Rattle.il_reader.specs.declared.fault.FaultKind.TheVariants as kinds
 use Rattle.il_reader.specs.declared.fault.ReadError.TheVariants as errors
 use Rattle.il_reader.specs.Tokens.{Token, tokens_of}
 use Rattle.il_reader.specs.Front.{fault_at}
 use Rattle.il_reader.specs.Grammar.{ProgramText}
 use Rattle.il_reader.specs.Spelling.{SaysTokens}
 use Rattle.il_reader.specs.Texts.{SourceText, placed, too_long, Reads, Answers}
+
+-- ---- the numbers of faults, as the program prints them
+
+abbrev pub kind_number : FaultKind → ℕ
+kind_number kinds.BadByte = 1
+kind_number kinds.BadToken = 2
+kind_number kinds.BadLiteral = 3
+kind_number kinds.UnclosedComment = 4
+kind_number kinds.Misplaced = 5
+kind_number kinds.TooLong = 6
+
+abbrev pub error_number : ReadError → ℕ
+error_number (errors.Fault f) = kind_number f.kind
+error_number errors.Memory = 7
+
+-- ---- the first fault
 
 -- some list of tokens that the grammar has begins with these
 abbrev pub Begins : List Token → Type 0

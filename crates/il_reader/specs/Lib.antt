@@ -1,11 +1,9 @@
 pub mod Tokens
-pub mod Place
-pub mod Faults
+pub mod Texts
+pub mod FirstFault
 pub mod Front
 pub mod Reading
 pub mod Grammar
 pub mod Spelling
 pub mod Words
-pub mod FirstFault
-pub mod Texts
 pub mod Walk

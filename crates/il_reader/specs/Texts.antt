@@ -1,15 +1,33 @@
 -- A text as a whole: what it says, and where its bytes stand.
-use Rattle.std.specs.Prelude.{◌≡◌, ℕ, ◌≤◌, List, length, Result, Ok, Err}
+use Rattle.std.specs.Prelude.{ℕ, ◌+◌, ◌-◌, List, [], ◌∷◌, ◌==◌, if◌then◌else◌, length, take, count_by, ◌≡◌, ◌≤◌, Result}
+use Rattle.std.specs.Prelude.{Ok, Err}
+use Rattle.il_reader.specs.declared.place.Place.{Place}
 use Rattle.il_reader.specs.declared.source.TheConstants.{TEXT_LIMIT}
-use Rattle.il_reader.specs.declared.fault.FaultKind.TheVariants as kinds
 use Rattle.il_reader.specs.declared.fault.FaultAt.{FaultAt}
 use Rattle.il_reader.specs.declared.fault.Fault.{Fault}
 use Rattle.il_reader.specs.declared.fault.ReadError.{ReadError}
-use Rattle.il_reader.specs.declared.fault.ReadError.TheVariants as errors
 use Rattle.il_reader.specs.declared.contents.Contents.{Contents}
-use Rattle.il_reader.specs.Place.{place_at}
+use Rattle.il_reader.specs.declared.fault.FaultKind.TheVariants as kinds
+use Rattle.il_reader.specs.declared.fault.ReadError.TheVariants as errors
 use Rattle.il_reader.specs.Grammar.{ProgramText, program_text}
 use Rattle.il_reader.specs.Spelling.{Says}
+
+-- ---- lines and columns, counted from 1
+
+-- the column behind these bytes, which begin at a column
+unfoldable pub column_behind : ℕ → List ℕ → ℕ
+column_behind column [] = column
+column_behind column (b ∷ bs) = if b == 10 then column_behind 1 bs else column_behind (column + 1) bs
+
+-- the place behind these bytes
+abbrev pub place_behind : List ℕ → Place
+place_behind before = record { line = 1 + count_by (λ b. b == 10) before; column = column_behind 1 before }
+
+-- where the byte of a text stands from which on so many are left
+abbrev pub place_at : List ℕ → ℕ → Place
+place_at text left = place_behind (take (length text - left) text)
+
+-- ---- what a text says
 
 -- a text and what it says
 pub record SourceText : Type 0 where

@@ -2,7 +2,7 @@
 use Rattle.std.specs.Prelude.{◌≡◌, ℕ, ◌<◌, ◌≤◌, Bool, true, false, List, [], ◌∷◌, length, Option, Some, None}
 use Rattle.std.specs.List.{AllByRecursion, list_all}
 use Rattle.il_model.specs.declared.limits.TheConstants.{LONGEST_NAME}
-use Rattle.il_model.specs.Names.{is_well_spelled}
+use Rattle.il_model.specs.Words.{is_well_spelled}
 use Rattle.il_reader.specs.Tokens.{Token, is_letter_byte, is_word_byte}
 use Rattle.il_reader.specs.Grammar.{LineText, Labelled, Plain, OperationText, NamesText, Located, More, DeclarationText}
 use Rattle.il_reader.specs.Grammar.{ProgramText}

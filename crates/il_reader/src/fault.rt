@@ -48,7 +48,7 @@ pub enum ReadError {
 }
 
 impl FaultKind {
-    ghost use Rattle.il_reader.specs.Faults.{kind_number};
+    ghost use Rattle.il_reader.specs.FirstFault.{kind_number};
 
     /// The number of a fault, from 1: bad byte, bad token, bad literal, unclosed comment, misplaced, too long.
     pub fn number(self) -> u8
@@ -66,7 +66,7 @@ impl FaultKind {
 }
 
 impl ReadError {
-    ghost use Rattle.il_reader.specs.Faults.{error_number};
+    ghost use Rattle.il_reader.specs.FirstFault.{error_number};
 
     /// The number of an error: that of its fault, or 7 for memory.
     pub fn number(self) -> u8

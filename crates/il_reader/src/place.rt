@@ -1,7 +1,7 @@
 //! Lines and columns.
 
 ghost use Rattle.std.specs.Prelude.{◌≡◌, ◌≤◌, ◌<◌, ◌^◌, ◌+◌, length};
-ghost use Rattle.il_reader.specs.Place.{column_behind, place_at};
+ghost use Rattle.il_reader.specs.Texts.{column_behind, place_at};
 
 use std::fmt;
 

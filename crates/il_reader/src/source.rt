@@ -35,8 +35,7 @@ pub const TEXT_LIMIT: usize = 2_097_152;
 impl<'a> Source<'a> {
     ghost use Rattle.std.specs.Prelude.{map};
     ghost use Rattle.il_reader.specs.Grammar.{declarations, line};
-    ghost use Rattle.il_reader.specs.Place.{place_at};
-    ghost use Rattle.il_reader.specs.Texts.{IsSource};
+    ghost use Rattle.il_reader.specs.Texts.{place_at, IsSource};
     ghost use Rattle.il_reader.specs.Words.{AreWords};
 
     /// What is known of every source: its text is short enough, and it says this; and its names are names, and its

@@ -17,7 +17,7 @@ use Rattle.il_declarations.specs.Walk.{resolution_of}
 use Rattle.il_declarations.proofs.FaultLaws.{one_program, one_refused, found, refused}
 use Rattle.il_text.specs.declared.fault.Fault.{Fault}
 use Rattle.il_text.specs.Meaning.{IsProgramOf, IsTypedProgramOfText, IsReadFault, IsDeclarationFault, IsUntyped, IsTypingFault, IsProgramFault, IsTextFault, IsGoodText}
-use Rattle.il_text.specs.Told.{of_read, of_declaration, of_assembly}
+use Rattle.il_text.specs.Telling.{of_read, of_declaration, of_assembly}
 
 -- ---- one program
 

@@ -13,14 +13,13 @@ use Rattle.il_declarations.specs.Declaring as Declaring
 use Rattle.il_declarations.specs.FirstFault.{HasNoFault, IsRefused as IsRefusedSource}
 use Rattle.il_declarations.specs.declared.fault.Fault as declaration_faults
 use Rattle.il_declarations.specs.declared.fault.DeclError.TheVariants as declaration_errors
-use Rattle.il_assembler.specs.FirstFault.{IsFirstFault as IsFirstTypeFault}
+use Rattle.il_assembler.specs.Assembled.{IsFirstFault as IsFirstTypeFault}
 use Rattle.il_assembler.specs.declared.fault.AsmError.TheVariants as assembly_errors
 use Rattle.il_loader.specs.declared.fault.LoadFault.{LoadFault}
 use Rattle.il_loader.specs.Judging.{image_of}
-use Rattle.il_text.specs.Told.{of_read, of_declaration, of_assembly, of_bytes}
+use Rattle.il_text.specs.Telling.{of_read, of_declaration, of_assembly, of_bytes, status_of}
 use Rattle.il_text.specs.declared.fault.Fault.{Fault}
 use Rattle.il_text.specs.declared.fault.Fault.TheVariants as faults
-use Rattle.il_text.specs.Status.{status_of}
 
 -- the text declares this program, and has no fault
 pub record IsProgramOf (text : List ℕ) (program : Program) : Type 0 where

@@ -1,13 +1,79 @@
--- The line that tells a fault, and what telling it does to a counted writer.
-use Rattle.std.specs.Prelude.{◌≡◌, ◌≤◌, ◌⊎◌, ℕ, List, ◌++◌, codes, Option, Result, Ok, Err, OnOk, OnErr}
+-- How a fault is told: its number and place, its line, the status that is ended with, and what that does to a writer.
+use Rattle.std.specs.Prelude.{ℕ, ◌≡◌, ◌≤◌, ◌⊎◌, List, ◌++◌, codes, Option, Result, Ok, Err, OnOk, OnErr, take}
+use Rattle.std.specs.Prelude.{MatchResult, IfErr}
+use Rattle.std.specs.declared.io.ErrorKind.{ErrorKind}
+use Rattle.std.specs.declared.io.ErrorKind.TheVariants.{OutOfMemory}
 use Rattle.std.specs.Fmt.{decimal}
 use Rattle.std.specs.Io.KnownBytes.{Appends}
 use Rattle.io_model.specs.declared.counted.CountedWrite.{Ghosts as CountedWriter}
 use Rattle.io_model.specs.declared.counted.DeviceFault.{DeviceFault}
-use Rattle.io_model.specs.Counted.{Failed}
+use Rattle.io_model.specs.Streams.{Failed}
+use Rattle.il_model.specs.Checking.{fault_number}
+use Rattle.il_reader.specs.declared.fault.ReadError.{ReadError}
+use Rattle.il_reader.specs.declared.fault.ReadError.TheVariants as reads
+use Rattle.il_reader.specs.FirstFault.{kind_number}
+use Rattle.il_declarations.specs.declared.fault.DeclError.{DeclError}
+use Rattle.il_declarations.specs.declared.fault.DeclError.TheVariants as declarations
+use Rattle.il_declarations.specs.FirstFault as Kinds
+use Rattle.il_assembler.specs.declared.fault.AsmError.{AsmError}
+use Rattle.il_assembler.specs.declared.fault.AsmError.TheVariants as assemblies
+use Rattle.il_loader.specs.declared.fault.LoadError.{LoadError}
+use Rattle.il_loader.specs.declared.fault.LoadFault.{LoadFault}
+use Rattle.il_loader.specs.declared.fault.LoadFault.TheVariants.{Truncated, BadMagic, BadVersion, BadCount, BadWord}
+use Rattle.il_loader.specs.declared.fault.LoadFault.TheVariants.{BadType, BadTarget, Trailing}
+use Rattle.il_loader.specs.declared.fault.LoadError.TheVariants as loads
 use Rattle.il_text.specs.declared.fault.Fault.{Fault}
 use Rattle.il_text.specs.declared.fault.Fault.TheVariants as faults
-use Rattle.il_text.specs.Status.{status_of}
+
+-- ---- the printed fault of each layer's error: its number and its place
+
+abbrev pub of_read : ReadError → Fault
+of_read (reads.Fault f) = faults.Read (kind_number f.kind) f.place.line f.place.column
+of_read reads.Memory = faults.Memory
+
+abbrev pub of_assembly : AsmError → Fault
+of_assembly (assemblies.Fault fault instruction) = faults.Assembly (fault_number fault) instruction
+of_assembly assemblies.Memory = faults.Memory
+
+abbrev pub of_bytes : LoadFault → Fault
+of_bytes Truncated = faults.Load 1
+of_bytes BadMagic = faults.Load 2
+of_bytes BadVersion = faults.Load 3
+of_bytes BadCount = faults.Load 4
+of_bytes (BadWord position) = faults.LoadAt 5 position
+of_bytes (BadType position) = faults.LoadAt 6 position
+of_bytes (BadTarget position) = faults.LoadAt 7 position
+of_bytes Trailing = faults.Load 8
+
+abbrev pub of_load : LoadError → Fault
+of_load (loads.Fault f) = of_bytes f
+of_load loads.Memory = faults.Memory
+
+abbrev pub of_declaration : DeclError → Fault
+of_declaration (declarations.Fault f) = faults.Declaration (Kinds.kind_number f.kind) f.place.line f.place.column
+of_declaration declarations.Memory = faults.Memory
+
+-- ---- the statuses that the program ends with: 0 good, 1 refused input, 2 a device or memory
+
+abbrev pub status_of : Fault → ℕ
+status_of (faults.Read number line column) = 1
+status_of (faults.Declaration number line column) = 1
+status_of (faults.Assembly number instruction) = 1
+status_of (faults.Load number) = 1
+status_of (faults.LoadAt number position) = 1
+status_of faults.Commands = 1
+status_of faults.Schedule = 1
+status_of (faults.ScheduleAt index reason) = 1
+status_of faults.Store = 1
+status_of faults.Device = 2
+status_of faults.Memory = 2
+
+-- the fault of a stream: want of memory, or its device failed
+abbrev pub stream_fault : ErrorKind → Fault
+stream_fault OutOfMemory = faults.Memory
+stream_fault kind = faults.Device
+
+-- ---- the line of a fault, and what telling it does to a counted writer
 
 -- a number behind a text
 abbrev pub numbered : List ℕ → ℕ → List ℕ
@@ -69,3 +135,18 @@ abbrev pub StopsShort : {W : Type 0} → CountedWriter W → Type 0 → Type 0 �
 StopsShort w IsLeftByDevice IsLeftByMemory old new =
     (IsLeftByDevice × WentOut w (fault_line faults.Device) old new)
     ⊎ (IsLeftByMemory × WentOut w (fault_line faults.Memory) old new)
+
+-- ---- what the lines of a call do to a counted writer
+
+-- all of the text went out, or a prefix of it where the writer failed or memory ran out
+pub record Puts {W : Type 0} (w : CountedWriter W) (text : List ℕ) (old new : W)
+    (result : Result (Unit {0}) Fault) : Type 0 where
+  pub sent : MatchResult result
+      (λ _. Appends (w.held old) (w.held new) text)
+      (λ _. (n : ℕ) × Appends (w.held old) (w.held new) (take n text))
+  pub why : IfErr result (λ e. ((e ≡ faults.Device) × Failed (w.faults old) (w.faults new)) ⊎ (e ≡ faults.Memory))
+  pub counts : w.faults old ≤ w.faults new
+
+-- why a call stopped: the writer failed in it, or memory ran out
+abbrev pub IsWhyStopped : Fault → ℕ → ℕ → Type 0
+IsWhyStopped fault before after = ((fault ≡ faults.Device) × Failed before after) ⊎ (fault ≡ faults.Memory)

@@ -2,7 +2,7 @@
 
 ghost use Rattle.std.specs.Prelude.{◌≡◌};
 ghost use Rattle.std.specs.IoError.{error_kind};
-ghost use Rattle.il_text.specs.Status.{status_of, stream_fault};
+ghost use Rattle.il_text.specs.Telling.{status_of, stream_fault};
 ghost use Rattle.il_text.specs.declared.fault.Fault.TheVariants.{Device, Memory};
 
 use io_model::DeviceFault;

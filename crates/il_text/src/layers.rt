@@ -1,7 +1,7 @@
 //! The printed fault of each layer's error.
 
 ghost use Rattle.std.specs.Prelude.{◌≡◌};
-ghost use Rattle.il_text.specs.Told.{of_read, of_declaration, of_assembly, of_load};
+ghost use Rattle.il_text.specs.Telling.{of_read, of_declaration, of_assembly, of_load};
 
 use crate::fault::Fault;
 use il_assembler::AsmError;

@@ -4,7 +4,7 @@ ghost use Rattle.std.specs.Prelude.{◌≡◌, Some};
 ghost use Rattle.std.specs.Fmt.{DisplaysOnOk};
 ghost use Rattle.il_text.specs.Lines.{answer_text, bit_text, word_text, bits_text, words_text, stop_name, value_text};
 ghost use Rattle.il_text.specs.Lines.{line_text};
-ghost use Rattle.il_text.specs.Putting.{Puts};
+ghost use Rattle.il_text.specs.Telling.{Puts};
 
 use crate::fault::Fault;
 use il_model::{Answer, Stop, Value};

@@ -1,8 +1,7 @@
 //! What is told where there is no answer.
 
 ghost use Rattle.std.specs.Prelude.{◌≡◌, ◌≤◌, IfErr, IsErr, IsOk, OnOk};
-ghost use Rattle.il_text.specs.Status.{status_of};
-ghost use Rattle.il_text.specs.Telling.{Ends, Sends, WentOut, numbered, pair_text, placed_text, fault_line};
+ghost use Rattle.il_text.specs.Telling.{status_of, Ends, Sends, WentOut, numbered, pair_text, placed_text, fault_line};
 
 use crate::fault::Fault;
 use io_model::{CountedWrite, DeviceFault, write_all};

@@ -4,16 +4,15 @@ use Rattle.il_model.specs.declared.cells.Cells.{Cells}
 use Rattle.il_model.specs.declared.command.Command.{Command}
 use Rattle.il_model.specs.declared.command.Command.TheVariants.{Scan}
 use Rattle.il_model.specs.declared.command.Answer.{Answer}
-use Rattle.il_model.specs.Numbers.{released_image}
+use Rattle.il_model.specs.Answers.{released_image}
 use Rattle.vr_model.specs.declared.message.Message.{Message}
 use Rattle.vr_model.specs.Messages.{Body, Reply}
 use Rattle.vr_model.specs.World.{ClientState, is_waiting}
 use Rattle.vr_model.specs.Steps.{Submits, MayClient}
 use Rattle.io_image.specs.declared.release.Release.{Release}
-use Rattle.io_image.specs.Book.{Book}
+use Rattle.io_image.specs.Book.{Book, Changed}
 use Rattle.io_image.specs.Calls.{Does, sample_gave}
 use Rattle.vr_client.specs.Client.{Client, new_client, SendsAt, BecomesAt}
-use Rattle.io_image.specs.Staging.{Changed}
 
 -- client 0, of a group's driver that started so often before
 abbrev pub first_driver : ℕ → ℕ → Client

@@ -6,8 +6,7 @@ use mathlib.Core.List.{IsPrefix}
 use prog.Atomic.{either}
 use Rattle.logbook.specs.Pages.{Cell, cell, keeps, no_nib, step, Moves, Goes}
 use Rattle.io_image.specs.declared.release.Release.{Release}
-use Rattle.io_image.specs.Releases.{IsRising, number_of}
-use Rattle.io_image.specs.Releasing.{IsKept, Adds}
+use Rattle.io_image.specs.Releases.{IsRising, number_of, IsKept, Adds}
 use Rattle.io_image.proofs.Fronts.{number_from-snoc, rising-snoc, rising_whole}
 
 abbrev pub nothing_shown : List Release → List Release

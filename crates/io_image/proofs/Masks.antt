@@ -6,8 +6,7 @@ use Rattle.std.proofs.lemmas.List.Sums.{fold-append}
 use Rattle.il_model.specs.declared.cells.Cells.{Cells}
 use Rattle.io_image.specs.declared.book.Entry.{Entry}
 use Rattle.io_image.specs.declared.book.Entry.TheVariants.{Mask}
-use Rattle.io_image.specs.Book.{masked, mask_at, replayed, after_change}
-use Rattle.io_image.specs.Entries.{change_of, changes_of}
+use Rattle.io_image.specs.Book.{masked, mask_at, replayed, after_change, change_of, changes_of}
 
 abbrev pub with_word : Cells → ℕ → ℤ → Cells
 with_word c at w = record { bits = c.bits; words = slice_set c.words at w }

@@ -1,12 +1,14 @@
 -- The staged inputs: the last sample, the writes since then, and the next ticket.
-use Rattle.std.specs.Prelude.{ℕ, ℤ, pos, Bool, ◌+◌, ◌<◌, ◌≤◌, ◌==◌, ◌||◌, bit_and, bit_or, List, [], ◌∷◌, ◌++◌, length, fold}
-use Rattle.std.specs.Prelude.{get_or, slice_set}
+use Rattle.std.specs.Prelude.{ℕ, ℤ, pos, Bool, ◌+◌, ◌<◌, ◌≤◌, ◌==◌, ◌||◌, bit_and, bit_or, List, [], ◌∷◌, ◌++◌, length}
+use Rattle.std.specs.Prelude.{fold, get_or, slice_set, map, ◌≡◌, Option, Some, None}
 use Rattle.std.specs.List.{splice}
 use Rattle.std.specs.Int.{w16, bit_not, cast_signed, cast_unsigned}
-use Rattle.io_image.specs.declared.book.TheConstants.{MOST_WRITES}
 use Rattle.il_model.specs.declared.cells.Cells.{Cells}
 use Rattle.il_model.specs.declared.limits.TheConstants.{BITS, WORDS}
-use Rattle.il_model.specs.Cells.{clear_cells}
+use Rattle.il_model.specs.Locations.{clear_cells}
+use Rattle.io_image.specs.declared.book.TheConstants.{MOST_WRITES}
+use Rattle.io_image.specs.declared.book.Entry.{Entry}
+use Rattle.io_image.specs.declared.book.Entry.TheVariants.{Bits, Words, Mask}
 
 -- one write: bits or words from a place on, or two masks, And and then Or, for the word at a place
 pub data Change : Type 0 where
@@ -62,3 +64,21 @@ with_change b c = record { sample = b.sample; changes = b.changes ++ c ∷ []; n
 -- the book after a sample
 abbrev pub sampled : Book → Book
 sampled b = record { sample = cells_of b; changes = []; next = b.next }
+
+-- ---- the writes that a book of the code keeps, as changes
+
+abbrev pub change_of : Entry → Change
+change_of (Bits at values) = bits_at at values.items
+change_of (Words at values) = words_at at values.items
+change_of (Mask at and_mask or_mask) = mask_at at and_mask or_mask
+
+abbrev pub changes_of : List Entry → List Change
+changes_of entries = map change_of entries
+
+-- ---- what a staging tells
+
+-- what a call did to the book that the staging told; a staging that tells nothing goes on telling nothing
+abbrev pub Changed : Option Book → Option Book → (Book → Book → Type 0) → Type 0
+Changed None after P = after ≡ None
+Changed (Some before) None P = ⊥
+Changed (Some before) (Some after) P = P before after

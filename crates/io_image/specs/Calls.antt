@@ -2,7 +2,7 @@
 use Rattle.std.specs.Prelude.{ℕ, ◌≡◌, ◌+◌, ◌<◌, ◌≤◌, List, [], ◌∷◌, ◌++◌, length, false, All, ⊤}
 use Rattle.std.specs.List.{range_with_len}
 use Rattle.il_model.specs.declared.cells.Cells.{Cells}
-use Rattle.il_model.specs.Cells.{clear_cells}
+use Rattle.il_model.specs.Locations.{clear_cells}
 use Rattle.io_image.specs.declared.book.TheConstants.{MOST_WRITES}
 use Rattle.io_image.specs.Book.{Book, Change, cells_of, is_full, with_change, sampled, new_book, replayed}
 

@@ -1,8 +1,7 @@
 //! The book of staged writes.
 ghost use Rattle.std.specs.Prelude.{◌≡◌, ◌≢◌, ◌+◌, ◌<◌, ◌≤◌, ◌↔◌, true, false, length, IfOk, IfErr, OnErr, Err, IsTrue};
 ghost use Rattle.io_image.specs.Book.{Book, bits_at, words_at, mask_at, masked, cells_of, is_full, new_book};
-ghost use Rattle.io_image.specs.Book.{LiesInside};
-ghost use Rattle.io_image.specs.Entries.{change_of};
+ghost use Rattle.io_image.specs.Book.{LiesInside, change_of};
 ghost use Rattle.io_image.specs.Calls.{Does, read_gave, sample_gave, wrote};
 
 use il_model::{BITS, Cells, InImage, WORDS};
@@ -53,8 +52,7 @@ enum Entry {
 
 impl Entry {
     ghost use Rattle.std.specs.Prelude.{◌≡◌};
-    ghost use Rattle.io_image.specs.Book.{after_change, LiesInside};
-    ghost use Rattle.io_image.specs.Entries.{change_of};
+    ghost use Rattle.io_image.specs.Book.{after_change, LiesInside, change_of};
 
     /// The cells after this write.
     fn over(&self, mut cells: Cells) -> Cells
@@ -92,7 +90,7 @@ impl Model for StageBook {
 
     ghost Value = { Book };
 
-    ghost use Rattle.io_image.specs.Entries.{changes_of};
+    ghost use Rattle.io_image.specs.Book.{changes_of};
 
     ghost view = { λ b. record { sample = b.sample; changes = changes_of b.entries.items; next = b.next } };
 

@@ -3,8 +3,7 @@
 ghost use Rattle.std.specs.Prelude.{◌≡◌, ◌<◌, ◌++◌, ◌∷◌, ◌⊎◌, [], MatchBool};
 ghost use mathlib.Core.List.{IsPrefix};
 ghost use Rattle.std.specs.Bool.{OnTrue};
-ghost use Rattle.io_image.specs.Releases.{IsRising, number_of, shown, view_of};
-ghost use Rattle.io_image.specs.Releasing.{head_of};
+ghost use Rattle.io_image.specs.Releases.{IsRising, number_of, shown, view_of, head_of};
 
 use crate::release::{Release, View, view_of, view_of_none};
 use logbook::{Gain, Offer, Plain, Play, Rule, Seen, Start, Word};
@@ -16,7 +15,7 @@ pub struct Rises;
 impl Rule<Release, u64> for Rises {
     ghost use Rattle.std.specs.Prelude.{[]};
     ghost use base.Fml.{ftrue};
-    ghost use Rattle.io_image.specs.Releasing.{IsKept};
+    ghost use Rattle.io_image.specs.Releases.{IsKept};
 
     ghost holds = { λ cells log. IsKept cells log };
 
@@ -44,7 +43,7 @@ impl Gain<Release, u64> for Ungained {
 struct Add;
 
 impl Play<Release, u64> for Add {
-    ghost use Rattle.io_image.specs.Releasing.{Adds};
+    ghost use Rattle.io_image.specs.Releases.{Adds};
 
     ghost then = { Adds };
 }
@@ -79,7 +78,7 @@ pub struct NewList {
 impl Model for NewList {
     ghost use Rattle.std.specs.Prelude.{◌≡◌, []};
     ghost use Rattle.logbook.specs.Pages.{Book};
-    ghost use Rattle.io_image.specs.Releasing.{head_of};
+    ghost use Rattle.io_image.specs.Releases.{head_of};
 
     ghost Value = { Book };
 

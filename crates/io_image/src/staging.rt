@@ -8,9 +8,8 @@ use std::sync::{Mutex, Wait};
 /// Staged inputs. An implementation tells its book, or tells nothing where other threads write between two calls.
 pub trait Staging {
     ghost use Rattle.std.specs.Prelude.{◌≡◌, ◌+◌, ◌<◌, ◌≤◌, ◌↔◌, true, length, IfOk, OnErr, Err, Option};
-    ghost use Rattle.io_image.specs.Book.{Book, bits_at, words_at, mask_at, is_full, after_change};
+    ghost use Rattle.io_image.specs.Book.{Book, bits_at, words_at, mask_at, is_full, after_change, Changed};
     ghost use Rattle.io_image.specs.Calls.{Does, read_gave, sample_gave, wrote};
-    ghost use Rattle.io_image.specs.Staging.{Changed};
     ghost use Rattle.il_model.specs.declared.cells.Cells.{Cells as SomeCells};
 
     ghost told: { Self → Option Book };

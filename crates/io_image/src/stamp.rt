@@ -1,7 +1,7 @@
 //! When outputs were released last, and how long they are shown.
 ghost use Rattle.std.specs.Prelude.{◌≡◌, ◌++◌, ◌∷◌, [], List, MatchResult};
 ghost use Rattle.io_image.specs.declared.release.Release.{Release};
-ghost use Rattle.io_image.specs.Ages.{is_stale};
+ghost use Rattle.io_image.specs.Releases.{is_stale};
 
 use crate::copies::Pen;
 use crate::list::{Front, Naming};

@@ -4,7 +4,7 @@ use Rattle.std.specs.List.{flat_map, AllByRecursion}
 use Rattle.std.proofs.lemmas.List.{append-nil}
 use Rattle.std.proofs.lemmas.List.Concat.{flat_map-cons}
 use Rattle.std.proofs.lemmas.Grind.{flat_map-append}
-use Rattle.io_model.specs.Stream.{Format, Ending, Rest, Fault, Ends, Splits, Feeds, FeedsAll, IsOneStream}
+use Rattle.io_model.specs.Streams.{Format, Ending, Rest, Fault, Ends, Splits, Feeds, FeedsAll, IsOneStream}
 
 -- What makes a format one by which streams are read: no frame begins another, and what begins a stream is a frame, less than one, or broken.
 pub record IsReadable {X F : Type 0} (format : Format X F) : Type 0 where

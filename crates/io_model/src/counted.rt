@@ -2,7 +2,7 @@
 
 ghost use Rattle.std.specs.Prelude.{◌≡◌, ◌≤◌, ℕ, OnErr, OnOk, take};
 ghost use Rattle.std.specs.Io.KnownBytes.{Appends};
-ghost use Rattle.io_model.specs.Counted.{Failed};
+ghost use Rattle.io_model.specs.Streams.{Failed};
 
 use std::io::{ErrorKind, Read, Write};
 use std::marker::Model;
@@ -17,7 +17,7 @@ pub struct DeviceFault;
 pub trait CountedRead {
     ghost use Rattle.std.specs.Prelude.{◌≡◌, ◌≤◌, ℕ, List, Option, OnErr, IfOk, length};
     ghost use Rattle.std.specs.Io.KnownBytes.{ReadConsumes};
-    ghost use Rattle.io_model.specs.Counted.{Failed};
+    ghost use Rattle.io_model.specs.Streams.{Failed};
 
     // The bytes that it will give from here on, where they are known.
     ghost left: { Self → Option (List ℕ) };
@@ -42,7 +42,7 @@ pub trait CountedRead {
 pub trait CountedWrite {
     ghost use Rattle.std.specs.Prelude.{◌≡◌, ◌≤◌, ◌<◌, ℕ, List, Option, OnErr, IfOk, length};
     ghost use Rattle.std.specs.Io.KnownBytes.{WriteAppends};
-    ghost use Rattle.io_model.specs.Counted.{Failed};
+    ghost use Rattle.io_model.specs.Streams.{Failed};
 
     // The bytes that it holds, where they are known.
     ghost held: { Self → Option (List ℕ) };
@@ -77,7 +77,7 @@ pub struct Counted<T> {
 }
 
 impl<T> Model for Counted<T> {
-    ghost use Rattle.io_model.specs.Counted.{Counting};
+    ghost use Rattle.io_model.specs.Streams.{Counting};
 
     ghost Value = { Counting T };
 

@@ -1,6 +1,6 @@
 //! What the two ends of a stream owe: readers and writers that count their failures (`CountedRead`, `CountedWrite`),
-//! and what a stream of frames is that comes in pieces (`specs/Stream`). It knows no language and no protocol, and uses
-//! no other crate of this repository.
+//! and what a stream of frames is that comes in pieces (`specs/Streams`). It knows no language and no protocol, and
+//! uses no other crate of this repository.
 //!
 //! ```rust
 //! use io_model::{Counted, CountedWrite};

@@ -2,8 +2,7 @@
 use Rattle.std.proofs.Common.{ℕ, List, length, sym, ap, ◌∙◌, subst}
 use Rattle.vr_model.specs.Logs.{IsPrefix, IsFrom}
 use Rattle.vr_model.specs.World.{World, Event, Completion, run, start}
-use Rattle.vr_model.specs.Answers.{IsAnswered}
-use Rattle.vr_model.specs.Report.{Release, report, Each, IsReleased, Explains}
+use Rattle.vr_model.specs.Report.{IsAnswered, Release, report, Each, IsReleased, Explains}
 use Rattle.vr_model.specs.Agreement.{OneHistory}
 use Rattle.laws_history.proofs.Prefixes.{take_all, prefix_trans}
 use Rattle.laws_history.proofs.Numbers.{run_clients, start_clients}

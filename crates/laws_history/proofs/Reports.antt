@@ -8,9 +8,9 @@ use Rattle.std.proofs.lemmas.Bool.{ltb-true, lt-ltb, cases_lt, eq-eqb}
 use Rattle.vr_model.specs.Logs.{Request, IsPrefix, IsEntry, IsRising, IsFrom, IsAmong, greater, last_number, is_above}
 use Rattle.vr_model.specs.Messages.{Party, Client, Body, Reply, Message, number_of}
 use Rattle.vr_model.specs.World.{World, next_number, Event, Submit, Deliver, Completion, is_waiting, given, refusal, if_none, submits, happens, run, start, Done, Lost}
-use Rattle.vr_model.specs.Answers.{IsAnswered, BodyStands}
+use Rattle.vr_model.specs.Report.{IsAnswered, BodyStands, all_done, lost_at, Release, released_to, released_by}
+use Rattle.vr_model.specs.Report.{released, report_from, report, last_or, Each, IsReleased, Explains}
 use Rattle.vr_model.specs.Choices.{commands}
-use Rattle.vr_model.specs.Report.{all_done, lost_at, Release, released_to, released_by, released, report_from, report, last_or, Each, IsReleased, Explains}
 use Rattle.laws_history.proofs.Prefixes.{prefix_refl, prefix_trans, prefix_length, prefix_take, prefix_is, take_prefix}
 use Rattle.laws_history.proofs.Later.{entry_later}
 use Rattle.laws_history.proofs.OrderExecuted.{order_executed}

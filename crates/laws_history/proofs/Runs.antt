@@ -11,7 +11,7 @@ use Rattle.laws_history.proofs.Prefixes.{prefix_take, prefix_refl, take_prefix}
 use Rattle.laws_history.proofs.Later.{entry_later, grows_refl}
 use Rattle.laws_history.proofs.Committed.{committed_zero}
 use Rattle.vr_model.specs.World.{World, Event, Completion, happens, run, first_replica, start}
-use Rattle.vr_model.specs.Answers.{IsAnswered, BodyStands, ReplyStands}
+use Rattle.vr_model.specs.Report.{IsAnswered, BodyStands, ReplyStands}
 use Rattle.laws_history.proofs.Rising.{log_nil, log_prefix, entry_before}
 use Rattle.laws_history.proofs.Executed.{compare, take_length}
 use Rattle.laws_history.proofs.Worlds.{Base, WorldOk, Was}

@@ -6,8 +6,7 @@ use Rattle.vr_model.specs.Logs.{Request}
 use Rattle.vr_model.specs.Messages.{Party, Replica, Client, Message}
 use Rattle.vr_model.specs.Rules.{receives}
 use Rattle.vr_model.specs.World.{World, Event, Submit, Retry, ClientRestart, Deliver, Timeout, Resend, Crash, Restart, StoreFail, Done, comes, comes_to, steps, run, refusal, if_none}
-use Rattle.vr_model.specs.Answers.{IsAnswered}
-use Rattle.vr_model.specs.Report.{all_done}
+use Rattle.vr_model.specs.Report.{IsAnswered, all_done}
 use Rattle.laws_history.specs.WrongRules.{comes_by, steps_by, run_by, request, WrongRulesShow}
 use Rattle.laws_history.proofs.NormalCase.{entry_read}
 use Rattle.laws_history.proofs.Reports.{entry_get}

@@ -10,8 +10,7 @@ use Rattle.il_model.specs.declared.program.Side.{Side}
 use Rattle.il_model.specs.declared.program.Side.TheVariants as sides
 use Rattle.il_model.specs.declared.program.Argument.{Argument}
 use Rattle.il_model.specs.Program.{Declarations}
-use Rattle.il_model.specs.Names.{is_first_byte, is_reserved}
-use Rattle.il_model.specs.Words.{spells, look, mnemonic_of}
+use Rattle.il_model.specs.Words.{is_first_byte, is_reserved, spells, look, mnemonic_of}
 use Rattle.il_reader.specs.declared.lexeme.Sign.TheVariants as signs
 use Rattle.il_reader.specs.Tokens.{Token, is_word_end, begins_with, tokens_behind, piece_of, solid_piece, sign_of, tokens_of}
 use Rattle.il_reader.specs.Front.{is_sign, skip_breaks}

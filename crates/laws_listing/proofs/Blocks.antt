@@ -8,8 +8,7 @@ use Rattle.il_model.specs.declared.program.Variable.{Variable}
 use Rattle.il_model.specs.declared.program.Instance.{Instance}
 use Rattle.il_model.specs.Values.{number_of}
 use Rattle.il_model.specs.Operators.{is_zero}
-use Rattle.il_model.specs.Words.{spells, look, mnemonic_of}
-use Rattle.il_model.specs.Names.{is_reserved, is_well_spelled}
+use Rattle.il_model.specs.Words.{spells, look, mnemonic_of, is_reserved, is_well_spelled}
 use Rattle.il_model.specs.Kinds.{kind_name}
 use Rattle.il_reader.specs.declared.lexeme.Sign.TheVariants as signs
 use Rattle.il_reader.specs.Tokens.{Token, is_word_end, tokens_of}

@@ -16,10 +16,9 @@ use Rattle.il_model.specs.declared.kind.BlockKind.TheVariants as kinds
 use Rattle.il_model.specs.Program.{Program, Declarations, declared_by}
 use Rattle.il_model.specs.Values.{ty_of, zero_of, number_of, typed_value}
 use Rattle.il_model.specs.Operators.{is_zero}
-use Rattle.il_model.specs.Words.{spells}
-use Rattle.il_model.specs.Names.{is_lawful_name}
+use Rattle.il_model.specs.Words.{spells, is_lawful_name}
 use Rattle.il_model.specs.Kinds.{kind_name}
-use Rattle.il_model.specs.Areas.{area_of}
+use Rattle.il_model.specs.Locations.{area_of}
 use Rattle.std.specs.Option.{option_and_then}
 use Rattle.il_model.specs.declared.coded_operand.CodedOperand.{CodedOperand}
 use Rattle.il_model.specs.declared.coded_operand.CodedOperand.TheVariants as coded

@@ -5,8 +5,7 @@ use Rattle.std.specs.List.{AllByRecursion, flat_map}
 use Rattle.il_model.specs.declared.op.Op.{Op}
 use Rattle.il_model.specs.declared.program.Instr.{Instr}
 use Rattle.il_model.specs.Program.{Declarations}
-use Rattle.il_model.specs.Words.{spells, look, mnemonic_of}
-use Rattle.il_model.specs.Names.{is_reserved}
+use Rattle.il_model.specs.Words.{spells, look, mnemonic_of, is_reserved}
 use Rattle.il_model.specs.Codes.{is_empty}
 use Rattle.il_reader.specs.declared.lexeme.Sign.TheVariants as signs
 use Rattle.il_reader.specs.Tokens.{Token, is_word_end, tokens_behind, piece_of, tokens_of}

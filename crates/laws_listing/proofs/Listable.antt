@@ -23,7 +23,7 @@ use Rattle.il_model.specs.declared.fetched.Source.{Source}
 use Rattle.il_model.specs.declared.fetched.Source.TheVariants as sources
 use Rattle.il_model.specs.Program.{Program, Declarations, declared_by}
 use Rattle.il_model.specs.Values.{ty_of, number_of, is_within, truth_made, typed_value}
-use Rattle.il_model.specs.Names.{same_name, is_lawful_name}
+use Rattle.il_model.specs.Words.{same_name, is_lawful_name}
 use Rattle.il_model.specs.Kinds.{kind_fields, field_name, field_number}
 use Rattle.il_model.specs.Resolved.{variable_place, place_of, source_of, instance_in, numbered_field, field_of, has_label, target_of, called_kind}
 use Rattle.il_model.specs.Checking.{arguments_fault}

@@ -11,9 +11,9 @@ use Rattle.il_model.specs.declared.value.Value.{Value}
 use Rattle.il_model.specs.declared.value.Value.TheVariants as values
 use Rattle.il_model.specs.declared.literal.Literal.TheVariants.{Typed}
 use Rattle.il_model.specs.Words.{spells}
-use Rattle.il_model.specs.Literal.{integer_of}
-use Rattle.il_model.specs.Durations.{is_digit_byte, digits_len, behind_number, part_by, sum_of_parts, parts_by, duration_by}
-use Rattle.il_model.specs.Literals.{is_no_hash, hash_at, positive, minus, signed_by, whole_by, time_by, typed_literal, literal_of}
+use Rattle.il_model.specs.Literals.{integer_of, is_digit_byte, digits_len, behind_number, part_by, sum_of_parts}
+use Rattle.il_model.specs.Literals.{parts_by, duration_by, is_no_hash, hash_at, positive, minus, signed_by, whole_by}
+use Rattle.il_model.specs.Literals.{time_by, typed_literal, literal_of}
 use Rattle.il_model.proofs.LiteralLaws.{IsValue}
 use Rattle.il_lister.specs.Listing.{decimal, number_text, literal_text}
 use Rattle.laws_listing.proofs.Fronts.{both_true, prefix_whole, all_weaker}

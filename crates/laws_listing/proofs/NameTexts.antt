@@ -9,9 +9,9 @@ use Rattle.il_model.specs.declared.kind.Field.{Field}
 use Rattle.il_model.specs.declared.kind.Field.TheVariants as fields
 use Rattle.il_model.specs.declared.value.Ty.{Ty}
 use Rattle.il_model.specs.declared.value.Ty.TheVariants as types
-use Rattle.il_model.specs.Words.{upper, spells}
+use Rattle.il_model.specs.Words.{upper, spells, is_first_byte, is_name_byte, begins_name, is_well_spelled, is_reserved}
+use Rattle.il_model.specs.Words.{is_lawful_name}
 use Rattle.il_model.specs.Kinds.{kind_name, field_name}
-use Rattle.il_model.specs.Names.{is_first_byte, is_name_byte, begins_name, is_well_spelled, is_reserved, is_lawful_name}
 use Rattle.il_model.specs.Codes.{length_of}
 use Rattle.il_declarations.specs.Resolution.{capitals}
 use Rattle.il_lister.specs.Listing.{type_name}

@@ -6,7 +6,7 @@ use Rattle.std.specs.Int.Digits.{digits_of, number_from_digits, number_from_digi
 use Rattle.std.proofs.lemmas.Int.Digits.{all_below_base_digits_of, number_digits_of, length-digits_of-le}
 use Rattle.std.proofs.lemmas.List.{length-map}
 use Rattle.std.proofs.lemmas.Bool.{lt-ltb, le-leb, eqb-true, ne_eqb}
-use Rattle.il_model.specs.Literal.{digit_of, are_digits, value_behind, integer_of}
+use Rattle.il_model.specs.Literals.{digit_of, are_digits, value_behind, integer_of}
 use Rattle.il_lister.specs.Listing.{decimal}
 use Rattle.laws_listing.proofs.Fronts.{begins}
 

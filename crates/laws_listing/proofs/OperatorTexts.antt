@@ -5,8 +5,7 @@ use Rattle.il_model.specs.declared.op.Op.{Op}
 use Rattle.il_model.specs.declared.op.Op.TheVariants as ops
 use Rattle.il_model.specs.declared.op.Modifier.{Modifier}
 use Rattle.il_model.specs.declared.words.Mnemonic.{Mnemonic}
-use Rattle.il_model.specs.Names.{is_well_spelled}
-use Rattle.il_model.specs.Words.{spells, look, mnemonic_of}
+use Rattle.il_model.specs.Words.{is_well_spelled, spells, look, mnemonic_of}
 use Rattle.il_model.specs.Codes.{usage_of, allowed_by}
 use Rattle.il_declarations.specs.Resolution.{with_opening}
 use Rattle.il_lister.specs.Listing.{op_name, letter}

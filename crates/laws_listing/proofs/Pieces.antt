@@ -9,7 +9,7 @@ use Rattle.il_model.specs.declared.value.Value.TheVariants as values
 use Rattle.il_model.specs.declared.program.Area.TheVariants as areas
 use Rattle.il_model.specs.declared.program.Loc.{Loc}
 use Rattle.il_model.specs.declared.program.Loc.TheVariants.{Bit, Word}
-use Rattle.il_model.specs.Names.{is_first_byte, is_name_byte, is_well_spelled}
+use Rattle.il_model.specs.Words.{is_first_byte, is_name_byte, is_well_spelled}
 use Rattle.il_reader.specs.declared.lexeme.Sign.{Sign}
 use Rattle.il_reader.specs.declared.lexeme.Sign.TheVariants as signs
 use Rattle.il_reader.specs.declared.lexeme.Class.TheVariants as classes

@@ -3,8 +3,7 @@ use Rattle.std.proofs.Common.{◌≡◌, ℕ, true, false, List, [], ◌∷◌, 
 use Rattle.std.specs.Prelude.{codes}
 use Rattle.std.specs.List.{flat_map}
 use Rattle.il_model.specs.Program.{Program, declared_by}
-use Rattle.il_model.specs.Words.{spells}
-use Rattle.il_model.specs.Names.{is_well_spelled}
+use Rattle.il_model.specs.Words.{spells, is_well_spelled}
 use Rattle.il_model.specs.Fits.{IsImage}
 use Rattle.il_reader.specs.declared.lexeme.Sign.TheVariants as signs
 use Rattle.il_reader.specs.Tokens.{Token, tokens_of}

@@ -32,9 +32,10 @@ use Rattle.vr_replica.specs.Stepped.{StepResult, KeepsExecuted, Acted}
 use Rattle.vr_replica.specs.Stepped as step
 use Rattle.laws_threads.specs.KeptViews.{KeepsViews}
 use Rattle.vr_threads.specs.Serving.{StepsTo, sends_in}
-use Rattle.vr_threads.specs.Starting.{HasStarted, StandsDown}
-use Rattle.laws_threads.specs.ObservedMoves.{ObservedMove, ByReplica, ByClient, all_said, InputTakesSent, ObservationTakesSent, AreFromTheFirst, IsOneRun, known_at, MayPresuppose}
-use Rattle.laws_threads.specs.ObservedSteps.{Means, FitsIn, observation_of}
+use Rattle.vr_threads.specs.Working.{HasStarted, StandsDown}
+use Rattle.laws_threads.specs.ObservedMoves.{ObservedMove, ByReplica, ByClient, all_said, InputTakesSent}
+use Rattle.laws_threads.specs.ObservedMoves.{ObservationTakesSent, AreFromTheFirst, IsOneRun, known_at, MayPresuppose}
+use Rattle.laws_threads.specs.ObservedMoves.{Means, FitsIn, observation_of}
 use Rattle.laws_threads.specs.CodeMoves.{CodeMove, Starts, Steps, Serves, Seat, given_with, IsUnused, TakesHanded, HearsHanded, IsNextStart, AreCodeMoves, AreFromTheStart, AreOneRun, seats_after, all_handed, clients_in, observed_clients}
 use Rattle.laws_threads.proofs.Tables.{put_same, put_other}
 use Rattle.laws_threads.proofs.Appending.{clients_after, knowns_append, clients_append, said_append, right_append, observed_append}

@@ -3,7 +3,7 @@ use Rattle.std.proofs.Common.{◌≡◌, ℕ, Bool, true, false, Option, Some, N
 use Rattle.std.proofs.lemmas.Bool.{cases_eq}
 use Rattle.vr_model.specs.declared.event.Stored.{Stored}
 use Rattle.vr_model.specs.Stores.{only}
-use Rattle.vr_threads.specs.Starting.{BeginsAsJudged}
+use Rattle.vr_threads.specs.Working.{BeginsAsJudged}
 use Rattle.laws_threads.specs.KeptViews.{KeepsViews}
 use Rattle.laws_threads.proofs.Tables.{put_other}
 

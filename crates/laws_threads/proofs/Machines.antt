@@ -7,7 +7,7 @@ use Rattle.vr_model.specs.Membership.{Group, Membership, member}
 use Rattle.vr_model.specs.World.{first_replica}
 use Rattle.vr_replica.specs.declared.state.Replica.{Replica}
 use Rattle.vr_replica.specs.Standing.{StandsFor}
-use Rattle.vr_threads.specs.Starting.{HasStarted, StandsDown}
+use Rattle.vr_threads.specs.Working.{HasStarted, StandsDown}
 use Rattle.laws_threads.specs.CodeMoves.{CodeMove, Seat, given_with, IsUnused, IsNextStart}
 use Rattle.laws_threads.specs.OwnMoves.{OwnMove, Started, Stepped, AreOwnMoves, EachInOneOrder}
 use Rattle.laws_threads.specs.MachineMoves.{CountsAsJudged, Rises, counted_with, IsMachineStart, AreMachineMoves, MachinesInOneOrder}

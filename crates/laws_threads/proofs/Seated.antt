@@ -13,8 +13,8 @@ use Rattle.vr_model.specs.World.{ClientState}
 use Rattle.vr_model.specs.Steps.{first_client}
 use Rattle.vr_model.specs.Stores.{Observation, KnownState, next, first_known_state}
 use Rattle.vr_replica.specs.Standing.{StandsFor}
-use Rattle.laws_threads.specs.ObservedMoves.{ObservedMove, ByReplica, said, all_said, ObservationTakesSent, AreFromTheFirst, knowns_after, WasKnownLog}
-use Rattle.laws_threads.specs.ObservedSteps.{IsShownAs}
+use Rattle.laws_threads.specs.ObservedMoves.{ObservedMove, ByReplica, said, all_said, ObservationTakesSent}
+use Rattle.laws_threads.specs.ObservedMoves.{AreFromTheFirst, knowns_after, WasKnownLog, IsShownAs}
 use Rattle.laws_threads.specs.CodeMoves.{Seat}
 use Rattle.laws_threads.proofs.Tables.{put_same, put_other, put_cases}
 use Rattle.laws_threads.proofs.Appending.{clients_after, knowns_append, clients_append, said_append, right_append}

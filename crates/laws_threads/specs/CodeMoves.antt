@@ -24,7 +24,7 @@ use Rattle.vr_replica.specs.declared.state.Replica.{Replica}
 use Rattle.vr_replica.specs.Standing.{StandsFor}
 use Rattle.vr_replica.specs.Stepped.{StepResult}
 use Rattle.vr_threads.specs.Serving.{StepsTo, sends_in}
-use Rattle.vr_threads.specs.Starting.{HasStarted}
+use Rattle.vr_threads.specs.Working.{HasStarted}
 use Rattle.laws_threads.specs.ObservedMoves.{ObservedMove, ByReplica, ByClient, IsOneRun, known_at, all_said}
 
 -- One move. Where a message is taken, place is where it stands among all that were handed out before.

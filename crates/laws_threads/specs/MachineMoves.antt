@@ -8,7 +8,7 @@ use Rattle.vr_model.specs.Stores.{only}
 use Rattle.vr_threads.specs.declared.file_store.Held.{Held}
 use Rattle.vr_threads.specs.Keeping.{IsOneOf}
 use Rattle.vr_threads.specs.Serving.{StepsTo}
-use Rattle.vr_threads.specs.Starting.{HasStarted}
+use Rattle.vr_threads.specs.Working.{HasStarted}
 use Rattle.laws_threads.specs.CodeMoves.{CodeMove, Seat}
 use Rattle.laws_threads.specs.OwnMoves.{OwnMove, Started, Stepped, MayTake, AllTakeHanded, own_moves, own_steps}
 

@@ -1,6 +1,11 @@
 -- The moves of a group as its threads see them: of what a store keeps only the loads tell.
 use Rattle.std.specs.Prelude.{◌≡◌, ℕ, ◌<◌, ◌≤◌, ◌⊎◌, true, false, List, [], ◌∷◌, ◌++◌, length, take, drop, Some}
-use Rattle.std.specs.Prelude.{slice_get}
+use Rattle.std.specs.Prelude.{slice_get, Ok, Err}
+use Rattle.il_model.specs.declared.command.Command.{Command}
+use Rattle.il_model.specs.declared.command.Answer.{Answer}
+use Rattle.vr_model.specs.declared.event.Event.{Event}
+use Rattle.vr_model.specs.declared.event.Event.TheVariants as event
+use Rattle.vr_model.specs.declared.message.Message as code
 use Rattle.vr_model.specs.Groups.{group_size}
 use Rattle.vr_model.specs.Logs.{Request, IsPrefix}
 use Rattle.vr_model.specs.Messages.{Message, Party, Replica, NewState}
@@ -8,12 +13,18 @@ use Rattle.vr_model.specs.Replicas.{is_normal, is_down, ReplicaState, put}
 use Rattle.vr_model.specs.Rules.{receives}
 use Rattle.vr_model.specs.World.{ClientState, executed}
 use Rattle.vr_model.specs.Steps.{Input, Takes, TimesOut, Resends, LocalState, after, ends, first_local_state}
-use Rattle.vr_model.specs.Steps.{ClientStep, MayClient, client_after, client_sends, first_client}
+use Rattle.vr_model.specs.Steps.{ClientStep, MayClient, client_after, client_sends, first_client, acts}
 use Rattle.vr_model.specs.Stores.{Observation, Did, LostStep, LostSave, Crashed, CameUp, StayedDown, shown, KnownState}
 use Rattle.vr_model.specs.Stores.{MayShow, next, first_known_state}
 use Rattle.vr_model.specs.Interleaving.{Move, OfReplica, OfClient, WasSent, ActionTakesSent, AreMoves, RunAsOne}
-use Rattle.vr_model.specs.Interleaving.{steps_of}
-use Rattle.vr_model.specs.Interleaving.{all_sent}
+use Rattle.vr_model.specs.Interleaving.{steps_of, all_sent}
+use Rattle.vr_model.specs.Membership.{Membership}
+use Rattle.vr_model.specs.StandsFor.{Stands, AllStandFrom, Fits}
+use Rattle.vr_core.specs.StandsFor.{IsSavedAs}
+use Rattle.vr_replica.specs.declared.state.Replica.{Replica as CodeReplica}
+use Rattle.vr_replica.specs.declared.fault.StepFault.TheVariants as fault
+use Rattle.vr_replica.specs.Standing.{StandsFor}
+use Rattle.vr_replica.specs.Stepped.{StepResult}
 
 -- One move of the whole, as it shows. Where a message is taken, place is where it stands among all that were sent
 -- before.
@@ -128,3 +139,32 @@ module _ {C A : Type 0} (f : ℕ) (answer : List C → A) where
         (NewState view op_number commit_number (drop op_number whole))).replica ≡ known_at ms i)
         ⊎ ((receives f i answer (known_at ms i) from
         (NewState view op_number commit_number (drop op_number whole))).replica.log ≡ whole)
+
+-- ---- what one step of the code shows, from what is known of its replica
+
+module _ (m : Membership) where
+  -- the event is this input of the rules; of a message, one with whole logs that it stands for
+  abbrev pub Means : Event → Input Command Answer → Type 0
+  Means (event.Message a) x = (meant : Message Command Answer) × Stands IsSavedAs m.group a meant × (x ≡ Takes meant)
+  Means event.Timeout x = x ≡ TimesOut
+  Means event.Resend x = x ≡ Resends
+  Means (event.Restart n) x = ⊥
+
+  -- the checkpoint of a NEWSTATE is of the log that the rule makes of it
+  abbrev pub FitsIn : ReplicaState Command → Event → Input Command Answer → Type 0
+  FitsIn r (event.Message a) x = Fits IsSavedAs m.group r (acts m.f m.number m.answer r x) a.body
+  FitsIn r _ x = Unit {0}
+
+  -- what a step shows by its result: a replica that is down did nothing
+  abbrev pub observation_of : ReplicaState Command → Input Command Answer → StepResult → Observation Command Answer
+  observation_of r x (Ok sends) = Did x (acts m.f m.number m.answer r x).sends
+  observation_of r x (Err fault.Memory) = LostStep x
+  observation_of r x (Err fault.Store) = LostSave x
+  observation_of r x (Err fault.Down) = Did x []
+
+  -- the observation is right from what was known, the replica stands for where it leads, and has sent what it says
+  pub record IsShownAs (k : KnownState Command) (g : Observation Command Answer) (end : CodeReplica)
+      (out : List code.Message) : Type 0 where
+    pub may : MayShow m.f m.number m.answer k g
+    pub stands : StandsFor end m (next m.f m.number m.answer k g).replica
+    pub says : AllStandFrom IsSavedAs m.group (next m.f m.number m.answer k g).replica out (said g)

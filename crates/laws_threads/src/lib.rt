@@ -46,11 +46,11 @@ ghost use Rattle.vr_threads.specs.declared.file_store.Held.{Held};
 ghost use Rattle.vr_threads.specs.declared.file_store.Held.TheVariants.{Unknown};
 ghost use Rattle.vr_threads.specs.Keeping.{CountsStart, Loads, MayHold, Saves, started};
 ghost use Rattle.vr_threads.specs.Serving.{StepsTo, Scene, Turn, Did, sends_in};
-ghost use Rattle.laws_threads.specs.ObservedMoves.{ObservedMove, AreFromTheFirst, IsOneRun, MayPresuppose};
+ghost use Rattle.laws_threads.specs.ObservedMoves.{ObservedMove, AreFromTheFirst, IsOneRun, MayPresuppose, Means};
+ghost use Rattle.laws_threads.specs.ObservedMoves.{FitsIn, observation_of, IsShownAs};
 ghost use Rattle.laws_threads.specs.CodeMoves.{CodeMove, Seat, AreFromTheStart, AreOneRun};
 ghost use Rattle.laws_threads.specs.OwnMoves.{OwnMove, AreOwnMoves, EachInOneOrder, IsServed, seat_after, given_after};
 ghost use Rattle.laws_threads.specs.MachineMoves.{MachinesInOneOrder, HoldsAtLeast};
-ghost use Rattle.laws_threads.specs.ObservedSteps.{Means, FitsIn, observation_of, IsShownAs};
 
 use il_model::{Answer, Command};
 use std::rt::Files;

@@ -7,16 +7,14 @@ use Rattle.std.proofs.KnownBytes.{Appends-nil, Appends-trans, Consumes-nil, Cons
 use Rattle.std.proofs.lemmas.List.{append-nil}
 use Rattle.std.proofs.lemmas.List.Concat.{flat_map-cons}
 use Rattle.std.proofs.lemmas.Grind.{flat_map-append}
-use Rattle.io_model.specs.Counted.{Failed}
-use Rattle.io_model.specs.Stream.{Ending, Rest, Fault, IsRest, IsOneStream, Feeds, Splits, Took, Starts}
+use Rattle.io_model.specs.Streams.{Failed, Ending, Rest, Fault, IsRest, IsOneStream, Feeds, Splits, Took, Starts}
 use Rattle.modbus_wire.specs.declared.header.HeaderFault.{HeaderFault}
 use Rattle.modbus_wire.specs.declared.session.SessionFault.{SessionFault}
 use Rattle.modbus_wire.specs.declared.session.SessionFault.TheVariants as faults
-use Rattle.modbus_wire.specs.Frames.{Adu, frame_of, IsFramed, adus}
-use Rattle.modbus_wire.specs.Feeding.{Feeding}
+use Rattle.modbus_wire.specs.Frames.{Adu, frame_of, IsFramed, adus, Feeding}
 use Rattle.plc_host.specs.declared.requests.Requests.{Requests}
-use Rattle.modbus_server.specs.Counting.{with_reply, with_replies}
-use Rattle.modbus_server.specs.Sessions.{Images, Answers, AnswersAll, Adds, AnswersSome, Serves, Breaks, BreaksAfter, Stops, Talks}
+use Rattle.modbus_server.specs.Sessions.{with_reply, with_replies, Images, Answers, AnswersAll, Adds, AnswersSome}
+use Rattle.modbus_server.specs.Sessions.{Serves, Breaks, BreaksAfter, Stops, Talks}
 use Rattle.modbus_server.specs.declared.serve.SessionEnd.{SessionEnd}
 use Rattle.modbus_server.specs.declared.serve.SessionEnd.TheVariants as ends
 

@@ -1,11 +1,10 @@
 -- Replies over a staging that tells its book, and over one that doesn't.
 use Rattle.std.proofs.Common.{◌≡◌, ℕ, ℤ, length, drop, le_refl, slice_range, Bool, true, false, List, [], ◌∷◌, sym, ◌∙◌, ap, refl, Option, Some, None, Result, Ok, Err, IfOk, OnErr, ◌↔◌}
 use Rattle.il_model.specs.declared.cells.Cells.{Cells}
-use Rattle.il_model.specs.Cells.{clear_cells}
+use Rattle.il_model.specs.Locations.{clear_cells}
 use Rattle.std.proofs.lemmas.List.Sums.{fold-append}
-use Rattle.io_image.specs.Book.{Book, Change, words_at, is_full, cells_of, with_change, after_change}
+use Rattle.io_image.specs.Book.{Book, Change, words_at, is_full, cells_of, with_change, after_change, Changed}
 use Rattle.io_image.specs.Calls.{Does, read_gave, wrote as wrote_call}
-use Rattle.io_image.specs.Staging.{Changed}
 use Rattle.io_image.specs.declared.book.Ticket.{Ticket}
 use Rattle.io_image.specs.declared.book.Written.{Written}
 use Rattle.io_image.specs.declared.book.StageError.{StageError}

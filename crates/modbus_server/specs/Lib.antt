@@ -1,5 +1,4 @@
-pub mod Counting
+pub mod Sessions
 pub mod Requests
 pub mod Replies
-pub mod Sessions
 pub mod Values

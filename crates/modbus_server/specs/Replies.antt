@@ -3,10 +3,9 @@ use Rattle.std.specs.Prelude.{◌≡◌, ℕ, ◌+◌, ◌==◌, ◌&&◌, Bool,
 use Rattle.std.specs.Prelude.{Option, Some, None, Result, Ok, Err}
 use Rattle.std.specs.Int.{w16, cast_signed}
 use Rattle.il_model.specs.declared.cells.Cells.{Cells}
-use Rattle.io_image.specs.Book.{Book, Change, bits_at, words_at, mask_at, after_change, cells_of, with_change}
-use Rattle.io_image.specs.Book.{is_full}
+use Rattle.io_image.specs.Book.{Book, Change, bits_at, words_at, mask_at, after_change, cells_of, with_change, is_full}
+use Rattle.io_image.specs.Book.{Changed}
 use Rattle.io_image.specs.Calls.{Does, read_gave}
-use Rattle.io_image.specs.Staging.{Changed}
 use Rattle.modbus_wire.specs.declared.function.Table.{Table}
 use Rattle.modbus_wire.specs.declared.function.Table.TheVariants.{ReadWrite, ReadOnly}
 use Rattle.modbus_wire.specs.declared.function.Function.{Function}

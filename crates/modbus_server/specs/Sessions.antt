@@ -1,21 +1,39 @@
--- What a session reads, answers and writes.
-use Rattle.std.specs.Prelude.{◌≡◌, ℕ, ◌⊎◌, Bool, false, List, [], ◌∷◌, ◌++◌, take, Option, Some, None}
+-- What a session reads, answers, counts and writes.
+use Rattle.std.specs.Prelude.{ℕ, ◌&&◌, nat_le, if◌then◌else◌, List, [], ◌∷◌, length, slice_index, Option, Some, None}
+use Rattle.std.specs.Prelude.{◌≡◌, ◌⊎◌, Bool, false, ◌++◌, take}
 use Rattle.std.specs.List.{flat_map}
 use Rattle.std.specs.Io.KnownBytes.{Appends, Consumes, IsAtEnd}
 use mathlib.Core.List.{IsPrefix}
-use Rattle.io_model.specs.Counted.{Failed}
-use Rattle.io_model.specs.Stream.{Ending, Rest, Fault, Feeds, Starts}
-use Rattle.io_image.specs.Ages.{is_stale}
-use Rattle.io_image.specs.Book.{Book}
-use Rattle.io_image.specs.Releases.{IsRising, shown}
+use Rattle.io_model.specs.Streams.{Failed, Ending, Rest, Fault, Feeds, Starts}
 use Rattle.io_image.specs.declared.release.Release.{Release}
-use Rattle.modbus_wire.specs.Frames.{Adu, frame_of, adus}
-use Rattle.modbus_wire.specs.declared.header.HeaderFault.{HeaderFault}
+use Rattle.io_image.specs.Releases.{is_stale, IsRising, shown}
+use Rattle.io_image.specs.Book.{Book}
 use Rattle.plc_host.specs.declared.requests.Requests.{Requests}
-use Rattle.modbus_server.specs.Counting.{with_replies}
-use Rattle.modbus_server.specs.Replies.{Replies, timely_reply}
+use Rattle.plc_host.specs.Requests.{with_request}
+use Rattle.modbus_wire.specs.declared.header.HeaderFault.{HeaderFault}
+use Rattle.modbus_wire.specs.Frames.{Adu, frame_of, adus}
 use Rattle.modbus_server.specs.declared.serve.SessionEnd.{SessionEnd}
 use Rattle.modbus_server.specs.declared.serve.SessionEnd.TheVariants as ends
+use Rattle.modbus_server.specs.Replies.{Replies, timely_reply}
+
+-- ---- requests that are answered, as they are counted
+
+-- the code of the exception that a reply is, if it's one: it stands behind the function's, whose bit 7 is set
+abbrev pub exception_in : List ℕ → Option ℕ
+exception_in pdu = if nat_le 2 (length pdu) && nat_le 128 (slice_index pdu 0) then Some (slice_index pdu 1) else None
+
+-- with this request, which is answered so
+abbrev pub with_reply : Requests → Adu → Adu → Requests
+with_reply counts request reply = with_request counts (slice_index request.pdu 0) (exception_in reply.pdu)
+
+-- with these requests and their replies, one behind another
+abbrev pub with_replies : Requests → List Adu → List Adu → Requests
+with_replies counts [] replies = counts
+with_replies counts (request ∷ requests) [] = counts
+with_replies counts (request ∷ requests) (reply ∷ replies) =
+    with_replies (with_reply counts request reply) requests replies
+
+-- ---- sessions
 
 -- what a session works with: the book that its staging tells, if it does, the releases that its reader saw, and for how
 -- many milliseconds outputs are shown without a release, if there is a limit

@@ -2,7 +2,7 @@
 
 ghost use Rattle.std.specs.Prelude.{◌≡◌};
 ghost use Rattle.modbus_wire.specs.Frames.{IsFramed};
-ghost use Rattle.modbus_server.specs.Counting.{exception_in, with_reply};
+ghost use Rattle.modbus_server.specs.Sessions.{exception_in, with_reply};
 
 use modbus_wire::Adu;
 use plc_host::Requests;

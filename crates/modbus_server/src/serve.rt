@@ -1,8 +1,7 @@
 //! A session: requests come in, and their replies go out in order.
 ghost use Rattle.std.specs.Prelude.{◌≡◌, ◌≤◌, [], length, OnOk, OnErr, MatchResult};
 ghost use Rattle.std.specs.List.{AllByRecursion};
-ghost use Rattle.io_model.specs.Counted.{Failed};
-ghost use Rattle.io_model.specs.Stream.{IsRest};
+ghost use Rattle.io_model.specs.Streams.{Failed, IsRest};
 ghost use Rattle.modbus_wire.specs.Frames.{IsFramed};
 ghost use Rattle.modbus_server.specs.Sessions.{images_of, Answers, Adds, AnswersSome, Serves, Stops, Talks};
 

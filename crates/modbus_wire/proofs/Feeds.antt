@@ -6,7 +6,7 @@ use Rattle.std.proofs.lemmas.Bool.Decides.{nat_tests}
 use Rattle.std.proofs.lemmas.List.{append-nil}
 use Rattle.std.proofs.lemmas.List.Concat.{flat_map-cons}
 use Rattle.std.proofs.lemmas.Grind.{flat_map-append}
-use Rattle.io_model.specs.Stream.{Rest, Fault, Took}
+use Rattle.io_model.specs.Streams.{Rest, Fault, Took}
 use Rattle.modbus_wire.specs.declared.header.Header.{Header}
 use Rattle.modbus_wire.specs.declared.header.Header.TheVariants.{Short, Size, Bad}
 use Rattle.modbus_wire.specs.declared.header.HeaderFault.{HeaderFault}

@@ -1,11 +1,14 @@
 -- Application data units, one behind another, as a stream of frames.
-use Rattle.std.specs.Prelude.{◌≡◌, ℕ, ◌+◌, ◌<◌, ◌≤◌, ◌==◌, not, nat_lt, if◌then◌else◌, List, ◌∷◌, ◌++◌, length}
+use Rattle.std.specs.Prelude.{◌≡◌, ℕ, ◌+◌, ◌<◌, ◌≤◌, ◌==◌, not, nat_lt, if◌then◌else◌, List, ◌∷◌, ◌++◌, length, Option}
+use Rattle.std.specs.Prelude.{Some, None, Result, Ok, Err}
 use Rattle.byteorder.specs.Endian.{big_bytes, big_from}
-use Rattle.io_model.specs.Stream.{Format}
+use Rattle.io_model.specs.Streams.{Format, Ending, Fault, IsRest, Took}
 use Rattle.modbus_wire.specs.declared.header.Header.{Header}
 use Rattle.modbus_wire.specs.declared.header.Header.TheVariants.{Short, Size, Bad}
 use Rattle.modbus_wire.specs.declared.header.HeaderFault.{HeaderFault}
 use Rattle.modbus_wire.specs.declared.header.HeaderFault.TheVariants.{BadProtocol, BadLength}
+use Rattle.modbus_wire.specs.declared.session.SessionFault.{SessionFault}
+use Rattle.modbus_wire.specs.declared.session.SessionFault.TheVariants as faults
 
 -- a request or a reply with the transaction and the unit of its header
 pub record Adu : Type 0 where
@@ -50,3 +53,18 @@ IsBroken fault bytes = header_of bytes ≡ Bad fault
 
 abbrev pub adus : Format Adu HeaderFault
 adus = record { frame = frame_of; IsFramed = IsFramed; IsPartial = IsPartial; IsBroken = IsBroken }
+
+-- ---- what a session keeps of its stream
+
+-- what is kept while no fault was met is less than a unit
+abbrev pub IsKept : Option HeaderFault → List ℕ → Type 0
+IsKept None held = IsPartial held
+IsKept (Some fault) held = Unit {0}
+
+-- Ok where no fault was met, a fault where it's that; want of memory changes nothing
+abbrev pub Feeding : Result (Unit {0}) SessionFault → Ending HeaderFault → List ℕ → Ending HeaderFault → List Adu
+    → List Adu → Type 0
+Feeding (Ok done) before piece after out out' = Took adus before piece after out out' × IsRest after
+Feeding (Err (faults.Header fault)) before piece after out out' = Took adus before piece after out out'
+    × (after ≡ Fault fault)
+Feeding (Err faults.Memory) before piece after out out' = (after ≡ before) × (out' ≡ out)

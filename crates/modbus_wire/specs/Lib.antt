@@ -1,5 +1,4 @@
 pub mod Frames
-pub mod Feeding
 pub mod Functions
 pub mod Packing
 pub mod Requests

@@ -1,8 +1,7 @@
 //! The application data units of a stream, in whatever pieces it comes.
 ghost use Rattle.std.specs.Prelude.{◌≡◌, ◌≤◌, ◌++◌, [], List, IfOk, OnErr, length};
-ghost use Rattle.io_model.specs.Stream.{Rest, IsOneStream, ending_of, Took};
-ghost use Rattle.modbus_wire.specs.Frames.{Adu as Unit, IsPartial, adus};
-ghost use Rattle.modbus_wire.specs.Feeding.{Feeding};
+ghost use Rattle.io_model.specs.Streams.{Rest, IsOneStream, ending_of, Took};
+ghost use Rattle.modbus_wire.specs.Frames.{Adu as Unit, IsPartial, adus, Feeding};
 
 use crate::adu::{Adu, adu_of};
 use crate::header::{Header, HeaderFault, header_of};
@@ -69,9 +68,9 @@ pub struct Session {
 }
 
 impl Model for Session {
-    ghost use Rattle.io_model.specs.Stream.{Ending, ending_of};
+    ghost use Rattle.io_model.specs.Streams.{Ending, ending_of};
     ghost use Rattle.modbus_wire.specs.declared.header.HeaderFault.{HeaderFault};
-    ghost use Rattle.modbus_wire.specs.Feeding.{IsKept};
+    ghost use Rattle.modbus_wire.specs.Frames.{IsKept};
 
     ghost Value = { Ending HeaderFault };
 

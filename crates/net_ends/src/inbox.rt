@@ -1,9 +1,8 @@
 //! What comes in over a connection.
 
 ghost use Rattle.std.specs.Prelude.{◌≡◌, ◌+◌, ◌<◌, ◌≤◌, ◌⊎◌, ◌↔◌, [], length, IfOk, IsTrue, OnOk};
-ghost use Rattle.io_model.specs.Stream.{Rest, IsRest};
-ghost use Rattle.net_ends.specs.Ends.{Reads, Filled, Given, KeepsPiece, IsOver, most_tries};
-ghost use Rattle.net_ends.specs.Stops.{Counts, HasPaused};
+ghost use Rattle.io_model.specs.Streams.{Rest, IsRest};
+ghost use Rattle.net_ends.specs.Ends.{Reads, Filled, Given, KeepsPiece, IsOver, most_tries, Counts, HasPaused};
 ghost use Rattle.net_ends.specs.declared.inbox.Flow.TheVariants.{More, Dry, Kept, Over};
 
 use crate::non_blocking::{NonBlockingRead, Stop};

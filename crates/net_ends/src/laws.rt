@@ -1,6 +1,6 @@
 //! What comes out of a connection.
 
-ghost use Rattle.vr_wire.specs.Feeding.{OnlyFramed};
+ghost use Rattle.vr_wire.specs.Streams.{OnlyFramed};
 
 use vr_wire::only_framed_are_found;
 

@@ -1,7 +1,7 @@
 //! Readers and writers that never wait, and count the calls in which no byte went.
 
 ghost use Rattle.std.specs.Prelude.{◌≡◌, Err};
-ghost use Rattle.net_ends.specs.Stops.{HasPaused, HasEnded};
+ghost use Rattle.net_ends.specs.Ends.{HasPaused, HasEnded};
 ghost use Rattle.net_ends.specs.declared.non_blocking.Stop.TheVariants.{ForNow, ForGood};
 
 use std::io::{ErrorKind, Read, Write};
@@ -23,7 +23,7 @@ pub enum Stop {
 pub trait NonBlockingRead {
     ghost use Rattle.std.specs.Prelude.{◌≤◌, ◌<◌, ℕ, List, Option, IfOk, length};
     ghost use Rattle.std.specs.Io.KnownBytes.{ReadConsumes};
-    ghost use Rattle.net_ends.specs.Stops.{Stops, Counts};
+    ghost use Rattle.net_ends.specs.Ends.{Stops, Counts};
 
     // The bytes that it will give from here on, where they are known.
     ghost left: { Self → Option (List ℕ) };
@@ -43,7 +43,7 @@ pub trait NonBlockingRead {
 pub trait NonBlockingWrite {
     ghost use Rattle.std.specs.Prelude.{◌≤◌, ◌<◌, ℕ, List, Option, IfOk, length};
     ghost use Rattle.std.specs.Io.KnownBytes.{WriteAppends};
-    ghost use Rattle.net_ends.specs.Stops.{Stops, Counts};
+    ghost use Rattle.net_ends.specs.Ends.{Stops, Counts};
 
     // The bytes that it holds, where they are known.
     ghost held: { Self → Option (List ℕ) };
@@ -72,7 +72,7 @@ pub struct NonBlocking<T> {
 }
 
 impl<T> Model for NonBlocking<T> {
-    ghost use Rattle.net_ends.specs.Stops.{Counting};
+    ghost use Rattle.net_ends.specs.Ends.{Counting};
 
     ghost Value = { Counting T };
 

@@ -2,8 +2,7 @@
 
 ghost use Rattle.std.specs.Prelude.{◌≡◌, [], ◌++◌, ◌⊎◌, Err, OnErr, OnOk, true, false};
 ghost use Rattle.vr_wire.specs.Frames.{frame_of, IsFramed};
-ghost use Rattle.net_ends.specs.Ends.{Flushes, IsTooMuch};
-ghost use Rattle.net_ends.specs.Stops.{HasPaused, HasEnded};
+ghost use Rattle.net_ends.specs.Ends.{Flushes, IsTooMuch, HasPaused, HasEnded};
 ghost use Rattle.net_ends.specs.declared.outbox.Loss.TheVariants as loss;
 
 use crate::non_blocking::{NonBlockingWrite, Stop};

@@ -5,7 +5,7 @@ use Rattle.std.proofs.lemmas.Bool.{eqb-true, eq-eqb}
 use Rattle.vr_model.specs.declared.client.ClientNumber.{ClientNumber}
 use Rattle.vr_model.specs.declared.message.Party.{Party}
 use Rattle.vr_model.specs.declared.message.Party.TheVariants.{Replica, Client}
-use Rattle.net_hello.specs.Judging.{are_alike}
+use Rattle.net_hello.specs.Identity.{are_alike}
 use Rattle.net_hello.proofs.Readings.{client_same}
 
 pub alike_is_one : (p q : Party) → IsTrue (are_alike p q) ↔ (p ≡ q)

@@ -15,7 +15,8 @@ use Rattle.net_hello.specs.declared.hello.Hello.{Hello}
 use Rattle.net_hello.specs.declared.hello.HelloFault.{HelloFault}
 use Rattle.net_hello.specs.declared.hello.HelloFault.TheVariants.{NoHello, OtherVersion}
 use Rattle.net_hello.specs.Hellos.{magic, version, party_bytes, said_bytes, hello_bytes, FitsParty, FitsHello, IsHello}
-use Rattle.net_hello.specs.Reading.{client_by, party_of, said_with, said_behind, said_of, if_said, whole_of, behind_front, hello_of}
+use Rattle.net_hello.specs.Hellos.{client_by, party_of, said_with, said_behind, said_of, if_said, whole_of}
+use Rattle.net_hello.specs.Hellos.{behind_front, hello_of}
 
 abbrev pub IsBytes : List ℕ → Type 0
 IsBytes bytes = (i : ℕ) → get_or bytes i 0 < 256

@@ -1,10 +1,17 @@
--- A hello as bytes: what each end of a connection says first. All numbers are big-endian.
-use Rattle.std.specs.Prelude.{◌≡◌, ℕ, ◌+◌, ◌*◌, ◌^◌, ◌<◌, List, [], ◌∷◌, ◌++◌, length}
-use Rattle.std.specs.Int.{w64, to_be_bytes}
-use Rattle.vr_model.specs.Groups.{client_count}
+-- A hello as bytes, and reading it: what each end of a connection says first.
+use Rattle.std.specs.Prelude.{◌≡◌, ℕ, ◌+◌, ◌*◌, ◌^◌, ◌<◌, List, [], ◌∷◌, ◌++◌, length, ◌/◌, ◌%◌, ◌≤◌, ◌==◌, ◌⊎◌, not}
+use Rattle.std.specs.Prelude.{nat_lt, if◌then◌else◌, take, drop, slice_index, Option, Some, None, Result, Ok, Err}
+use Rattle.std.specs.Int.{w64, to_be_bytes, from_be_bytes}
+use Rattle.std.proofs.Common.{inl, inr}
+use Rattle.std.proofs.lemmas.Bool.{cases_lt}
 use Rattle.vr_model.specs.declared.message.Party.{Party}
 use Rattle.vr_model.specs.declared.message.Party.TheVariants.{Replica, Client}
+use Rattle.vr_model.specs.Groups.{client_count}
 use Rattle.net_hello.specs.declared.hello.Hello.{Hello}
+use Rattle.net_hello.specs.declared.hello.HelloFault.{HelloFault}
+use Rattle.net_hello.specs.declared.hello.HelloFault.TheVariants.{NoHello, OtherVersion}
+
+-- ---- spelling a hello; all numbers are big-endian
 
 -- "PLC-VR", in six bytes
 abbrev pub magic : ℕ
@@ -47,3 +54,50 @@ pub record FitsHello (h : Hello) : Type 0 where
 -- What is spelled so is read, and nothing else is a hello.
 abbrev pub IsHello : Hello → List ℕ → Type 0
 IsHello h bytes = (bytes ≡ hello_bytes h) × FitsHello h
+
+-- ---- reading a hello: the inverse of its spelling
+
+abbrev pub client_by : (n : ℕ) → (n < client_count) ⊎ (client_count ≤ n) → Option Party
+client_by n (inl lt) = Some (Client (record { number = n; below = lt }))
+client_by n (inr le) = None
+
+abbrev pub party_of : ℕ → ℕ → Option Party
+party_of kind number = if kind == 0 then Some (Replica number)
+    else (if kind == 1 then client_by number (cases_lt number client_count) else None)
+
+abbrev pub said_with : Option Party → List ℕ → List ℕ → List ℕ → List ℕ → Option Hello
+said_with None identity number image starts = None
+said_with (Some party) identity number image starts = Some (record {
+  identity = identity;
+  epoch = record { number = from_be_bytes w64 number; image = image };
+  party = party;
+  starts = from_be_bytes w64 starts;
+})
+
+-- from the epoch's image on
+abbrev pub said_behind : List ℕ → List ℕ → List ℕ → Option Hello
+said_behind identity number rest =
+    said_with (party_of (slice_index (drop 32 rest) 0) (slice_index (drop 32 rest) 1)) identity number (take 32 rest)
+    (drop 2 (drop 32 rest))
+
+-- what is said, in 82 bytes
+abbrev pub said_of : List ℕ → Option Hello
+said_of bytes = said_behind (take 32 bytes) (take 8 (drop 32 bytes)) (drop 8 (drop 32 bytes))
+
+abbrev pub if_said : Option Hello → Result (Option Hello) HelloFault
+if_said None = Err NoHello
+if_said (Some hello) = Ok (Some hello)
+
+abbrev pub whole_of : List ℕ → Result (Option Hello) HelloFault
+whole_of rest = if nat_lt (length rest) 82 then Ok None
+    else (if nat_lt 82 (length rest) then Err NoHello else if_said (said_of rest))
+
+-- behind the magic and the version
+abbrev pub behind_front : ℕ → List ℕ → Result (Option Hello) HelloFault
+behind_front front rest = if not (front / 65536 == magic) then Err NoHello
+    else (if not (front % 65536 == version) then Err OtherVersion else whole_of rest)
+
+-- the hello that these bytes are, none where it isn't whole, or the fault of its first bytes
+unfoldable pub hello_of : List ℕ → Result (Option Hello) HelloFault
+hello_of bytes = if nat_lt (length bytes) 8 then Ok None
+    else behind_front (from_be_bytes w64 (take 8 bytes)) (drop 8 bytes)

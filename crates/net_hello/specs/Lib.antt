@@ -1,4 +1,2 @@
 pub mod Hellos
 pub mod Identity
-pub mod Judging
-pub mod Reading

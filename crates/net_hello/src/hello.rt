@@ -5,8 +5,8 @@ ghost use Rattle.std.specs.Int.{w64, to_be_bytes};
 ghost use Rattle.std.proofs.lemmas.Bool.{cases_lt};
 ghost use Rattle.vr_model.specs.Groups.{client_count};
 ghost use Rattle.net_hello.specs.declared.hello.Hello.{Hello as Whose};
-ghost use Rattle.net_hello.specs.Hellos.{FitsHello, FitsParty, IsHello, hello_bytes, party_bytes};
-ghost use Rattle.net_hello.specs.Reading.{client_by, hello_of, party_of, said_of, whole_of};
+ghost use Rattle.net_hello.specs.Hellos.{FitsHello, FitsParty, IsHello, hello_bytes, party_bytes, client_by, hello_of};
+ghost use Rattle.net_hello.specs.Hellos.{party_of, said_of, whole_of};
 
 use byteorder::{BigEndian, ByteOrder};
 use std::alloc::{AllocError, Global};

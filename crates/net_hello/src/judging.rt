@@ -1,7 +1,7 @@
 //! Which hello is accepted.
 
 ghost use Rattle.std.specs.Prelude.{◌≡◌, ◌↔◌, ℕ, Option, Err, IfErr, IsTrue, OnOk};
-ghost use Rattle.net_hello.specs.Judging.{AreOfOneEpoch, Judges, are_alike};
+ghost use Rattle.net_hello.specs.Identity.{AreOfOneEpoch, Judges, are_alike};
 
 use crate::hello::Hello;
 use thiserror::Error;

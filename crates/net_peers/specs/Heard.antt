@@ -1,13 +1,14 @@
--- What is heard at the beginning of a connection: a hello or a visit, and of whom a hello is.
-use Rattle.std.specs.Prelude.{ℕ, ◌==◌, Bool, List, ◌∷◌, [], length, bytes_eq, nat_eq, Option, Some, None}
-use Rattle.std.specs.Prelude.{Result, Ok, Err, if◌then◌else◌}
+-- What is heard at the beginning of a connection: a hello or a visit, of whom a hello is, and which is accepted.
+use Rattle.std.specs.Prelude.{ℕ, ◌==◌, Bool, List, ◌∷◌, [], length, bytes_eq, nat_eq, Option, Some, None, Result, Ok}
+use Rattle.std.specs.Prelude.{Err, if◌then◌else◌, ◌≡◌}
 use Rattle.std.specs.List.{starts_with}
 use Rattle.vr_model.specs.declared.message.Party.{Party}
 use Rattle.vr_model.specs.declared.message.Party.TheVariants.{Replica, Client}
 use Rattle.net_hello.specs.declared.hello.Epoch.{Epoch}
 use Rattle.net_hello.specs.declared.hello.Hello.{Hello}
 use Rattle.net_hello.specs.declared.hello.HelloFault.{HelloFault}
-use Rattle.net_hello.specs.Reading.{hello_of}
+use Rattle.net_hello.specs.Hellos.{hello_of}
+use Rattle.net_hello.specs.Identity.{AreOfOneEpoch}
 use Rattle.net_peers.specs.declared.greeting.Greeted.{Greeted}
 use Rattle.net_peers.specs.declared.greeting.Greeted.TheVariants as greeted
 
@@ -42,3 +43,9 @@ replica_in (Client client) epoch = None
 -- the replica of one's own group that says a hello, and the epoch in which it does, accepted or not
 abbrev pub heard_in : Hello → Hello → Option (ℕ × Epoch)
 heard_in own hello = if bytes_eq own.identity hello.identity then replica_in hello.party hello.epoch else None
+
+-- ---- which hello is accepted
+
+-- the other end speaks for another party of this group in this epoch
+abbrev pub IsAccepted : Hello → Hello → Type 0
+IsAccepted own other = AreOfOneEpoch own other × (other.party ≡ own.party → ⊥)

@@ -1,5 +1,3 @@
-pub mod Accepting
-pub mod Courses
 pub mod Heard
+pub mod Courses
 pub mod Passing
-pub mod Sent

@@ -1,17 +1,24 @@
--- Which messages a connection may bring, and whose hello it began with.
-use Rattle.std.specs.Prelude.{◌≡◌, ℕ, ◌&&◌, not, Bool, true, false, List, Option, Some, None, Err}
-use Rattle.std.specs.List.{All}
+-- Which messages a connection may bring, whose hello it began with, and what comes out of it.
+use Rattle.std.specs.Prelude.{◌≡◌, ℕ, ◌&&◌, not, Bool, true, false, List, Option, Some, None, Err, ◌++◌}
+use Rattle.std.specs.List.{All, flat_map, AllByRecursion}
+use Rattle.io_model.specs.Streams.{Ending, Splits, IsRest}
 use Rattle.il_model.specs.declared.command.Command.{Command}
 use Rattle.il_model.specs.declared.command.Command.TheVariants.{Scan}
 use Rattle.vr_model.specs.declared.message.Party.{Party}
 use Rattle.vr_model.specs.declared.message.Body.{Body}
-use Rattle.vr_model.specs.declared.message.Body.TheVariants as says
 use Rattle.vr_model.specs.declared.message.Message.{Message}
+use Rattle.vr_model.specs.declared.message.Body.TheVariants as says
+use Rattle.vr_wire.specs.declared.fault.WireFault.{WireFault}
+use Rattle.vr_wire.specs.Frames.{frame_of, IsFramed}
+use Rattle.vr_wire.specs.Streams.{frames}
+use Rattle.net_hello.specs.declared.hello.Hello.{Hello}
+use Rattle.net_hello.specs.Identity.{Judges}
 use Rattle.vr_ports.specs.declared.link.Input.{Input}
 use Rattle.vr_ports.specs.declared.link.Input.TheVariants as inputs
+use Rattle.net_records.specs.declared.place.Place.TheVariants.{Length}
+use Rattle.net_records.specs.Records.{bodies_from}
+use Rattle.net_records.specs.Ends.{whole_bodies}
 use Rattle.net_links.specs.Own.{is_same, is_between}
-use Rattle.net_hello.specs.declared.hello.Hello.{Hello}
-use Rattle.net_hello.specs.Judging.{Judges}
 use Rattle.net_peers.specs.declared.accepted.Accepted.{Accepted}
 use Rattle.net_peers.specs.declared.connection.Unopened.{Unopened}
 use Rattle.net_peers.specs.declared.connection.Unopened.TheVariants as unopened
@@ -55,3 +62,15 @@ IsGiven source to inputs.Closed = Unit {0}
 abbrev pub IsRefused : Hello → Option ℕ → Hello → Unopened → Type 0
 IsRefused own seen other (unopened.Refused refusal) = Judges own seen other (Err refusal)
 IsRefused own seen other unopened.Memory = Unit {0}
+
+-- ---- what comes out of a connection that carries frames in records
+
+-- One end read the bytes that came since the hello, and more are on their way: together they are whole records of the
+-- bytes that the other end took, and those are a prefix of the frames of the messages that were put there. Then what
+-- the one end gives is a prefix of these messages, in order, and it met no fault.
+abbrev pub OnlySent : Type 0
+OnlySent =
+    (came more took rest : List ℕ) (sent given : List Message) (ending : Ending WireFault)
+    → whole_bodies (came ++ more) ≡ Some took → AllByRecursion IsFramed sent → took ++ rest ≡ flat_map frame_of sent
+    → Splits frames (bodies_from Length came) given ending
+    → (later : List Message) × (sent ≡ given ++ later) × IsRest ending

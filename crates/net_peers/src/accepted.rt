@@ -1,7 +1,7 @@
 //! A hello that was accepted.
 
 ghost use Rattle.std.specs.Prelude.{◌≡◌};
-ghost use Rattle.net_peers.specs.Accepting.{IsAccepted};
+ghost use Rattle.net_peers.specs.Heard.{IsAccepted};
 
 use net_hello::Hello;
 

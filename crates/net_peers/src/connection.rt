@@ -4,8 +4,8 @@ ghost use Rattle.std.specs.Prelude.{◌≡◌, filter, Ok, Err, IfOk, OnOk, OnEr
 ghost use Rattle.vr_wire.specs.Frames.{IsFramed, frame_of};
 ghost use Rattle.net_ends.specs.Ends.{IsTooMuch};
 ghost use Rattle.net_ends.specs.declared.outbox.Loss.TheVariants.{NoFrame};
-ghost use Rattle.net_hello.specs.Judging.{Judges};
-ghost use Rattle.net_peers.specs.Accepting.{IsAccepted};
+ghost use Rattle.net_hello.specs.Identity.{Judges};
+ghost use Rattle.net_peers.specs.Heard.{IsAccepted};
 ghost use Rattle.net_peers.specs.Passing.{IsRefused, MayPass, is_scan, may_pass};
 
 use crate::accepted::Accepted;

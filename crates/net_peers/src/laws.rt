@@ -1,6 +1,6 @@
 //! What comes out of a connection between machines.
 
-ghost use Rattle.net_peers.specs.Sent.{OnlySent};
+ghost use Rattle.net_peers.specs.Passing.{OnlySent};
 
 use net_ends::only_sent_is_given;
 use net_records::know_records;

@@ -3,7 +3,7 @@ use Rattle.std.proofs.Common.{◌≡◌, ℕ, ◌+◌, ◌*◌, ◌<◌, List, [
 use Rattle.std.specs.Int.{w16, to_be_bytes}
 use Rattle.std.proofs.lemmas.List.{take_at, drop_at}
 use Rattle.std.proofs.lemmas.Nat.{from_be_bytes-to_be_bytes_2}
-use Rattle.io_model.specs.Stream.{IsOneStream, Splits, Rest}
+use Rattle.io_model.specs.Streams.{IsOneStream, Splits, Rest}
 use Rattle.io_model.proofs.Streams.{IsReadable, one_stream}
 use Rattle.net_records.specs.declared.place.Place.TheVariants.{Length}
 use Rattle.net_records.specs.Records.{record_of, IsBody, IsPartial, records, joined, bodies_from, place_behind, AreJoined}

@@ -2,7 +2,7 @@
 use Rattle.std.specs.Prelude.{◌≡◌, ℕ, Bool, List, [], ◌∷◌, ◌++◌, Option, Some, None}
 use Rattle.std.specs.Option.{option_map}
 use Rattle.std.specs.Io.KnownBytes.{Appends}
-use Rattle.net_ends.specs.Stops.{Stops}
+use Rattle.net_ends.specs.Ends.{Stops}
 use Rattle.net_records.specs.declared.place.Place.{Place}
 use Rattle.net_records.specs.declared.place.Place.TheVariants.{Length, LowByte, Body}
 use Rattle.net_records.specs.Records.{bodies_from, place_behind, beat}

@@ -2,7 +2,7 @@
 use Rattle.std.specs.Prelude.{◌≡◌, ℕ, ◌+◌, ◌-◌, ◌*◌, ◌^◌, ◌<◌, ◌==◌, if◌then◌else◌, List, [], ◌∷◌, ◌++◌, length, drop}
 use Rattle.std.specs.Int.{w16, to_be_bytes}
 use Rattle.std.specs.List.{flat_map}
-use Rattle.io_model.specs.Stream.{Format, IsOneStream, Splits, Rest}
+use Rattle.io_model.specs.Streams.{Format, IsOneStream, Splits, Rest}
 use Rattle.net_records.specs.declared.place.Place.{Place}
 use Rattle.net_records.specs.declared.place.Place.TheVariants.{Length, LowByte, Body}
 

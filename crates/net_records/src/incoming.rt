@@ -2,7 +2,7 @@
 
 ghost use Rattle.std.specs.Prelude.{◌≡◌, ◌≤◌, ◌<◌, [], length, take, IfOk, OnErr, IsTrue, ◌↔◌};
 ghost use Rattle.std.specs.Io.KnownBytes.{Consumes, Keeps};
-ghost use Rattle.net_ends.specs.Stops.{Counts};
+ghost use Rattle.net_ends.specs.Ends.{Counts};
 ghost use Rattle.net_records.specs.Ends.{Unwraps};
 ghost use Rattle.net_records.specs.declared.place.Place.TheVariants.{Length};
 

@@ -2,7 +2,7 @@
 
 ghost use Rattle.std.specs.Prelude.{◌≡◌, ◌+◌, ◌≤◌, ◌<◌, [], length, take, drop, IfOk, OnErr, IsTrue, ◌↔◌};
 ghost use Rattle.std.specs.Io.KnownBytes.{Appends, Keeps};
-ghost use Rattle.net_ends.specs.Stops.{Counts};
+ghost use Rattle.net_ends.specs.Ends.{Counts};
 ghost use Rattle.net_records.specs.Records.{record_of};
 
 use net_ends::{NonBlockingWrite, Stop};

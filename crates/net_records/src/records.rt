@@ -2,7 +2,7 @@
 
 ghost use Rattle.std.specs.Prelude.{◌≡◌, ◌≤◌, ◌<◌, ◌↔◌, [], false, length, take, IfOk, IsTrue, OnErr, OnOk};
 ghost use Rattle.std.specs.Io.KnownBytes.{Keeps, WriteAppends};
-ghost use Rattle.net_ends.specs.Stops.{Counts, IsCounted};
+ghost use Rattle.net_ends.specs.Ends.{Counts, IsCounted};
 ghost use Rattle.net_ends.specs.declared.non_blocking.Stop.TheVariants.{ForGood};
 ghost use Rattle.net_records.specs.Records.{record_of};
 ghost use Rattle.net_records.specs.Ends.{Pushes, Unwraps, or_beat, stops_of, taken, to_give};

@@ -4,8 +4,7 @@ use Rattle.plc_console.specs.declared.sending.Reply.{Reply}
 use Rattle.plc_console.specs.declared.sending.Reply.TheVariants as replies
 use Rattle.plc_field.specs.declared.run.Mode.{Mode}
 use Rattle.plc_field.specs.declared.run.Mode.TheVariants.{Check, Once, Forever}
-use Rattle.plc_json.specs.Asking.{HasTexts}
-use Rattle.plc_json.specs.Single.{bytes_of}
+use Rattle.plc_json.specs.Asking.{HasTexts, bytes_of}
 use Rattle.plc_tool.specs.Calls.{IsChangeAlone}
 use Rattle.plc_words.specs.declared.forms.Words.{Words}
 use Rattle.plc_words.specs.declared.forms.Words.TheVariants as words

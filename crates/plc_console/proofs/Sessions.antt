@@ -7,17 +7,17 @@ use Rattle.std.proofs.KnownBytes.{Appends-nil, Appends-trans, Consumes-nil, Cons
 use Rattle.std.proofs.lemmas.List.{append-nil}
 use Rattle.std.proofs.lemmas.List.Concat.{flat_map-cons}
 use Rattle.std.proofs.lemmas.Grind.{flat_map-append}
-use Rattle.io_model.specs.Counted.{Failed}
+use Rattle.io_model.specs.Streams.{Failed}
 use Rattle.il_model.specs.declared.command.Answer.{Answer}
 use Rattle.il_model.specs.declared.command.Command.{Command}
 use Rattle.il_model.specs.Program.{Program}
-use Rattle.vr_ports.specs.Telling.{Grows}
+use Rattle.vr_ports.specs.Parties.{Grows}
 use Rattle.plc_console.specs.declared.session.SessionEnd.{SessionEnd}
 use Rattle.plc_console.specs.declared.session.SessionEnd.TheVariants as ends
 use Rattle.plc_json.specs.declared.question.Question.{Question}
 use Rattle.plc_console.specs.declared.line.Wish.{Wish}
 use Rattle.plc_console.specs.declared.line.Wish.TheVariants as wishes
-use Rattle.plc_console.specs.InForce.{brought_by, goes_on_with, in_force_after}
+use Rattle.plc_console.specs.Mirrored.{brought_by, goes_on_with, in_force_after}
 use Rattle.plc_console.specs.Lines.{line_end, HasNoEnd, kept, IsWish, Outcome, Submitted, Told, Refused, IsOutcome, Fits, text_of, submitted_by}
 use Rattle.plc_console.specs.Sessions.{Turn, line_of, AreTurns, lines_of, texts_of, submitted_in, Scene, scene, Serves, Breaks, Stops, Ended, Talks, Takes, TakesShort, StopsAt, IsWhyUnwritten, Writes}
 use Rattle.plc_console.proofs.Waiting.{grows_none, grows_more, all_more}

@@ -16,7 +16,7 @@ use Rattle.vr_model.specs.Logs.{Request}
 use Rattle.vr_model.specs.StandsFor.{body_with}
 use Rattle.vr_model.specs.Steps.{Retries, heard}
 use Rattle.vr_model.specs.World.{next_number, next_request, is_waiting, replied}
-use Rattle.vr_ports.specs.Telling.{Grows}
+use Rattle.vr_ports.specs.Parties.{Grows}
 use Rattle.vr_ports.specs.declared.link.Input.{Input}
 use Rattle.vr_ports.specs.declared.link.Input.TheVariants as input
 use Rattle.vr_client.specs.Client.{Client, SendsAt, SubmitsCommand, answer_by}

@@ -11,7 +11,7 @@ use Rattle.vr_model.specs.World.{next_number}
 use Rattle.vr_model.specs.Steps.{Retries, Hears as Heard}
 use Rattle.vr_ports.specs.declared.link.Input.{Input}
 use Rattle.vr_ports.specs.declared.link.Input.TheVariants as input
-use Rattle.vr_ports.specs.Telling.{Grows}
+use Rattle.vr_ports.specs.Parties.{Grows}
 use Rattle.vr_client.specs.Client.{Client, SendsAt, BecomesAt, SubmitsCommand, answer_by}
 
 -- what shows of a link: what its receives gave, and what it was handed to send

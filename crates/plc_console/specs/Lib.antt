@@ -1,7 +1,5 @@
 pub mod Asking
-pub mod InForce
-pub mod Lines
 pub mod Mirrored
-pub mod Noting
-pub mod Sending
+pub mod Lines
 pub mod Sessions
+pub mod Sending

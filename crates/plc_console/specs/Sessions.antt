@@ -1,16 +1,22 @@
--- What a session of an operator's console reads, submits and writes.
-use Rattle.std.specs.Prelude.{◌≡◌, ◌⊎◌, ℕ, List, [], ◌∷◌, ◌++◌, take, Option, Result, MatchResult}
+-- What a session of an operator's console reads, submits and writes, and what is noted of it.
+use Rattle.std.specs.Prelude.{◌≡◌, ◌⊎◌, ℕ, List, [], ◌∷◌, ◌++◌, take, Option, Result, MatchResult, Some, None}
 use Rattle.std.specs.List.{flat_map}
 use Rattle.std.specs.Io.KnownBytes.{Appends, Consumes, IsAtEnd}
-use Rattle.io_model.specs.Counted.{Failed}
+use Rattle.io_model.specs.Streams.{Failed}
 use Rattle.il_model.specs.declared.command.Answer.{Answer}
 use Rattle.il_model.specs.declared.command.Command.{Command}
+use Rattle.il_model.specs.declared.command.Answer.TheVariants.{Refused}
 use Rattle.il_model.specs.Program.{Program}
-use Rattle.vr_ports.specs.Telling.{Grows}
+use Rattle.vr_ports.specs.Parties.{Grows}
+use Rattle.plc_status.specs.declared.deed.Deed.{Deed}
+use Rattle.plc_status.specs.declared.journal.Journal.{Journal}
+use Rattle.plc_status.specs.declared.notice.Notice.TheVariants as notices
+use Rattle.plc_status.specs.Journal.{IsPut}
+use Rattle.plc_status.specs.Notices.{deed_of}
 use Rattle.plc_console.specs.declared.session.SessionEnd.{SessionEnd}
-use Rattle.plc_console.specs.declared.session.SessionEnd.TheVariants as ends
 use Rattle.plc_console.specs.declared.line.Wish.{Wish}
-use Rattle.plc_console.specs.InForce.{in_force_after}
+use Rattle.plc_console.specs.declared.session.SessionEnd.TheVariants as ends
+use Rattle.plc_console.specs.Mirrored.{in_force_after}
 use Rattle.plc_console.specs.Lines.{line_end, HasNoEnd, Outcome, IsOutcome, Fits, text_of, submitted_by}
 
 -- a line, without its end, and what it came to
@@ -133,3 +139,15 @@ StopsAt ends.Closed wish fails before after = ⊥
 StopsAt ends.Device wish fails before after = fails × TakesShort wish before after
 StopsAt ends.Memory wish fails before after = (after ≡ before) ⊎ TakesShort wish before after
 StopsAt ends.Unanswered wish fails before after = after ≡ before
+
+-- ---- what is noted of the commands
+
+-- what a command changed that was answered so: nothing where it was refused, or only reads
+abbrev pub deed_done : Command → Answer → Option Deed
+deed_done command (Refused why) = None
+deed_done command answer = deed_of command
+
+-- this was noted, if anything
+abbrev pub Notes : Option Deed → Journal → Journal → Type 0
+Notes None old new = new ≡ old
+Notes (Some deed) old new = IsPut (notices.Done deed) old new

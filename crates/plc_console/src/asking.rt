@@ -4,7 +4,7 @@ ghost use Rattle.std.specs.Prelude.{◌≡◌, ◌⊎◌, IfOk, OnErr, List};
 ghost use Rattle.std.specs.List.{AllByRecursion};
 ghost use Rattle.vr_model.specs.declared.message.Message.{Message as Sent};
 ghost use Rattle.vr_model.specs.Steps.{Retries};
-ghost use Rattle.vr_ports.specs.Telling.{Grows};
+ghost use Rattle.vr_ports.specs.Parties.{Grows};
 ghost use Rattle.vr_client.specs.Client.{SendsAt};
 ghost use Rattle.plc_console.specs.Asking.{way, joined, FindsClosed, Hears, IsAnswered, IsUnanswered};
 

@@ -2,7 +2,7 @@
 
 ghost use Rattle.std.specs.Prelude.{◌≡◌, IfOk, OnErr};
 ghost use Rattle.plc_console.specs.Asking.{way, IsAnswered, IsUnanswered};
-ghost use Rattle.plc_console.specs.Noting.{Notes, deed_done};
+ghost use Rattle.plc_console.specs.Sessions.{Notes, deed_done};
 
 use crate::asking::ask;
 use crate::others::Others;

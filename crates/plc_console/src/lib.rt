@@ -21,10 +21,10 @@
 //! where each command went out as a line, and what came back up to the end of a line was printed before the next.
 //!
 //! What a command changed that wasn't refused is noted once in a journal, by a clause of what submits it
-//! (`specs/Noting`). What is told of forces, breakpoints and the program is that of a mirror: a controller that takes
-//! each command that was done. It stays alike, whatever scans the other one makes (`mirrors_stay`). Where other consoles
-//! give commands, too, a session begins with a mirror of a snapshot of the controller (`Others`), and what they do while
-//! it lasts it doesn't know.
+//! (`specs/Sessions`). What is told of forces, breakpoints and the program is that of a mirror: a controller that takes
+//! each command that was done. It stays alike, whatever scans the other one makes (`mirrors_stay`). Where other
+//! consoles give commands, too, a session begins with a mirror of a snapshot of the controller (`Others`), and what
+//! they do while it lasts it doesn't know.
 //!
 //! Only tested: how answers to questions are spelled, that a request is sent again when a period went by, and the
 //! service, with a group behind it that loses its primary (`console_rows` of `tests_threads`, `tools/try-serve`).

@@ -1,12 +1,12 @@
 //! A session of a console: lines come in, and each is answered in order.
 
 ghost use Rattle.std.specs.Prelude.{◌≡◌, ◌≤◌, ◌++◌, ◌∷◌, [], List, ℕ, IfOk, MatchResult};
-ghost use Rattle.io_model.specs.Counted.{Failed};
+ghost use Rattle.io_model.specs.Streams.{Failed};
 ghost use Rattle.il_text.specs.Lines.{line_text};
 ghost use Rattle.il_text.specs.Telling.{fault_line};
 ghost use Rattle.il_text.specs.declared.fault.Fault.TheVariants.{Commands};
 ghost use Rattle.plc_console.specs.declared.session.SessionEnd.TheVariants as ends;
-ghost use Rattle.plc_console.specs.InForce.{brought_by, goes_on_with};
+ghost use Rattle.plc_console.specs.Mirrored.{brought_by, goes_on_with};
 ghost use Rattle.plc_console.specs.declared.line.Wish.TheVariants.{Submit};
 ghost use Rattle.plc_console.specs.Lines.{kept, line_end, HasNoEnd};
 ghost use Rattle.plc_console.specs.Sessions.{scene, Serves, Stops, StopsAt, Takes, Talks, Writes};
@@ -32,7 +32,7 @@ pub trait Submits {
     ghost use Rattle.std.specs.Prelude.{◌≡◌, [], ◌∷◌, List, Option, IfOk, OnErr};
     ghost use Rattle.il_model.specs.declared.command.Answer.{Answer};
     ghost use Rattle.il_model.specs.declared.command.Command.{Command};
-    ghost use Rattle.vr_ports.specs.Telling.{Grows};
+    ghost use Rattle.vr_ports.specs.Parties.{Grows};
 
     // The commands that were answered so far, each with its answer, if it shows them.
     ghost answered: { Self → Option (List (Command × Answer)) };

@@ -1,9 +1,9 @@
 -- A save that is tried again, told try by try.
 use Rattle.std.proofs.Common.{◌≡◌, ◌≤◌, ℕ, zero, suc, Bool, true, false, Option, Result, Ok, Err, arith}
 use Rattle.std.specs.Prelude.{MatchResult, OnErr, is_ok}
-use Rattle.io_model.specs.Counted.{Failed}
+use Rattle.io_model.specs.Streams.{Failed}
 use Rattle.vr_model.specs.declared.event.Stored.{Stored}
-use Rattle.plc_driver.specs.Saving.{SavesAtLast, TriesAgain}
+use Rattle.plc_driver.specs.Tending.{SavesAtLast, TriesAgain}
 
 module _ {S E : Type 0} (load_gives : S → Option Stored → S → Type 0) (save_gives : S → ℕ → Bool → S → Type 0) where
   -- the first try

@@ -9,9 +9,8 @@ ghost use Rattle.vr_model.specs.Logs.{Request as Entry};
 ghost use Rattle.vr_model.specs.StandsFor.{body_with};
 ghost use Rattle.io_driver.specs.Driver.{release_by};
 ghost use Rattle.plc_status.specs.Journal.{AreNoted};
-ghost use Rattle.plc_status.specs.Scans.{after_scan};
+ghost use Rattle.plc_status.specs.Scans.{after_scan, IsHaltNoted, halted};
 ghost use Rattle.plc_driver.specs.Driving.{AsksForScan, HasRun, Publishes, Scans, scan_of};
-ghost use Rattle.plc_status.specs.Halting.{IsHaltNoted, halted};
 
 use crate::crashes::Crashes;
 use crate::group::Group;

@@ -2,7 +2,7 @@
 //! one.
 
 ghost use Rattle.std.specs.Prelude.{◌≡◌, IfOk};
-ghost use Rattle.plc_driver.specs.Linking.{kind_of};
+ghost use Rattle.plc_driver.specs.Driving.{kind_of};
 
 use net_links::{TcpLink, links};
 use plc_host::{Failed, Host};

@@ -2,7 +2,7 @@
 
 ghost use Rattle.std.specs.Prelude.{◌≡◌, ◌*◌, ◌-◌, ◌/◌, ◌^◌, min, IfOk};
 ghost use Rattle.std.specs.Duration.{as_nanos};
-ghost use Rattle.plc_driver.specs.Pacing.{is_late, longest_silence, next_due, IsAwaited, WorkedDues};
+ghost use Rattle.plc_driver.specs.Driving.{is_late, longest_silence, next_due, IsAwaited, WorkedDues};
 
 use plc_host::Failed;
 use std::thread;

@@ -1,8 +1,8 @@
 //! Saves that are tried again.
 
 ghost use Rattle.std.specs.Prelude.{◌≡◌, ◌≤◌, false, true, IfOk, MatchResult, OnErr, vec_len};
-ghost use Rattle.io_model.specs.Counted.{Failed};
-ghost use Rattle.plc_driver.specs.Saving.{SavesAtLast, TriesAgain};
+ghost use Rattle.io_model.specs.Streams.{Failed};
+ghost use Rattle.plc_driver.specs.Tending.{SavesAtLast, TriesAgain};
 
 use std::alloc::{AllocError, Global};
 use std::sync::Arc;
@@ -122,7 +122,7 @@ impl<S: ViewStore, R: Clock> PatientStore<S, R> {
 }
 
 impl<S: ViewStore, R: Clock> ViewStore for PatientStore<S, R> {
-    ghost use Rattle.plc_driver.specs.Saving.{SavesAtLast};
+    ghost use Rattle.plc_driver.specs.Tending.{SavesAtLast};
 
     ghost load_gives = { λ s found t. S.load_gives s.store found t.store };
 

@@ -6,11 +6,10 @@ use Rattle.std.specs.Cmp.{nat_cmp_is}
 use Rattle.std.specs.Ordering.{nat_cmp}
 use Rattle.std.specs.declared.cmp.Ordering.TheVariants.{Greater}
 use Rattle.net_hello.specs.declared.hello.Epoch.{Epoch}
-use Rattle.plc_epochs.specs.Epochs.{is_later, is_later_by, is_same, last_number, next_epoch}
+use Rattle.plc_epochs.specs.Epochs.{is_later, is_later_by, is_same, last_number, next_epoch, nothing_told}
 use Rattle.plc_epochs.specs.GoingOn.{GoesOn, StoreGoesOn}
 use Rattle.plc_epochs.specs.Recovering as recovering
 use Rattle.plc_epochs.specs.Recovering.{thawed}
-use Rattle.plc_epochs.specs.Told.{nothing_told}
 use Rattle.plc_epochs.specs.Table
 use Rattle.plc_epochs.specs.Table.{kept_in, leaving}
 use Rattle.plc_epochs.specs.declared.word.Word.{Word}

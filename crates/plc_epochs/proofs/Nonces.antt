@@ -4,8 +4,7 @@ use Rattle.std.specs.Prelude.{slice_set}
 use Rattle.std.specs.List.{flat_map, AllByRecursion}
 use Rattle.std.proofs.lemmas.List.{take_more}
 use Rattle.std.proofs.lemmas.Grind.{flat_map-append}
-use Rattle.plc_epochs.specs.Visits.{nonce_bytes}
-use Rattle.plc_epochs.specs.VisitReading.{nonce_of, nonces_of, told_of, with_nonce}
+use Rattle.plc_epochs.specs.Visits.{nonce_bytes, nonce_of, nonces_of, told_of, with_nonce}
 
 -- ---- writing
 

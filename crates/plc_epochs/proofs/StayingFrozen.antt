@@ -3,12 +3,11 @@ use Rattle.std.proofs.Common.{◌≡◌, ◌+◌, ◌<◌, ◌%◌, ◌∙◌, �
 use Rattle.std.proofs.lemmas.Bool.{false≢true}
 use Rattle.std.specs.Prelude.{nat_lt, slice_set, if◌then◌else◌}
 use Rattle.net_hello.specs.declared.hello.Epoch.{Epoch}
-use Rattle.plc_epochs.specs.Epochs.{is_later}
+use Rattle.plc_epochs.specs.Epochs.{is_later, nothing_told}
 use Rattle.plc_epochs.specs.Recovering as recovering
 use Rattle.plc_epochs.specs.Recovering.{is_frozen_long, next_nonce, recovering_anew, thawed}
-use Rattle.plc_epochs.specs.StayingFrozen.{StaysFrozen}
+use Rattle.plc_epochs.specs.GoingOn.{StaysFrozen}
 use Rattle.plc_epochs.specs.Table
-use Rattle.plc_epochs.specs.Told.{nothing_told}
 use Rattle.plc_epochs.specs.declared.word.Word.{Word}
 use Rattle.plc_epochs.specs.declared.word.Word.TheVariants.{Freeze, Frozen, Confirm, StillFrozen}
 use Rattle.plc_epochs.specs.declared.kept.Kept.{Kept}

@@ -11,8 +11,11 @@ use Rattle.plc_epochs.specs.declared.visit.Visit.{Visit}
 use Rattle.plc_epochs.specs.declared.word.Answer.{Answer}
 use Rattle.plc_epochs.specs.declared.word.Word.{Word}
 use Rattle.plc_epochs.specs.declared.word.Word.TheVariants.{Freeze, Frozen, Confirm, StillFrozen}
-use Rattle.plc_epochs.specs.Visits.{magic, version, nonce_bytes, answer_bytes, word_bytes, said_bytes, visit_bytes, FitsNonce, FitsAnswer, FitsTold, FitsWord, FitsVisit, IsVisit}
-use Rattle.plc_epochs.specs.VisitReading.{is_zero, nonce_by, nonce_of, with_nonce, nonces_of, told_of, freeze_of, answer_of, frozen_by, confirm_by, still_frozen_by, word_by, word_of, said_with, said_behind, said_of, visit_of}
+use Rattle.plc_epochs.specs.Visits.{magic, version, nonce_bytes, answer_bytes, word_bytes, said_bytes, visit_bytes}
+use Rattle.plc_epochs.specs.Visits.{FitsNonce, FitsAnswer, FitsTold, FitsWord, FitsVisit, IsVisit, is_zero, nonce_by}
+use Rattle.plc_epochs.specs.Visits.{nonce_of, with_nonce, nonces_of, told_of, freeze_of, answer_of, frozen_by}
+use Rattle.plc_epochs.specs.Visits.{confirm_by, still_frozen_by, word_by, word_of, said_with, said_behind, said_of}
+use Rattle.plc_epochs.specs.Visits.{visit_of}
 
 abbrev pub IsBytes : List ℕ → Type 0
 IsBytes bytes = (i : ℕ) → get_or bytes i 0 < 256

@@ -1,11 +1,16 @@
--- Which of two epochs is the later one, and which comes next.
+-- Epochs: which of two is the later one, which comes next, and what stores and machines have of them.
 use Rattle.std.specs.Prelude.{ℕ, ◌+◌, ◌==◌, ◌&&◌, Bool, true, false, List, bytes_eq, nat_lt, Option, Some, None}
-use Rattle.std.specs.Prelude.{if◌then◌else◌}
+use Rattle.std.specs.Prelude.{if◌then◌else◌, Result, Ok, Err, ◌-◌, nat_le, replicate, slice_get}
 use Rattle.std.specs.Ordering.{is_gt, nat_cmp}
 use Rattle.std.specs.Cmp.Lexicographic.{slice_cmp}
 use Rattle.std.specs.declared.cmp.Ordering.{Ordering}
 use Rattle.std.specs.declared.cmp.Ordering.TheVariants.{Less, Equal, Greater}
+use Rattle.vr_model.specs.Groups.{most_replicas}
 use Rattle.net_hello.specs.declared.hello.Epoch.{Epoch}
+use Rattle.plc_epochs.specs.declared.kept.Kept.{Kept}
+use Rattle.plc_epochs.specs.declared.kept.ByHandFault.{ByHandFault}
+use Rattle.plc_epochs.specs.declared.kept.ByHandFault.TheVariants.{Waits, LastEpoch}
+use Rattle.plc_epochs.specs.declared.kept.Kept.TheVariants as keeps
 
 abbrev pub is_later_by : Ordering → List ℕ → List ℕ → Bool
 is_later_by Less image other = false
@@ -28,3 +33,36 @@ last_number = 18_446_744_073_709_551_615
 abbrev pub next_epoch : Epoch → List ℕ → Option Epoch
 next_epoch epoch image = if nat_lt (epoch.number + 1) last_number
     then Some (record { number = epoch.number + 1; image = image }) else None
+
+-- ---- what the store of a machine has of epochs
+
+abbrev pub entered_by_hand : Option Epoch → Result Kept ByHandFault
+entered_by_hand None = Err LastEpoch
+entered_by_hand (Some next) = Ok (keeps.Entered next)
+
+-- the next epoch, not begun; never where the store has none
+abbrev pub by_hand : Kept → List ℕ → Result Kept ByHandFault
+by_hand keeps.Nothing image = Err Waits
+by_hand (keeps.Above epoch) image = Err Waits
+by_hand (keeps.Entered epoch) image = entered_by_hand (next_epoch epoch image)
+by_hand (keeps.Begun epoch) image = entered_by_hand (next_epoch epoch image)
+
+-- ---- what machines of a group have told: a list with a place for each
+
+-- nothing of any machine
+abbrev pub nothing_told : List (Option ℕ)
+nothing_told = replicate most_replicas None
+
+-- within the last second
+abbrev pub is_recent : ℕ → Option ℕ → Bool
+is_recent now None = false
+is_recent now (Some came) = nat_le (now - came) 1000
+
+abbrev pub is_word : Option (Option ℕ) → ℕ → Bool
+is_word (Some (Some said)) word = said == word
+is_word (Some None) word = false
+is_word None word = false
+
+-- a machine told this
+abbrev pub has_told : List (Option ℕ) → ℕ → ℕ → Bool
+has_told told machine word = is_word (slice_get told machine) word

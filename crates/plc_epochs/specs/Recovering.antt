@@ -1,7 +1,7 @@
 -- A machine that recovers in its epoch. Times are in milliseconds.
 use Rattle.std.specs.Prelude.{ℕ, ◌+◌, ◌-◌, ◌*◌, ◌%◌, ◌==◌, Bool, true, false, ◌&&◌, ◌||◌, List, Option, Some, None}
 use Rattle.std.specs.Prelude.{count_by, is_some, nat_le, nat_lt, slice_set, unwrap_or, if◌then◌else◌}
-use Rattle.plc_epochs.specs.Told.{has_told, nothing_told}
+use Rattle.plc_epochs.specs.Epochs.{has_told, nothing_told}
 use Rattle.plc_epochs.specs.declared.word.Answer.{Answer}
 use Rattle.plc_epochs.specs.declared.word.Word.{Word}
 use Rattle.plc_epochs.specs.declared.word.Word.TheVariants.{Freeze, Confirm}

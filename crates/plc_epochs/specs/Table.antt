@@ -3,8 +3,7 @@ use Rattle.std.specs.Prelude.{◌≡◌, ◌==◌, ℕ, Bool, true, false, not, 
 use Rattle.std.specs.Prelude.{MatchBool, bytes_eq, count_by, is_some, nat_le, nat_lt, slice_set, if◌then◌else◌}
 use Rattle.vr_model.specs.Groups.{group_size}
 use Rattle.net_hello.specs.declared.hello.Epoch.{Epoch}
-use Rattle.plc_epochs.specs.Epochs.{is_later, is_same, last_number, next_epoch}
-use Rattle.plc_epochs.specs.Told.{is_recent, nothing_told}
+use Rattle.plc_epochs.specs.Epochs.{is_later, is_same, last_number, next_epoch, is_recent, nothing_told}
 use Rattle.plc_epochs.specs.Recovering as recovering
 use Rattle.plc_epochs.specs.Recovering.{answer_of, question_word, recovering_under, thawed}
 use Rattle.plc_epochs.specs.declared.word.Answer.{Answer}

@@ -2,7 +2,7 @@
 
 ghost use Rattle.std.specs.Prelude.{◌≡◌, ◌↔◌, IsTrue};
 ghost use Rattle.plc_epochs.specs.GoingOn.{GoesOn};
-ghost use Rattle.plc_epochs.specs.Keeping.{by_hand};
+ghost use Rattle.plc_epochs.specs.Epochs.{by_hand};
 
 use crate::epoch::{is_later, is_same, next_epoch};
 use net_hello::Epoch;

@@ -2,8 +2,7 @@
 
 ghost use Rattle.std.specs.Prelude.{◌≡◌, ℕ, true, is_some};
 ghost use Rattle.net_hello.specs.declared.hello.Epoch.{Epoch as Numbered};
-ghost use Rattle.plc_epochs.specs.GoingOn.{StoreGoesOn};
-ghost use Rattle.plc_epochs.specs.StayingFrozen.{StaysFrozen};
+ghost use Rattle.plc_epochs.specs.GoingOn.{StoreGoesOn, StaysFrozen};
 ghost use Rattle.plc_epochs.specs.Table as table;
 ghost use Rattle.plc_epochs.specs.declared.cold_start.ColdStart.{ColdStart as Machine};
 ghost use Rattle.plc_epochs.specs.declared.cold_start.Phase.TheVariants.{Recovering};

@@ -24,7 +24,7 @@
 //! the next epoch is entered. Who hears of a later epoch leaves its own for it. Nobody begins an epoch before f others
 //! have entered it, or before its store has that.
 //!
-//! Proved (`specs/Table`, `specs/Recovering`, `specs/Keeping`): each call takes exactly the step of the table that what
+//! Proved (`specs/Table`, `specs/Recovering`, `specs/Epochs`): each call takes exactly the step of the table that what
 //! comes and what the machine is call for, and else changes nothing. Words are taken of other machines of the group
 //! alone, in the epoch that was begun alone; an answer counts only to the question asked under the present nonce, the
 //! second also only of a machine that was asked, under the nonce that it told first. An epoch is begun only once the

@@ -2,7 +2,7 @@
 
 ghost use Rattle.std.specs.Prelude.{◌≡◌, ◌<◌, Some, count_by, is_some, slice_set};
 ghost use Rattle.vr_model.specs.Groups.{most_replicas};
-ghost use Rattle.plc_epochs.specs.Told.{has_told, is_recent, nothing_told};
+ghost use Rattle.plc_epochs.specs.Epochs.{has_told, is_recent, nothing_told};
 
 use vr_model::MOST_REPLICAS;
 

@@ -5,9 +5,8 @@ ghost use Rattle.std.specs.List.{AllByRecursion, flat_map, list_all};
 ghost use Rattle.std.specs.Int.{w64, to_be_bytes};
 ghost use Rattle.plc_epochs.specs.declared.visit.Visit.{Visit as Whose};
 ghost use Rattle.plc_epochs.specs.Visits.{FitsAnswer, FitsNonce, FitsWord, IsVisit, answer_bytes, nonce_bytes};
-ghost use Rattle.plc_epochs.specs.Visits.{visit_bytes, word_bytes};
-ghost use Rattle.plc_epochs.specs.VisitReading.{answer_of, is_zero, nonce_of, said_of, told_of, visit_of, word_by};
-ghost use Rattle.plc_epochs.specs.VisitReading.{word_of};
+ghost use Rattle.plc_epochs.specs.Visits.{visit_bytes, word_bytes, answer_of, is_zero, nonce_of, said_of, told_of};
+ghost use Rattle.plc_epochs.specs.Visits.{visit_of, word_by, word_of};
 
 use crate::told::{Told, nothing_told};
 use crate::word::{Answer, Word};

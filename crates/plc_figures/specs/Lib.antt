@@ -1,5 +1,4 @@
-pub mod Json
+pub mod Texts
 pub mod Metrics
 pub mod Readings
 pub mod State
-pub mod Texts

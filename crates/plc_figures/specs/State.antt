@@ -16,9 +16,8 @@ use Rattle.plc_figures.specs.declared.reading.Reading.{Reading}
 use Rattle.plc_figures.specs.declared.reading.Replica.{Replica}
 use Rattle.plc_figures.specs.declared.reading.Scans.{Scans}
 use Rattle.plc_figures.specs.declared.reading.Told.{Told}
-use Rattle.plc_figures.specs.Json.{comma, flag_json, string_json}
+use Rattle.plc_figures.specs.Texts.{comma, flag_json, string_json, seconds_text}
 use Rattle.plc_figures.specs.Readings.{function_name, greatest_view, sum_of}
-use Rattle.plc_figures.specs.Texts.{seconds_text}
 
 abbrev pub phase_name : Status → List ℕ
 phase_name statuses.Normal = codes "normal"

@@ -1,5 +1,7 @@
--- Texts that grow, and numbers and times as they are written.
-use Rattle.std.specs.Prelude.{◌≡◌, ℕ, ◌+◌, ◌/◌, ◌%◌, List, [], ◌∷◌, ◌++◌, codes, decimal}
+-- Texts that grow: numbers and times as they are written, and the parts of a JSON text (RFC 8259).
+use Rattle.std.specs.Prelude.{◌≡◌, ℕ, ◌+◌, ◌/◌, ◌%◌, List, [], ◌∷◌, ◌++◌, codes, decimal, zero, suc, ◌-◌, Bool, true}
+use Rattle.std.specs.Prelude.{false, ◌&&◌, if◌then◌else◌, nat_le, nat_lt, ◌==◌}
+use Rattle.std.specs.List.{flat_map}
 
 -- a text was added behind what there was, and nothing else was changed
 pub record IsAdded (old : List ℕ) (text : List ℕ) (new : List ℕ) : Type 0 where
@@ -19,3 +21,31 @@ digits_six number =
 abbrev pub seconds_text : ℕ → List ℕ
 seconds_text microseconds =
     decimal (microseconds / 1_000_000) ++ (codes "." ++ digits_six (microseconds % 1_000_000))
+
+-- ---- JSON
+
+abbrev pub hex_digit : ℕ → ℕ
+hex_digit number = if nat_lt number 10 then 48 + number else 97 + (number - 10)
+
+-- a byte as a code, as \u001f
+abbrev pub code_text : ℕ → List ℕ
+code_text byte = codes "\\u00" ++ (hex_digit (byte / 16) ∷ hex_digit (byte % 16) ∷ [])
+
+-- one character of a string
+abbrev pub escaped : ℕ → List ℕ
+escaped byte = if byte == 34 then codes "\\\""
+    else if byte == 92 then codes "\\\\"
+    else if nat_le 32 byte && nat_lt byte 127 then byte ∷ []
+    else code_text byte
+
+abbrev pub string_json : List ℕ → List ℕ
+string_json text = codes "\"" ++ (flat_map escaped text ++ codes "\"")
+
+abbrev pub flag_json : Bool → List ℕ
+flag_json true = codes "true"
+flag_json false = codes "false"
+
+-- what stands before an item: nothing before the first
+abbrev pub comma : ℕ → List ℕ
+comma zero = []
+comma (suc number) = codes ","

@@ -2,8 +2,7 @@
 
 ghost use Rattle.std.specs.Prelude.{◌≡◌, ◌<◌, OnOk};
 ghost use Rattle.std.specs.List.{flat_map};
-ghost use Rattle.plc_figures.specs.Json.{code_text, comma, escaped, flag_json, hex_digit, string_json};
-ghost use Rattle.plc_figures.specs.Texts.{IsAdded};
+ghost use Rattle.plc_figures.specs.Texts.{code_text, comma, escaped, flag_json, hex_digit, string_json, IsAdded};
 
 use crate::text::put;
 use std::alloc::AllocError;

@@ -18,8 +18,8 @@ use Rattle.plc_group.specs.declared.machines.Place.{Place}
 use Rattle.plc_group.specs.declared.key.Key.TheVariants as keys
 use Rattle.plc_group.specs.declared.key.TheConstants.{GROUP_KEYS, MACHINE_KEYS, PERIODS, BUDGETS}
 use Rattle.plc_group.specs.declared.key.TheConstants.{DISTANCES, PATIENCES, RESENDS, FRESHNESSES, IDLES}
-use Rattle.plc_group.specs.Keys.{word_of, is_among}
-use Rattle.plc_group.specs.Values.{number_in, name_of, cold_start_of, address_of, machines_of, machine_of, all_of}
+use Rattle.plc_group.specs.Values.{word_of, is_among, number_in, name_of, cold_start_of, address_of, machines_of}
+use Rattle.plc_group.specs.Values.{machine_of, all_of}
 
 -- a fault, with a machine's place in the file, from 0, where it's one of a machine
 pub data Fault : Type 0 where

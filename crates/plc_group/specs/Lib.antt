@@ -1,7 +1,4 @@
-pub mod Places
-pub mod Keys
+pub mod Lines
 pub mod Values
 pub mod Faults
 pub mod Said
-pub mod Lines
-pub mod Exposed

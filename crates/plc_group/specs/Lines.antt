@@ -1,13 +1,22 @@
--- The lines that tell the faults of a group file.
-use Rattle.std.specs.Prelude.{ℕ, List, ◌++◌, codes, Option, Some, None, string_bytes}
+-- The lines that tell the faults of a group file, and the addresses that others than a machine itself reach.
+use Rattle.std.specs.Prelude.{ℕ, List, ◌++◌, codes, Option, Some, None, string_bytes, ◌+◌, [], fold, nat_eq}
+use Rattle.std.specs.Prelude.{if◌then◌else◌, count_by, Bool, true, false, not, ◌∷◌, take, bytes_eq}
 use Rattle.std.specs.Fmt.{decimal}
+use Rattle.std.specs.List.{flat_map}
+use Rattle.std.specs.Net.Text.{socket_text}
+use Rattle.std.specs.declared.net.socket_addr.SocketAddr.{SocketAddr}
+use Rattle.std.specs.declared.net.socket_addr.SocketAddr.TheVariants.{V4, V6}
 use Rattle.il_text.specs.Telling.{numbered}
 use Rattle.plc_group.specs.declared.fault.GroupFault.{GroupFault}
-use Rattle.plc_group.specs.declared.fault.GroupFault.TheVariants as told
 use Rattle.plc_group.specs.declared.fault.Why.{Why}
 use Rattle.plc_group.specs.declared.fault.Why.TheVariants.{Missing, Refused, Twice}
 use Rattle.plc_group.specs.declared.key.Key.{Key}
-use Rattle.plc_group.specs.Keys.{word_of}
+use Rattle.plc_group.specs.declared.group.Machine.{Machine}
+use Rattle.plc_group.specs.declared.machines.Place.{Place}
+use Rattle.plc_group.specs.declared.fault.GroupFault.TheVariants as told
+use Rattle.plc_group.specs.declared.key.Key.TheVariants as keys
+use Rattle.plc_group.specs.Values.{word_of}
+use Rattle.plc_group.specs.Faults.{places_in}
 
 abbrev pub machine_text : ℕ → List ℕ
 machine_text machine = numbered (codes "plc: group machine ") machine ++ codes " "
@@ -41,3 +50,35 @@ group_fault_line told.Memory = codes "plc: memory\n"
 abbrev pub status_of : GroupFault → ℕ
 status_of told.Memory = 2
 status_of fault = 1
+
+-- ---- the line and the column of what stands behind a text
+
+-- from 1, one more behind each end of a line
+abbrev pub line_behind : List ℕ → ℕ
+line_behind text = 1 + count_by (nat_eq 10) text
+
+-- from 1, one more behind each byte of its line
+abbrev pub column_behind : List ℕ → ℕ
+column_behind text = fold (λ column byte. if nat_eq byte 10 then 1 else column + 1) 1 text
+
+-- ---- the addresses that others reach
+
+-- 127.0.0.0/8, or ::1
+abbrev pub is_loopback : SocketAddr → Bool
+is_loopback (V4 a) = bytes_eq (take 1 a.ip.octets) (127 ∷ [])
+is_loopback (V6 a) = bytes_eq a.ip.segments (0 ∷ 0 ∷ 0 ∷ 0 ∷ 0 ∷ 0 ∷ 0 ∷ 1 ∷ [])
+
+-- what is written there counts: all but a status
+abbrev pub is_written : Key → Bool
+is_written keys.Status = false
+is_written key = true
+
+abbrev pub is_exposed : Place → Bool
+is_exposed place = if is_written place.key then not (is_loopback place.address) else false
+
+abbrev pub exposed_line : Place → List ℕ
+exposed_line place = if is_exposed place
+    then socket_text place.address ++ codes ": anybody on that network can write here\n" else []
+
+abbrev pub exposed_lines : List Machine → List ℕ
+exposed_lines machines = flat_map exposed_line (places_in machines)

@@ -1,8 +1,7 @@
--- What a value of a group file is read as: nothing, where the key doesn't take it.
-use Rattle.std.specs.Prelude.{◌≡◌, ◌⊎◌, ℕ, ◌==◌, ◌&&◌, ◌||◌, ℤ, pos, negsuc, Bool}
-use Rattle.std.specs.Prelude.{List, [], ◌∷◌, length, Option, Some, None}
-use Rattle.std.specs.Prelude.{option_and_then, option_map, bytes_eq, codes, nat_eq, nat_le, if◌then◌else◌}
-use Rattle.std.specs.List.{list_all}
+-- The keys of a group file, and what a value is read as: nothing, where the key doesn't take it.
+use Rattle.std.specs.Prelude.{ℕ, Bool, List, bytes_eq, codes, ◌≡◌, ◌⊎◌, ◌==◌, ◌&&◌, ◌||◌, ℤ, pos, negsuc, [], ◌∷◌}
+use Rattle.std.specs.Prelude.{length, Option, Some, None, option_and_then, option_map, nat_eq, nat_le, if◌then◌else◌}
+use Rattle.std.specs.List.{list_any, list_all}
 use Rattle.std.specs.Net.Reader.{read_socket_v4, read_socket_v6, whole_value}
 use Rattle.std.specs.Net.Socket.{socket_port}
 use Rattle.std.specs.declared.net.ipv4_addr.Ipv4Addr.{Ipv4Addr}
@@ -12,13 +11,36 @@ use Rattle.std.specs.declared.net.socket_addr.SocketAddr.TheVariants.{V4, V6}
 use Rattle.std.specs.declared.net.socket_addr.SocketAddrV4.{SocketAddrV4}
 use Rattle.std.specs.declared.net.socket_addr.SocketAddrV6.{SocketAddrV6}
 use Rattle.toml.specs.Data.{Data, Items, no_items, item, Members, get_member, as_integer, as_str, as_array, as_table}
+use Rattle.plc_group.specs.declared.key.Key.{Key}
 use Rattle.plc_group.specs.declared.group.ColdStart.{ColdStart}
 use Rattle.plc_group.specs.declared.group.ColdStart.TheVariants.{Auto, ByHand}
 use Rattle.plc_group.specs.declared.group.Machine.{Machine}
-use Rattle.plc_group.specs.declared.key.Key.{Key}
-use Rattle.plc_group.specs.declared.key.Key.TheVariants as keys
 use Rattle.plc_group.specs.declared.key.Range.{Range}
-use Rattle.plc_group.specs.Keys.{word_of}
+use Rattle.plc_group.specs.declared.key.Key.TheVariants as keys
+
+-- ---- the words of the keys
+
+abbrev pub word_of : Key → List ℕ
+word_of keys.Name = codes "name"
+word_of keys.Period = codes "period"
+word_of keys.Budget = codes "budget"
+word_of keys.Every = codes "every"
+word_of keys.Patience = codes "patience"
+word_of keys.Resend = codes "resend"
+word_of keys.Fresh = codes "fresh"
+word_of keys.Idle = codes "idle"
+word_of keys.ColdStart = codes "cold_start"
+word_of keys.Machine = codes "machine"
+word_of keys.Replica = codes "replica"
+word_of keys.Modbus = codes "modbus"
+word_of keys.Console = codes "console"
+word_of keys.Status = codes "status"
+
+-- the word is that of one of the keys
+abbrev pub is_among : List Key → List ℕ → Bool
+is_among keys word = list_any (λ key. bytes_eq (word_of key) word) keys
+
+-- ---- values
 
 infixl 10 ◌>>=◌
 abbrev ◌>>=◌ : {A B : Type 0} → Option A → (A → Option B) → Option B

@@ -1,7 +1,7 @@
 //! The addresses that others than this machine reach.
 
 ghost use Rattle.std.specs.Prelude.{◌≡◌, ◌++◌, IfOk, OnOk, string_bytes};
-ghost use Rattle.plc_group.specs.Exposed.{exposed_line, exposed_lines, is_exposed, is_loopback};
+ghost use Rattle.plc_group.specs.Lines.{exposed_line, exposed_lines, is_exposed, is_loopback};
 
 use crate::group::Group;
 use crate::key::Key;

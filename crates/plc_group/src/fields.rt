@@ -6,9 +6,8 @@ ghost use Rattle.std.specs.BTreeMap.{keys};
 ghost use Rattle.toml.specs.Data.{get_member};
 ghost use Rattle.toml.specs.View.{view, table_view};
 ghost use Rattle.plc_group.specs.Faults.{Judges, is_unknown, keys_in, needed_faults, unknown_faults, wanted_faults};
-ghost use Rattle.plc_group.specs.Keys.{is_among, word_of};
+ghost use Rattle.plc_group.specs.Values.{is_among, word_of, address_of, cold_start_of, name_of, number_in, value_at};
 ghost use Rattle.plc_group.specs.Said.{number_or};
-ghost use Rattle.plc_group.specs.Values.{address_of, cold_start_of, name_of, number_in, value_at};
 
 use crate::fault::{GroupFault, Why};
 use crate::group::ColdStart;

@@ -1,7 +1,7 @@
 //! The keys of the file, and the ranges of its numbers.
 
 ghost use Rattle.std.specs.Prelude.{◌≡◌};
-ghost use Rattle.plc_group.specs.Keys.{word_of};
+ghost use Rattle.plc_group.specs.Values.{word_of};
 
 /// A key of the file.
 #[derive(Clone, Copy, Debug, PartialEq, Eq)]

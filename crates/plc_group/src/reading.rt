@@ -5,7 +5,7 @@ ghost use Rattle.toml.specs.Data.{Members};
 ghost use Rattle.toml.specs.Errors.{IsMemory, IsWithin, span_start};
 ghost use Rattle.toml.specs.View.{table_view};
 ghost use Rattle.plc_group.specs.declared.fault.GroupFault.TheVariants.{Memory, Toml};
-ghost use Rattle.plc_group.specs.Places.{column_behind, line_behind};
+ghost use Rattle.plc_group.specs.Lines.{column_behind, line_behind};
 ghost use Rattle.plc_group.specs.Faults.{IsFileFault, IsTable, Judges, faults_of, settings_faults, times_faults};
 ghost use Rattle.plc_group.specs.Said.{Says, SaysSettings, SaysTimes};
 

@@ -12,7 +12,7 @@ use Rattle.serde_json.specs.Read.{max_depth}
 use Rattle.serde_json.specs.View.{view}
 use Rattle.serde_json.specs.declared.value.Value.{Value}
 use Rattle.plc_json.specs.Commands.{Plain, bytes_of, command_of, image_bytes}
-use Rattle.plc_json.specs.Single.{digits_data}
+use Rattle.plc_json.specs.Asking.{digits_data}
 
 bytes_back : (image digits : List ℕ) → decode_of digits ≡ Ok image → length image ≤ MOST_IMAGE_BYTES → bytes_of digits ≡ Some image
 bytes_back image digits back short =

@@ -5,7 +5,7 @@ use Rattle.serde_json.specs.Find.{as_array}
 use Rattle.serde_json.specs.Read.{max_depth}
 use Rattle.serde_json.specs.View.{view, items_of, items_view}
 use Rattle.serde_json.specs.declared.value.Value.{Value}
-use Rattle.plc_json.specs.Single.{NestWithin}
+use Rattle.plc_json.specs.Asking.{NestWithin}
 
 items_nest : (ds : List Data) → items_depth (items_of ds) ≤ max_depth → NestWithin ds
 items_nest [] le = tt

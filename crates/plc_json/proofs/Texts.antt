@@ -6,9 +6,8 @@ use Rattle.serde_json.specs.Find.{as_array}
 use Rattle.serde_json.specs.Read.{read as read_text}
 use Rattle.serde_json.specs.View.{view, items_view}
 use Rattle.serde_json.specs.declared.value.Value.{Value}
-use Rattle.plc_json.specs.Asking.{Asking, Do, asking_in, asking_of, SayAskings, HasNoAskings, HasTexts}
+use Rattle.plc_json.specs.Asking.{Asking, Do, asking_in, asking_of, SayAskings, HasNoAskings, HasTexts, bytes_of}
 use Rattle.plc_json.specs.Commands.{Read, all_of}
-use Rattle.plc_json.specs.Single.{bytes_of}
 use Rattle.plc_json.specs.declared.command.JsonFault.{JsonFault}
 use Rattle.plc_json.specs.declared.command.JsonFault.TheVariants.{Shape}
 use Rattle.plc_json.proofs.Each.{behind, at_first, tells_all}

@@ -1,14 +1,63 @@
--- What a console is asked: a command, or a question, which is a word alone.
-use Rattle.std.specs.Prelude.{◌≡◌, ℕ, List, Option, Some, None, option_and_then, option_map, bytes_eq, codes}
-use Rattle.std.specs.Prelude.{if◌then◌else◌, IsUtf8}
-use Rattle.serde_json.specs.Data.{Data}
+-- What a text asks for: one command, or a command or a question of a console; and why it asks for none.
+use Rattle.std.specs.Prelude.{◌≡◌, ◌≤◌, ℕ, List, Option, Some, option_and_then, codes, IsUtf8, Vec, None, option_map}
+use Rattle.std.specs.Prelude.{bytes_eq, if◌then◌else◌}
+use Rattle.std.specs.Global.{Global}
+use Rattle.std.specs.List.{AllByRecursion}
+use Rattle.serde_json.specs.Errors.{IsMemory}
+use Rattle.serde_json.specs.declared.error.Error.{Error}
+use Rattle.hex.specs.declared.error.FromHexError.{FromHexError}
+use Rattle.hex.specs.declared.error.FromHexError.TheVariants.{OutOfMemory}
+use Rattle.serde_json.specs.Data.{Data, depth, object, member, no_members, string}
+use Rattle.serde_json.specs.Read.{read as read_text, max_depth}
 use Rattle.serde_json.specs.Find.{as_str}
-use Rattle.serde_json.specs.Read.{read as read_text}
+use Rattle.il_model.specs.declared.command.Command.TheVariants.{Change}
+use Rattle.plc_json.specs.declared.command.JsonFault.{JsonFault}
+use Rattle.plc_json.specs.declared.command.JsonFault.TheVariants.{Shape, Memory}
+use Rattle.plc_json.specs.declared.command.NamedCommand.{NamedCommand}
+use Rattle.plc_json.specs.declared.command.NamedCommand.TheVariants.{Plain}
 use Rattle.plc_json.specs.declared.question.Asked.{Asked}
-use Rattle.plc_json.specs.declared.question.Asked.TheVariants as asked
 use Rattle.plc_json.specs.declared.question.Question.{Question}
 use Rattle.plc_json.specs.declared.question.Question.TheVariants.{Forces, Breaks, Program, Status}
+use Rattle.plc_json.specs.declared.question.Asked.TheVariants as asked
 use Rattle.plc_json.specs.Commands.{Named, named, command_of, each_in, all_of}
+
+-- ---- why a text gives no commands
+
+-- want of memory stays that, and what is wrong with the text is a fault of its shape
+abbrev pub IsFaultOf : Error → JsonFault → Type 0
+IsFaultOf error fault = (IsMemory error → fault ≡ Memory) × (¬ IsMemory error → fault ≡ Shape)
+
+-- the same of hex digits
+abbrev pub digits_fault : FromHexError → JsonFault
+digits_fault OutOfMemory = Memory
+digits_fault error = Shape
+
+-- ---- a text that is one command
+
+-- the command of a text; an object's last member of a key is the one that counts
+abbrev pub command_in : List ℕ → Option Named
+command_in text = option_and_then command_of (read_text text)
+
+-- the text is this command
+abbrev pub HasCommand : List ℕ → NamedCommand → Type 0
+HasCommand text c = IsUtf8 text × (command_in text ≡ Some (named c))
+
+-- the text is the command that goes on with the program of this image
+abbrev pub IsChange : List ℕ → List ℕ → Type 0
+IsChange image text = HasCommand text (Plain (Change image))
+
+-- a change as data, with these hex digits
+abbrev pub digits_data : List ℕ → Data
+digits_data digits = object (member (codes "change") (string digits) no_members)
+
+abbrev pub bytes_of : Vec ℕ Global → List ℕ
+bytes_of v = v.items
+
+-- no value nests deeper than values of texts may
+abbrev pub NestWithin : List Data → Type 0
+NestWithin ds = AllByRecursion (λ d. depth d ≤ max_depth) ds
+
+-- ---- what a console is asked: a command, or a question, which is a word alone
 
 -- what a console is asked, its names as their bytes
 pub data Asking : Type 0 where

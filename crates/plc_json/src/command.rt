@@ -6,7 +6,7 @@ ghost use Rattle.serde_json.specs.View.{view, members_view};
 ghost use Rattle.plc_json.specs.Commands.{position_of, word_alone, forced_value, scan_of, force_of, forced_at};
 ghost use Rattle.plc_json.specs.Commands.{keyed_of, scan_with, only_member, change_of, command_of, all_of, named};
 ghost use Rattle.plc_json.specs.Commands.{HasCommands, HasNoCommands, Plain};
-ghost use Rattle.plc_json.specs.Faults.{IsFaultOf, digits_fault};
+ghost use Rattle.plc_json.specs.Asking.{IsFaultOf, digits_fault};
 ghost use Rattle.plc_json.specs.declared.command.JsonFault.TheVariants.{Memory, Shape};
 
 use crate::image::in_image;

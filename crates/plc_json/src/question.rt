@@ -4,10 +4,9 @@ ghost use Rattle.std.specs.Prelude.{◌≡◌, ◌≤◌, IfOk, IfErr, Some, Non
 ghost use Rattle.serde_json.specs.Data.{depth};
 ghost use Rattle.serde_json.specs.Read.{max_depth};
 ghost use Rattle.serde_json.specs.View.{view};
-ghost use Rattle.plc_json.specs.Asking.{HasAsked, HasNoAskings, HasNothing, HasTexts, SayAskings, SaysAsking};
-ghost use Rattle.plc_json.specs.Asking.{asking, asking_of, question_in, question_of};
+ghost use Rattle.plc_json.specs.Asking.{HasAsked, HasNoAskings, HasNothing, HasTexts, SayAskings, SaysAsking, asking};
+ghost use Rattle.plc_json.specs.Asking.{asking_of, question_in, question_of, NestWithin, bytes_of};
 ghost use Rattle.plc_json.specs.Commands.{all_of};
-ghost use Rattle.plc_json.specs.Single.{NestWithin, bytes_of};
 ghost use Rattle.plc_json.specs.declared.command.JsonFault.TheVariants.{Shape};
 
 use crate::command::{JsonFault, NamedCommand, command};

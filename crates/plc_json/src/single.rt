@@ -7,7 +7,7 @@ ghost use Rattle.serde_json.specs.Data.{depth};
 ghost use Rattle.serde_json.specs.Read.{max_depth};
 ghost use Rattle.serde_json.specs.View.{view};
 ghost use Rattle.plc_json.specs.Commands.{Plain, command_of};
-ghost use Rattle.plc_json.specs.Single.{IsChange, digits_data};
+ghost use Rattle.plc_json.specs.Asking.{IsChange, digits_data};
 
 use il_model::ImageBytes;
 use serde_json::{Value as Json, json};

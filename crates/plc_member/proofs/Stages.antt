@@ -3,9 +3,8 @@ use Rattle.std.proofs.Common.{◌≡◌, ◌+◌, ℕ, Bool, List, [], ◌∷◌
 use Rattle.std.specs.List.{splice}
 use Rattle.std.proofs.lemmas.List.{drop_all}
 use Rattle.il_model.specs.declared.cells.Cells.{Cells}
-use Rattle.io_image.specs.Book.{Book, bits_at, words_at, cells_of, replayed, sampled, with_change}
+use Rattle.io_image.specs.Book.{Book, bits_at, words_at, cells_of, replayed, sampled, with_change, Changed}
 use Rattle.io_image.specs.Calls.{Does, sample_gave, wrote}
-use Rattle.io_image.specs.Staging.{Changed}
 
 whole : {A : Type 0} (xs ys : List A) → length xs ≡ length ys → splice xs 0 (0 + length ys) ys ≡ ys
 whole xs ys same = rw (drop_all (0 + length ys) xs (omega (arith, same))) (append-nil ys)

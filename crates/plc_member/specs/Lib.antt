@@ -1,7 +1,4 @@
 pub mod Driving
-pub mod Ports
+pub mod Watching
 pub mod Holding
 pub mod Keeping
-pub mod Looked
-pub mod Tracing
-pub mod Watching

@@ -8,8 +8,7 @@ ghost use Rattle.vr_model.specs.StandsFor.{body_with};
 ghost use Rattle.io_driver.specs.Driver.{release_by};
 ghost use Rattle.plc_machine.specs.Driving.{Looks, Shows};
 ghost use Rattle.plc_machine.specs.declared.leading.LastScan.{LastScan as Last};
-ghost use Rattle.plc_member.specs.Driving.{MayScan, Publishes};
-ghost use Rattle.plc_member.specs.Tracing.{TracesRelease, traced_by};
+ghost use Rattle.plc_member.specs.Driving.{MayScan, Publishes, TracesRelease, traced_by};
 ghost use Rattle.plc_member.specs.declared.scans.Entered.{Entered};
 
 use crate::filling::fill;

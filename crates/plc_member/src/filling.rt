@@ -1,8 +1,7 @@
 //! The stage of a machine that takes over.
 
 ghost use Rattle.std.specs.Prelude.{◌≡◌, OnOk, length};
-ghost use Rattle.io_image.specs.Book.{cells_of};
-ghost use Rattle.io_image.specs.Staging.{Changed};
+ghost use Rattle.io_image.specs.Book.{cells_of, Changed};
 
 use il_model::InImage;
 use io_image::{StageError, Staging};

@@ -2,7 +2,7 @@
 //! have come in and gone into a checkpoint.
 
 ghost use Rattle.std.specs.Prelude.{◌≡◌};
-ghost use Rattle.plc_member.specs.Looked.{standing_in, is_last as is_last_of};
+ghost use Rattle.plc_member.specs.Driving.{standing_in, is_last as is_last_of};
 
 /// What was seen of a log: in which view, how many entries it had, and how many of them were committed.
 #[derive(Clone, Copy)]

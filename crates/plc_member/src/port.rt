@@ -1,7 +1,7 @@
 //! The port of a machine for Modbus clients, which is open only while the machine shows outputs.
 
 ghost use Rattle.std.specs.Prelude.{◌≡◌, IfOk, false, true};
-ghost use Rattle.plc_member.specs.Ports.{is_open, turn_of_port};
+ghost use Rattle.plc_member.specs.Watching.{is_open, turn_of_port};
 
 use io_image::Naming;
 use modbus_server::{OpenServer, Seats};

@@ -2,7 +2,7 @@
 
 ghost use Rattle.std.specs.Prelude.{◌≡◌};
 ghost use Rattle.plc_member.specs.Watching.{IsNoted, notice_of_port};
-ghost use Rattle.plc_status.specs.Halting.{IsHaltNoted};
+ghost use Rattle.plc_status.specs.Scans.{IsHaltNoted};
 
 use crate::port::Turn;
 use crate::watch::{Watch, note, told_of};

@@ -4,7 +4,7 @@ ghost use Rattle.std.specs.Prelude.{◌≡◌, List};
 ghost use Rattle.il_model.specs.declared.command.Command.{Command as Asked};
 ghost use Rattle.vr_model.specs.Logs.{Request as Entry};
 ghost use Rattle.vr_model.specs.StandsFor.{body_with};
-ghost use Rattle.plc_member.specs.Tracing.{Traces, placed_by, traced_by};
+ghost use Rattle.plc_member.specs.Driving.{Traces, placed_by, traced_by};
 
 use crate::scans::Entered;
 use plc_trace::{Placed, Trace, Traced};

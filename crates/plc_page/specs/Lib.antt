@@ -1,4 +1,3 @@
 pub mod Answers
-pub mod Notices
-pub mod Page
 pub mod Sources
+pub mod Page

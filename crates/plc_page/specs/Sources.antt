@@ -1,29 +1,31 @@
--- What is read for the page.
-use Rattle.std.specs.Prelude.{◌≡◌, ◌<◌, ◌+◌, ℕ, ℤ, pos, Bool, true, false, if◌then◌else◌, List, [], ◌∷◌, Option, Some, None, get_or, length}
+-- What is read for the page: what shows, and the last lines that an operator was told.
+use Rattle.std.specs.Prelude.{◌≡◌, ◌<◌, ◌+◌, ℕ, ℤ, pos, Bool, true, false, if◌then◌else◌, List, [], ◌∷◌, Option, Some}
+use Rattle.std.specs.Prelude.{None, get_or, length, ◌-◌, drop, map}
 use Rattle.http_server.specs.declared.state.Config.{Config}
 use Rattle.il_model.specs.declared.cells.Cells.{Cells}
-use Rattle.il_model.specs.declared.program.Area.TheVariants as areas
 use Rattle.il_model.specs.declared.program.Loc.{Loc}
-use Rattle.il_model.specs.declared.program.Loc.TheVariants as places
 use Rattle.il_model.specs.declared.program.Variable.{Variable}
+use Rattle.il_model.specs.declared.program.Area.TheVariants as areas
+use Rattle.il_model.specs.declared.program.Loc.TheVariants as places
+use Rattle.vr_shown.specs.declared.shown.Shown.{Shown}
+use Rattle.vr_shown.specs.Showing.{nothing_shown}
+use Rattle.plc_host.specs.Requests.{functions as counted_functions}
+use Rattle.plc_status.specs.declared.machine.MachineStatus.{MachineStatus}
+use Rattle.plc_status.specs.declared.scans.Halt.{Halt as Published}
+use Rattle.plc_status.specs.declared.scans.ScanStatus.{ScanStatus}
+use Rattle.plc_status.specs.declared.status.Status.{Status}
+use Rattle.plc_status.specs.declared.scans.Halt.TheVariants as published
+use Rattle.plc_status.specs.Scans.{bounds as published_bounds}
+use Rattle.plc_status.specs.Published.{status_words, AreOfGroup}
 use Rattle.plc_figures.specs.declared.reading.Clients.{Clients}
 use Rattle.plc_figures.specs.declared.reading.Halt.{Halt}
-use Rattle.plc_figures.specs.declared.reading.Halt.TheVariants as halts
 use Rattle.plc_figures.specs.declared.reading.Machine.{Machine}
 use Rattle.plc_figures.specs.declared.reading.Point.{Point}
 use Rattle.plc_figures.specs.declared.reading.Replica.{Replica}
 use Rattle.plc_figures.specs.declared.reading.Scans.{Scans}
-use Rattle.plc_host.specs.Requests.{functions as counted_functions}
-use Rattle.plc_status.specs.declared.machine.MachineStatus.{MachineStatus}
-use Rattle.plc_status.specs.declared.scans.Halt.{Halt as Published}
-use Rattle.plc_status.specs.declared.scans.Halt.TheVariants as published
-use Rattle.plc_status.specs.declared.scans.ScanStatus.{ScanStatus}
-use Rattle.plc_status.specs.declared.status.Status.{Status}
+use Rattle.plc_figures.specs.declared.reading.Told.{Told}
+use Rattle.plc_figures.specs.declared.reading.Halt.TheVariants as halts
 use Rattle.plc_figures.specs.Readings.{bounds as shown_bounds, functions as shown_functions}
-use Rattle.plc_status.specs.Scans.{bounds as published_bounds}
-use Rattle.plc_status.specs.Published.{status_words, AreOfGroup}
-use Rattle.vr_shown.specs.declared.shown.Shown.{Shown}
-use Rattle.vr_shown.specs.Showing.{nothing_shown}
 use Rattle.plc_page.specs.declared.source.Named.{Named}
 use Rattle.plc_page.specs.declared.whose.Whose.{Whose}
 use Rattle.plc_page.specs.declared.whose.Whose.TheVariants as whose
@@ -119,3 +121,16 @@ AreOfStatus status first replicas =
 -- a head of a request has at most 8192 bytes, and no request has a body
 abbrev pub IsLimited : Config → Type 0
 IsLimited config = (config.limits.max_head_len ≡ 8192) × (config.max_body_len ≡ 0)
+
+-- ---- the last lines that an operator was told
+
+-- a line, and when it was told
+abbrev pub line_of : Told → ℕ × List ℕ
+line_of told = (told.at, told.line.items)
+
+abbrev pub lines_of : List Told → List (ℕ × List ℕ)
+lines_of told = map line_of told
+
+-- the last so many, or all where there are no more
+abbrev pub last : {X : Type 0} → ℕ → List X → List X
+last count xs = drop (length xs - count) xs

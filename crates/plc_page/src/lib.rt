@@ -11,7 +11,7 @@
 //!
 //! Proved: what a request is answered is a function of its method, its path, its host and of what was read
 //! (`specs/Answers`): 200 with the page, the JSON or the figures, or 400, 404, 405, 421; each output has the value at
-//! its own place (`specs/Sources`); the last 200 lines that were told are kept (`specs/Notices`). What goes out over a
+//! its own place (`specs/Sources`); the last 200 lines that were told are kept (`specs/Sources`). What goes out over a
 //! connection answers the requests that came in, in order (`http_server` of the kit).
 //!
 //! Tests: `page.rows` of `tests_bytes` have what requests are answered. By its code alone, and tried with curl, promtool

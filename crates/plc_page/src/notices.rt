@@ -1,7 +1,7 @@
 //! The last lines that an operator was told, with their times.
 
 ghost use Rattle.std.specs.Prelude.{◌≡◌, ◌++◌, ◌∷◌, [], ◌≤◌, IfOk, OnOk, vec_len};
-ghost use Rattle.plc_page.specs.Notices.{last, line_of, lines_of};
+ghost use Rattle.plc_page.specs.Sources.{last, line_of, lines_of};
 
 use plc_figures::Told;
 use std::alloc::{AllocError, Global};

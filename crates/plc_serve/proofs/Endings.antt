@@ -6,14 +6,11 @@ use Rattle.std.proofs.KnownBytes.{Appends-trans}
 use Rattle.io_model.specs.declared.counted.CountedWrite.{Ghosts as CountedWriter}
 use Rattle.il_text.specs.declared.fault.Fault.{Fault}
 use Rattle.il_text.specs.Meaning.{IsTextFault, OrMemory}
-use Rattle.il_text.specs.Status.{status_of}
-use Rattle.il_text.specs.Telling.{IsTold, WentOut, fault_line}
-use Rattle.plc_status.specs.Notices.{IsAtMostServingTold, IsServingTold}
-use Rattle.plc_status.specs.Reports.{IsReported, report_line}
+use Rattle.il_text.specs.Telling.{status_of, IsTold, WentOut, fault_line}
+use Rattle.plc_status.specs.Notices.{IsAtMostServingTold, IsServingTold, IsReported, report_line}
 use Rattle.plc_serve.specs.declared.failing.Unserved.{Unserved}
 use Rattle.plc_serve.specs.declared.failing.Unserved.TheVariants as whys
-use Rattle.plc_serve.specs.Failing.{EndsBy, status_by}
-use Rattle.plc_serve.specs.Serving.{IsRefusal, IsToldAtLast, IsWhyRefused}
+use Rattle.plc_serve.specs.Serving.{EndsBy, status_by, IsRefusal, IsToldAtLast, IsWhyRefused}
 
 module _ {W : Type 0} (w : CountedWriter W) (status : ℕ) (old middle new : W) where
   -- a good end tells nothing more

@@ -2,7 +2,7 @@
 
 ghost use Rattle.std.specs.Prelude.{◌≡◌, ◌≤◌, IsOk};
 ghost use Rattle.il_text.specs.Telling.{Sends, WentOut};
-ghost use Rattle.plc_serve.specs.Failing.{EndsBy, failed_line, numbered_line};
+ghost use Rattle.plc_serve.specs.Serving.{EndsBy, failed_line, numbered_line};
 
 use il_text::{Fault, put, put_numbered, tell};
 use io_model::{CountedWrite, DeviceFault};

@@ -13,7 +13,7 @@
 //! Proved: 0 only for a text without a fault, after as many scans as are asked for, with the line of its scans written,
 //! and on `err` the line of a port, those of what changed, and nothing else; 1 only with the line of a fault of the
 //! text or of a directory that was used, and with `out` and `report` as they were; 2 only with a line that tells what
-//! failed (`specs/Failing`).
+//! failed (`specs/Serving`).
 //!
 //! Only tested: how threads, channels, sockets and locks are joined, and what a client sees of it (`serve_rows`,
 //! `failing_rows` and `console_rows` of `tests_threads`, `tools/try-serve`, `tools/try-clients`).

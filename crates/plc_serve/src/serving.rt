@@ -4,10 +4,8 @@ ghost use Rattle.std.specs.Prelude.{◌≡◌, [], ◌≤◌, IfErr, IfNone, IfO
 ghost use Rattle.std.specs.Io.KnownBytes.{Appends};
 ghost use Rattle.il_text.specs.Telling.{IsTold};
 ghost use Rattle.il_text.specs.Meaning.{IsGoodText, IsTypedProgramOfText};
-ghost use Rattle.plc_status.specs.Notices.{IsAtMostServingTold, IsServingTold};
-ghost use Rattle.plc_status.specs.Reports.{IsReported, report_line};
-ghost use Rattle.plc_serve.specs.Failing.{status_by};
-ghost use Rattle.plc_serve.specs.Serving.{IsRefusal, IsToldAtLast, IsWhyRefused, scans_line};
+ghost use Rattle.plc_status.specs.Notices.{IsAtMostServingTold, IsServingTold, IsReported, report_line};
+ghost use Rattle.plc_serve.specs.Serving.{status_by, IsRefusal, IsToldAtLast, IsWhyRefused, scans_line};
 
 use crate::failing::{Unserved, ended};
 use crate::service::{Loaded, Service};

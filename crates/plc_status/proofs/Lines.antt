@@ -1,7 +1,7 @@
 -- A line that is told in parts.
 use Rattle.std.proofs.Common.{◌≡◌, ◌<◌, ◌≤◌, ℕ, List, ◌++◌, Result, Ok, Err, arith}
 use Rattle.std.proofs.KnownBytes.{Appends-trans}
-use Rattle.io_model.specs.Counted.{Failed}
+use Rattle.io_model.specs.Streams.{Failed}
 use Rattle.io_model.specs.declared.counted.DeviceFault.{DeviceFault}
 use Rattle.io_model.specs.declared.counted.CountedWrite.{Ghosts as CountedWriter}
 use Rattle.il_text.specs.Telling.{Sends}

@@ -1,7 +1,4 @@
-pub mod Halting
-pub mod Journal
-pub mod Machines
-pub mod Notices
-pub mod Published
-pub mod Reports
 pub mod Scans
+pub mod Journal
+pub mod Published
+pub mod Notices

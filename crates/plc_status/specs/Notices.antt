@@ -1,16 +1,18 @@
--- The lines that tell an operator what changed.
+-- The lines that tell an operator what changed, and the report of a controller that was served.
 use Rattle.std.specs.Prelude.{◌≡◌, ◌⊎◌, ◌==◌, if◌then◌else◌, ℕ, List, [], ◌∷◌, ◌++◌, Option, Some, None, codes}
+use Rattle.std.specs.Fmt.{decimal}
+use Rattle.std.specs.Io.KnownBytes.{Appends}
 use Rattle.io_model.specs.declared.counted.CountedWrite.{Ghosts as CountedWriter}
 use Rattle.il_model.specs.declared.command.Command.{Command}
-use Rattle.il_model.specs.declared.command.Command.TheVariants as commands
 use Rattle.il_model.specs.declared.value.Stop.{Stop}
+use Rattle.il_model.specs.declared.command.Command.TheVariants as commands
 use Rattle.il_text.specs.Lines.{stop_name}
 use Rattle.il_text.specs.Telling.{WentOut, numbered}
 use Rattle.plc_status.specs.declared.deed.Deed.{Deed}
-use Rattle.plc_status.specs.declared.deed.Deed.TheVariants as deeds
 use Rattle.plc_status.specs.declared.notice.Notice.{Notice}
-use Rattle.plc_status.specs.declared.notice.Notice.TheVariants as notices
 use Rattle.plc_status.specs.declared.notice.Why.{Why}
+use Rattle.plc_status.specs.declared.deed.Deed.TheVariants as deeds
+use Rattle.plc_status.specs.declared.notice.Notice.TheVariants as notices
 use Rattle.plc_status.specs.declared.notice.Why.TheVariants as causes
 
 -- a number between two texts
@@ -168,3 +170,21 @@ pub record IsServingTold {W : Type 0} (w : CountedWriter W) (old new : W) : Type
 -- nothing was told, or the lines of serving were
 abbrev pub IsAtMostServingTold : {W : Type 0} → CountedWriter W → W → W → Type 0
 IsAtMostServingTold w old new = (new ≡ old) ⊎ IsServingTold w old new
+
+-- ---- the report
+
+-- the line of a report: compact JSON (RFC 8259), its keys in order
+abbrev pub report_line : ℕ → ℕ → ℕ → ℕ → List ℕ
+report_line crashes scans sessions writes =
+    codes "{\"crashes\":" ++ (decimal crashes
+    ++ (codes ",\"scans\":"
+    ++ (decimal scans
+    ++ (codes ",\"sessions\":"
+    ++ (decimal sessions ++ (codes ",\"writes\":" ++ (decimal writes ++ codes "}\n")))))))
+
+-- a report with so many scans was written
+pub record IsReported {W : Type 0} (w : CountedWriter W) (scans : ℕ) (old new : W) : Type 0 where
+  pub crashes : ℕ
+  pub sessions : ℕ
+  pub writes : ℕ
+  pub line : Appends (w.held old) (w.held new) (report_line crashes scans sessions writes)

@@ -1,9 +1,24 @@
--- The words by which what shows of a group and of its scans is published.
-use Rattle.std.specs.Prelude.{◌≡◌, List, [], ◌∷◌, ◌++◌, ℕ, length}
+-- The words by which what shows of a group, of its machines and of its scans is published.
+use Rattle.std.specs.Prelude.{ℕ, Bool, true, false, List, [], ◌∷◌, Option, Some, None, ◌≡◌, ◌++◌, length}
+use Rattle.vr_shown.specs.declared.shown.Shown.{Shown}
+use Rattle.vr_shown.specs.Showing.{nothing_shown, shown_words}
+use Rattle.plc_status.specs.declared.machine.MachineStatus.{MachineStatus}
 use Rattle.plc_status.specs.declared.scans.ScanStatus.{ScanStatus}
 use Rattle.plc_status.specs.Scans.{scan_words}
-use Rattle.vr_shown.specs.Showing.{nothing_shown, shown_words}
-use Rattle.vr_shown.specs.declared.shown.Shown.{Shown}
+
+-- ---- a machine
+
+-- a machine stands by, or drives
+abbrev pub course_word : Bool → ℕ
+course_word false = 1
+course_word true = 2
+
+-- zeros where the process is no machine of a group
+abbrev pub machine_words : Option MachineStatus → List ℕ
+machine_words None = 0 ∷ 0 ∷ []
+machine_words (Some machine) = course_word machine.is_driving ∷ machine.epoch ∷ []
+
+-- ---- a group, and its scans
 
 -- as many as the largest group has
 abbrev pub AreOfGroup : List Shown → Type 0

@@ -4,7 +4,7 @@ ghost use Rattle.std.specs.Prelude.{◌≡◌, List};
 ghost use Rattle.il_model.specs.declared.command.Command.{Command as Asked};
 ghost use Rattle.vr_model.specs.Logs.{Request as Entry};
 ghost use Rattle.vr_model.specs.StandsFor.{body_with};
-ghost use Rattle.plc_status.specs.Halting.{IsHaltNoted, halt_by, halted};
+ghost use Rattle.plc_status.specs.Scans.{IsHaltNoted, halt_by, halted};
 
 use crate::journal::Journal;
 use crate::notice::Notice;

@@ -11,7 +11,7 @@
 //! room; what is printed are, in order of each journal and each once, the lines of what was put, and at its end nothing
 //! is left of the driver's (`specs/Journal`). What a status tells of a replica and of the scans is what the writer set and
 //! counted by the publish whose words were read, and what it tells of a machine of a group is what was set last
-//! (`specs/Published`, `specs/Scans`, `specs/Machines`).
+//! (`specs/Published`, `specs/Scans`).
 //!
 //! By the code of io_board alone: that what a reader reads is what the writer published, and never half of two.
 //!

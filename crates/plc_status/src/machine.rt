@@ -1,7 +1,7 @@
 //! What shows of a machine of a group.
 
 ghost use Rattle.std.specs.Prelude.{◌≡◌, Option};
-ghost use Rattle.plc_status.specs.Machines.{course_word, machine_words};
+ghost use Rattle.plc_status.specs.Published.{course_word, machine_words};
 ghost use Rattle.plc_status.specs.declared.machine.MachineStatus.{MachineStatus as Machine};
 
 /// So many words tell of a machine, or that there is none.

@@ -3,7 +3,7 @@
 ghost use Rattle.std.specs.Prelude.{◌≡◌, [], IfOk, OnOk};
 ghost use Rattle.std.specs.Io.KnownBytes.{Appends};
 ghost use Rattle.std.specs.String.{string_bytes};
-ghost use Rattle.plc_status.specs.Reports.{report_line};
+ghost use Rattle.plc_status.specs.Notices.{report_line};
 
 use io_file::NewFile;
 use io_model::{CountedWrite, DeviceFault, write_all};

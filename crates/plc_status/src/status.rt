@@ -1,8 +1,7 @@
 //! What shows of a served controller, for whoever watches it.
 
 ghost use Rattle.std.specs.Prelude.{◌≡◌, ◌<◌, List, Option, Some, None, get_or, length, set, IfOk};
-ghost use Rattle.plc_status.specs.Machines.{machine_words};
-ghost use Rattle.plc_status.specs.Published.{nothing, status_words, AreOfGroup};
+ghost use Rattle.plc_status.specs.Published.{machine_words, nothing, status_words, AreOfGroup};
 ghost use Rattle.plc_status.specs.Scans.{after_scan, no_scan, IsPlaced};
 ghost use Rattle.plc_status.specs.declared.machine.MachineStatus.{MachineStatus as Machine};
 ghost use Rattle.plc_status.specs.declared.scans.ScanStatus.{ScanStatus as Scanned};

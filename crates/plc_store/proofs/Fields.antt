@@ -8,8 +8,8 @@ use Rattle.sha2.specs.Sha256.{sha256}
 use Rattle.plc_epochs.specs.declared.kept.Kept.{Kept}
 use Rattle.plc_epochs.specs.declared.kept.Kept.TheVariants as keeps
 use Rattle.plc_store.specs.declared.header.Header.{Header}
-use Rattle.plc_store.specs.Reading.{epoch_by, fields_of, header_of, kept_by, length_of}
-use Rattle.plc_store.specs.Spelling.{Fits, Saying, body, epoch_of, header_bytes, kind_of, magic, spelling}
+use Rattle.plc_store.specs.Spelling.{epoch_by, fields_of, header_of, kept_by, length_of, Fits, Saying, body, epoch_of}
+use Rattle.plc_store.specs.Spelling.{header_bytes, kind_of, magic, spelling}
 
 module _ (id number image program : List ℕ) (kind machine : ℕ) (id_long : length id ≡ 32) (number_long : length number ≡ 8) (image_long : length image ≡ 32) (program_long : length program ≡ 32) where
   front : List ℕ

@@ -19,8 +19,8 @@ use Rattle.plc_store.specs.declared.judging.Wanted.{Wanted}
 use Rattle.plc_store.specs.declared.reading.StoreFault.{StoreFault}
 use Rattle.plc_store.specs.declared.reading.StoreFault.TheVariants.{OtherFormat, Torn, Memory}
 use Rattle.plc_store.specs.Judging.{HasEntered, begun, by_kept, found_by, has_view, judged, judged_store, judgement, refusal_of}
-use Rattle.plc_store.specs.Reading.{Gives, IsOtherFormat, fields_of, is_other_format, read_of, spelled_so}
-use Rattle.plc_store.specs.Spelling.{Fits, Saying, saying, spelling}
+use Rattle.plc_store.specs.Spelling.{Gives, IsOtherFormat, fields_of, is_other_format, read_of, spelled_so, Fits}
+use Rattle.plc_store.specs.Spelling.{Saying, saying, spelling}
 use Rattle.plc_store.proofs.Fields.{fields_again}
 
 -- whether a read went well

@@ -14,8 +14,7 @@ use Rattle.plc_store.specs.declared.judging.Start.TheVariants.{Waits, First, Aga
 use Rattle.plc_store.specs.declared.judging.Wanted.{Wanted}
 use Rattle.plc_store.specs.declared.reading.StoreFault.{StoreFault}
 use Rattle.plc_store.specs.declared.reading.StoreFault.TheVariants.{OtherFormat, Torn, Memory}
-use Rattle.plc_store.specs.Reading.{read_of}
-use Rattle.plc_store.specs.Spelling.{Saying, epoch_bytes, spelling}
+use Rattle.plc_store.specs.Spelling.{read_of, Saying, epoch_bytes, spelling}
 
 abbrev pub refusal_of : StoreFault → Refusal
 refusal_of OtherFormat = refusals.OtherFormat

@@ -4,7 +4,7 @@ use Rattle.std.specs.Prelude.{Result, Ok, Err, IfSome, if◌then◌else◌}
 use Rattle.sha2.specs.Sha256.{sha256}
 use Rattle.net_hello.specs.declared.hello.Epoch.{Epoch}
 use Rattle.plc_epochs.specs.GoingOn.{GoesOn}
-use Rattle.plc_epochs.specs.Keeping.{by_hand}
+use Rattle.plc_epochs.specs.Epochs.{by_hand}
 use Rattle.plc_epochs.specs.declared.kept.ByHandFault.{ByHandFault}
 use Rattle.plc_epochs.specs.declared.kept.ByHandFault.TheVariants as faults
 use Rattle.plc_epochs.specs.declared.kept.Kept.{Kept}

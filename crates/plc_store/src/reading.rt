@@ -2,9 +2,8 @@
 
 ghost use Rattle.std.specs.Prelude.{◌≡◌, ◌≢◌, ◌<◌, IfErr, IfOk, length, option_map};
 ghost use Rattle.std.specs.Int.{w32, w64, from_be_bytes};
-ghost use Rattle.plc_store.specs.Reading.{Gives, IsOtherFormat, epoch_by, fields_of, header_of, is_other_format};
-ghost use Rattle.plc_store.specs.Reading.{kept_by, read_of};
-ghost use Rattle.plc_store.specs.Spelling.{Fits, Saying, saying, spelling};
+ghost use Rattle.plc_store.specs.Spelling.{Gives, IsOtherFormat, epoch_by, fields_of, header_of, is_other_format};
+ghost use Rattle.plc_store.specs.Spelling.{kept_by, read_of, Fits, Saying, saying, spelling};
 ghost use Rattle.plc_store.specs.declared.reading.StoreFault.TheVariants.{Memory, OtherFormat, Torn};
 
 use crate::header::{Header, Store};

@@ -13,7 +13,7 @@ use Rattle.il_text.specs.Lines.{lines_of}
 use Rattle.il_text.specs.Meaning.{IsTypedProgramOfText, IsTextFault, OrMemory}
 use Rattle.plc_tool.specs.Calls.{IsAnswered}
 use Rattle.plc_names.specs.Named.{answers_by}
-use Rattle.il_text.specs.Putting.{Puts, IsWhyStopped}
+use Rattle.il_text.specs.Telling.{Puts, IsWhyStopped}
 use Rattle.plc_tool.specs.Calls.{IsRun, IsRunCutShort}
 
 pub are_answers : (text : List ℕ) (budget : ℕ) (commands : List NamedCommand) (Q : Program) (c : Owned) → IsTypedProgramOfText text Q → IsTyped Q → ReadsImages image_of → c ≡ cold_owned Q budget → IsAnswered text budget commands (answers_by c commands)

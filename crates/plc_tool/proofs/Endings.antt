@@ -1,7 +1,7 @@
 -- What a call's end tells, by what it did.
 use Rattle.std.proofs.Common.{◌≡◌, ◌⊎◌, inl, inr, ℕ, List, Result, Ok, Err, subst, sym, ap, ◌∙◌, arith, refl}
 use Rattle.std.specs.Prelude.{IfErr, OnOk, IsOk}
-use Rattle.io_model.specs.Counted.{Failed}
+use Rattle.io_model.specs.Streams.{Failed}
 use Rattle.io_model.specs.declared.counted.CountedWrite.{Ghosts as CountedWriter}
 use Rattle.plc_json.specs.declared.command.JsonFault.{JsonFault}
 use Rattle.plc_json.specs.declared.command.JsonFault.TheVariants.{Shape, Memory}
@@ -11,12 +11,10 @@ use Rattle.plc_json.specs.Events.{HasSchedule, HasNoSchedule}
 use Rattle.il_text.specs.declared.fault.Fault.{Fault}
 use Rattle.il_text.specs.declared.fault.Fault.TheVariants as faults
 use Rattle.il_text.specs.Meaning.{IsTextFault, IsGoodText, OrMemory, IsRefused, IsFirstFault}
-use Rattle.il_text.specs.Putting.{IsWhyStopped}
+use Rattle.il_text.specs.Telling.{IsWhyStopped, status_of, Ends, EndsTold, StopsShort, WentOut, fault_line}
 use Rattle.plc_tool.specs.Calls.{IsFaultOfRun}
 use Rattle.plc_tool.specs.Simulated.{IsToldOf, IsFaultOfSchedule}
-use Rattle.il_text.specs.Status.{status_of}
 use Rattle.plc_tool.specs.Calls.{fault_of}
-use Rattle.il_text.specs.Telling.{Ends, EndsTold, StopsShort, WentOut, fault_line}
 
 -- a device's fault and want of memory are no refusal of input
 no_input : {Y : Type 0} (e : Fault) → (e ≡ faults.Device) ⊎ (e ≡ faults.Memory) → status_of e ≡ 1 → Y

@@ -6,8 +6,7 @@ use Rattle.plc_json.specs.declared.event.NamedEvent.{NamedEvent}
 use Rattle.il_text.specs.declared.fault.Fault.{Fault}
 use Rattle.il_text.specs.Meaning.{IsTextFault, IsImageFault}
 use Rattle.plc_tool.specs.Simulated.{IsToldOf}
-use Rattle.il_text.specs.Status.{status_of}
-use Rattle.il_text.specs.Told.{of_bytes}
+use Rattle.il_text.specs.Telling.{status_of, of_bytes}
 
 pub of_text : (text : List ℕ) (told : Fault) → IsTextFault text told → status_of told ≡ 1
 of_text text told (inl (inl read)) = ap status_of read.is

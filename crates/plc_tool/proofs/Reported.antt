@@ -14,7 +14,7 @@ use Rattle.vr_schedules.specs.Traces.{IsTraced}
 use Rattle.vr_world.specs.History.{IsOneHistory}
 use Rattle.il_text.specs.declared.fault.Fault.{Fault}
 use Rattle.il_text.specs.Meaning.{IsTypedProgramOfText, OrMemory}
-use Rattle.il_text.specs.Putting.{Puts, IsWhyStopped}
+use Rattle.il_text.specs.Telling.{Puts, IsWhyStopped}
 use Rattle.plc_tool.specs.Simulated.{AreKnown, IsSimulated, IsReplicated, IsReportCutShort, IsToldOf, report_line}
 
 module _ {W : Type 0} (w : CountedWriter W) (trace : Trace) (old new : W) where

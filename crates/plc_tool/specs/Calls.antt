@@ -2,7 +2,7 @@
 use Rattle.std.specs.Prelude.{◌≡◌, ◌<◌, ◌⊎◌, ℕ, List, ◌∷◌, [], ◌++◌, length, take, codes, Option}
 use Rattle.std.specs.Fmt.{decimal}
 use Rattle.std.specs.Io.KnownBytes.{Appends}
-use Rattle.io_model.specs.Counted.{Failed}
+use Rattle.io_model.specs.Streams.{Failed}
 use Rattle.io_model.specs.declared.counted.CountedWrite.{Ghosts as CountedWriter}
 use Rattle.il_model.specs.declared.command.Answer.{Answer}
 use Rattle.il_model.specs.declared.limits.TheConstants.{MOST_IMAGE_BYTES}
@@ -22,7 +22,7 @@ use Rattle.plc_json.specs.declared.command.JsonFault.{JsonFault}
 use Rattle.plc_json.specs.declared.command.JsonFault.TheVariants as json
 use Rattle.plc_json.specs.declared.command.NamedCommand.{NamedCommand}
 use Rattle.plc_json.specs.Commands.{HasNoCommands}
-use Rattle.plc_json.specs.Single.{IsChange}
+use Rattle.plc_json.specs.Asking.{IsChange}
 use Rattle.plc_names.specs.Named.{named_answers}
 
 -- ---- images and listings

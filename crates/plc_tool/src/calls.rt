@@ -1,7 +1,7 @@
 //! The calls of the program, over byte slices and writers, each answering the status.
 
 ghost use Rattle.std.specs.Prelude.{◌≡◌, ◌≤◌, ◌⊎◌, List};
-ghost use Rattle.io_model.specs.Counted.{Failed};
+ghost use Rattle.io_model.specs.Streams.{Failed};
 ghost use Rattle.plc_tool.specs.Calls.{IsAssembled, IsAssemblyCutShort, IsListed, IsCutShort};
 ghost use Rattle.il_text.specs.Meaning.{IsTextFault, IsImageFault, IsRefused, IsFirstFault};
 ghost use Rattle.plc_json.specs.declared.command.NamedCommand.{NamedCommand};
@@ -11,8 +11,7 @@ ghost use Rattle.plc_json.specs.Events.{HasSchedule};
 ghost use Rattle.plc_tool.specs.Calls.{IsRun, IsRunCutShort, IsFaultOfRun};
 ghost use Rattle.plc_tool.specs.Simulated.{IsSimulated, IsReplicated, IsReportCutShort, IsToldOf};
 ghost use Rattle.plc_tool.specs.Simulated.{IsFaultOfSchedule};
-ghost use Rattle.il_text.specs.Status.{status_of as status_told};
-ghost use Rattle.il_text.specs.Telling.{EndsTold, StopsShort, WentOut, fault_line};
+ghost use Rattle.il_text.specs.Telling.{status_of as status_told, EndsTold, StopsShort, WentOut, fault_line};
 ghost use Rattle.il_text.specs.declared.fault.Fault as told;
 
 use crate::assembly::put_image;

@@ -3,7 +3,7 @@
 ghost use Rattle.std.specs.Prelude.{IfOk, IfErr, map};
 ghost use Rattle.plc_tool.specs.Calls.{IsChangeAlone, IsChangeTo, IsFaultOfChange};
 ghost use Rattle.il_text.specs.Meaning.{OrMemory};
-ghost use Rattle.plc_json.specs.Single.{bytes_of};
+ghost use Rattle.plc_json.specs.Asking.{bytes_of};
 
 use il_model::ImageBytes;
 use il_text::{Fault, image_bytes};

@@ -4,7 +4,7 @@ ghost use Rattle.std.specs.Prelude.{◌≡◌, ◌≤◌, ◌⊎◌, IfErr, OnOk
 ghost use Rattle.il_text.specs.Lines.{lines_of};
 ghost use Rattle.il_text.specs.Meaning.{IsTextFault, OrMemory};
 ghost use Rattle.plc_names.specs.Named.{answers_by};
-ghost use Rattle.il_text.specs.Putting.{Puts, IsWhyStopped};
+ghost use Rattle.il_text.specs.Telling.{Puts, IsWhyStopped};
 ghost use Rattle.plc_tool.specs.Calls.{IsRun, IsRunCutShort};
 
 use ctl_debugger::Controller;

@@ -6,7 +6,7 @@ ghost use Rattle.ctl_debugger.specs.Outcome.{answers_of};
 ghost use Rattle.vr_schedules.specs.Traces.{IsTraced};
 ghost use Rattle.vr_world.specs.History.{IsOneHistory};
 ghost use Rattle.il_text.specs.Meaning.{OrMemory};
-ghost use Rattle.il_text.specs.Putting.{Puts, IsWhyStopped};
+ghost use Rattle.il_text.specs.Telling.{Puts, IsWhyStopped};
 ghost use Rattle.plc_tool.specs.Simulated.{IsSimulated, IsReplicated, IsReportCutShort, IsWhyNoReport};
 ghost use Rattle.plc_tool.specs.Simulated.{IsToldOf, report_line};
 

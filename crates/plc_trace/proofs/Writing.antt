@@ -4,10 +4,9 @@ use Rattle.std.proofs.KnownBytes.{Appends-nil, Appends-trans}
 use Rattle.std.specs.Io.KnownBytes.{Appends}
 use Rattle.io_model.specs.declared.counted.CountedWrite.{Ghosts as CountedWriter}
 use Rattle.rtrb.specs.Ring.{SameConsumer}
-use Rattle.plc_trace.specs.Lines.{traced_line}
+use Rattle.plc_trace.specs.Tracing.{traced_line, Writes, written}
 use Rattle.plc_trace.specs.declared.line.Line.{Line}
 use Rattle.plc_trace.specs.declared.writer.TraceWriter.{TraceWriter}
-use Rattle.plc_trace.specs.Tracing.{Writes, written}
 
 pub writes_nothing : {W : Type 0} (w : CountedWriter W) (a : TraceWriter) (at : W) → Writes w a a at at
 writes_nothing w a at = record {

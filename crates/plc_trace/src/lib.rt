@@ -11,7 +11,7 @@
 //!
 //! Proved: what is put is added behind what was put, with how many were left out before it for want of room; what is
 //! written are the lines of what was put, in order and each once, until the file fails, and each line is that of
-//! `specs/Lines`.
+//! `specs/Tracing`.
 //!
 //! By its code alone, and tested (`tools/try-machines`): that what was put is written at once, and that a file that
 //! fails is told.

@@ -3,7 +3,7 @@
 ghost use Rattle.std.specs.Prelude.{◌≡◌, IfOk, OnOk};
 ghost use Rattle.std.specs.Io.KnownBytes.{Appends};
 ghost use Rattle.std.specs.String.{string_bytes};
-ghost use Rattle.plc_trace.specs.Lines.{start_line, traced_line};
+ghost use Rattle.plc_trace.specs.Tracing.{start_line, traced_line};
 
 use il_model::Answer;
 use il_text::AnswerLine;

@@ -1,9 +1,31 @@
--- What words ask for.
-use Rattle.std.specs.Prelude.{◌≡◌}
+-- What words ask for, and what is told where they ask for no work.
+use Rattle.std.specs.Prelude.{◌≡◌, ◌⊎◌, ℕ, List, codes, Option}
+use Rattle.std.specs.String.{string_bytes}
+use Rattle.std.specs.Io.KnownBytes.{Appends}
+use Rattle.io_model.specs.declared.counted.CountedWrite.{Ghosts as CountedWriter}
+use Rattle.il_text.specs.declared.fault.Fault.TheVariants as faults
+use Rattle.il_text.specs.Telling.{IsTold, WentOut, fault_line}
 use Rattle.plc_words.specs.declared.forms.Words.{Words}
+use Rattle.plc_words.specs.declared.error.WordsError.{WordsError}
 use Rattle.plc_words.specs.declared.forms.Words.TheVariants as words
+use Rattle.plc_words.specs.declared.error.WordsError.TheVariants as errors
 
 -- a controller that is to be served ends after a minute without a majority of its replicas
 abbrev pub IsLostAfterAMinute : Words → Type 0
 IsLostAfterAMinute (words.Serve source stores report settings) = settings.lost_after ≡ 60
 IsLostAfterAMinute _ = Unit {0}
+
+-- ---- where they ask for no work
+
+-- why words ask for no work: the text of help on the output; else a line on the other stream
+abbrev pub IsToldOfWords : {W : Type 0}
+    → CountedWriter W → WordsError → ℕ → Option (List ℕ) → Option (List ℕ) → W → W → Type 0
+IsToldOfWords w (errors.Shown text) status out out_after old new =
+    ((status ≡ 0) × Appends out out_after (string_bytes text) × (new ≡ old))
+    ⊎ ((status ≡ 2) × IsTold w (λ fault. ⊥) status old new)
+IsToldOfWords w (errors.Bad text) status out out_after old new =
+    (status ≡ 3) × (out_after ≡ out) × WentOut w (string_bytes text) old new
+IsToldOfWords w errors.NotText status out out_after old new =
+    (status ≡ 3) × (out_after ≡ out) × WentOut w (codes "error: a word is no text in UTF-8\n") old new
+IsToldOfWords w errors.Memory status out out_after old new =
+    (status ≡ 2) × (out_after ≡ out) × WentOut w (fault_line faults.Memory) old new

@@ -2,7 +2,7 @@
 
 ghost use Rattle.std.specs.Prelude.{OnOk};
 ghost use Rattle.std.specs.Io.KnownBytes.{Appends};
-ghost use Rattle.plc_words.specs.Telling.{IsToldOfWords};
+ghost use Rattle.plc_words.specs.Asked.{IsToldOfWords};
 
 use crate::error::WordsError;
 use il_text::{Fault, put, tell};

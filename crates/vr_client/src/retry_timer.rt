@@ -2,7 +2,7 @@
 ghost use Rattle.std.specs.Prelude.{◌≡◌, option_map};
 ghost use Rattle.std.specs.Duration.{as_nanos};
 ghost use Rattle.std.specs.Time.{instant_nanos};
-ghost use Rattle.vr_client.specs.Retrying.{asked_at, is_due};
+ghost use Rattle.vr_client.specs.Client.{asked_at, is_due};
 
 use std::marker::Model;
 use std::time::{Duration, Instant};
@@ -19,7 +19,7 @@ impl Model for RetryTimer {
     ghost use Rattle.std.specs.Prelude.{option_map};
     ghost use Rattle.std.specs.Duration.{as_nanos};
     ghost use Rattle.std.specs.Time.{instant_nanos};
-    ghost use Rattle.vr_client.specs.Retrying.{Timer};
+    ghost use Rattle.vr_client.specs.Client.{Timer};
 
     ghost Value = { Timer };
 

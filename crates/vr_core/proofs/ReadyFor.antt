@@ -10,10 +10,8 @@ use Rattle.vr_model.specs.Checkpoints.{SavedCheckpoint, KeptLog, base_of, LogSta
 use Rattle.vr_core.specs.declared.state.Core.{Core}
 use Rattle.vr_core.specs.StandsFor.{StandsFor, IsSavedAs}
 use Rattle.vr_core.specs.declared.handed.Readied.{Readied}
-use Rattle.vr_core.specs.Begun.{IsOfNone}
-use Rattle.vr_core.specs.Changes.{AreReady, between, IsReadyFor}
-use Rattle.vr_core.specs.Dropped.{IsSpoilt}
-use Rattle.vr_core.specs.Readied.{IsReadied}
+use Rattle.vr_core.specs.Checkpoints.{IsOfNone, IsSpoilt}
+use Rattle.vr_core.specs.Changes.{AreReady, between, IsReadyFor, IsReadied}
 use Rattle.vr_core.proofs.WholeLogs.{is_own_group}
 
 pub ready_handed : (core : Core) (w : Membership) (r : ReplicaState Command) (handed : KeptLog) (l : List (Request Command)) (n : ℕ) (ps : List Prepared) → IsReadyFor core handed n ps → StandsFor core w r → LogStands IsSavedAs w.group handed l

@@ -5,7 +5,7 @@ use Rattle.std.proofs.lemmas.List.{drop_all, reverse-append}
 use Rattle.std.proofs.lemmas.Option.{slice_get-get_or, get_or_from_slice_get}
 use Rattle.il_model.specs.declared.command.Command.{Command}
 use Rattle.il_model.specs.declared.command.Answer.{Answer}
-use Rattle.il_model.specs.Numbers.{is_change}
+use Rattle.il_model.specs.Answers.{is_change}
 use Rattle.ctl_debugger.specs.Owned.{Owned}
 use Rattle.ctl_debugger.specs.Outcome.{outcome}
 use Rattle.ctl_debugger.specs.Prepared.{Prepared, IsReady}

@@ -7,7 +7,7 @@ use Rattle.std.specs.declared.vec.Vec.{Vec}
 use Rattle.vr_model.specs.declared.message.Message as sent
 use Rattle.vr_model.specs.Checkpoints.{SavedCheckpoint, KeptLog, base_of}
 use Rattle.vr_core.specs.declared.state.Core.{Core}
-use Rattle.vr_core.specs.Dropped.{IsSpoilt, IsUnfit, Drops}
+use Rattle.vr_core.specs.Checkpoints.{IsSpoilt, IsUnfit, Drops}
 
 -- one that is reached and can be restored is none of these
 pub never_unfit : (core : Core) (n : ℕ) (log : KeptLog) → base_of log.checkpoint ≤ n → ((c : SavedCheckpoint) → log.checkpoint ≡ Some c → IsSpoilt core c.snapshot → ⊥) → IsUnfit core n log → ⊥

@@ -1,10 +1,9 @@
--- The changes of the program among entries: all of those that a step executes are ready before the first of them is
--- executed.
+-- Changes of the program among entries: all that a step executes are ready before the first of them is executed.
 use Rattle.std.specs.Prelude.{◌≡◌, ℕ, ◌+◌, ◌<◌, ◌≤◌, max, List, [], ◌∷◌, ◌++◌, length, filter, take, drop, Option, Some}
 use Rattle.std.specs.Prelude.{slice_get, option_to_list}
 use Rattle.il_model.specs.declared.command.Command.{Command}
 use Rattle.il_model.specs.declared.command.Answer.{Answer}
-use Rattle.il_model.specs.Numbers.{is_change}
+use Rattle.il_model.specs.Answers.{is_change}
 use Rattle.ctl_debugger.specs.Owned.{Owned}
 use Rattle.ctl_debugger.specs.Outcome.{outcome}
 use Rattle.ctl_debugger.specs.Prepared.{Prepared, IsReady}
@@ -16,8 +15,10 @@ use Rattle.vr_model.specs.Choices.{commands}
 use Rattle.vr_model.specs.Rules.{reply_of}
 use Rattle.vr_model.specs.Checkpoints.{KeptLog, base_of, LogStands}
 use Rattle.vr_core.specs.declared.state.Core.{Core}
+use Rattle.vr_core.specs.declared.handed.Readied.{Readied}
 use Rattle.vr_core.specs.StandsFor.{StandsFor, IsSavedAs, own_group}
 use Rattle.vr_core.specs.Follows.{Rule, AreSent, Leaves}
+use Rattle.vr_core.specs.Checkpoints.{IsBegun}
 
 -- those of some commands that change the program
 abbrev pub changes_in : List Command → List Command
@@ -94,3 +95,10 @@ pub record FollowsIfReady (old : Core) (n : ℕ) (ps : List Prepared) (rule : Ru
     (sends : List sent.Message) : Type 0 where
   pub leaves : (w : Membership) (r : ReplicaState Command) → StandsFor old w r
       → AreReady (between r.log r.commit_number n) ps → Leaves old new sends w (rule w r)
+
+-- ---- what a log that is handed in needs before it takes the place of a core's
+
+-- the controller that has executed what its checkpoint stands in place of, and the changes up to the n-th entry
+pub record IsReadied (core : Core) (handed : KeptLog) (n : ℕ) (readied : Readied) : Type 0 where
+  pub begun : IsBegun core handed readied.begun
+  pub changes : IsReadyFor core handed n readied.changes

@@ -6,9 +6,8 @@ ghost use Rattle.vr_model.specs.Logs as logs;
 ghost use Rattle.vr_model.specs.Checkpoints.{base_of, SavedCheckpoint};
 ghost use Rattle.vr_core.specs.declared.state.Core as cores;
 ghost use Rattle.vr_core.specs.StandsFor.{StandsForLog};
-ghost use Rattle.vr_core.specs.Begun.{IsOfNone};
-ghost use Rattle.vr_core.specs.Readied.{IsReadied};
-ghost use Rattle.vr_core.specs.Dropped.{IsSpoilt, IsUnfit};
+ghost use Rattle.vr_core.specs.Checkpoints.{IsOfNone, IsSpoilt, IsUnfit};
+ghost use Rattle.vr_core.specs.Changes.{IsReadied};
 
 use crate::changes::ReadyChanges;
 use crate::state::Core;

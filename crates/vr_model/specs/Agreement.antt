@@ -5,8 +5,7 @@ use Rattle.vr_model.specs.Messages.{Message, Party, Replica, Body, NewState}
 use Rattle.vr_model.specs.Replicas.{is_normal, is_down, takes_part, ReplicaState}
 use Rattle.vr_model.specs.Rules.{receives}
 use Rattle.vr_model.specs.World.{World, Event, Completion, executed, happens, run, start, given}
-use Rattle.vr_model.specs.Answers.{IsAnswered, ReplyStands}
-use Rattle.vr_model.specs.Report.{Release, report, before, Each}
+use Rattle.vr_model.specs.Report.{IsAnswered, ReplyStands, Release, report, before, Each}
 use Rattle.vr_model.specs.Views.{IsStarted, SentDoViewChange, IsAcknowledged, CouldBeCommitted, WasLogOf, world}
 
 -- the committed list at the end of a run

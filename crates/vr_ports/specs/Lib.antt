@@ -1,2 +1,1 @@
 pub mod Parties
-pub mod Telling

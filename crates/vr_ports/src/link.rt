@@ -1,7 +1,7 @@
 //! The ways of messages.
 
 ghost use Rattle.std.specs.Prelude.{◌≡◌};
-ghost use Rattle.vr_ports.specs.Telling.{Grows};
+ghost use Rattle.vr_ports.specs.Parties.{Grows};
 
 use std::alloc::AllocError;
 use thiserror::Error;
@@ -22,7 +22,7 @@ pub trait Link {
     ghost use Rattle.std.specs.Prelude.{◌≡◌, [], ◌∷◌, List, Option};
     ghost use Rattle.vr_model.specs.declared.message.Message.{Message};
     ghost use Rattle.vr_ports.specs.declared.link.Input.{Input};
-    ghost use Rattle.vr_ports.specs.Telling.{Grows};
+    ghost use Rattle.vr_ports.specs.Parties.{Grows};
 
     // What the receives gave so far, if it tells.
     ghost inputs: { Self → Option (List Input) };

@@ -16,7 +16,7 @@ pub enum Tick {
 pub trait Timer {
     ghost use Rattle.std.specs.Prelude.{◌≡◌, [], ◌∷◌, List, Option};
     ghost use Rattle.vr_ports.specs.declared.timer.Tick.{Tick};
-    ghost use Rattle.vr_ports.specs.Telling.{Grows};
+    ghost use Rattle.vr_ports.specs.Parties.{Grows};
 
     // What the polls gave so far, if it tells.
     ghost ticks: { Self → Option (List Tick) };

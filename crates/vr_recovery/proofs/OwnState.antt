@@ -28,7 +28,7 @@ use Rattle.vr_core.proofs.WholeLogs.{past_entries}
 use Rattle.vr_core.proofs.Sent.{sent_to}
 use Rattle.vr_core.proofs.Doing.{does_keep, does_send, sends_some}
 use Rattle.vr_core.proofs.Senders.{other_for, of_other, of_none}
-use Rattle.vr_recovery.specs.Answering.{kept_past, told_state, SendsOwn}
+use Rattle.vr_recovery.specs.Responses.{kept_past, told_state, SendsOwn}
 
 -- all that is kept, after the first entries
 after : (g : Group) (o : Option SavedCheckpoint) (entries : List code.Request) (l : List (Request Command)) (p : ℕ) → LogStands IsSavedAs g (record { checkpoint = o; entries = entries }) l → p < base_of o → p ≤ length l

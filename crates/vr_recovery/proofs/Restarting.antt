@@ -11,7 +11,7 @@ use Rattle.vr_core.specs.declared.state.Response.{Response}
 use Rattle.vr_model.specs.declared.standing.Status.TheVariants as statuses
 use Rattle.vr_core.specs.StandsFor.{SlotStands, StandsFor, own_group}
 use Rattle.vr_core.proofs.WholeLogs.{is_own}
-use Rattle.vr_recovery.specs.ComingUp.{IsUpAgain}
+use Rattle.vr_recovery.specs.Recovering.{IsUpAgain}
 
 -- no response of any of seven
 abbrev pub no_responses : List (Option Response)

@@ -18,7 +18,7 @@ use Rattle.vr_core.specs.declared.state.Response.{Response}
 use Rattle.vr_core.specs.StandsFor.{IsSavedAs}
 use Rattle.vr_core.specs.Follows.{Tells, message_from}
 use Rattle.vr_core.proofs.Sent.{sent_others}
-use Rattle.vr_recovery.specs.ComingUp.{IsUpAgain, ComesUp}
+use Rattle.vr_recovery.specs.Recovering.{IsUpAgain, ComesUp}
 
 -- the same answer
 pub told_by : {X : Type 0} (core : Core) (f : Membership → ReplicaState Command → X) (x y : X) → Tells core f x → x ≡ y → Tells core f y

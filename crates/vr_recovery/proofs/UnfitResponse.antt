@@ -6,7 +6,7 @@ use Rattle.std.proofs.lemmas.Option.{same_Some}
 use Rattle.vr_model.specs.declared.message.PrimaryState as code
 use Rattle.vr_core.specs.declared.state.Core.{Core}
 use Rattle.vr_core.specs.declared.state.Response.{Response}
-use Rattle.vr_core.specs.Dropped.{IsUnfit}
+use Rattle.vr_core.specs.Checkpoints.{IsUnfit}
 use Rattle.vr_recovery.specs.Responses.{IsUnfitResponse}
 
 -- one that tells of this state, if the log of this can be taken up

@@ -1,18 +1,40 @@
--- Which of a replica's responses is kept, and what the primary of a view told.
-use Rattle.std.specs.Prelude.{◌≡◌, ℕ, nat_lt, ◌==◌, ◌&&◌, ◌||◌, Bool, false, not, List, Option, Some, None}
-use Rattle.std.specs.Prelude.{slice_index_or, slice_set}
+-- What a replica tells of its log, and which responses of others it keeps.
+use Rattle.std.specs.Prelude.{ℕ, nat_le, ◌==◌, if◌then◌else◌, List, Option, Some, None, ◌≡◌, nat_lt, ◌&&◌, ◌||◌, Bool}
+use Rattle.std.specs.Prelude.{false, not, slice_index_or, slice_set}
 use Rattle.il_model.specs.declared.command.Command.{Command}
+use Rattle.vr_model.specs.declared.message.PrimaryState.{PrimaryState}
 use Rattle.vr_model.specs.declared.message.PrimaryState as code
+use Rattle.vr_model.specs.declared.message.Message as sent
 use Rattle.vr_model.specs.Groups.{primary}
-use Rattle.vr_model.specs.Messages.{RecoveryResponse}
-use Rattle.vr_model.specs.Choices.{kept_response}
-use Rattle.vr_model.specs.Checkpoints.{end_of}
 use Rattle.vr_model.specs.Membership.{Membership}
 use Rattle.vr_model.specs.Replicas.{ReplicaState, put}
+use Rattle.vr_model.specs.Checkpoints.{KeptLog, base_of, entries_past, end_of}
+use Rattle.vr_model.specs.StandsFor.{AllStandFrom}
+use Rattle.vr_model.specs.Messages.{RecoveryResponse}
+use Rattle.vr_model.specs.Choices.{kept_response}
 use Rattle.vr_core.specs.declared.state.Core.{Core}
 use Rattle.vr_core.specs.declared.state.Response.{Response}
-use Rattle.vr_core.specs.StandsFor.{StandsFor, ResponseStands}
-use Rattle.vr_core.specs.Dropped.{IsUnfit}
+use Rattle.vr_core.specs.StandsFor.{StandsFor, IsSavedAs, ResponseStands}
+use Rattle.vr_core.specs.Follows.{Rule}
+use Rattle.vr_core.specs.Checkpoints.{IsUnfit}
+
+-- ---- what it tells
+
+-- the entries past this op number; or all that is kept, where the checkpoint is past that
+abbrev pub kept_past : KeptLog → ℕ → KeptLog
+kept_past log place = if nat_le (base_of log.checkpoint) place then entries_past log place else log
+
+-- what a primary adds to a response
+abbrev pub told_state : Core → Option PrimaryState
+told_state core = if primary core.config.f core.view == core.number
+    then Some (record { commit_number = core.commit_number; log = core.log }) else None
+
+-- each message stands for the rule's, and a checkpoint in one is of the log that its sender has
+pub record SendsOwn (core : Core) (rule : Rule) (sends : List sent.Message) : Type 0 where
+  pub own : (w : Membership) (r : ReplicaState Command) → StandsFor core w r
+      → AllStandFrom IsSavedAs w.group r sends (rule w r).sends
+
+-- ---- which response is kept, and what the primary of a view told
 
 -- the response that is kept of this replica
 abbrev pub kept_of : Core → ℕ → Option Response

@@ -10,7 +10,7 @@ ghost use Rattle.vr_model.specs.Checkpoints.{requests_of};
 ghost use Rattle.vr_model.specs.StandsFor.{IsCarriedPart};
 ghost use Rattle.vr_core.specs.StandsFor.{IsSavedAs, own_group};
 ghost use Rattle.vr_core.specs.Follows.{Tells, DoesIfKept, DoesIfFits, op_number_of, receives_from};
-ghost use Rattle.vr_core.specs.Dropped.{IsUnfit, Drops};
+ghost use Rattle.vr_core.specs.Checkpoints.{IsUnfit, Drops};
 
 use crate::entries::{catch_up, catch_up_as_primary, go_on};
 use crate::taking_up::{adopt_and_take_up, take_up, take_up_as_primary};

@@ -5,7 +5,7 @@ ghost use Rattle.vr_model.specs.Groups.{primary};
 ghost use Rattle.vr_model.specs.Rules as rules;
 ghost use Rattle.vr_model.specs.Checkpoints.{requests_of};
 ghost use Rattle.vr_core.specs.Follows.{Tells, FollowsIfKept, op_number_of};
-ghost use Rattle.vr_recovery.specs.CatchingUp.{catches_up};
+ghost use Rattle.vr_recovery.specs.Recovering.{catches_up};
 
 use crate::holding::{hold, hold_as_primary};
 use std::alloc::{AllocError, Global};

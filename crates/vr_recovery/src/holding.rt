@@ -6,7 +6,7 @@ ghost use Rattle.vr_model.specs.Rules as rules;
 ghost use Rattle.vr_model.specs.declared.message.Body.TheVariants as says;
 ghost use Rattle.vr_core.specs.Changes.{FollowsIfReady};
 ghost use Rattle.vr_core.specs.Follows.{message_from, op_number_of};
-ghost use Rattle.vr_recovery.specs.CatchingUp.{holds_replying};
+ghost use Rattle.vr_recovery.specs.Recovering.{holds_replying};
 
 use std::alloc::Global;
 use vr_core::{Core, ReadyChanges};

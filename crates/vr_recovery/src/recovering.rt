@@ -11,10 +11,9 @@ ghost use Rattle.vr_core.specs.declared.state.Response.{Response};
 ghost use Rattle.il_model.specs.declared.command.Command.{Command};
 ghost use Rattle.vr_model.specs.Messages.{RecoveryResponse, RecoveryResponseMessage};
 ghost use Rattle.vr_core.specs.StandsFor.{ResponseStands, own_group};
-ghost use Rattle.vr_core.specs.Begun.{IsOfNone};
-ghost use Rattle.vr_core.specs.Readied.{IsReadied};
+ghost use Rattle.vr_core.specs.Checkpoints.{IsOfNone, Drops};
+ghost use Rattle.vr_core.specs.Changes.{IsReadied};
 ghost use Rattle.vr_core.specs.Follows.{Tells, FollowsIfKept, DoesIfKept, receives_from};
-ghost use Rattle.vr_core.specs.Dropped.{Drops};
 ghost use Rattle.vr_recovery.specs.Responses.{HasState, IsUnfitResponse, kept_of, stays};
 ghost use Rattle.vr_recovery.specs.Recovering.{Recovers};
 

@@ -7,9 +7,9 @@ ghost use Rattle.vr_model.specs.Logs as logs;
 ghost use Rattle.vr_model.specs.Rules as rules;
 ghost use Rattle.vr_core.specs.StandsFor.{StandsForLog};
 ghost use Rattle.vr_core.specs.Follows.{Tells, FollowsIfKept};
-ghost use Rattle.vr_core.specs.Dropped.{IsUnfit, Drops};
+ghost use Rattle.vr_core.specs.Checkpoints.{IsUnfit, Drops};
 ghost use Rattle.vr_model.specs.Checkpoints.{base_of};
-ghost use Rattle.vr_recovery.specs.CatchingUp.{catches_up};
+ghost use Rattle.vr_recovery.specs.Recovering.{catches_up};
 
 use crate::holding::{hold, hold_as_primary};
 use std::alloc::{AllocError, Global};

@@ -16,7 +16,7 @@ use Rattle.vr_model.specs.Messages.{Message}
 use Rattle.vr_model.specs.StandsFor.{status_of, Stands, Fits}
 use Rattle.vr_model.specs.Steps.{Input, Takes, TimesOut, Resends, Matters, acts, by_rule}
 use Rattle.vr_core.specs.declared.state.Core.{Core}
-use Rattle.vr_core.specs.Down.{StandsForDown, Crashes}
+use Rattle.vr_core.specs.StandsFor.{StandsForDown, Crashes}
 use Rattle.vr_core.specs.StandsFor as core
 use Rattle.vr_core.specs.Follows.{AreSaved}
 use Rattle.vr_core.proofs.WholeLogs.{is_own_group}

@@ -17,7 +17,7 @@ use Rattle.vr_model.specs.StandsFor.{body_with, Stands, AllStand, IsOfOwn, AllSt
 use Rattle.vr_core.specs.declared.state.Core.{Core}
 use Rattle.vr_core.specs.StandsFor.{StandsFor, IsSavedAs}
 use Rattle.vr_core.specs.Follows.{Rule, Leaves, Does, DoesIfKept, DoesIfFits}
-use Rattle.vr_recovery.specs.Answering.{SendsOwn}
+use Rattle.vr_recovery.specs.Responses.{SendsOwn}
 use Rattle.vr_replica.specs.Ruled.{LeavesFrom, DoesFrom}
 use Rattle.vr_replica.proofs.NoState.{IsNoState, NoStates}
 

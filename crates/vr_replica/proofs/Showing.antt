@@ -9,7 +9,7 @@ use Rattle.vr_model.specs.Membership.{Membership}
 use Rattle.vr_model.specs.Replicas.{is_down, ReplicaState}
 use Rattle.vr_model.specs.Checkpoints.{KeptLog, base_of, entry_at, request_of}
 use Rattle.vr_core.proofs.WholeLogs.{kept_entry, entry_kept}
-use Rattle.vr_core.specs.Down.{StandsForDown}
+use Rattle.vr_core.specs.StandsFor.{StandsForDown}
 use Rattle.vr_core.specs.StandsFor as core
 use Rattle.vr_replica.specs.declared.state.Replica.{Replica}
 use Rattle.vr_replica.specs.Standing.{StandsFor}

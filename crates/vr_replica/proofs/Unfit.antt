@@ -7,11 +7,10 @@ use Rattle.vr_model.specs.declared.message.Body.TheVariants as says
 use Rattle.vr_model.specs.declared.message.Message as sent
 use Rattle.vr_model.specs.Protocols.{NormalCase, protocol_of}
 use Rattle.vr_core.specs.declared.state.Core.{Core}
-use Rattle.vr_core.specs.Dropped.{Drops}
+use Rattle.vr_core.specs.Checkpoints.{Drops}
 use Rattle.vr_replica.specs.declared.state.Replica.{Replica}
 use Rattle.vr_replica.specs.declared.fault.StepFault.{StepFault}
-use Rattle.vr_replica.specs.Stepped.{StepResult}
-use Rattle.vr_replica.specs.Dropped.{IsUnfitBody, IsUnfitEvent, DropsEvent}
+use Rattle.vr_replica.specs.Stepped.{StepResult, IsUnfitBody, IsUnfitEvent, DropsEvent}
 
 -- no message of the normal case is one
 pub normal_fits : (core : Core) (s : ℕ) (b : Body) → protocol_of b ≡ NormalCase → IsUnfitBody core s b → ⊥

@@ -1,6 +1,4 @@
-pub mod Faults
+pub mod Stepped
 pub mod Ruled
 pub mod Standing
-pub mod Stepped
-pub mod Dropped
 pub mod Scans

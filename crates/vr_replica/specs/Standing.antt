@@ -7,7 +7,7 @@ use Rattle.vr_model.specs.Membership.{Membership}
 use Rattle.vr_model.specs.Replicas.{is_down, is_recovering, ReplicaState}
 use Rattle.vr_model.specs.StandsFor.{status_of}
 use Rattle.vr_model.specs.declared.standing.Status.TheVariants as status
-use Rattle.vr_core.specs.Down.{StandsForDown}
+use Rattle.vr_core.specs.StandsFor.{StandsForDown}
 use Rattle.vr_core.specs.StandsFor as core
 use Rattle.vr_replica.specs.declared.state.Replica.{Replica}
 

@@ -1,13 +1,19 @@
 -- What one step of a replica owes: the rule of what it took up, or a fault of it.
-use Rattle.std.specs.Prelude.{◌≡◌, ℕ, Bool, true, false, List, Option, Some, None, Result, Ok, Err, ◌⊎◌}
+use Rattle.std.specs.Prelude.{ℕ, ◌≡◌, Bool, true, false, List, Option, Some, None, Result, Ok, Err, ◌⊎◌, []}
 use Rattle.std.specs.declared.alloc.Global.{Global}
 use Rattle.std.specs.declared.vec.Vec.{Vec}
 use Rattle.il_model.specs.declared.command.Command.{Command}
 use Rattle.il_model.specs.declared.command.Answer.{Answer}
+use Rattle.il_model.specs.Snapshots.{SavedController}
+use Rattle.il_model.specs.Program.{Program}
 use Rattle.vr_model.specs.declared.event.Event.{Event}
-use Rattle.vr_model.specs.declared.event.Event.TheVariants as event
 use Rattle.vr_model.specs.declared.event.Stored.{Stored}
+use Rattle.vr_model.specs.declared.event.Event.TheVariants as event
 use Rattle.vr_model.specs.declared.message.Message as code
+use Rattle.vr_model.specs.declared.message.Body as body
+use Rattle.vr_model.specs.declared.message.Body.TheVariants as says
+use Rattle.vr_model.specs.declared.message.Party as party
+use Rattle.vr_model.specs.declared.message.Party.TheVariants as parties
 use Rattle.vr_model.specs.Logs.{IsPrefix}
 use Rattle.vr_model.specs.Membership.{Membership}
 use Rattle.vr_model.specs.Messages.{Message, Body, StartViewChange, DoViewChangeMessage, StartView, NewState}
@@ -16,10 +22,22 @@ use Rattle.vr_model.specs.Rules.{keep, on_restart}
 use Rattle.vr_model.specs.World.{down, executed}
 use Rattle.vr_model.specs.Steps.{Input, Takes, TimesOut, Resends, Matters, acts}
 use Rattle.vr_model.specs.StandsFor.{Stands, AllStandFrom, Fits}
-use Rattle.il_model.specs.Snapshots.{SavedController}
-use Rattle.il_model.specs.Program.{Program}
+use Rattle.vr_core.specs.declared.state.Core.{Core}
+use Rattle.vr_core.specs.Checkpoints.{IsUnfit}
+use Rattle.vr_recovery.specs.Responses.{IsUnfitResponse}
 use Rattle.vr_replica.specs.declared.fault.StepFault.{StepFault}
+use Rattle.vr_replica.specs.declared.fault.StepFault.TheVariants.{Memory, Store, Down}
 use Rattle.vr_replica.specs.declared.fault.StepFault.TheVariants as fault
+use Rattle.vr_replica.specs.declared.state.Replica.{Replica}
+
+-- ---- the numbers of a step's faults
+
+abbrev pub fault_number : StepFault → ℕ
+fault_number Memory = 1
+fault_number Store = 2
+fault_number Down = 3
+
+-- ---- what a step owes
 
 -- what is sent, or why nothing is
 abbrev pub StepResult : Type 0
@@ -123,3 +141,26 @@ module _ {S : Type 0} (load_gives : S → Option Stored → S → Type 0) (save_
     Stepped event.Timeout result = Acted (acts m.f m.number m.answer r TimesOut) result
     Stepped event.Resend result = Acted (acts m.f m.number m.answer r Resends) result
     Stepped (event.Restart x) result = RestartedIf (is_down r.status) x result
+
+-- ---- events that are dropped for the checkpoint that they carry
+
+-- the message of this replica has a checkpoint that is later than its commit number, or that can't be restored
+abbrev pub IsUnfitBody : Core → ℕ → body.Body → Type 0
+IsUnfitBody core s (says.DoViewChange v last c log) = IsUnfit core c log
+IsUnfitBody core s (says.StartView v c log) = IsUnfit core c log
+IsUnfitBody core s (says.RecoveryResponse v x state) = IsUnfitResponse core s (record { view = v; state = state })
+IsUnfitBody core s (says.NewState v p c log) = IsUnfit core c log
+IsUnfitBody core s _ = ⊥
+
+abbrev pub IsUnfitFrom : Core → party.Party → body.Body → Type 0
+IsUnfitFrom core (parties.Replica s) b = IsUnfitBody core s b
+IsUnfitFrom core (parties.Client c) b = ⊥
+
+abbrev pub IsUnfitEvent : Core → Event → Type 0
+IsUnfitEvent core (event.Message a) = IsUnfitFrom core a.from a.body
+IsUnfitEvent core _ = ⊥
+
+-- replica and store are as they were, and nothing is sent
+abbrev pub DropsEvent : {S : Type 0} → Replica → Replica → S → S → StepResult → Type 0
+DropsEvent old new s t (Ok sends) = (new ≡ old) × (t ≡ s) × (sends.items ≡ [])
+DropsEvent old new s t (Err e) = (new ≡ old) × (t ≡ s)

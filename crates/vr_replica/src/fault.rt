@@ -26,7 +26,7 @@ pub enum StepFault {
 }
 
 impl StepFault {
-    ghost use Rattle.vr_replica.specs.Faults.{fault_number};
+    ghost use Rattle.vr_replica.specs.Stepped.{fault_number};
 
     /// The number of a fault, from 1 in the order of this page.
     pub fn number(self) -> u8

@@ -9,8 +9,8 @@ ghost use Rattle.vr_model.specs.StandsFor.{body_with, party_of, Carries};
 ghost use Rattle.vr_core.specs.StandsFor.{IsSavedAs, own_group};
 ghost use Rattle.vr_core.specs.Follows.{DoesIfKept, receives_from};
 ghost use Rattle.vr_replica.specs.Ruled.{DoesFrom, Ruled};
-ghost use Rattle.vr_core.specs.Dropped.{Drops};
-ghost use Rattle.vr_replica.specs.Dropped.{IsUnfitBody, IsUnfitFrom, IsUnfitEvent};
+ghost use Rattle.vr_core.specs.Checkpoints.{Drops};
+ghost use Rattle.vr_replica.specs.Stepped.{IsUnfitBody, IsUnfitFrom, IsUnfitEvent};
 
 use std::alloc::{AllocError, Global};
 use vr_core::{Core, Response};

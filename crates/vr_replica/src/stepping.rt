@@ -3,15 +3,13 @@
 ghost use Rattle.std.specs.Prelude.{◌≡◌, ◌≤◌, ◌↔◌, Err, true, false};
 ghost use Rattle.std.specs.Result.{IsErrOf};
 ghost use Rattle.il_model.specs.declared.command.Command.{Command};
-ghost use Rattle.io_model.specs.Counted.{Failed};
+ghost use Rattle.io_model.specs.Streams.{Failed};
 ghost use Rattle.vr_model.specs.Membership.{Membership};
 ghost use Rattle.vr_model.specs.Replicas as model;
-ghost use Rattle.vr_core.specs.StandsFor.{IsSavedAs};
-ghost use Rattle.vr_core.specs.Down.{Crashes};
+ghost use Rattle.vr_core.specs.StandsFor.{IsSavedAs, Crashes};
 ghost use Rattle.vr_replica.specs.declared.fault.StepFault.TheVariants as fault;
 ghost use Rattle.vr_replica.specs.Standing.{StandsFor, IsDown, IsDeafTo};
-ghost use Rattle.vr_replica.specs.Stepped.{Stepped, Restarted};
-ghost use Rattle.vr_replica.specs.Dropped.{IsUnfitEvent, DropsEvent};
+ghost use Rattle.vr_replica.specs.Stepped.{Stepped, Restarted, IsUnfitEvent, DropsEvent};
 
 use crate::fault::StepFault;
 use crate::rules::by_rule;

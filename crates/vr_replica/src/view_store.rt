@@ -6,7 +6,7 @@ use vr_model::Stored;
 /// The store of a replica: the view that outlives a crash. It counts its failures.
 pub trait ViewStore {
     ghost use Rattle.std.specs.Prelude.{◌≡◌, ◌≤◌, ℕ, Bool, true, false, Option, Some, None, MatchResult, OnErr};
-    ghost use Rattle.io_model.specs.Counted.{Failed};
+    ghost use Rattle.io_model.specs.Streams.{Failed};
     ghost use Rattle.vr_model.specs.declared.event.Stored.{Stored};
 
     // How a load leaves it that gave this, or failed.

@@ -13,7 +13,7 @@ use Rattle.vr_model.specs.Views.{WasLogOf}
 use Rattle.vr_model.specs.Replicas.{ReplicaState, is_normal}
 use Rattle.vr_model.specs.World.{World, Event, Completion, Done, happens, refusal, run, start, executed}
 use Rattle.vr_model.specs.Groups.{client_count}
-use Rattle.vr_schedules.specs.Laws.{Laws}
+use Rattle.vr_schedules.specs.Traces.{Laws, AreNew, IsTraced, Fails}
 use Rattle.vr_model.specs.Report.{released, lost_at, report_from, report, refused_at, first_refusal, AllComplete, all_done}
 use Rattle.vr_schedules.specs.declared.world.World as code
 use Rattle.vr_schedules.specs.declared.event.WorldEvent.{WorldEvent}
@@ -25,7 +25,6 @@ use Rattle.vr_model.specs.StandsFor.{requests_of, AllStand}
 use Rattle.vr_schedules.specs.Handed.{AllStandIn}
 use Rattle.vr_schedules.specs.Events.{event_of, events_of, error_at, number_of}
 use Rattle.vr_schedules.specs.Standing.{NodeShows, Shows, Leads, IsSettled, HappenedOn, WentOn, IsFirst, first_node, releases_of}
-use Rattle.vr_schedules.specs.Traces.{AreNew, IsTraced, Fails}
 use Rattle.vr_schedules.proofs.Standings.{all_stand}
 
 -- ---- one more event in the definitions

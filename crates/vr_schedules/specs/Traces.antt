@@ -1,22 +1,40 @@
--- What a trace owes to its schedule.
-use Rattle.std.specs.Prelude.{◌≡◌, ℕ, List, length, map, Some, None}
+-- What a trace owes to its schedule, and the laws on which that rests.
+use Rattle.std.specs.Prelude.{ℕ, List, ◌≡◌, length, map, Some, None}
 use Rattle.std.specs.List.{slice_get}
 use Rattle.il_model.specs.declared.command.Command.{Command}
 use Rattle.il_model.specs.declared.command.Answer.{Answer}
 use Rattle.il_model.specs.Snapshots.{SavedController}
 use Rattle.il_model.specs.Program.{Program}
+use Rattle.vr_model.specs.World.{Event, Completion, start, first_replica}
+use Rattle.vr_model.specs.Agreement.{OneHistory, RulesKeepExecuted, NewStatesHandLogsOn, CommitsWhatItHad}
+use Rattle.vr_model.specs.Report.{Explains, Report, report, first_refusal, AllComplete}
 use Rattle.vr_model.specs.Groups.{group_size}
 use Rattle.vr_model.specs.Replicas.{ReplicaState}
-use Rattle.vr_model.specs.World.{Event, Completion, start, first_replica}
-use Rattle.vr_model.specs.Report.{Report, report, first_refusal, AllComplete, Explains}
 use Rattle.vr_model.specs.StandsFor.{AllStand, requests_of}
+use Rattle.vr_model.specs.Membership.{Group, Membership, member}
 use Rattle.vr_schedules.specs.declared.event.WorldEvent.{WorldEvent}
-use Rattle.vr_schedules.specs.declared.trace.Trace as code
 use Rattle.vr_schedules.specs.declared.fault.WorldError.{WorldError}
 use Rattle.vr_schedules.specs.declared.fault.WorldError.TheVariants.{BadSchedule, Memory}
-use Rattle.vr_model.specs.Membership.{Group, Membership, member}
+use Rattle.vr_schedules.specs.declared.trace.Trace as code
 use Rattle.vr_schedules.specs.Events.{events_of, number_of}
 use Rattle.vr_schedules.specs.Standing.{releases_of}
+
+-- ---- what is known of every run
+
+-- the laws of replication that a run of a schedule rests on
+pub record Laws : Type 0 where
+  pub one_history : (f : ℕ) (answer : List Command → Answer) (early late : List (Event Command × Completion))
+      → OneHistory f answer early late
+  pub keeps_executed : (f : ℕ) (answer : List Command → Answer) (events : List (Event Command × Completion))
+      → RulesKeepExecuted f answer events
+  pub hands_on : (f : ℕ) (answer : List Command → Answer) (events : List (Event Command × Completion))
+      → NewStatesHandLogsOn f answer events
+  pub commits : (f : ℕ) (answer : List Command → Answer) (events : List (Event Command × Completion))
+      → CommitsWhatItHad f answer events
+  pub explains : (f : ℕ) (answer : List Command → Answer) (events : List (Event Command × Completion))
+      → Explains f answer events
+
+-- ---- traces
 
 -- The trace is this report: its order, lengths, releases and lost events, and messages that stand for those that were
 -- sent.

@@ -2,8 +2,7 @@
 
 ghost use Rattle.std.specs.Prelude.{◌≡◌, MatchResult};
 ghost use Rattle.vr_model.specs.Membership.{Group};
-ghost use Rattle.vr_schedules.specs.Laws.{Laws};
-ghost use Rattle.vr_schedules.specs.Traces.{AreNew, IsTraced, Fails};
+ghost use Rattle.vr_schedules.specs.Traces.{Laws, AreNew, IsTraced, Fails};
 
 use crate::event::WorldEvent;
 use crate::fault::WorldError;

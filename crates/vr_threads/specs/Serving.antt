@@ -2,7 +2,7 @@
 use Rattle.std.specs.Prelude.{ℕ, ◌≡◌, ◌≤◌, ◌↔◌, ◌⊎◌, Bool, List, [], ◌∷◌, ◌++◌, length, map, filter_map, All, Option}
 use Rattle.std.specs.Prelude.{Some, None, Ok, Err, MatchBool, IsErrOf}
 use Rattle.il_model.specs.declared.command.Command.{Command}
-use Rattle.io_model.specs.Counted.{Failed}
+use Rattle.io_model.specs.Streams.{Failed}
 use Rattle.vr_model.specs.declared.event.Event.{Event}
 use Rattle.vr_model.specs.declared.event.Event.TheVariants as event
 use Rattle.vr_model.specs.declared.event.Stored.{Stored}
@@ -18,7 +18,7 @@ use Rattle.vr_ports.specs.declared.timer.Tick.{Tick}
 use Rattle.vr_ports.specs.declared.timer.Tick.TheVariants as tick
 use Rattle.vr_ports.specs.declared.link.Input.{Input}
 use Rattle.vr_ports.specs.declared.link.Input.TheVariants as input
-use Rattle.vr_ports.specs.Telling.{Grows}
+use Rattle.vr_ports.specs.Parties.{Grows}
 
 -- one turn: the timer's tick was the event; or the timer was quiet, and one receive gave this
 pub data Turn : Type 0 where

@@ -4,10 +4,9 @@ ghost use Rattle.std.specs.Prelude.{◌≡◌, ◌<◌, Some, None, false, true,
 ghost use Rattle.std.specs.Duration.{as_nanos};
 ghost use Rattle.vr_ports.specs.declared.timer.Tick.TheVariants as tick;
 ghost use Rattle.vr_threads.specs.declared.patience.Sign.TheVariants as sign;
-ghost use Rattle.vr_threads.specs.Patience.{sign_of, wait_behind};
-ghost use Rattle.vr_threads.specs.GroupPatience.{GoWith, is_within, has_bit, has_stood, may_change, lacks_primary};
-ghost use Rattle.vr_threads.specs.GroupPatience.{is_healing, is_late, is_timeout, begins_anew, group_tick};
-ghost use Rattle.vr_threads.specs.GroupPatience.{silent_after, lacking_after, alone_after};
+ghost use Rattle.vr_threads.specs.Patience.{sign_of, wait_behind, GoWith, is_within, has_bit, has_stood, may_change};
+ghost use Rattle.vr_threads.specs.Patience.{lacks_primary, is_healing, is_late, is_timeout, begins_anew, group_tick};
+ghost use Rattle.vr_threads.specs.Patience.{silent_after, lacking_after, alone_after};
 
 use crate::patience::{Patience, is_over, primary};
 use std::time::Duration;

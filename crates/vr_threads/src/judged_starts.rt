@@ -54,7 +54,7 @@ impl<S: ViewStore> ViewStore for JudgedStarts<S> {
 
 impl<S: Starts> Starts for JudgedStarts<S> {
     ghost use Rattle.std.specs.Prelude.{IfSome, false};
-    ghost use Rattle.vr_threads.specs.Starting.{BeginsAsJudged};
+    ghost use Rattle.vr_threads.specs.Working.{BeginsAsJudged};
 
     ghost begin_gives = { λ s stored t. BeginsAsJudged S.begin_gives s.is_first s.store stored t.store
         × IfSome stored (λ _. t.is_first ≡ false) };

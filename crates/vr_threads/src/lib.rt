@@ -18,8 +18,8 @@
 //! replica normal in view 0, each later one finds it down, with the count as its nonce; the thread of a replica has it
 //! come up with that before all else (`specs/Working`). A start that is another one than was judged fails
 //! (`JudgedStarts`): a blank file begins no replica anew. Which tick comes, by what a timer heard (`specs/Patience`),
-//! and in a group of machines by who is near and reached (`specs/GroupPatience`): no timeout while fewer than f are
-//! near, but of a primary. What `serve` showed last is what the replica is after its last step (`specs/Showing`).
+//! and in a group of machines by who is near and reached (`specs/Patience`): no timeout while fewer than f are near,
+//! but of a primary. What `serve` showed last is what the replica is after its last step (`specs/Showing`).
 //!
 //! Only tested: that replicas run at once, that a group over channels answers, that one which was started before
 //! recovers, that nobody waits for a disk that hangs (`cluster_rows` of `tests_threads`), and stores on real files

@@ -1,7 +1,7 @@
 //! The loop of a thread that owns a replica.
 
 ghost use Rattle.std.specs.Prelude.{◌≡◌};
-ghost use Rattle.vr_ports.specs.Telling.{Grows};
+ghost use Rattle.vr_ports.specs.Parties.{Grows};
 ghost use Rattle.vr_replica.specs.Stepped.{StepResult};
 ghost use Rattle.vr_threads.specs.Serving.{StepsTo, Served, Turned, sends_in, scene};
 ghost use Rattle.vr_threads.specs.Showing.{ShowsStep, KeepsShowing, IsStandingOf, is_store_fault};

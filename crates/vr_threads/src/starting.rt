@@ -3,7 +3,7 @@
 ghost use Rattle.std.specs.Prelude.{IfOk};
 ghost use Rattle.vr_model.specs.Membership.{member};
 ghost use Rattle.vr_core.specs.StandsFor.{group_of};
-ghost use Rattle.vr_threads.specs.Starting.{HasStarted};
+ghost use Rattle.vr_threads.specs.Working.{HasStarted};
 
 use il_loader::Image;
 use il_model::Budget;
@@ -14,7 +14,7 @@ use vr_replica::{Replica, StoreFault, ViewStore};
 /// A store that counts the starts of its replica.
 pub trait Starts: ViewStore {
     ghost use Rattle.std.specs.Prelude.{◌≡◌, ◌≤◌, Option, Some, None, MatchResult, IfOk, OnErr};
-    ghost use Rattle.io_model.specs.Counted.{Failed};
+    ghost use Rattle.io_model.specs.Streams.{Failed};
     ghost use Rattle.vr_model.specs.declared.event.Stored.{Stored};
 
     // How a start leaves it that gave this, or failed.

@@ -3,8 +3,7 @@
 ghost use Rattle.std.specs.Prelude.{◌≡◌, IfOk, OnOk, false};
 ghost use Rattle.vr_threads.specs.Serving.{scene};
 ghost use Rattle.vr_shown.specs.Showing.{down_standing};
-ghost use Rattle.vr_threads.specs.Starting.{HasStarted};
-ghost use Rattle.vr_threads.specs.Working.{ComesUp, Worked, planned};
+ghost use Rattle.vr_threads.specs.Working.{HasStarted, ComesUp, Worked, planned};
 
 use crate::observer::Observer;
 use crate::seat::Seat;

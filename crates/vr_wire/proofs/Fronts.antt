@@ -12,7 +12,7 @@ use Rattle.vr_wire.specs.MessageReading.{message_at, Front, Waits, Whole, Broken
 use Rattle.std.specs.Prelude.{Result, Ok, Err}
 use Rattle.vr_wire.specs.declared.fault.WireError.{WireError}
 use Rattle.vr_wire.specs.declared.fault.WireError.TheVariants as errors
-use Rattle.vr_wire.specs.Shown.{IsWhole, Shows, ReadsFront}
+use Rattle.vr_wire.specs.Streams.{IsWhole, Shows, ReadsFront}
 use Rattle.vr_wire.proofs.Fields.{IsBytes, IsBytes-take, IsBytes-drop, wide32}
 use Rattle.vr_wire.proofs.Messages.{message_takes, message_again, message_long}
 

@@ -6,14 +6,13 @@ use Rattle.std.proofs.lemmas.Bool.{cases_lt}
 use Rattle.std.proofs.lemmas.List.{append-nil, nil_from_length, take_at, take-append-drop}
 use Rattle.std.proofs.lemmas.List.Concat.{flat_map-cons}
 use Rattle.std.proofs.lemmas.Grind.{flat_map-append}
-use Rattle.io_model.specs.Stream.{Ending, Rest, Took, ending_of}
+use Rattle.io_model.specs.Streams.{Ending, Rest, Took, ending_of}
 use Rattle.io_model.proofs.Streams.{IsReadable}
 use Rattle.vr_model.specs.declared.message.Message.{Message}
 use Rattle.vr_model.specs.Logs.{IsPrefix}
 use Rattle.vr_wire.specs.declared.fault.WireFault.{WireFault}
 use Rattle.vr_wire.specs.Frames.{frame_of, message_bytes, told_length, IsFramed, IsPartial, IsBroken, IsShort}
-use Rattle.vr_wire.specs.Shown.{IsWhole}
-use Rattle.vr_wire.specs.Feeding.{frames, Fills}
+use Rattle.vr_wire.specs.Streams.{IsWhole, frames, Fills}
 use Rattle.vr_wire.proofs.Fronts.{told_in, told_more, same_frame, partial_frame, broken_frame, one_fault, partial_broken, broken_more}
 
 -- ---- frame after frame

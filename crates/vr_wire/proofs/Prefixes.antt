@@ -2,9 +2,9 @@
 use Rattle.std.proofs.Common.{◌≡◌, ℕ, List, [], ◌∷◌, ◌++◌, refl, sym, ap, ap₂, subst, ◌∙◌, append_assoc}
 use Rattle.std.specs.List.{flat_map, AllByRecursion}
 use Rattle.std.proofs.lemmas.List.Concat.{flat_map-cons}
-use Rattle.io_model.specs.Stream.{Format, Ending, Rest, Fault, Ends, IsRest}
+use Rattle.io_model.specs.Streams.{Format, Ending, Rest, Fault, Ends, IsRest}
 use Rattle.io_model.proofs.Streams.{IsReadable}
-use Rattle.vr_wire.specs.Feeding.{frames, OnlyFramed}
+use Rattle.vr_wire.specs.Streams.{frames, OnlyFramed}
 use Rattle.vr_wire.proofs.Pieces.{readable}
 
 module _ {X F : Type 0} (format : Format X F) (can_read : IsReadable format) where

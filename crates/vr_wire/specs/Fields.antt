@@ -14,8 +14,8 @@ use Rattle.il_model.specs.declared.command.Answer.{Answer}
 use Rattle.il_model.specs.declared.command.Answer.TheVariants as answers
 use Rattle.il_model.specs.Values.{typed_value, ty_of, number_of}
 use Rattle.il_model.specs.Image.{type_code}
-use Rattle.il_model.specs.Numbers.{stop_number, refusal_number}
-use Rattle.il_model.specs.Cells.{safe_image}
+use Rattle.il_model.specs.Answers.{stop_number, refusal_number}
+use Rattle.il_model.specs.Locations.{safe_image}
 
 -- how many there are, in a number of that width, and each
 abbrev pub listed : {X : Type 0} → Width → (X → List ℕ) → List X → List ℕ

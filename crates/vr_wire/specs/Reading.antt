@@ -18,7 +18,7 @@ use Rattle.il_model.specs.declared.command.Refusal.{Refusal}
 use Rattle.il_model.specs.declared.command.Refusal.TheVariants as refusals
 use Rattle.il_model.specs.Values.{typed_value}
 use Rattle.il_model.specs.Codes.{type_of}
-use Rattle.il_model.specs.Cells.{safe_image}
+use Rattle.il_model.specs.Locations.{safe_image}
 use Rattle.vr_wire.specs.Fields.{type_width}
 use Rattle.vr_wire.specs.declared.fault.ReadError.{ReadError}
 use Rattle.vr_wire.specs.declared.fault.ReadError.TheVariants as errors

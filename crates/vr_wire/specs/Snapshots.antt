@@ -15,7 +15,7 @@ use Rattle.il_model.specs.Snapshots.{SavedBlock, SavedController}
 use Rattle.il_model.specs.Kinds.{kind_code, input_count}
 use Rattle.il_model.specs.Image.{op_code}
 use Rattle.il_model.specs.Codes.{letters_of}
-use Rattle.il_model.specs.Numbers.{stop_number}
+use Rattle.il_model.specs.Answers.{stop_number}
 use Rattle.vr_wire.specs.Fields.{listed, counted, value_bytes, bit_number, cells_bytes, FitsValue, FitsCells}
 
 -- ---- the open scan: its phase, why it stopped, where it is, how many instructions it has performed

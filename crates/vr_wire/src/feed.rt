@@ -1,10 +1,10 @@
 //! The messages of a stream of frames, in whatever pieces it comes.
 
 ghost use Rattle.std.specs.Prelude.{◌≡◌, ◌-◌, ◌++◌, [], List, length, take, drop, IfOk, OnErr, Err};
-ghost use Rattle.io_model.specs.Stream.{Rest, IsOneStream, Took, ending_of};
+ghost use Rattle.io_model.specs.Streams.{Rest, IsOneStream, Took, ending_of};
 ghost use Rattle.vr_model.specs.Logs.{IsPrefix};
 ghost use Rattle.vr_wire.specs.Frames.{IsShort};
-ghost use Rattle.vr_wire.specs.Feeding.{frames, Fills, Feeding, OnlyFramed};
+ghost use Rattle.vr_wire.specs.Streams.{frames, Fills, Feeding, OnlyFramed};
 
 use crate::fault::{WireError, WireFault};
 use crate::front::{front_of, told_size};
@@ -121,7 +121,7 @@ pub struct Feed {
 
 impl Model for Feed {
     ghost use Rattle.vr_wire.specs.declared.fault.WireFault.{WireFault};
-    ghost use Rattle.io_model.specs.Stream.{Ending, ending_of};
+    ghost use Rattle.io_model.specs.Streams.{Ending, ending_of};
     ghost use Rattle.vr_wire.specs.Frames.{IsShort};
 
     ghost Value = { Ending WireFault };

@@ -3,7 +3,7 @@
 ghost use Rattle.std.specs.Prelude.{◌≡◌, ◌+◌, ◌≤◌, length};
 ghost use Rattle.vr_wire.specs.Frames.{told_length};
 ghost use Rattle.vr_wire.specs.MessageReading.{front_by, front_of};
-ghost use Rattle.vr_wire.specs.Shown.{ReadsFront, Shows};
+ghost use Rattle.vr_wire.specs.Streams.{ReadsFront, Shows};
 
 use crate::fault::{ReadError, WireError, WireFault};
 use crate::message::whole_message;

@@ -16,8 +16,7 @@ use Rattle.vr_model.specs.Checkpoints.{request_of, requests_of}
 use Rattle.vr_model.specs.World as world
 use Rattle.vr_model.specs.World.{run, start}
 use Rattle.vr_model.specs.Report.{Report, Each, IsReleased, report, last_or}
-use Rattle.vr_core.specs.Answers.{last_of, answer_to}
-use Rattle.vr_core.specs.StandsFor.{group_of, IsSavedAs}
+use Rattle.vr_core.specs.StandsFor.{last_of, answer_to, group_of, IsSavedAs}
 use Rattle.vr_schedules.specs.declared.event.WorldEvent.{WorldEvent}
 use Rattle.vr_schedules.specs.declared.event.WorldEvent.TheVariants as code
 use Rattle.vr_schedules.specs.declared.fault.WorldError.{WorldError}

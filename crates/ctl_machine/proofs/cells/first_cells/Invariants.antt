@@ -1,5 +1,5 @@
 use Rattle.std.proofs.Common.{◌≡◌, drop}
-use Rattle.ctl_model.specs.Cold.{with_firsts, first_cells}
+use Rattle.ctl_model.specs.State.{with_firsts, first_cells}
 use Rattle.ctl_machine.proofs.cells.first_cells.Given as goal
 
 abbrev pub invariant-loop-variable : goal.invariant-loop-variable

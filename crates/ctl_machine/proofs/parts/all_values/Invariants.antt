@@ -1,5 +1,5 @@
 use Rattle.std.proofs.Common.{◌≡◌, ◌++◌, drop}
-use Rattle.ctl_machine.specs.Parts.{all_values}
+use Rattle.ctl_machine.specs.Kept.{all_values}
 use Rattle.ctl_machine.proofs.parts.all_values.Given as goal
 
 abbrev pub invariant-loop-variable : goal.invariant-loop-variable

@@ -1,5 +1,5 @@
 use Rattle.std.proofs.Common.{subst}
-use Rattle.ctl_machine.specs.Parts.{Restores}
+use Rattle.ctl_machine.specs.Kept.{Restores}
 use Rattle.ctl_machine.proofs.Restoring.{lost_at}
 use Rattle.ctl_machine.proofs.parts.restored_instances.Goals as goal
 

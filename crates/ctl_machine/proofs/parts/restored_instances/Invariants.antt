@@ -1,6 +1,6 @@
 use Rattle.std.proofs.Common.{◌≡◌, take, map}
 use Rattle.ctl_model.specs.Snapshots.{saved_instance}
-use Rattle.ctl_machine.specs.Parts.{AreLawful}
+use Rattle.ctl_machine.specs.Kept.{AreLawful}
 use Rattle.ctl_machine.proofs.parts.restored_instances.Given as goal
 
 abbrev pub invariant-loop-x : goal.invariant-loop-x

@@ -1,6 +1,6 @@
 use Rattle.std.proofs.Common.{subst}
 use Rattle.std.specs.Prelude.{MatchBool}
-use Rattle.ctl_machine.specs.Parts.{HasBlock, HasNoBlock}
+use Rattle.ctl_machine.specs.Kept.{HasBlock, HasNoBlock}
 use Rattle.ctl_machine.proofs.Restoring.{lost_at}
 use Rattle.ctl_machine.proofs.shape.have_states.Goals as goal
 

@@ -1,5 +1,5 @@
 use Rattle.std.proofs.Common.{take}
-use Rattle.ctl_machine.specs.Parts.{HaveBlocks}
+use Rattle.ctl_machine.specs.Kept.{HaveBlocks}
 use Rattle.ctl_machine.proofs.shape.have_states.Given as goal
 
 abbrev pub invariant-loop-x : goal.invariant-loop-x

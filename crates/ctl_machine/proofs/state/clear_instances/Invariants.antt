@@ -1,5 +1,5 @@
 use Rattle.std.proofs.Common.{◌≡◌, take, map, length}
-use Rattle.ctl_model.specs.Cold.{cold_instance}
+use Rattle.ctl_model.specs.State.{cold_instance}
 use Rattle.ctl_machine.proofs.state.clear_instances.Given as goal
 
 abbrev pub invariant-loop-i : goal.invariant-loop-i

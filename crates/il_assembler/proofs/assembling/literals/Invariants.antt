@@ -1,7 +1,7 @@
 use Rattle.std.proofs.Common.{◌≡◌, Ok, take}
 use Rattle.il_model.specs.Checking.{shape_at}
 use Rattle.il_model.specs.Settled.{settled_text}
-use Rattle.il_assembler.specs.Encoded.{literals_of}
+use Rattle.il_assembler.specs.Walk.{literals_of}
 use Rattle.il_assembler.proofs.assembling.literals.Given as goal
 
 abbrev pub invariant-loop-n : goal.invariant-loop-n

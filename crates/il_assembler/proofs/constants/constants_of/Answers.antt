@@ -1,5 +1,5 @@
 use Rattle.std.proofs.Common.{[]}
-use Rattle.il_assembler.specs.Encoded.{constants_in, all_literals}
+use Rattle.il_assembler.specs.Walk.{constants_in, all_literals}
 use Rattle.il_assembler.proofs.Gathered.{line_gathered}
 use Rattle.il_assembler.proofs.constants.constants_of.Goals as goal
 

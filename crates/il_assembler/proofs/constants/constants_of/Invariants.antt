@@ -1,5 +1,5 @@
 use Rattle.std.proofs.Common.{◌≡◌, [], drop}
-use Rattle.il_assembler.specs.Encoded.{constants_in, all_literals}
+use Rattle.il_assembler.specs.Walk.{constants_in, all_literals}
 use Rattle.il_assembler.proofs.constants.constants_of.Given as goal
 
 abbrev pub invariant-loop-n : goal.invariant-loop-n

@@ -1,5 +1,5 @@
 use Rattle.std.proofs.Common.{◌≡◌, drop}
-use Rattle.il_assembler.specs.Encoded.{constants_in, literals_in}
+use Rattle.il_assembler.specs.Walk.{constants_in, literals_in}
 use Rattle.il_assembler.proofs.Gathered.{passing_literals}
 use Rattle.il_assembler.proofs.constants.with_line.Given as goal
 

@@ -1,6 +1,6 @@
 use Rattle.std.proofs.Common.{◌≡◌, ◌+◌, ◌*◌, ◌≤◌, ◌++◌, drop}
 use Rattle.il_model.specs.Marks.{words_in}
-use Rattle.il_assembler.specs.Encoded.{addresses_from}
+use Rattle.il_assembler.specs.Walk.{addresses_from}
 use Rattle.il_assembler.proofs.encode.addresses_of.Given as goal
 
 abbrev pub invariant-loop-line : goal.invariant-loop-line

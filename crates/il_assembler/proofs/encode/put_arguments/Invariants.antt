@@ -1,6 +1,6 @@
 use Rattle.std.proofs.Common.{◌≡◌, ◌++◌, take}
 use Rattle.std.specs.List.{flat_map}
-use Rattle.il_assembler.specs.Encoded.{settled_passing_word}
+use Rattle.il_assembler.specs.Walk.{settled_passing_word}
 use Rattle.il_assembler.proofs.encode.put_arguments.Given as goal
 
 abbrev pub invariant-loop-a : goal.invariant-loop-a

@@ -1,5 +1,5 @@
 use Rattle.std.proofs.Common.{◌≡◌, ◌++◌, drop}
-use Rattle.il_assembler.specs.Encoded.{settled_words}
+use Rattle.il_assembler.specs.Walk.{settled_words}
 use Rattle.il_assembler.proofs.encode.put_words.Given as goal
 
 abbrev pub invariant-loop-n : goal.invariant-loop-n

@@ -1,7 +1,7 @@
 use Rattle.std.proofs.Common.{refl, ◌∙◌, sym, ap, List, ℕ, length}
-use Rattle.il_model.specs.Names.{same_name}
+use Rattle.il_model.specs.Words.{same_name}
 use Rattle.il_model.proofs.Indexing.{put_behind, keep_behind}
-use Rattle.il_loader.specs.InstanceTables.{is_instance}
+use Rattle.il_loader.specs.NameTables.{is_instance}
 use Rattle.il_loader.proofs.instance.put_number.Goals as goal
 
 pub returns-in_ok-insert : goal.returns-in_ok-insert

@@ -1,6 +1,6 @@
 use Rattle.std.proofs.Common.{refl, sym, ◌∙◌, length}
 use Rattle.il_model.proofs.Indexing.{put_behind, keep_behind}
-use Rattle.il_loader.specs.LabelTables.{is_called}
+use Rattle.il_loader.specs.NameTables.{is_called}
 use Rattle.il_loader.proofs.label.put_number.Goals as goal
 
 pub returns-in_ok-insert : goal.returns-in_ok-insert

@@ -1,5 +1,5 @@
 use Rattle.std.proofs.Common.{◌≡◌, rules, arith, Some}
-use Rattle.il_model.specs.Limits.{program_of}
+use Rattle.il_model.specs.Program.{program_of}
 use Rattle.il_loader.specs.Tables.{lines_of}
 use Rattle.il_loader.proofs.Groups.{program_fits}
 use Rattle.il_loader.proofs.loading.program_of.Goals as goal

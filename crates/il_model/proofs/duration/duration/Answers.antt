@@ -1,6 +1,5 @@
 use Rattle.std.proofs.Common.{sym, ◌∙◌, rules, arith}
-use Rattle.il_model.specs.Literal.{held_integer}
-use Rattle.il_model.specs.Durations.{part_text, parts_by}
+use Rattle.il_model.specs.Literals.{held_integer, part_text, parts_by}
 use Rattle.il_model.proofs.Decimals.{no_part, too_high, last_part, not_last, goes_on, ran_out}
 use Rattle.il_model.proofs.duration.duration.Goals as goal
 

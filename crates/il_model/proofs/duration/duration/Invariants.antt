@@ -1,7 +1,6 @@
 use Rattle.std.proofs.Common.{◌≡◌, ◌≤◌, ◌+◌, ◌-◌, ◌*◌}
 use Rattle.std.specs.Prelude.{option_map}
-use Rattle.il_model.specs.Literal.{held_integer}
-use Rattle.il_model.specs.Durations.{parts_by}
+use Rattle.il_model.specs.Literals.{held_integer, parts_by}
 use Rattle.il_model.proofs.duration.duration.Given as goal
 
 abbrev pub invariant-loop : goal.invariant-loop

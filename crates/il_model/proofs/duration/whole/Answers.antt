@@ -1,6 +1,5 @@
 use Rattle.std.proofs.Common.{◌≡◌, ◌+◌, ◌-◌, ◌*◌, ◌/◌, ◌%◌, rules, arith, get_or, subst, sym}
-use Rattle.il_model.specs.Literal.{digit_of}
-use Rattle.il_model.specs.Durations.{digit_list}
+use Rattle.il_model.specs.Literals.{digit_of, digit_list}
 use Rattle.il_model.proofs.Decimals.{Leads, upto, at_digit, at_join, turned_back, turned_on, not_whole, ends_at, small_step, is_whole, is_broken}
 use Rattle.il_model.proofs.duration.whole.Goals as goal
 

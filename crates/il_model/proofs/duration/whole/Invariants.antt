@@ -1,5 +1,5 @@
 use Rattle.std.proofs.Common.{ℕ, ◌≤◌, ◌*◌, length}
-use Rattle.il_model.specs.Durations.{digit_list}
+use Rattle.il_model.specs.Literals.{digit_list}
 use Rattle.il_model.proofs.Decimals.{IsFraction, Leads, upto}
 use Rattle.il_model.proofs.duration.whole.Given as goal
 

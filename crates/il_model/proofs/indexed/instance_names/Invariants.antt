@@ -1,7 +1,7 @@
 use Rattle.std.proofs.Common.{◌≡◌, ◌≤◌, ℕ, List, length, drop}
 use Rattle.il_model.specs.declared.program.Instance.{Instance}
-use Rattle.il_model.specs.Names.{same_name}
-use Rattle.il_model.specs.NameTables.{first_in}
+use Rattle.il_model.specs.Words.{same_name}
+use Rattle.il_model.specs.Tables.{first_in}
 use Rattle.il_model.proofs.Indexing.{first_where}
 use Rattle.il_model.proofs.indexed.instance_names.Given as goal
 

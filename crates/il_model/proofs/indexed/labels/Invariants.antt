@@ -1,6 +1,6 @@
 use Rattle.std.proofs.Common.{◌≡◌, ◌≤◌, ℕ, List, length, drop}
 use Rattle.il_model.specs.Resolved.{has_label}
-use Rattle.il_model.specs.NameTables.{first_in}
+use Rattle.il_model.specs.Tables.{first_in}
 use Rattle.il_model.proofs.Indexing.{first_where}
 use Rattle.il_model.proofs.indexed.labels.Given as goal
 

@@ -1,6 +1,6 @@
 use Rattle.std.proofs.Common.{◌≡◌, ℕ, ◌<◌, ◌+◌, ◌*◌, min, true, rules, arith, get_or}
 use Rattle.std.specs.Prelude.{option_map}
-use Rattle.il_model.specs.Literal.{digit_of, integer_of}
+use Rattle.il_model.specs.Literals.{digit_of, integer_of}
 use Rattle.il_model.proofs.Literals.{digit_at, underscore_at}
 use Rattle.il_model.proofs.literal.integer.Goals as goal
 use Rattle.il_model.proofs.literal.integer.Goals.{then-b-eq95+else-not-behind, else-b-eq95+else-d-base}

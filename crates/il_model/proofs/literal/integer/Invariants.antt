@@ -1,6 +1,6 @@
 use Rattle.std.proofs.Common.{◌≡◌, ◌≤◌, min, drop}
 use Rattle.std.specs.Prelude.{option_map}
-use Rattle.il_model.specs.Literal.{integer_of, integer_behind}
+use Rattle.il_model.specs.Literals.{integer_of, integer_behind}
 use Rattle.il_model.proofs.literal.integer.Given as goal
 
 abbrev pub invariant-loop-b : goal.invariant-loop-b

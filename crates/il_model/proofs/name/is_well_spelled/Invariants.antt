@@ -1,5 +1,5 @@
 use Rattle.std.proofs.Common.{◌≡◌, length}
-use Rattle.il_model.specs.Names.{is_well_spelled}
+use Rattle.il_model.specs.Words.{is_well_spelled}
 use Rattle.il_model.proofs.name.is_well_spelled.Given as goal
 
 abbrev pub invariant-loop-rest : goal.invariant-loop-rest

@@ -1,6 +1,6 @@
 use Rattle.std.proofs.Common.{ℕ, List, take, sym, ◌∙◌}
 use Rattle.std.specs.Io.KnownBytes.{Appends}
-use Rattle.io_model.specs.Counted.{Failed}
+use Rattle.io_model.specs.Streams.{Failed}
 use Rattle.modbus_wire.specs.Frames.{Adu}
 use Rattle.plc_host.specs.declared.requests.Requests.{Requests}
 use Rattle.modbus_server.specs.Sessions.{Images, AnswersSome, Adds}

@@ -1,6 +1,6 @@
 use Rattle.std.proofs.Common.{◌≡◌, ◌+◌, ℕ, List, ◌∷◌, [], ◌++◌, length, take, drop, get_or, ◌∙◌, ap, sym, subst, take-append-drop}
 use Rattle.std.proofs.lemmas.List.{take_more}
-use Rattle.io_model.specs.Stream.{Rest, Fault, Took}
+use Rattle.io_model.specs.Streams.{Rest, Fault, Took}
 use Rattle.modbus_wire.specs.Frames.{Adu, header_of, adus}
 use Rattle.modbus_wire.proofs.Feeds.{took_unit, took_fault, step_short, step_size, on_err}
 use Rattle.modbus_wire.proofs.session.take_units.Goals as goal

@@ -1,5 +1,5 @@
 use Rattle.std.proofs.Common.{take}
-use Rattle.io_model.specs.Stream.{Rest, Took}
+use Rattle.io_model.specs.Streams.{Rest, Took}
 use Rattle.modbus_wire.specs.Frames.{adus}
 use Rattle.modbus_wire.proofs.session.take_units.Given as goal
 

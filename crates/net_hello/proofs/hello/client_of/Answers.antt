@@ -1,7 +1,7 @@
 use Rattle.std.proofs.Common.{ℕ, sym, ap, ◌∙◌}
 use Rattle.std.proofs.lemmas.Bool.{cases_lt}
 use Rattle.vr_model.specs.Groups.{client_count}
-use Rattle.net_hello.specs.Reading.{client_by}
+use Rattle.net_hello.specs.Hellos.{client_by}
 use Rattle.net_hello.proofs.Readings.{client_again}
 use Rattle.net_hello.proofs.hello.client_of.Goals as goal
 

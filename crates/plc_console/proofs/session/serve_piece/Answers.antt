@@ -1,6 +1,6 @@
 use Rattle.std.proofs.Common.{◌≡◌, ◌+◌, ◌++◌, ◌∷◌, [], ℕ, List, take, drop, get_or, sym, ap, subst, ◌∙◌, take-append-drop, arith}
 use Rattle.std.proofs.lemmas.List.{take_more}
-use Rattle.io_model.specs.Counted.{Failed}
+use Rattle.io_model.specs.Streams.{Failed}
 use Rattle.plc_console.specs.Sessions.{Scene, scene}
 use Rattle.plc_console.proofs.Sessions.{PieceStopped, piece_more, piece_stops}
 use Rattle.plc_console.proofs.session.serve_piece.Goals as goal

@@ -1,6 +1,6 @@
 use Rattle.std.proofs.Common.{◌∙◌, inl, refl, ap, Option}
 use Rattle.il_model.specs.Program.{Program}
-use Rattle.plc_console.specs.InForce.{goes_on_with}
+use Rattle.plc_console.specs.Mirrored.{goes_on_with}
 use Rattle.plc_console.proofs.Sessions.{answered_one}
 use Rattle.plc_console.proofs.session.submit.Goals as goal
 

@@ -1,5 +1,5 @@
 use Rattle.std.proofs.Common.{length, sym, ap, ◌∙◌, arith, length-drop, length-set}
-use Rattle.plc_epochs.specs.VisitReading.{nonce_of, told_of}
+use Rattle.plc_epochs.specs.Visits.{nonce_of, told_of}
 use Rattle.plc_epochs.proofs.Nonces.{begins, goes_on, ends, done}
 use Rattle.plc_epochs.proofs.visit.told_of.Goals as goal
 

@@ -1,5 +1,5 @@
 use Rattle.std.proofs.Common.{◌≡◌, ◌-◌, ◌*◌, length, take}
-use Rattle.plc_epochs.specs.VisitReading.{nonces_of, told_of}
+use Rattle.plc_epochs.specs.Visits.{nonces_of, told_of}
 use Rattle.plc_epochs.proofs.Nonces.{behind}
 use Rattle.plc_epochs.proofs.visit.told_of.Given as goal
 

@@ -1,5 +1,5 @@
 use Rattle.std.proofs.Common.{arith}
-use Rattle.plc_figures.specs.Json.{escaped}
+use Rattle.plc_figures.specs.Texts.{escaped}
 use Rattle.plc_figures.proofs.Chains.{nothing}
 use Rattle.plc_figures.proofs.Numbered.{all_plain, one_more_by}
 use Rattle.plc_figures.proofs.json.put_characters.Goals as goal

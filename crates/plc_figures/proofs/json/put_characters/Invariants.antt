@@ -1,7 +1,6 @@
 use Rattle.std.proofs.Common.{take}
 use Rattle.std.specs.List.{flat_map}
-use Rattle.plc_figures.specs.Json.{escaped}
-use Rattle.plc_figures.specs.Texts.{IsAdded}
+use Rattle.plc_figures.specs.Texts.{escaped, IsAdded}
 use Rattle.plc_figures.proofs.json.put_characters.Given as goal
 
 abbrev pub invariant-loop-byte : goal.invariant-loop-byte

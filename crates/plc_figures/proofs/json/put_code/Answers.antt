@@ -1,5 +1,5 @@
 use Rattle.std.proofs.Common.{ℕ, ◌/◌, [], ◌∷◌, ap, ◌∙◌}
-use Rattle.plc_figures.specs.Json.{hex_digit}
+use Rattle.plc_figures.specs.Texts.{hex_digit}
 use Rattle.plc_figures.proofs.Chains.{equally, then}
 use Rattle.plc_figures.proofs.json.put_code.Goals as goal
 

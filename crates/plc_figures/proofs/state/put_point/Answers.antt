@@ -1,6 +1,6 @@
 use Rattle.std.proofs.Common.{ap, rules}
 use Rattle.std.specs.Fmt.{signed_decimal}
-use Rattle.plc_figures.specs.Json.{string_json}
+use Rattle.plc_figures.specs.Texts.{string_json}
 use Rattle.plc_figures.proofs.Chains.{equally, that, then}
 use Rattle.plc_figures.proofs.state.put_point.Goals as goal
 

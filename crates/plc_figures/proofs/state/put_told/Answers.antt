@@ -1,5 +1,5 @@
 use Rattle.std.proofs.Common.{ap}
-use Rattle.plc_figures.specs.Json.{string_json}
+use Rattle.plc_figures.specs.Texts.{string_json}
 use Rattle.plc_figures.proofs.Chains.{equally, then}
 use Rattle.plc_figures.proofs.state.put_told.Goals as goal
 

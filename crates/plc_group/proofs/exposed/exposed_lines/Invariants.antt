@@ -1,6 +1,6 @@
 use Rattle.std.proofs.Common.{◌≡◌, ◌++◌, drop, string_bytes}
 use Rattle.std.specs.List.{flat_map}
-use Rattle.plc_group.specs.Exposed.{exposed_line}
+use Rattle.plc_group.specs.Lines.{exposed_line}
 use Rattle.plc_group.proofs.exposed.exposed_lines.Given as goal
 
 abbrev pub invariant-loop-place : goal.invariant-loop-place

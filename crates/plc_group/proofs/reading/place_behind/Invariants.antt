@@ -1,5 +1,5 @@
 use Rattle.std.proofs.Common.{◌≡◌, ◌≤◌, ◌+◌, take}
-use Rattle.plc_group.specs.Places.{column_behind, line_behind}
+use Rattle.plc_group.specs.Lines.{column_behind, line_behind}
 use Rattle.plc_group.proofs.reading.place_behind.Given as goal
 
 abbrev pub invariant-loop-byte : goal.invariant-loop-byte

@@ -1,8 +1,7 @@
 use Rattle.std.proofs.Common.{◌+◌, ◌++◌, [], ◌∷◌, map, sym, ◌∙◌}
 use Rattle.std.proofs.lemmas.List.{map-append}
 use Rattle.serde_json.specs.View.{view}
-use Rattle.plc_json.specs.Asking.{asking_in, asking_of}
-use Rattle.plc_json.specs.Single.{bytes_of}
+use Rattle.plc_json.specs.Asking.{asking_in, asking_of, bytes_of}
 use Rattle.plc_json.proofs.Each.{tells, tells_none}
 use Rattle.plc_json.proofs.Nesting.{nests_at}
 use Rattle.plc_json.proofs.Texts.{all_more, told_none, told_all}

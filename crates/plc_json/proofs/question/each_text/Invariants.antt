@@ -1,6 +1,6 @@
 use Rattle.std.proofs.Common.{drop, map}
 use Rattle.serde_json.specs.View.{view}
-use Rattle.plc_json.specs.Single.{bytes_of}
+use Rattle.plc_json.specs.Asking.{bytes_of}
 use Rattle.plc_json.proofs.Texts.{Told}
 use Rattle.plc_json.proofs.question.each_text.Given as goal
 

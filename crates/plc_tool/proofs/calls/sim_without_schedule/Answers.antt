@@ -1,6 +1,6 @@
 use Rattle.std.proofs.Common.{◌≡◌, inl, inr, sym, ◌∙◌}
 use Rattle.il_text.specs.Meaning.{IsTextFault}
-use Rattle.il_text.specs.Status.{status_of}
+use Rattle.il_text.specs.Telling.{status_of}
 use Rattle.plc_tool.proofs.Endings.{first_told, refused}
 use Rattle.plc_tool.proofs.calls.sim_without_schedule.Goals as goal
 

@@ -1,7 +1,7 @@
 use Rattle.std.proofs.Common.{◌≡◌, ◌++◌, ℕ, List, Ok, drop}
 use Rattle.il_text.specs.Lines.{lines_of}
 use Rattle.plc_names.specs.Named.{answers_by}
-use Rattle.il_text.specs.Putting.{Puts}
+use Rattle.il_text.specs.Telling.{Puts}
 use Rattle.plc_tool.proofs.running.put_answers.Given as goal
 
 abbrev pub invariant-loop-named : goal.invariant-loop-named

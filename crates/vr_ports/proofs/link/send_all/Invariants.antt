@@ -1,5 +1,5 @@
 use Rattle.std.proofs.Common.{◌≡◌}
-use Rattle.vr_ports.specs.Telling.{Grows}
+use Rattle.vr_ports.specs.Parties.{Grows}
 use Rattle.vr_ports.proofs.link.send_all.Given as goal
 
 abbrev pub invariant-loop-message : goal.invariant-loop-message

@@ -4,7 +4,7 @@ use Rattle.il_model.specs.declared.command.Answer.{Answer}
 use Rattle.vr_model.specs.Messages.{Message}
 use Rattle.vr_model.specs.Rules as rules
 use Rattle.vr_replica.specs.Ruled.{DoesFrom, Ruled}
-use Rattle.vr_replica.specs.Dropped.{IsUnfitEvent}
+use Rattle.vr_replica.specs.Stepped.{IsUnfitEvent}
 use Rattle.vr_replica.proofs.rules.by_rule.Goals as goal
 
 pub returns-in-Message-clause-rule : goal.returns-in-Message-clause-rule

@@ -6,7 +6,7 @@ use Rattle.vr_core.specs.Follows.{receives_from}
 use Rattle.vr_replica.specs.Ruled.{DoesFrom}
 use Rattle.vr_replica.proofs.Dispatched.{asking_keeps, sender_sends_none}
 use Rattle.vr_replica.proofs.Sending.{from_does, from_kept, from_fits, from_own}
-use Rattle.vr_replica.specs.Dropped.{IsUnfitBody}
+use Rattle.vr_replica.specs.Stepped.{IsUnfitBody}
 use Rattle.vr_replica.proofs.rules.in_recovery.Goals as goal
 
 pub returns-in-Recovery-clause-rule : goal.returns-in-Recovery-clause-rule

@@ -2,7 +2,7 @@ use Rattle.std.proofs.Common.{refl, sym, subst}
 use Rattle.vr_model.specs.StandsFor.{body_with, Carries}
 use Rattle.vr_core.specs.StandsFor.{IsSavedAs, own_group}
 use Rattle.vr_core.specs.Follows.{DoesIfKept, receives_from}
-use Rattle.vr_replica.specs.Dropped.{IsUnfitBody}
+use Rattle.vr_replica.specs.Stepped.{IsUnfitBody}
 use Rattle.vr_replica.proofs.rules.in_view_change.Goals as goal
 
 pub returns-in-StartViewChange-clause-rule : goal.returns-in-StartViewChange-clause-rule

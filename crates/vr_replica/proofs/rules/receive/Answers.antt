@@ -2,7 +2,7 @@ use Rattle.std.proofs.Common.{sym, subst}
 use Rattle.vr_model.specs.Rules as rules
 use Rattle.vr_model.specs.StandsFor.{body_with, party_of}
 use Rattle.vr_replica.specs.Ruled.{DoesFrom}
-use Rattle.vr_replica.specs.Dropped.{IsUnfitFrom}
+use Rattle.vr_replica.specs.Stepped.{IsUnfitFrom}
 use Rattle.vr_replica.proofs.Dispatched.{of_client}
 use Rattle.vr_replica.proofs.rules.receive.Goals as goal
 

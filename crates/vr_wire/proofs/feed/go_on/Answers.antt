@@ -1,9 +1,8 @@
 use Rattle.std.proofs.Common.{ℕ, ◌++◌, ◌∷◌, [], List, refl, subst}
-use Rattle.io_model.specs.Stream.{Rest, Took, ending_of}
+use Rattle.io_model.specs.Streams.{Rest, Took, ending_of}
 use Rattle.vr_model.specs.declared.message.Message.{Message}
 use Rattle.vr_wire.specs.Frames.{IsPartial, IsBroken}
-use Rattle.vr_wire.specs.Shown.{IsWhole}
-use Rattle.vr_wire.specs.Feeding.{frames}
+use Rattle.vr_wire.specs.Streams.{IsWhole, frames}
 use Rattle.vr_wire.proofs.Pieces.{goes_on_waiting, goes_on_broken, goes_on_whole, prefix_same, prefix_past, on_err}
 use Rattle.vr_wire.proofs.feed.go_on.Goals as goal
 

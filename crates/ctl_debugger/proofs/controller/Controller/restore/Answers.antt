@@ -2,7 +2,7 @@ use Rattle.std.proofs.Common.{◌≡◌, ℕ, length, ap, sym, subst, ◌∙◌,
 use Rattle.il_model.specs.declared.snapshot.SavedPhase.{SavedPhase}
 use Rattle.il_model.specs.Snapshots.{SavedController}
 use Rattle.ctl_model.specs.Snapshots.{break_positions, saved_phase, fit_breaks}
-use Rattle.ctl_scan.specs.Parts.{performed_in}
+use Rattle.ctl_scan.specs.Kept.{performed_in}
 use Rattle.ctl_debugger.proofs.Making.{IsMade, fits_machine, fits_slots, fits_breaks, made_of}
 use Rattle.ctl_debugger.proofs.controller.Controller.restore.Goals as goal
 

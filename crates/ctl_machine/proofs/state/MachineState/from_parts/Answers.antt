@@ -1,6 +1,6 @@
 use Rattle.std.proofs.Common.{rules, ◌≡◌, sym, ◌∙◌}
 use Rattle.std.proofs.lemmas.List.{reverse-reverse}
-use Rattle.ctl_machine.specs.Parts.{all_values}
+use Rattle.ctl_machine.specs.Kept.{all_values}
 use Rattle.ctl_machine.proofs.Values.{own_restored}
 use Rattle.ctl_machine.proofs.state.MachineState.from_parts.Goals as goal
 

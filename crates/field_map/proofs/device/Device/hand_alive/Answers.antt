@@ -3,8 +3,7 @@ use Rattle.std.specs.Prelude.{Option, Some}
 use Rattle.il_model.specs.declared.cells.Cells.{Cells}
 use Rattle.modbus_wire.specs.declared.request.Request.{Request}
 use Rattle.field_map.specs.declared.places.Places.{Places}
-use Rattle.field_map.specs.Asking.{write_request}
-use Rattle.field_map.specs.Carrying.{all_cells}
+use Rattle.field_map.specs.Asking.{write_request, all_cells}
 use Rattle.field_map.specs.Rounds.{handed_from}
 use Rattle.field_map.proofs.device.Device.hand_alive.Goals as goal
 

@@ -1,7 +1,7 @@
 use Rattle.std.proofs.Common.{ap, ◌∙◌, arith, List, length}
 use Rattle.std.specs.List.{position}
 use Rattle.il_model.specs.declared.program.Instance.{Instance}
-use Rattle.il_loader.specs.InstanceTables.{is_instance}
+use Rattle.il_loader.specs.NameTables.{is_instance}
 use Rattle.il_loader.proofs.VariableTables.{small_number}
 use Rattle.il_loader.proofs.instance.Instances.number_of.Goals as goal
 

@@ -2,8 +2,8 @@ use Rattle.std.proofs.Common.{◌≡◌, sym, ap, ◌∙◌, Bool, true, List}
 use Rattle.std.specs.Prelude.{not, ◌&&◌, is_some}
 use Rattle.std.specs.List.{position}
 use Rattle.il_model.specs.Marks.{Mark}
-use Rattle.il_model.specs.Names.{is_lawful_name}
-use Rattle.il_loader.specs.LabelTables.{is_called}
+use Rattle.il_model.specs.Words.{is_lawful_name}
+use Rattle.il_loader.specs.NameTables.{is_called}
 use Rattle.il_loader.proofs.label.Labels.is_new.Goals as goal
 
 pub returns-then-is_lawful_name : goal.returns-then-is_lawful_name

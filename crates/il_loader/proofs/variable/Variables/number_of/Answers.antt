@@ -1,7 +1,7 @@
 use Rattle.std.proofs.Common.{ap, ◌∙◌, arith, List, length}
 use Rattle.std.specs.List.{position}
 use Rattle.il_model.specs.declared.program.Variable.{Variable}
-use Rattle.il_loader.specs.VariableTables.{is_named}
+use Rattle.il_loader.specs.NameTables.{is_named}
 use Rattle.il_loader.proofs.VariableTables.{small_number}
 use Rattle.il_loader.proofs.variable.Variables.number_of.Goals as goal
 

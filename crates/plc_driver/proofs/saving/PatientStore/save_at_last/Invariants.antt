@@ -1,7 +1,7 @@
 use Rattle.std.proofs.Common.{◌≡◌, ◌≤◌, true, false}
 use Rattle.std.specs.Prelude.{MatchResult, OnErr}
-use Rattle.io_model.specs.Counted.{Failed}
-use Rattle.plc_driver.specs.Saving.{SavesAtLast}
+use Rattle.io_model.specs.Streams.{Failed}
+use Rattle.plc_driver.specs.Tending.{SavesAtLast}
 use Rattle.plc_driver.proofs.saving.PatientStore.save_at_last.Given as goal
 
 -- how the save went that was tried last

@@ -2,7 +2,7 @@ use Rattle.std.proofs.Common.{◌≡◌, ◌∙◌, ap, subst, rules, arith}
 use Rattle.std.proofs.lemmas.Grind.{common_steps}
 use Rattle.il_model.specs.Snapshots.{SavedController}
 use Rattle.il_model.specs.Fits.{IsImage}
-use Rattle.vr_core.specs.Answers.{owned_after}
+use Rattle.vr_core.specs.StandsFor.{owned_after}
 use Rattle.vr_core.proofs.Restoring.{program_is, no_fault, unsound, judged_sound}
 use Rattle.vr_core.proofs.state.Core.is_sound.Goals as goal
 

@@ -1,6 +1,6 @@
 use Rattle.std.proofs.Common.{List, Option, subst}
 use Rattle.vr_model.specs.declared.log.Executed.{Executed}
-use Rattle.vr_core.specs.Begun.{IsCheckpointOf}
+use Rattle.vr_core.specs.Checkpoints.{IsCheckpointOf}
 use Rattle.vr_core.proofs.OwnCheckpoint.{IsCheckpointFor, first_same}
 use Rattle.vr_core.proofs.state.Core.put_first.Goals as goal
 

@@ -3,7 +3,7 @@ use Rattle.std.proofs.lemmas.Grind.{common_steps}
 use Rattle.std.specs.Prelude.{MatchResult}
 use Rattle.vr_model.specs.declared.log.Executed.{Executed}
 use Rattle.vr_model.specs.Checkpoints.{SavedCheckpoint, rebased}
-use Rattle.vr_core.specs.Begun.{IsCheckpointOf}
+use Rattle.vr_core.specs.Checkpoints.{IsCheckpointOf}
 use Rattle.vr_core.proofs.OwnCheckpoint.{IsRenewed, later_same}
 use Rattle.vr_core.proofs.state.Core.put_later.Goals as goal
 

@@ -1,7 +1,7 @@
 use Rattle.std.proofs.Common.{◌≡◌, ◌∙◌, ap, rules, arith}
 use Rattle.std.proofs.lemmas.Grind.{common_steps}
 use Rattle.il_model.specs.Snapshots.{SavedController}
-use Rattle.vr_core.specs.Answers.{owned_after}
+use Rattle.vr_core.specs.StandsFor.{owned_after}
 use Rattle.vr_core.proofs.Restoring.{program_is, no_fault, restored_same, restored_sound}
 use Rattle.vr_core.proofs.state.Core.restored.Goals as goal
 

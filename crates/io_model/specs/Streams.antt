@@ -1,6 +1,19 @@
--- Streams of frames that come in pieces. X is the type of what a frame holds, F that of faults.
-use Rattle.std.specs.Prelude.{◌≡◌, ℕ, List, [], ◌∷◌, ◌++◌, Option, Some, None}
+-- What goes in and out: calls that fail, counted, and streams of frames that come in pieces.
+use Rattle.std.specs.Prelude.{ℕ, ◌≡◌, ◌-◌, ◌^◌, ◌<◌, ◌⊎◌, List, [], ◌∷◌, ◌++◌, Option, Some, None}
 use Rattle.std.specs.List.{flat_map, AllByRecursion}
+
+-- ---- readers and writers that count their failures
+
+-- the device failed in the call: its count rose, or stood at the greatest number
+abbrev pub Failed : ℕ → ℕ → Type 0
+Failed before after = (before < after) ⊎ (before ≡ 2 ^ 64 - 1)
+
+-- a reader or a writer with the count of its failures
+pub record Counting (T : Type 0) : Type 0 where
+  pub inner : T
+  pub failures : ℕ
+
+-- ---- frames in pieces: X is the type of what a frame holds, F that of faults
 
 -- a format of frames: the frame of each item; which items have one; what is less than a frame; what no stream of frames
 -- goes on with, and why
