@@ -1,5 +1,5 @@
 -- The edge detectors R_TRIG and F_TRIG (IEC 61131-3:2003, 2.5.2.3.2).
--- That a first call of F_TRIG with CLK FALSE is an edge is this project's own.
+-- A first call of F_TRIG with CLK FALSE is an edge, since M is FALSE before it.
 use Rattle.std.specs.Prelude.{ℕ, Bool, true, false, not, ◌&&◌, ◌||◌, List, [], ◌∷◌, pos, if◌then◌else◌}
 use Rattle.ctl_blocks.specs.Words.{saved_words}
 use Rattle.ctl_blocks.specs.declared.edge.EdgeState.{EdgeState}

@@ -15,7 +15,8 @@
 //! restore the same block, and words are refused exactly where they are no state's.
 //!
 //! Only tested: nothing; `blocks.rows` of `tests_bytes` has runs of each kind with the words that are saved. Timers at
-//! discrete moments, and the first call of F_TRIG, are this project's own reading of the standard.
+//! discrete moments are this project's own reading of the standard; the first call of F_TRIG with CLK FALSE is an edge,
+//! as the standard's body of it gives.
 #![tactic(auto)]
 
 mod bistable;

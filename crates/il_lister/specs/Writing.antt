@@ -9,7 +9,7 @@ use Rattle.il_lister.specs.declared.fault.ListFault.TheVariants.{Device}
 abbrev pub fault_number : ListFault → ℕ
 fault_number Device = 1
 
--- all of the text went out, or a beginning of it where the writer failed
+-- all of the text went out, or a prefix of it where the writer failed
 pub record Writes {W : Type 0} (w : CountedWriter W) (text : List ℕ) (old new : W)
     (result : Result (Unit {0}) ListFault) : Type 0 where
   pub sent : MatchResult result (λ _. Appends (w.held old) (w.held new) text)

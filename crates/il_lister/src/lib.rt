@@ -9,7 +9,7 @@
 //! ```
 //!
 //! Proved: Ok wrote exactly the listing of the image's program (`specs/Listing`), over any writer that tells its bytes.
-//! It answers Device only where the writer failed in that call, and then a beginning of the listing went out. It takes
+//! It answers Device only where the writer failed in that call, and then a prefix of the listing went out. It takes
 //! no memory. That a listing is read as the same program is the law of `laws_listing`.
 //!
 //! Tests (nothing rests on them alone): `images.rows` of `tests_rows` has listings, `tests_tool` a writer that fails in

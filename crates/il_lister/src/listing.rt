@@ -24,7 +24,7 @@ fn write_listing<W: CountedWrite>(writer: &mut W, image: &Image) -> Result<(), L
 }
 
 /// Writes the listing of an image: its program in Instruction List (IEC 61131-3:2003, 3.2), in capital letters but for
-/// the unit ms, each line ended by LF. It answers Device only where the writer failed in this call; then a beginning of
+/// the unit ms, each line ended by LF. It answers Device only where the writer failed in this call; then a prefix of
 /// the listing went out.
 pub fn list<W: CountedWrite>(image: &Image, writer: &mut W) -> Result<(), ListFault>
     ensures ok { OnOk result (Appends (W.held writer.old) (W.held writer.new) (listing image.now)) }

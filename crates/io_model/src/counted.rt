@@ -138,7 +138,7 @@ impl<T: Write> CountedWrite for Counted<T> {
 }
 
 /// Writes all of the bytes, in as many writes as the writer needs. It answers a fault only where the writer failed in
-/// this call; then a beginning of the bytes went out.
+/// this call; then a prefix of the bytes went out.
 pub fn write_all<W: CountedWrite>(writer: &mut W, bytes: &[u8]) -> Result<(), DeviceFault>
     ensures ok { OnOk result (Appends (W.held writer.old) (W.held writer.new) bytes.now) }
     ensures err { OnErr result

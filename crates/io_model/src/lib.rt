@@ -9,7 +9,7 @@
 //! write_all(&mut out, b"outputs 1 QX0.0\n")?; // DeviceFault: the device failed, and `out.faults()` rose
 //! ```
 //!
-//! Proved: `write_all` writes all the bytes, or fails with a beginning of them written; for a format whose frames can be
+//! Proved: `write_all` writes all the bytes, or fails with a prefix of them written; for a format whose frames can be
 //! told apart, a stream has one list of items, whatever pieces it comes in (`proofs/Streams`).
 //!
 //! By its code alone: that nothing but a failure of the reader or writer inside raises the count of a `Counted`.

@@ -67,7 +67,7 @@ pub record Serves (rest piece rest' : List ℕ) (before after : Scene) : Type 0 
   pub program : after.program ≡ in_force_after before.program (submitted_in turns)
   pub written : Appends before.held after.held (texts_of turns)
 
--- The first lines of the stream had their turns, and a beginning of what they write went out.
+-- The first lines of the stream had their turns, and a prefix of what they write went out.
 pub record Breaks (rest piece : List ℕ) (before after : Scene) : Type 0 where
   pub turns : List Turn
   pub more : List ℕ
@@ -107,7 +107,7 @@ IsWhyUnwritten ends.Memory fails = Unit {0}
 IsWhyUnwritten ends.Closed fails = ⊥
 IsWhyUnwritten ends.Unanswered fails = ⊥
 
--- all of the text went out, or a beginning of it
+-- all of the text went out, or a prefix of it
 abbrev pub Writes : Result (Unit {0}) SessionEnd → List ℕ → Type 0 → Option (List ℕ) → Option (List ℕ) → Type 0
 Writes result text fails held held' =
     MatchResult result (λ done. Appends held held' text)
@@ -121,7 +121,7 @@ pub record Takes (wish : Wish) (before after : Scene) : Type 0 where
   pub program : after.program ≡ in_force_after before.program (submitted_by outcome)
   pub written : Appends before.held after.held (text_of outcome)
 
--- One line had its turn, of which this was known, and a beginning of its answer went out.
+-- One line had its turn, of which this was known, and a prefix of its answer went out.
 pub record TakesShort (wish : Wish) (before after : Scene) : Type 0 where
   pub outcome : Outcome
   pub fits : Fits wish outcome

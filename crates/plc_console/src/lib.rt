@@ -16,7 +16,7 @@
 //! being that of the program in force, which a change that is done replaces, or it's refused, as a scan is; the line of
 //! the answer, or of the fault, is written. A question is answered by what the desk tells, and submits nothing. A session
 //! ends by Closed only at the reader's end, by Device only where the reader or the writer failed; where it ends
-//! otherwise, a beginning of the answers went out. `ask` submits one command as a client by the replication rules, sends
+//! otherwise, a prefix of the answers went out. `ask` submits one command as a client by the replication rules, sends
 //! nothing but that very request again, and answers by the first REPLY with its number. `send_commands` answers Ok only
 //! where each command went out as a line, and what came back up to the end of a line was printed before the next.
 //!

@@ -49,7 +49,7 @@ pub fn worst(replies: &[Reply]) -> Reply
 
 /// Sends each of these as a line, and prints its answer before the next one is sent: what each answer says. Where a
 /// device fails, that is the reader, the writer or `out`, or the reader came to its end before each line was answered;
-/// then a beginning of it was done.
+/// then a prefix of it was done.
 #[tactic(auto, using(crate::proofs::Passing::asked_none, crate::proofs::Passing::asked_all, crate::proofs::Passing::broken_later))]
 pub fn send_commands<H: Wait + Copy, R: CountedRead, W: CountedWrite, O: CountedWrite>(
     host: &Host<H>,

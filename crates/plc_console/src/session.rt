@@ -286,7 +286,7 @@ fn serve_piece<W: CountedWrite, D: Submits>(
 /// what the desk tells is; for each other line, as one over 131072 bytes, `plc: commands`. The program in force is that of the image, and after a change
 /// that is done the one that it brought, whose image this is then. Lines have their turns in order, one behind the
 /// answer of the other. What the reader has behind its last whole line is no line. Where a session ends by `Device`, for
-/// want of memory or by a command without an answer, a beginning of the answers went out.
+/// want of memory or by a command without an answer, a prefix of the answers went out.
 pub fn serve_console<H: Wait, R: CountedRead, W: CountedWrite, D: Submits>(
     rt: &H,
     alloc: Global,

@@ -17,7 +17,7 @@
 //! only so long behind the last scan that came in here: so by one clock no two machines show at a time
 //! (`no_two_show`), and moments never go back (`moments_rise`).
 //!
-//! No program drives by it yet. That clocks of machines go equally fast is a premise.
+//! `plc_member` drives by it. That clocks of machines go equally fast is a premise.
 #![tactic(auto)]
 
 mod driver;
