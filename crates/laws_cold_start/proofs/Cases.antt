@@ -7,7 +7,7 @@ use Rattle.vr_model.specs.Groups.{group_size}
 use Rattle.vr_model.specs.Messages.{Party, Replica, Client, Body, RequestMessage, Reply, Message}
 use Rattle.vr_model.specs.Replicas.{is_down, ReplicaState, Outcome, put}
 use Rattle.vr_model.specs.Rules.{on_restart}
-use Rattle.vr_model.specs.World.{World, Event, Submit, Retry, ClientRestart, Deliver, Timeout, Resend, Crash, Restart, StoreFail, Completion, Done, Lost, executed, down, longer, Ending, Went, ending_of, Effect, effect, does, if_up, comes_to_client, comes, comes_to, retried, refusal, unless, if_none, steps, happens, out_of_range, nonce_used, still_up}
+use Rattle.vr_model.specs.World.{Reason, World, Event, Submit, Retry, ClientRestart, Deliver, Timeout, Resend, Crash, Restart, StoreFail, Completion, Done, Lost, executed, down, longer, Ending, Went, ending_of, Effect, effect, does, if_up, comes_to_client, comes, comes_to, retried, refusal, require, if_none, steps, happens, OutOfRange, NonceUsed, StillUp}
 use Rattle.vr_model.specs.Steps.{Input, Takes, TimesOut, Resends, by_rule}
 
 -- requests alone
@@ -91,7 +91,7 @@ module _ {C A : Type 0} (f : ℕ) (answer : List C → A) (w : World C A) where
     all_retried d zero (Some m) = tt
     all_retried d (suc n) (Some m) = requests_append (retried f answer d n (Some m)) _ (all_retried d n (Some m)) (tt, tt)
 
-    within : (b : Bool) (reason : ℕ) (rest : Option ℕ) → unless b reason rest ≡ None → (b ≡ true) × (rest ≡ None)
+    within : (b : Bool) (reason : Reason) (rest : Option Reason) → require b reason rest ≡ None → (b ≡ true) × (rest ≡ None)
     within true reason rest e = (refl, e)
     within false reason rest e = absurd cc
 
@@ -106,15 +106,15 @@ module _ {C A : Type 0} (f : ℕ) (answer : List C → A) (w : World C A) where
     by_event (Deliver n) at ok = comes_by n at (slice_get w.sent n) refl
     by_event (Timeout i) at ok = upright i TimesOut tt
     by_event (Resend i) at ok = upright i Resends tt
-    by_event (Crash i) at ok = let p = within (ltb i (group_size f)) out_of_range _ ok in k.crashes i (ltb-true _ _ p.0)
+    by_event (Crash i) at ok = let p = within (ltb i (group_size f)) OutOfRange _ ok in k.crashes i (ltb-true _ _ p.0)
     by_event (Restart i x) at ok =
-        let p = within (ltb i (group_size f)) out_of_range _ ok in
-        let q = within (not (w.used i x)) nonce_used _ p.1 in
-        let s = within (is_down (w.replicas i).status) still_up _ q.1 in
+        let p = within (ltb i (group_size f)) OutOfRange _ ok in
+        let q = within (not (w.used i x)) NonceUsed _ p.1 in
+        let s = within (is_down (w.replicas i).status) StillUp _ q.1 in
         k.comes_up i x (ending_of c None (w.failing i)) (ltb-true _ _ p.0) (not_so _ q.0) s.0
     by_event (StoreFail i keeps_new) at ok = k.same
 
-    by_refusal : (reason : Option ℕ) → refusal f w e ≡ reason → of P (if_none reason (steps f answer w e c) w)
+    by_refusal : (reason : Option Reason) → refusal f w e ≡ reason → of P (if_none reason (steps f answer w e c) w)
     by_refusal None ok = by_event e refl ok
     by_refusal (Some reason) ok = k.same
 

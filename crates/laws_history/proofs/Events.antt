@@ -16,7 +16,7 @@ use Rattle.laws_history.proofs.Notes.{submit, submit_grows, submit_sound, submit
 use Rattle.laws_history.proofs.NormalCase.{all_say_append, good_if, good_sends}
 use Rattle.vr_model.specs.Rules.{receives, from_replica, from_client}
 use Rattle.laws_history.proofs.Reasons.{restart_fits}
-use Rattle.vr_model.specs.World.{next_request, ClientState, World, Event, Submit, Retry, ClientRestart, Deliver, Timeout, Resend, Crash, Restart, StoreFail, Completion, down, does, if_up, comes_to_client, comes_to, comes, retried, submits, restarts, refusal, if_none, steps, happens}
+use Rattle.vr_model.specs.World.{Reason, next_request, ClientState, World, Event, Submit, Retry, ClientRestart, Deliver, Timeout, Resend, Crash, Restart, StoreFail, Completion, down, does, if_up, comes_to_client, comes_to, comes, retried, submits, restarts, refusal, if_none, steps, happens}
 use Rattle.laws_history.proofs.Rising.{log_more}
 use Rattle.laws_history.proofs.Prefixes.{prefix_nil}
 use Rattle.laws_history.proofs.NormalCase.{good_on_request}
@@ -242,6 +242,6 @@ steps_ok f answer {base} {was} w (StoreFail i keeps_new) completion fits k here 
 pub happens_ok : {C A : Type 0} (f : ℕ) (answer : List C → A) {base : Base C} {was : ℕ → ℕ → Type 0} (w : World C A) (e : Event C) (completion : Completion) → WorldOk f answer base was w → Was was w → WorldOk f answer base was (happens f answer w e completion)
 happens_ok {C} {A} f answer {base} {was} w e completion k here = go (refusal f w e) refl
   where
-    go : (reason : Option ℕ) → refusal f w e ≡ reason → WorldOk f answer base was (if_none reason (steps f answer w e completion) w)
+    go : (reason : Option Reason) → refusal f w e ≡ reason → WorldOk f answer base was (if_none reason (steps f answer w e completion) w)
     go None fits = steps_ok f answer w e completion fits k here
     go (Some reason) is = k

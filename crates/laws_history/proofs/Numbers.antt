@@ -10,7 +10,7 @@ use Rattle.vr_model.specs.Messages.{Party, Replica, Client, Body, Reply, Message
 use Rattle.vr_model.specs.Replicas.{Outcome, put, is_down}
 use Rattle.vr_model.specs.Rules.{receives, on_timeout, on_resend, on_restart}
 use Rattle.laws_history.proofs.Reasons.{submit_fits}
-use Rattle.vr_model.specs.World.{next_request, has_submitted, ClientState, World, Event, Submit, Retry, ClientRestart, Deliver, Timeout, Resend, Crash, Restart, StoreFail, Completion, Ending, ending_of, goes, does, if_up, replied, comes_to_client, comes_to, comes, request_message, submits, restarts, refusal, if_none, steps, happens, run, start, given}
+use Rattle.vr_model.specs.World.{Reason, next_request, has_submitted, ClientState, World, Event, Submit, Retry, ClientRestart, Deliver, Timeout, Resend, Crash, Restart, StoreFail, Completion, Ending, ending_of, goes, does, if_up, replied, comes_to_client, comes_to, comes, request_message, submits, restarts, refusal, if_none, steps, happens, run, start, given}
 use Rattle.laws_history.proofs.Tables.{put_same, put_cases}
 
 pub record ClientsOk {C A : Type 0} (w : World C A) : Type 0 where
@@ -122,7 +122,7 @@ steps_ok f answer w (StoreFail i b) completion fits k = same_clients w _ refl re
 pub happens_numbers : {C A : Type 0} (f : ℕ) (answer : List C → A) (w : World C A) (e : Event C) (completion : Completion) → ClientsOk w → ClientsOk (happens f answer w e completion)
 happens_numbers {C} {A} f answer w e completion k = go (refusal f w e) refl
   where
-    go : (reason : Option ℕ) → refusal f w e ≡ reason → ClientsOk (if_none reason (steps f answer w e completion) w)
+    go : (reason : Option Reason) → refusal f w e ≡ reason → ClientsOk (if_none reason (steps f answer w e completion) w)
     go None fits = steps_ok f answer w e completion fits k
     go (Some reason) is = k
 

@@ -5,7 +5,7 @@ use Rattle.vr_model.specs.Groups.{group_size}
 use Rattle.vr_model.specs.Messages.{Party, Replica, Client, Body, Reply, Message}
 use Rattle.vr_model.specs.Replicas.{ReplicaState, Outcome, put, is_down}
 use Rattle.vr_model.specs.Rules.{receives, on_timeout, on_resend, on_restart}
-use Rattle.vr_model.specs.World.{World, Event, Submit, Retry, ClientRestart, Deliver, Timeout, Resend, Crash, Restart, StoreFail, Completion, Done, Lost, executed, down, Ending, Went, SaveFailed, ending_of, becomes, goes, does, if_up, comes_to_client, comes_to, comes, refusal, if_none, steps, happens, run, start}
+use Rattle.vr_model.specs.World.{Reason, World, Event, Submit, Retry, ClientRestart, Deliver, Timeout, Resend, Crash, Restart, StoreFail, Completion, Done, Lost, executed, down, Ending, Went, SaveFailed, ending_of, becomes, goes, does, if_up, comes_to_client, comes_to, comes, refusal, if_none, steps, happens, run, start}
 use Rattle.laws_history.proofs.Tables.{put_same}
 
 -- from w to v the committed list stayed, or some replica has executed what it is in v
@@ -60,7 +60,7 @@ steps_stay f answer w (StoreFail i keeps_new) l = inl refl
 happens_stays : {C A : Type 0} (f : ℕ) (answer : List C → A) (w : World C A) (e : Event C) (l : Completion) → Stays w (happens f answer w e l)
 happens_stays {C} {A} f answer w e l = go (refusal f w e)
   where
-    go : (reason : Option ℕ) → Stays w (if_none reason (steps f answer w e l) w)
+    go : (reason : Option Reason) → Stays w (if_none reason (steps f answer w e l) w)
     go None = steps_stay f answer w e l
     go (Some reason) = inl refl
 

@@ -9,7 +9,7 @@ use Rattle.vr_model.specs.Messages.{DoViewChange, PrimaryState, RecoveryResponse
 use Rattle.vr_model.specs.Replicas.{Status, Normal, ViewChange, Recovering, Down, is_normal, is_view_change, is_recovering, takes_part, is_down, ReplicaState, Outcome, put}
 use Rattle.vr_model.specs.Choices.{others, reached, best, commit_of, greatest_commit, place_of, is_same, kept_response, latest, state_of, log_length, own_do_view_change}
 use Rattle.vr_model.specs.Rules.{keep, send, send_others, is_primary, reply_of, replies, replies_from, on_request, behind, is_backup_in, asks, holds_log, on_prepare, commits_to, on_prepare_ok, on_commit, enters, and_then, on_timeout, adopted, begins_with, is_elected, begins_if_elected, sends_do_view_change, counts_start_view_change, enters_if_above, if_view_change_in, on_start_view_change, keeps_do_view_change, on_do_view_change, on_start_view, on_recovery, recovers_with, recovers, on_recovery_response, on_get_state, on_new_state, prepares, resent, on_resend, on_restart, from_replica, from_client, receives}
-use Rattle.vr_model.specs.World.{World, Event, Submit, Retry, ClientRestart, Deliver, Timeout, Resend, Crash, Restart, StoreFail, Completion, Done, Lost, executed, down, Ending, Went, SaveFailed, ending_of, saved_view, becomes, goes, does, if_up, comes_to_client, comes_to, comes, retried, refusal, if_none, steps, happens, run, start}
+use Rattle.vr_model.specs.World.{Reason, World, Event, Submit, Retry, ClientRestart, Deliver, Timeout, Resend, Crash, Restart, StoreFail, Completion, Done, Lost, executed, down, Ending, Went, SaveFailed, ending_of, saved_view, becomes, goes, does, if_up, comes_to_client, comes_to, comes, retried, refusal, if_none, steps, happens, run, start}
 use Rattle.vr_model.specs.Agreement.{CommitsWhatItHad}
 use Rattle.laws_history.proofs.Tables.{put_cases}
 
@@ -511,7 +511,7 @@ steps_low f answer w (StoreFail i keeps_new) c k = record { low = record { repli
 happens_low : {C A : Type 0} (f : ℕ) (answer : List C → A) (w : World C A) (e : Event C) (c : Completion) → WorldLow w → Advances w (happens f answer w e c)
 happens_low {C} {A} f answer w e c k = go (refusal f w e)
   where
-    go : (reason : Option ℕ) → Advances w (if_none reason (steps f answer w e c) w)
+    go : (reason : Option Reason) → Advances w (if_none reason (steps f answer w e c) w)
     go None = steps_low f answer w e c k
     go (Some reason) = stands_still w k
 

@@ -7,7 +7,7 @@ use Rattle.std.proofs.lemmas.Option.{same_Some, slice_get_read}
 use Rattle.std.proofs.lemmas.Bool.{ltb-true, lt-ltb, cases_lt, eq-eqb}
 use Rattle.vr_model.specs.Logs.{Request, IsPrefix, IsEntry, IsRising, IsFrom, IsAmong, greater, last_number, is_above}
 use Rattle.vr_model.specs.Messages.{Party, Client, Body, Reply, Message, number_of}
-use Rattle.vr_model.specs.World.{World, next_number, Event, Submit, Deliver, Completion, is_waiting, given, refusal, if_none, submits, happens, run, start, Done, Lost}
+use Rattle.vr_model.specs.World.{Reason, World, next_number, Event, Submit, Deliver, Completion, is_waiting, given, refusal, if_none, submits, happens, run, start, Done, Lost}
 use Rattle.vr_model.specs.Report.{IsAnswered, BodyStands, all_done, lost_at, Release, released_to, released_by}
 use Rattle.vr_model.specs.Report.{released, report_from, report, last_or, Each, IsReleased, Explains}
 use Rattle.vr_model.specs.Choices.{commands}
@@ -187,7 +187,7 @@ released_from {C} {A} f answer e (x ∷ xs) w k =
 submits_order : {C A : Type 0} (f : ℕ) (answer : List C → A) (w : World C A) (c : ℕ) (command : C) (completion : Completion) → (happens f answer w (Submit c command) completion).order ≡ w.order
 submits_order {C} {A} f answer w c command completion = either (refusal f w (Submit c command))
   where
-    either : (reason : Option ℕ) → (if_none reason (submits f answer w c command) w).order ≡ w.order
+    either : (reason : Option Reason) → (if_none reason (submits f answer w c command) w).order ≡ w.order
     either None = refl
     either (Some reason) = refl
 

@@ -17,6 +17,8 @@ use Rattle.vr_schedules.specs.declared.event.WorldEvent.{WorldEvent}
 use Rattle.vr_schedules.specs.declared.event.WorldEvent.TheVariants as events
 use Rattle.vr_schedules.specs.declared.store.Kept.TheVariants.{Old, New}
 use Rattle.vr_schedules.specs.declared.trace.Trace.{Trace}
+use Rattle.vr_model.specs.World.{Reason}
+use Rattle.vr_schedules.specs.Events.{reason_number}
 use Rattle.vr_schedules.specs.Traces.{IsTraced, IsRefused}
 use Rattle.vr_world.specs.History.{IsOneHistory}
 use Rattle.plc_json.specs.declared.command.NamedCommand.{NamedCommand}
@@ -62,12 +64,12 @@ pub record HasUnknownName (Q : Program) (named : List NamedEvent) : Type 0 where
 abbrev pub IsWhyUnknown : Program → List NamedEvent → Fault → Type 0
 IsWhyUnknown Q named told = (told ≡ faults.Memory) ⊎ ((told ≡ faults.Schedule) × HasUnknownName Q named)
 
--- what is told is the first event of a run that can't take place, and the lowest reason
+-- what is told is the first event of a run that can't take place, and the number of the first reason
 pub record IsRefusedAs (g : Group) (events : List WorldEvent) (told : Fault) : Type 0 where
   pub index : ℕ
-  pub reason : ℕ
-  pub is : told ≡ faults.ScheduleAt index reason
+  pub reason : Reason
   pub refused : IsRefused g events index reason
+  pub is : told ≡ faults.ScheduleAt index (reason_number reason)
 
 -- why a run has no report: memory ran out, or an event can't take place
 abbrev pub IsWhyNoReport : Group → List WorldEvent → Fault → Type 0

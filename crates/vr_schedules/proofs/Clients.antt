@@ -28,7 +28,7 @@ use Rattle.vr_schedules.specs.declared.fault.Reason.{Reason}
 use Rattle.vr_schedules.specs.declared.fault.Reason.TheVariants.{WaitsOrNot}
 use Rattle.vr_schedules.specs.declared.fault.EventFault.{EventFault}
 use Rattle.vr_schedules.specs.declared.fault.EventFault.TheVariants.{Refused}
-use Rattle.vr_schedules.specs.Events.{number_of}
+use Rattle.vr_schedules.specs.Events.{reason_of}
 use Rattle.vr_model.specs.Membership.{Group, Membership}
 use Rattle.vr_model.specs.Replicas.{ReplicaState}
 use Rattle.vr_schedules.specs.Clients.{client_of, submit_refusal, restart_refusal, request_to, requests_below}
@@ -155,7 +155,7 @@ module _ (IsSavedAs : Program → ℕ → List Command → SavedController → T
   })
 
   pub starts_not : (s : code.World M) (c number : ℕ) (k : Client) (reason : Reason) (result : Result (Unit {0}) EventFault) → c ≡ number → c < client_count → (length s.clients ≡ client_count → slice_get s.clients c ≡ Some k)
-      → restart_refusal (client_of k) ≡ Some (number_of reason) → IsErrAnd result (λ fault. fault ≡ Refused reason) → Went IsSavedAs StandsFor s s (ClientRestart number) result
+      → restart_refusal (client_of k) ≡ Some (reason_of reason) → IsErrAnd result (λ fault. fault ≡ Refused reason) → Went IsSavedAs StandsFor s s (ClientRestart number) result
   starts_not s c number k reason (Ok u) named l at why is = absurd is
   starts_not s c number k reason (Err fault) named l at why is = subst (λ x. Went IsSavedAs StandsFor s s (ClientRestart number) (Err x)) (sym is) (subst (λ n. Went IsSavedAs StandsFor s s (ClientRestart n) (Err (Refused reason))) named (record {
     went = λ g past w h settled.

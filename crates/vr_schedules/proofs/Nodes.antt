@@ -14,7 +14,7 @@ use Rattle.vr_model.specs.declared.event.Event.TheVariants as event
 use Rattle.vr_model.specs.Groups.{group_size}
 use Rattle.vr_model.specs.Replicas.{ReplicaState, is_down, put}
 use Rattle.vr_model.specs.Rules.{on_restart}
-use Rattle.vr_model.specs.World.{World, Event, Crash, Restart, StoreFail, Completion, Done, down, does, steps, refusal, unless, nonce_used, still_up}
+use Rattle.vr_model.specs.World.{World, Event, Crash, Restart, StoreFail, Completion, Done, down, does, steps, refusal, require, NonceUsed, StillUp}
 use Rattle.vr_schedules.proofs.Tables.{put_same, put_other}
 use Rattle.vr_schedules.specs.declared.world.World as code
 use Rattle.vr_schedules.specs.declared.world.Node.{Node}
@@ -32,7 +32,7 @@ use Rattle.vr_schedules.proofs.Acting.{happens_is, completes}
 use Rattle.vr_schedules.proofs.Clients.{happened_done}
 
 -- an event without a reason passes both tests
-both_pass : (a b : Bool) → unless a nonce_used (unless b still_up None) ≡ None → b ≡ true
+both_pass : (a b : Bool) → require a NonceUsed (require b StillUp None) ≡ None → b ≡ true
 both_pass true true e = refl
 both_pass true false e = absurd cc
 both_pass false b e = absurd cc
@@ -121,7 +121,7 @@ module _ (IsSavedAs : Program → ℕ → List Command → SavedController → T
       (λ c. refl) refl refl
 
   module _ (s v : code.World M) (i x : ℕ) (n p : Node M) (l : i < length s.nodes.items) (at : slice_get s.nodes.items i ≡ Some n)
-      (may : (m : Membership) (r : ReplicaState Command) → StandsFor n.member m r → unless (not (contains nat_cmp n.used x)) nonce_used (unless (is_down r.status) still_up None) ≡ None)
+      (may : (m : Membership) (r : ReplicaState Command) → StandsFor n.member m r → require (not (contains nat_cmp n.used x)) NonceUsed (require (is_down r.status) StillUp None) ≡ None)
       (same_member : p.member ≡ n.member) (store : p.store ≡ n.store) (used : (y : ℕ) → contains nat_cmp p.used y ≡ put (contains nat_cmp n.used) x true y)
       (g : Group) (past : List (Event Command × Completion)) (w : World Command Answer) (h : Shows IsSavedAs StandsFor g past s w) where
     down_now : is_down (w.replicas i).status ≡ true
@@ -165,7 +165,7 @@ module _ (IsSavedAs : Program → ℕ → List Command → SavedController → T
 
   -- a replica that is down starts again
   pub restarts_went : (s v : code.World M) (i number x : ℕ) (n p : Node M) (result : Result (Unit {0}) EventFault) → i ≡ number → i < length s.nodes.items → slice_get s.nodes.items i ≡ Some n
-      → ((m : Membership) (r : ReplicaState Command) → StandsFor n.member m r → unless (not (contains nat_cmp n.used x)) nonce_used (unless (is_down r.status) still_up None) ≡ None)
+      → ((m : Membership) (r : ReplicaState Command) → StandsFor n.member m r → require (not (contains nat_cmp n.used x)) NonceUsed (require (is_down r.status) StillUp None) ≡ None)
       → p.member ≡ n.member → p.store ≡ n.store → ((y : ℕ) → contains nat_cmp p.used y ≡ put (contains nat_cmp n.used) x true y)
       → WentAt IsSavedAs StandsFor (record s { nodes = with_item s.nodes i p }) v i (event.Restart x) result
       → Went IsSavedAs StandsFor s v (Restart number x) result
@@ -178,11 +178,11 @@ module _ (IsSavedAs : Program → ℕ → List Command → SavedController → T
 
   -- it can't
   pub restarts_not : (s v : code.World M) (i number x : ℕ) (n : Node M) (fault : EventFault) (result : Result (Unit {0}) EventFault) → i ≡ number → i < length s.nodes.items → slice_get s.nodes.items i ≡ Some n
-      → ((m : Membership) (r : ReplicaState Command) → StandsFor n.member m r → IsReason (unless (not (contains nat_cmp n.used x)) nonce_used (unless (is_down r.status) still_up None)) fault)
+      → ((m : Membership) (r : ReplicaState Command) → StandsFor n.member m r → IsReason (require (not (contains nat_cmp n.used x)) NonceUsed (require (is_down r.status) StillUp None)) fault)
       → result ≡ Err fault → Went IsSavedAs StandsFor s v (Restart number x) result
   restarts_not s v i number x n fault result named l at why is = subst (λ m. Went IsSavedAs StandsFor s v (Restart m x) result) named (subst (Went IsSavedAs StandsFor s v (Restart i x)) (sym is) (go fault why))
     where
-      go : (e : EventFault) → ((m : Membership) (r : ReplicaState Command) → StandsFor n.member m r → IsReason (unless (not (contains nat_cmp n.used x)) nonce_used (unless (is_down r.status) still_up None)) e) → Went IsSavedAs StandsFor s v (Restart i x) (Err e)
+      go : (e : EventFault) → ((m : Membership) (r : ReplicaState Command) → StandsFor n.member m r → IsReason (require (not (contains nat_cmp n.used x)) NonceUsed (require (is_down r.status) StillUp None)) e) → Went IsSavedAs StandsFor s v (Restart i x) (Err e)
       go (Refused reason) why = record {
         went = λ g past w h settled.
             let within : i < group_size g.f = omega (arith, h.size) in

@@ -11,7 +11,7 @@ use Rattle.vr_model.specs.declared.config.Config.{Config}
 use Rattle.vr_model.specs.Logs.{Request, IsPrefix}
 use Rattle.vr_model.specs.Views.{WasLogOf}
 use Rattle.vr_model.specs.Replicas.{ReplicaState, is_normal}
-use Rattle.vr_model.specs.World.{World, Event, Completion, Done, happens, refusal, run, start, executed}
+use Rattle.vr_model.specs.World.{Reason, World, Event, Completion, Done, happens, refusal, run, start, executed}
 use Rattle.vr_model.specs.Groups.{client_count}
 use Rattle.vr_schedules.specs.Traces.{Laws, AreNew, IsTraced, Fails}
 use Rattle.vr_model.specs.Report.{released, lost_at, report_from, report, refused_at, first_refusal, AllComplete, all_done}
@@ -23,7 +23,7 @@ use Rattle.vr_schedules.specs.declared.fault.EventFault.{EventFault}
 use Rattle.vr_schedules.specs.declared.fault.EventFault.TheVariants.{Refused, Memory}
 use Rattle.vr_model.specs.StandsFor.{requests_of, AllStand}
 use Rattle.vr_schedules.specs.Handed.{AllStandIn}
-use Rattle.vr_schedules.specs.Events.{event_of, events_of, error_at, number_of}
+use Rattle.vr_schedules.specs.Events.{event_of, events_of, error_at, reason_of}
 use Rattle.vr_schedules.specs.Standing.{NodeShows, Shows, Leads, IsSettled, HappenedOn, WentOn, IsFirst, first_node, releases_of}
 use Rattle.vr_schedules.proofs.Standings.{all_stand}
 
@@ -68,7 +68,7 @@ complete_join : (f : ℕ) (answer : List Command → Answer) (es ds : List (Even
 complete_join f answer [] ds w a b = b
 complete_join f answer (e ∷ es) ds w a b = (a.0, complete_join f answer es ds (happens f answer w e.0 e.1) a.1 b)
 
-refused_none : (e : ℕ) (r : Option ℕ) (rest : Option (ℕ × ℕ)) → refused_at e r rest ≡ None → (r ≡ None) × (rest ≡ None)
+refused_none : (e : ℕ) (r : Option Reason) (rest : Option (ℕ × Reason)) → refused_at e r rest ≡ None → (r ≡ None) × (rest ≡ None)
 refused_none e None rest k = (refl, k)
 refused_none e (Some reason) rest k = absurd (cc)
 
@@ -248,14 +248,14 @@ fails_at laws IsSavedAs {M} StandsFor f members schedule n x d s v (Refused reas
     let r = k.reached g sized all in
     let w : World Command Answer = run g.f g.answer r.0 start in
     let late : List (Event Command × Completion) = all_done (events_of (drop (n + 1) schedule)) in
-    let why : refusal g.f w (event_of x) ≡ Some (number_of reason) = went.went g r.0 w r.2.shows (settled laws g r.0) in
+    let why : refusal g.f w (event_of x) ≡ Some (reason_of reason) = went.went g r.0 w r.2.shows (settled laws g r.0) in
     let number : 0 + length r.0 ≡ n = omega (arith, length-map r.0 (λ (e : Event Command × Completion). e.0), ap length r.1, length-map (take n schedule) event_of, length-take n schedule) in
     record {
       events = r.0 ++ (event_of x, Done) ∷ late;
       own = rest_own schedule n x r.0 at r.1;
       complete = complete_join g.f g.answer r.0 ((event_of x, Done) ∷ late) start r.2.complete (tt, all_done_complete g.f g.answer (events_of (drop (n + 1) schedule)) (happens g.f g.answer w (event_of x) Done));
       refused = refusal_join g.f g.answer 0 r.0 ((event_of x, Done) ∷ late) start r.2.have_steps ∙ ap (λ q. refused_at (0 + length r.0) q (first_refusal g.f g.answer (suc (0 + length r.0)) late (happens g.f g.answer w (event_of x) Done))) why
-          ∙ ap (λ m. Some (m, number_of reason)) number;
+          ∙ ap (λ m. Some (m, reason_of reason)) number;
     }
 
 pub traced_at : Laws → (IsSavedAs : Program → ℕ → List Command → SavedController → Type 0) {M : Type 0} (StandsFor : M → Membership → ReplicaState Command → Type 0) (f : ℕ) (members : List M) (schedule : List WorldEvent) (n : ℕ) (s : code.World M) → length schedule ≤ n → IsAt IsSavedAs StandsFor members f schedule n s

@@ -2,7 +2,7 @@
 use Rattle.std.specs.Prelude.{ℕ, zero, suc, ◌+◌, ◌^◌, nat_lt, List, [], ◌∷◌, ◌++◌, Option, None, option_map}
 use Rattle.il_model.specs.declared.command.Command.{Command}
 use Rattle.vr_schedules.specs.declared.client.Client.{Client}
-use Rattle.vr_model.specs.World.{ClientState, is_free, unless, waits_or_not, numbers_used_up}
+use Rattle.vr_model.specs.World.{Reason, ClientState, is_free, require, WaitsOrNot, NumbersUsedUp}
 use Rattle.vr_model.specs.StandsFor.{request_of}
 use Rattle.vr_model.specs.declared.client.ClientNumber.{ClientNumber}
 use Rattle.vr_model.specs.declared.message.Message as sent
@@ -14,13 +14,13 @@ abbrev pub client_of : Client → ClientState Command
 client_of k = record { starts = k.starts; sequence = k.sequence; view = k.view; waits = option_map request_of k.waits }
 
 -- why a client that is in range can't submit
-abbrev pub submit_refusal : ClientState Command → Option ℕ
-submit_refusal k = unless (is_free k.waits) waits_or_not
-    (unless (nat_lt (k.sequence + 1) (2 ^ 32)) numbers_used_up None)
+abbrev pub submit_refusal : ClientState Command → Option Reason
+submit_refusal k = require (is_free k.waits) WaitsOrNot
+    (require (nat_lt (k.sequence + 1) (2 ^ 32)) NumbersUsedUp None)
 
 -- why it can't start again
-abbrev pub restart_refusal : ClientState Command → Option ℕ
-restart_refusal k = unless (nat_lt (k.starts + 1) (2 ^ 32)) numbers_used_up None
+abbrev pub restart_refusal : ClientState Command → Option Reason
+restart_refusal k = require (nat_lt (k.starts + 1) (2 ^ 32)) NumbersUsedUp None
 
 -- what a client is that has submitted nothing
 abbrev pub fresh_client : Client

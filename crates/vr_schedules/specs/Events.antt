@@ -10,8 +10,8 @@ use Rattle.vr_schedules.specs.declared.fault.EventFault.TheVariants.{Refused, Me
 use Rattle.vr_schedules.specs.declared.fault.WorldError.{WorldError}
 use Rattle.vr_schedules.specs.declared.fault.WorldError.TheVariants as world
 use Rattle.vr_model.specs.World.{Event, Submit, Retry, ClientRestart, Deliver, Timeout, Resend, Crash, Restart}
-use Rattle.vr_model.specs.World.{StoreFail, out_of_range, not_yet_sent, nonce_used, waits_or_not, still_up}
-use Rattle.vr_model.specs.World.{numbers_used_up}
+use Rattle.vr_model.specs.World.{StoreFail}
+use Rattle.vr_model.specs.World as model
 use Rattle.vr_schedules.specs.Members.{keeps_new}
 
 abbrev pub event_of : WorldEvent → Event Command
@@ -28,18 +28,27 @@ event_of (code.StoreFail i kept) = StoreFail i (keeps_new kept)
 abbrev pub events_of : List WorldEvent → List (Event Command)
 events_of es = map event_of es
 
--- the number of a reason
-abbrev pub number_of : Reason → ℕ
-number_of why.OutOfRange = out_of_range
-number_of why.NotYetSent = not_yet_sent
-number_of why.NonceUsed = nonce_used
-number_of why.WaitsOrNot = waits_or_not
-number_of why.StillUp = still_up
-number_of why.NumbersUsedUp = numbers_used_up
+-- the reason that the code tells
+abbrev pub reason_of : Reason → model.Reason
+reason_of why.OutOfRange = model.OutOfRange
+reason_of why.NotYetSent = model.NotYetSent
+reason_of why.NonceUsed = model.NonceUsed
+reason_of why.WaitsOrNot = model.WaitsOrNot
+reason_of why.StillUp = model.StillUp
+reason_of why.NumbersUsedUp = model.NumbersUsedUp
+
+-- the number that is printed of a reason
+abbrev pub reason_number : model.Reason → ℕ
+reason_number model.OutOfRange = 1
+reason_number model.NotYetSent = 2
+reason_number model.NonceUsed = 3
+reason_number model.WaitsOrNot = 4
+reason_number model.StillUp = 5
+reason_number model.NumbersUsedUp = 6
 
 -- the fault is this reason, or memory ran out
-abbrev pub IsReason : Option ℕ → EventFault → Type 0
-IsReason refusal (Refused reason) = refusal ≡ Some (number_of reason)
+abbrev pub IsReason : Option model.Reason → EventFault → Type 0
+IsReason refusal (Refused reason) = refusal ≡ Some (reason_of reason)
 IsReason refusal Memory = Unit {0}
 
 -- the fault of event number n, as a schedule's

@@ -5,7 +5,7 @@ use Rattle.il_model.specs.declared.command.Command.{Command}
 use Rattle.il_model.specs.declared.command.Answer.{Answer}
 use Rattle.il_model.specs.Snapshots.{SavedController}
 use Rattle.il_model.specs.Program.{Program}
-use Rattle.vr_model.specs.World.{Event, Completion, start, first_replica}
+use Rattle.vr_model.specs.World.{Reason, Event, Completion, start, first_replica}
 use Rattle.vr_model.specs.Agreement.{OneHistory, RulesKeepExecuted, NewStatesHandLogsOn, CommitsWhatItHad}
 use Rattle.vr_model.specs.Report.{Explains, Report, report, first_refusal, AllComplete}
 use Rattle.vr_model.specs.Groups.{group_size}
@@ -16,7 +16,7 @@ use Rattle.vr_schedules.specs.declared.event.WorldEvent.{WorldEvent}
 use Rattle.vr_schedules.specs.declared.fault.WorldError.{WorldError}
 use Rattle.vr_schedules.specs.declared.fault.WorldError.TheVariants.{BadSchedule, Memory}
 use Rattle.vr_schedules.specs.declared.trace.Trace as code
-use Rattle.vr_schedules.specs.Events.{events_of, number_of}
+use Rattle.vr_schedules.specs.Events.{events_of, reason_of}
 use Rattle.vr_schedules.specs.Standing.{releases_of}
 
 -- ---- what is known of every run
@@ -65,13 +65,13 @@ module _ (IsSavedAs : Program → ℕ → List Command → SavedController → T
     pub explains : Explains g.f g.answer events
 
 module _ (g : Group) (schedule : List WorldEvent) where
-  -- there is a run of the schedule in which this is the first event without a step, and the lowest reason
-  pub record IsRefused (index reason : ℕ) : Type 0 where
+  -- there is a run of the schedule in which this is the first event without a step, and the first reason
+  pub record IsRefused (index : ℕ) (reason : Reason) : Type 0 where
     pub events : List (Event Command × Completion)
     pub own : map (λ e. e.0) events ≡ events_of schedule
     pub complete : AllComplete g.f g.answer events start
     pub refused : first_refusal g.f g.answer 0 events start ≡ Some (index, reason)
 
   abbrev pub Fails : WorldError → Type 0
-  Fails (BadSchedule index reason) = IsRefused index (number_of reason)
+  Fails (BadSchedule index reason) = IsRefused index (reason_of reason)
   Fails Memory = Unit {0}

@@ -4,7 +4,7 @@ ghost use Rattle.std.specs.Prelude.{◌≡◌, ◌+◌, max, MatchResult, IfOk, 
 ghost use Rattle.vr_model.specs.World.{next_request, has_submitted, is_waiting};
 ghost use Rattle.vr_model.specs.StandsFor.{request_of};
 ghost use Rattle.vr_schedules.specs.Clients.{client_of, submit_refusal, restart_refusal};
-ghost use Rattle.vr_schedules.specs.Events.{number_of, IsReason};
+ghost use Rattle.vr_schedules.specs.Events.{reason_of, IsReason};
 
 use crate::fault::{EventFault, Reason};
 use il_model::Command;
@@ -69,7 +69,7 @@ impl Client {
     /// The client starts again: it still knows the view.
     pub fn restart(&self) -> Result<Client, Reason>
         ensures step { MatchResult result (λ _. restart_refusal (client_of self.now) ≡ None)
-            (λ e. restart_refusal (client_of self.now) ≡ Some (number_of e)) }
+            (λ e. restart_refusal (client_of self.now) ≡ Some (reason_of e)) }
         ensures client { MatchResult result
             (λ k. client_of k ≡ record
             (client_of self.now) { starts = self.now.starts + 1; sequence = 0; waits = None }) (λ _. Unit {0}) }

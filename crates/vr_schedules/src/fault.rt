@@ -25,11 +25,11 @@ pub enum Reason {
 
 impl Reason {
     ghost use Rattle.std.specs.Prelude.{◌≡◌};
-    ghost use Rattle.vr_schedules.specs.Events.{number_of};
+    ghost use Rattle.vr_schedules.specs.Events.{reason_number, reason_of};
 
     /// The number by which printed lines name it, from 1.
     pub fn number(self) -> u8
-        ensures { result ≡ number_of self }
+        ensures { result ≡ reason_number (reason_of self) }
     {
         match self {
             Reason::OutOfRange => 1,

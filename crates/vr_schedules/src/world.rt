@@ -114,7 +114,7 @@ impl<M: Member> Node<M> {
     ghost use Rattle.std.specs.BTreeSet.{contains};
     ghost use Rattle.il_model.specs.declared.command.Command as command;
     ghost use Rattle.vr_model.specs.Replicas.{ReplicaState, is_down, put};
-    ghost use Rattle.vr_model.specs.World.{down, unless, nonce_used, still_up};
+    ghost use Rattle.vr_model.specs.World.{down, require, NonceUsed, StillUp};
     ghost use Rattle.vr_schedules.specs.Members.{Taken, IsTaken, Does, by_rules, KeepsExecuted, FitsTaken};
     ghost use Rattle.vr_schedules.specs.Standing.{first_node};
     ghost use Rattle.vr_schedules.specs.Events.{IsReason};
@@ -168,10 +168,10 @@ impl<M: Member> Node<M> {
     fn take_nonce(&mut self, nonce: u64) -> Result<(), EventFault>
         ensures step { (m : Membership) (r : ReplicaState command.Command) → M.StandsFor self.old.member m r
             → MatchResult result
-            (λ _. unless (not (contains nat_cmp self.old.used nonce)) nonce_used
-            (unless (is_down r.status) still_up None) ≡ None)
-            (λ e. IsReason (unless (not (contains nat_cmp self.old.used nonce)) nonce_used
-            (unless (is_down r.status) still_up None)) e) }
+            (λ _. require (not (contains nat_cmp self.old.used nonce)) NonceUsed
+            (require (is_down r.status) StillUp None) ≡ None)
+            (λ e. IsReason (require (not (contains nat_cmp self.old.used nonce)) NonceUsed
+            (require (is_down r.status) StillUp None)) e) }
         ensures member { OnOk result (self.new.member ≡ self.old.member) }
         ensures store { OnOk result (self.new.store ≡ self.old.store) }
         ensures used { OnOk result

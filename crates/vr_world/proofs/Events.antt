@@ -13,7 +13,7 @@ use Rattle.vr_model.specs.Logs.{Request, IsAmong}
 use Rattle.vr_model.specs.Messages.{Party, Replica, Client, Body, Reply, Message}
 use Rattle.vr_model.specs.Rules.{receives, on_timeout, on_resend}
 use Rattle.vr_model.specs.World as world
-use Rattle.vr_model.specs.World.{ClientState, World, Event, Completion, next_request, has_submitted, restarts_client, replied, refusal, if_none, happens, steps, comes, comes_to, comes_to_client, does, if_up, run, start}
+use Rattle.vr_model.specs.World.{Reason, ClientState, World, Event, Completion, next_request, has_submitted, restarts_client, replied, refusal, if_none, happens, steps, comes, comes_to, comes_to_client, does, if_up, run, start}
 use Rattle.vr_model.specs.Replicas.{is_down}
 use Rattle.vr_model.specs.Report.{refused_at, first_refusal}
 use Rattle.vr_schedules.specs.declared.event.WorldEvent.{WorldEvent}
@@ -181,11 +181,11 @@ module _ (f : ℕ) (answer : List Command → Answer) where
   run-append (x ∷ xs) ys w = run-append xs ys (happens f answer w x.0 x.1)
 
   -- each event of it has a step
-  none_first : (e : ℕ) (o : Option ℕ) (rest : Option (ℕ × ℕ)) → refused_at e o rest ≡ None → o ≡ None
+  none_first : (e : ℕ) (o : Option Reason) (rest : Option (ℕ × Reason)) → refused_at e o rest ≡ None → o ≡ None
   none_first e None rest h = refl
   none_first e (Some r) rest h = absurd cc
 
-  none_later : (e : ℕ) (o : Option ℕ) (rest : Option (ℕ × ℕ)) → refused_at e o rest ≡ None → rest ≡ None
+  none_later : (e : ℕ) (o : Option Reason) (rest : Option (ℕ × Reason)) → refused_at e o rest ≡ None → rest ≡ None
   none_later e None rest h = h
   none_later e (Some r) rest h = absurd cc
 
