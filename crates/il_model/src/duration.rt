@@ -155,7 +155,7 @@ fn behind_number(bytes: &[u8], n: u64) -> Option<TimePart<'_>>
     }
 }
 
-#[tactic(auto, unfolding(crate::specs::Durations::part_by))]
+#[tactic(auto, unfolding(crate::specs::Literals::part_by))]
 fn part(bytes: &[u8]) -> Option<TimePart<'_>>
     ensures value { option_map part_text result ≡ part_by held_integer bytes.now }
     ensures small { IfSome result (λ p. p.milliseconds ≤ 2 ^ 91) }

@@ -26,7 +26,7 @@ pub fn digit(b: u8) -> u8
 }
 
 /// The number that digits stand for, or the greatest `u64` where it is above that, which no literal may have.
-#[tactic(auto, unfolding(crate::specs::Literal::are_digits, crate::specs::Literal::value_behind))]
+#[tactic(auto, unfolding(crate::specs::Literals::are_digits, crate::specs::Literals::value_behind))]
 pub fn integer(base: u8, bytes: &[u8]) -> Option<u64>
     requires low { 2 ≤ base }
     requires high { base ≤ 16 }

@@ -107,7 +107,7 @@ fn begins_with(bytes: &[u8], b: u8) -> bool
 }
 
 /// Whether no two underscores stand side by side and none at the end.
-#[tactic(auto, unfolding(crate::specs::Names::is_well_spelled))]
+#[tactic(auto, unfolding(crate::specs::Words::is_well_spelled))]
 pub fn is_well_spelled(name: &[u8]) -> bool
     ensures { result ≡ is_well_spelled name.now }
 {

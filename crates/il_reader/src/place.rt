@@ -18,7 +18,7 @@ impl fmt::Display for Place {
     }
 }
 
-#[tactic(auto, unfolding(crate::specs::Place::column_behind))]
+#[tactic(auto, unfolding(crate::specs::Texts::column_behind))]
 fn column_of(before: &[u8]) -> usize
     requires { length before.now < 2 ^ 32 }
     ensures value { result ≡ column_behind 1 before.now }

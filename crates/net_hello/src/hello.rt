@@ -116,7 +116,7 @@ fn whole_of(rest: &[u8]) -> Result<Option<Hello>, HelloFault>
     }
 }
 
-#[tactic(auto, unfolding(crate::specs::Reading::hello_of))]
+#[tactic(auto, unfolding(crate::specs::Hellos::hello_of))]
 fn hello_of(bytes: &[u8]) -> Result<Option<Hello>, HelloFault>
     ensures { result ≡ hello_of bytes.now }
 {

@@ -175,7 +175,7 @@ fn word_by(kind: u8, question: u64, rest: &[u8]) -> Option<Word>
     }
 }
 
-#[tactic(auto, unfolding(crate::specs::VisitReading::word_of))]
+#[tactic(auto, unfolding(crate::specs::Visits::word_of))]
 fn word_of(bytes: &[u8]) -> Option<Word>
     requires { length bytes.now ≡ 72 }
     ensures { result ≡ word_of bytes.now }
@@ -197,7 +197,7 @@ fn array_of(bytes: &[u8]) -> [u8; 32]
 }
 
 /// What is said behind the magic and the version.
-#[tactic(auto, unfolding(crate::specs::VisitReading::said_of))]
+#[tactic(auto, unfolding(crate::specs::Visits::said_of))]
 fn said_of(bytes: &[u8]) -> Option<Visit>
     requires { length bytes.now ≡ 145 }
     ensures { result ≡ said_of bytes.now }
@@ -218,7 +218,7 @@ fn said_of(bytes: &[u8]) -> Option<Visit>
     })
 }
 
-#[tactic(auto, unfolding(crate::specs::VisitReading::visit_of))]
+#[tactic(auto, unfolding(crate::specs::Visits::visit_of))]
 fn visit_of(bytes: &[u8]) -> Option<Visit>
     ensures { result ≡ visit_of bytes.now }
 {

@@ -93,7 +93,7 @@ fn fields_of(alloc: Global, bytes: &[u8]) -> Result<Option<Store>, AllocError>
 }
 
 /// What stands where the fields of a header do.
-#[tactic(auto, unfolding(crate::specs::Reading::header_of))]
+#[tactic(auto, unfolding(crate::specs::Spelling::header_of))]
 fn header_of(bytes: &[u8]) -> Header
     requires { length bytes.now ≡ 116 }
     ensures { result ≡ header_of bytes.now }
