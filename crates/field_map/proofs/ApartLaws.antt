@@ -8,7 +8,8 @@ use Rattle.field_map.specs.declared.places.Kind.TheVariants.{Bits, Words}
 use Rattle.field_map.specs.declared.places.Places.{Places}
 use Rattle.field_map.specs.declared.reading.Reading.{Reading}
 use Rattle.field_map.specs.Areas.{is_one_kind}
-use Rattle.field_map.specs.Filled.{are_apart, is_in, is_in_any, is_read, are_all_apart, places_read}
+use Rattle.field_map.specs.Filled.{are_apart, is_in, is_in_any, is_read, are_all_apart}
+use Rattle.field_map.specs.Field.{places_read}
 
 -- both hold
 pub and_first : (a b : Bool) → (a && b) ≡ true → a ≡ true

@@ -10,7 +10,8 @@ use Rattle.field_map.specs.declared.places.Kind.{Kind}
 use Rattle.field_map.specs.declared.places.Places.{Places}
 use Rattle.field_map.specs.declared.reading.Reading.{Reading}
 use Rattle.field_map.specs.declared.device.Device.{Device}
-use Rattle.field_map.specs.Filled.{are_apart, filled_by, places_read, places_alive, is_in, is_in_some, is_in_any}
+use Rattle.field_map.specs.Filled.{are_apart, is_in, is_in_some, is_in_any}
+use Rattle.field_map.specs.Field.{filled_by, places_read, places_alive}
 use Rattle.field_map.specs.Filled.{is_read, are_all_apart}
 use Rattle.field_map.specs.Asking.{shown_by, after_some, all_cells}
 use Rattle.field_map.specs.Carried.{gathered_by, with_gathered, after_cycle, HasAnswered, IsEachCarried, gathered_of}

@@ -15,7 +15,8 @@ use Rattle.field_map.specs.declared.places.Kind.TheVariants.{Bits, Words}
 use Rattle.field_map.specs.declared.reading.Reading.{Reading}
 use Rattle.field_map.specs.Areas.{area_length, is_one_kind}
 use Rattle.field_map.specs.Asking.{shown_at, shown_by, after_some}
-use Rattle.field_map.specs.Filled.{places_read, is_in, is_in_any, are_all_apart, are_apart}
+use Rattle.field_map.specs.Filled.{is_in, is_in_any, are_all_apart, are_apart}
+use Rattle.field_map.specs.Field.{places_read}
 use Rattle.field_map.specs.Carried.{Cell, bit, word, cell_at, IsWhole, gathered_of, value_shown, AreShown}
 use Rattle.field_map.specs.Carried.{IsEachGathered}
 use Rattle.field_map.proofs.ApartLaws.{and_first, and_second, none_of_others}

@@ -10,8 +10,9 @@ use Rattle.field_map.specs.declared.reading.Fallback.{Fallback}
 use Rattle.field_map.specs.declared.reading.Fallback.TheVariants.{Hold, Zero}
 use Rattle.il_model.specs.Locations.{clear_cells}
 use Rattle.field_map.specs.Asking.{all_cells}
-use Rattle.field_map.specs.Filled.{is_in, is_in_some, is_in_any, is_read, are_all_apart, filled_by, places_read}
-use Rattle.field_map.specs.Filled.{places_alive}
+use Rattle.field_map.specs.Filled.{is_in, is_in_some, is_in_any, is_read, are_all_apart}
+use Rattle.field_map.specs.Field.{filled_by, places_read}
+use Rattle.field_map.specs.Field.{places_alive}
 use Rattle.field_map.specs.Rounds.{handed_cells}
 use Rattle.field_map.specs.Carried.{Cell, cell_at, IsWhole, IsWholeIf, handed_over, after_device, after_devices}
 use Rattle.field_map.specs.Carried.{is_filled, given_by, shown_at_place, IsEachGiven}

@@ -14,7 +14,8 @@ use Rattle.field_map.specs.declared.device.Device.{Device}
 use Rattle.field_map.specs.declared.reading.Reading.{Reading}
 use Rattle.field_map.specs.declared.places.Kind.TheVariants as kinds
 use Rattle.field_map.specs.Asking.{carried, all_cells, after_some, shown_by}
-use Rattle.field_map.specs.Filled.{is_in_some, is_in_any, is_read, are_all_apart, is_in, filled_by, places_read}
+use Rattle.field_map.specs.Filled.{is_in_some, is_in_any, is_read, are_all_apart, is_in}
+use Rattle.field_map.specs.Field.{filled_by, places_read}
 use Rattle.field_map.specs.Rounds.{handed_cells}
 
 -- ---- what places have after devices were handed over

@@ -1,10 +1,9 @@
--- Which places of %I the devices of a field fill, and that none is filled twice.
-use Rattle.std.specs.Prelude.{◌+◌, Bool, not, ◌||◌, nat_le, List, [], ◌∷◌, ◌++◌, map, Option, Some, None, ◌≡◌, ℕ, ◌==◌}
+-- Which places of %I are filled, and that none is filled twice.
+use Rattle.std.specs.Prelude.{◌+◌, Bool, not, ◌||◌, nat_le, List, [], ◌∷◌, Option, Some, None, ◌≡◌, ℕ, ◌==◌}
 use Rattle.std.specs.Prelude.{true, false, ◌&&◌, nat_lt}
 use Rattle.std.specs.List.{list_any, list_all}
 use Rattle.field_map.specs.declared.places.Places.{Places}
 use Rattle.field_map.specs.declared.reading.Reading.{Reading}
-use Rattle.field_map.specs.declared.device.Device.{Device}
 use Rattle.field_map.specs.declared.places.Kind.{Kind}
 use Rattle.field_map.specs.Areas.{is_one_kind}
 
@@ -13,19 +12,6 @@ use Rattle.field_map.specs.Areas.{is_one_kind}
 -- of two kinds, or one lies before the other
 abbrev pub are_apart : Places → Places → Bool
 are_apart p q = not (is_one_kind p.kind q.kind) || (nat_le (p.from + p.count) q.from || nat_le (q.from + q.count) p.from)
-
--- ---- the places that the devices of a field fill
-
-abbrev pub places_read : List Reading → List Places
-places_read readings = map (λ r. r.places) readings
-
-abbrev pub places_alive : Option Places → List Places
-places_alive None = []
-places_alive (Some p) = p ∷ []
-
--- those of its readings, and its alive bit
-abbrev pub filled_by : Device → List Places
-filled_by d = places_read d.inputs.readings.items ++ places_alive d.alive
 
 -- ---- which places are filled
 

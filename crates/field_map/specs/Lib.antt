@@ -1,4 +1,5 @@
 pub mod Filled
+pub mod Field
 pub mod Areas
 pub mod Asking
 pub mod Rounds

@@ -1,7 +1,8 @@
 //! A field: a controller's devices.
 
 ghost use Rattle.std.specs.Prelude.{◌≡◌, true};
-ghost use Rattle.field_map.specs.Filled.{are_all_apart, filled_by};
+ghost use Rattle.field_map.specs.Filled.{are_all_apart};
+ghost use Rattle.field_map.specs.Field.{filled_by};
 ghost use Rattle.std.specs.List.{flat_map};
 
 use crate::device::Device;

@@ -2,7 +2,7 @@
 
 ghost use Rattle.std.specs.Prelude.{◌≡◌, ◌+◌, ◌<◌, ◌≤◌, ◌++◌, ◌∷◌, [], length, IfOk, OnOk};
 ghost use Rattle.std.specs.List.{flat_map};
-ghost use Rattle.field_map.specs.Filled.{filled_by, places_alive, places_read};
+ghost use Rattle.field_map.specs.Field.{filled_by, places_alive, places_read};
 
 use crate::device::{Device, MOST_WRITINGS};
 use crate::fault::{FieldFault, Spot, Why};

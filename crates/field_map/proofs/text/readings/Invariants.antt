@@ -1,5 +1,5 @@
 use Rattle.std.proofs.Common.{◌≡◌, ◌++◌}
-use Rattle.field_map.specs.Filled.{places_read}
+use Rattle.field_map.specs.Field.{places_read}
 use Rattle.field_map.proofs.text.readings.Given as goal
 
 abbrev pub invariant-loop-index : goal.invariant-loop-index
