@@ -1,6 +1,6 @@
 //! The driver of a machine: the client of its group that has it scan while the machine's own replica leads.
 
-ghost use Rattle.std.specs.Prelude.{◌≡◌, ◌↔◌, ◌⊎◌, IfOk, IsTrue, List, OnOk, Option};
+ghost use Rattle.std.specs.Prelude.{◌≡◌, ◌↔◌, ◌⊎◌, IfOk, IsTrue, List, OnOk, Option, None};
 ghost use Rattle.std.specs.declared.time.Duration.{Duration as Time};
 ghost use Rattle.il_model.specs.declared.command.Command.{Command as Asked};
 ghost use Rattle.vr_model.specs.Logs.{Request as Entry};
@@ -9,6 +9,7 @@ ghost use Rattle.io_driver.specs.Driver.{release_by};
 ghost use Rattle.plc_machine.specs.Driving.{Looks, Shows};
 ghost use Rattle.plc_machine.specs.declared.leading.LastScan.{LastScan as Last};
 ghost use Rattle.plc_member.specs.Driving.{MayScan, Publishes, TracesRelease, traced_by};
+ghost use Rattle.plc_member.specs.Driving.{led_in, begins_to_lead, HasLooked, AreInherited, WaitsForInputs};
 ghost use Rattle.plc_member.specs.declared.scans.Entered.{Entered};
 
 use crate::filling::fill;
@@ -71,10 +72,23 @@ pub enum Ended {
 }
 
 /// The view that a machine leads, if it leads.
-fn view_of(course: Course) -> Option<u64> {
+fn view_of(course: Course) -> Option<u64>
+    ensures { result ≡ led_in course }
+{
     match course {
         Course::Leading(lead) => Some(lead.view),
         Course::StandingBy => None,
+    }
+}
+
+/// Whether a machine begins to lead: its replica leads this view, if one, and the machine led that one before, if one.
+fn begins(leads: Option<u64>, before: Option<u64>) -> bool
+    ensures { result ≡ begins_to_lead leads before }
+{
+    match (leads, before) {
+        (Some(view), Some(led)) => view != led,
+        (Some(_), None) => true,
+        (None, _) => false,
     }
 }
 
@@ -141,8 +155,11 @@ where
 
     /// Looks at the replica, submits a scan where one is due, and takes one message at most; where the machine begins to
     /// lead, it only looks. Whether outputs are shown at its end.
+    #[tactic(auto, using(crate::proofs::Leading::waits))]
     fn turn(&mut self) -> Result<bool, Failed>
-        ensures { IfOk result (λ shows. (now : Time) × (IsTrue shows ↔ Shows now self.new.requester.driver)) }
+        ensures shown { IfOk result (λ shows. (now : Time) × (IsTrue shows ↔ Shows now self.new.requester.driver)) }
+        ensures waits { IfOk result
+            (WaitsForInputs self.new.inherited self.old.requester.driver self.new.requester.driver) }
     {
         self.inherit()?;
         self.look()?;
@@ -163,7 +180,9 @@ where
     }
 
     /// The view that the machine leads, if it leads.
-    fn led(&self) -> Option<u64> {
+    fn led(&self) -> Option<u64>
+        ensures { result ≡ led_in self.now.requester.driver.course }
+    {
         view_of(self.requester.driver.course())
     }
 
@@ -176,7 +195,11 @@ where
 
     /// Looks at the replica, and follows what it shows. It fails where the replica's store did, where the machine's
     /// couldn't be marked, or where the replica's thread ended.
-    fn look(&mut self) -> Result<(), Failed> {
+    fn look(&mut self) -> Result<(), Failed>
+        ensures looked { OnOk result (HasLooked self.old.requester.driver self.new.requester.driver) }
+        ensures inherited { OnOk result
+            (AreInherited self.old.inherited self.new.inherited self.new.requester.driver) }
+    {
         let now = self.elapsed()?;
         let shown = self.solo.look();
         self.teller.look(shown, now);
@@ -196,9 +219,12 @@ where
 
     /// Leads the view that its replica leads, if it leads one, from the last scan of the replica's log on. Where the
     /// machine begins to lead, the stage is to get the inputs of that scan.
+    #[tactic(auto, using(crate::proofs::Leading::turned))]
     fn follow(&mut self, leads: Option<u64>, now: Duration) -> Result<(), Failed>
         ensures looked { OnOk result
             ((last : Option Last) × Looks leads last now self.old.requester.driver self.new.requester.driver) }
+        ensures inherited { OnOk result
+            (AreInherited self.old.inherited self.new.inherited self.new.requester.driver) }
         ensures same { self.new.publisher.writer ≡ self.old.publisher.writer }
     {
         let seen = self.board.read(&self.host.rt);
@@ -210,7 +236,7 @@ where
         if self.requester.driver.look(leads, last, now).is_err() {
             return Err(Failed::Device);
         }
-        if leads.is_some() && leads != before {
+        if begins(leads, before) {
             self.inherited = match seen {
                 Some(seen) => Some(seen.inputs),
                 None => None,
@@ -221,7 +247,10 @@ where
 
     /// The stage gets the inputs that the machine inherits, if it does. By then the port is closed behind which clients
     /// wrote in a view before, with each of its sessions, so none of their writes comes later.
-    fn inherit(&mut self) -> Result<(), Failed> {
+    fn inherit(&mut self) -> Result<(), Failed>
+        ensures taken { self.new.inherited ≡ None }
+        ensures same { self.new.requester.driver ≡ self.old.requester.driver }
+    {
         match self.inherited.take() {
             Some(inputs) => {
                 fill(&mut self.stage.handle(&self.host.rt), &inputs).map_err(failed_by)
@@ -235,6 +264,7 @@ where
     fn scan(&mut self) -> Result<(), Failed>
         ensures scanned { OnOk result (MayScan self.old.requester.driver self.new.requester.driver) }
         ensures same { self.new.publisher.writer ≡ self.old.publisher.writer }
+        ensures kept { self.new.inherited ≡ self.old.inherited }
     {
         let at = Instant::now(&self.host.rt)?;
         let now = at.saturating_duration_since(self.begun);
@@ -258,7 +288,9 @@ where
     }
 
     /// Receives once. A reply to the scan that waits is taken, and what it releases is published.
-    fn receive(&mut self) -> Result<(), Failed> {
+    fn receive(&mut self) -> Result<(), Failed>
+        ensures { self.new.inherited ≡ self.old.inherited }
+    {
         let now = self.elapsed()?;
         match self.requester.receive(now)? {
             Some(message) => self.take(&message),
@@ -281,6 +313,7 @@ where
             × TracesRelease (release_by self.old.requester.driver.driver.state (body_with log message.now.body))
             (traced_by self.old.tracer.number self.old.tracer.epoch entered (body_with log message.now.body))
             self.old.tracer.trace self.new.tracer.trace) }
+        ensures kept { self.new.inherited ≡ self.old.inherited }
     {
         let was_waiting = self.requester.driver.is_waiting();
         let release = self.requester.driver.on_reply(message);
