@@ -16,13 +16,14 @@
 //! closed, and the store has the later epoch before the next life begins.
 //!
 //! Proved: a scan is submitted only as of a machine that leads, where one is due, and its inputs are one sample; what
-//! is published is what a reply released, and that reply is put into the trace, if there is one; where a machine begins
-//! to lead, its stage has the inputs of the last scan that its replica's log kept. A held link gives no answer to a
-//! RECOVERY (`let_through`); a life ends for another epoch by the steps that say so alone (`leaving_by`); no machine
-//! begins anew by itself whose program was changed (`is_automatic`).
+//! is published is what a reply released, and that reply is put into the trace, if there is one. What a stage is filled
+//! with it has (`fill`), and a machine whose stage is still to be filled, since it began to lead, only looks and shows
+//! nothing (`turn`). A held link gives no answer to a RECOVERY (`let_through`); a life ends for another epoch by the
+//! steps that say so alone (`leaving_by`); no machine begins anew by itself whose program was changed (`is_automatic`).
 //!
-//! By its code alone, and tested (`tests_machines`, `tools/try-machines`): how threads, locks, sockets and
-//! times are joined; that the port is open only while outputs are shown; that no answer is under way in the replica of a machine
+//! By its code alone, and tested (`tests_machines`, `tools/try-machines`): how threads, locks, sockets and times are
+//! joined; that the port is open only while outputs are shown; that what a stage is filled with are the inputs of the
+//! last scan that its replica's log kept, behind a closed port; that no answer is under way in the replica of a machine
 //! that freezes; that the store has an epoch as begun before its replica says a word; that nothing is said in a later
 //! epoch before port, sessions and links of the earlier one are closed; that a store is marked before a message tells
 //! of a change of the program.
