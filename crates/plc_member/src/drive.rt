@@ -219,7 +219,7 @@ where
 
     /// Leads the view that its replica leads, if it leads one, from the last scan of the replica's log on. Where the
     /// machine begins to lead, the stage is to get the inputs of that scan.
-    #[tactic(auto, using(crate::proofs::Leading::turned))]
+    #[tactic(auto, using(crate::proofs::Leading::inherits))]
     fn follow(&mut self, leads: Option<u64>, now: Duration) -> Result<(), Failed>
         ensures looked { OnOk result
             ((last : Option Last) × Looks leads last now self.old.requester.driver self.new.requester.driver) }
