@@ -26,7 +26,7 @@ nothing_shown now StandingBy fresh it = it
 nothing_shown now (Leading lead) fresh it = it
 
 unseen : (now : Duration) (driver : MachineDriver) (shows : Bool) → driver.shown ≡ None → (IsTrue shows ↔ Shows now driver) → shows ≡ false
-unseen now driver true none is = absurd (nothing_shown (as_nanos now) driver.course (as_nanos driver.pace.fresh) (subst (λ s. ShowsAt (as_nanos now) driver.course s (as_nanos driver.pace.fresh)) none (is.0 tt)))
+unseen now driver true none is = absurd (nothing_shown (as_nanos now) driver.course (as_nanos driver.pace.fresh) (subst (λ s. ShowsAt (as_nanos now) driver.course s (as_nanos driver.pace.fresh)) none (is.0 refl)))
 unseen now driver false none is = refl
 
 -- behind a look, where it had no inputs to inherit before
