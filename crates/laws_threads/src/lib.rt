@@ -24,9 +24,9 @@
 //! was handed out before, to that party; a replica's first start comes once, and finds a store that holds no view; each
 //! later one finds what the one before was left with, and has a nonce that no other start of that replica had; all
 //! start with one program and one budget. None of it speaks of one process: each replica may run in its own. Of a
-//! machine it's enough that nobody copies its store or brings an old one back: `plc format` makes it once,
-//! `a_start_is_new_once` of plc_store judges no later start as the first one, a `JudgedStarts` lets none be that, and a
-//! `FileStore` counts on.
+//! machine it's enough that nobody copies its store or brings an old one back: `plc format` makes it once, plc_store
+//! judges no later start as the first one (`a_start_is_new_once`; plc_member does, by code, where nothing was said
+//! before it), a `JudgedStarts` lets none be that, and a `FileStore` counts on.
 //!
 //! Only tested: nothing.
 #![tactic(auto)]

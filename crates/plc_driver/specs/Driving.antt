@@ -91,8 +91,8 @@ abbrev pub scan_of : Came → Scanned → Scan
 scan_of came scanned =
     record { at = came.at; is_late = came.is_late; is_released = scanned.is_released; halt = scanned.halt }
 
--- A scan was asked for that was due: a sample of the inputs was taken and its scan submitted, of this moment, in
--- milliseconds; the link took the request; and the next scan is due after it.
+-- A scan was asked for: a sample of the inputs was taken and its scan submitted, of this moment, in milliseconds; the
+-- link took the request; and the next scan is due after it.
 pub record AsksForScan (period due due_after : ℕ) (came : Came) (d d' : Client) (told told' : Option Book)
     (sent sent' : Option (List Message)) : Type 0 where
   pub awaited : IsAwaited period due due_after came

@@ -9,7 +9,7 @@ use Rattle.plc_epochs.specs.declared.recovery.Question.{Question}
 use Rattle.plc_epochs.specs.declared.recovery.Question.TheVariants.{Unasked, First, Second}
 use Rattle.plc_epochs.specs.declared.recovery.Recovery.{Recovery}
 
--- each start of a machine has 2 ^ 32 nonces, of which the first is its RECOVERY's at first
+-- each start of a machine has 2 ^ 32 nonces of its words, one for each time that its replica recovers
 abbrev pub first_nonce : ℕ → ℕ
 first_nonce starts = starts * 4_294_967_296
 

@@ -71,7 +71,7 @@ pub enum Step {
     Begins(Epoch),
     /// Its store has that: its replica is normal in view 0 of this epoch, with an empty log.
     Starts(Epoch),
-    /// It thaws: its replica crashes and recovers under this nonce. Nothing is stored.
+    /// It thaws: its replica crashes and recovers anew, which its words tell by this nonce. Nothing is stored.
     Thaws(u64),
 }
 

@@ -10,7 +10,7 @@
 //!     Step::Ends(epoch) | Step::Hears(epoch) => .., // close and drop all of the old epoch; store `machine.kept()`
 //!     Step::Begins(_) => .., // store `machine.kept()`, then `machine.stored(..)`
 //!     Step::Starts(epoch) => .., // a new replica, normal in view 0
-//!     Step::Thaws(nonce) => .., // the replica crashes, and recovers under this nonce
+//!     Step::Thaws(_) => .., // the replica crashes and recovers anew; what the machine says of that has this nonce
 //!     _ => ..,
 //! }
 //! if machine.takes_answers() { .. } // else no RECOVERYRESPONSE is handed to the replica

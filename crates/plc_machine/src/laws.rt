@@ -16,8 +16,8 @@ pub fn moments_rise()
     ensures rise { (from : LastScan) (now later : ℕ) → now ≤ later → moment_at from now ≤ moment_at from later }
 {}
 
-/// By one clock: where a scan came in at the next machine no earlier than it was submitted at the one before, at no time
-/// both show.
+/// By one clock: where a scan came in at the next machine no earlier than it was submitted at the one before, what that
+/// one shows of it has expired once the next opens.
 pub fn no_two_show()
     ensures { (submitted came fresh time : ℕ) → submitted ≤ came → time < later_by submitted fresh
         → opens_from came fresh ≤ time → ⊥ }

@@ -10,12 +10,13 @@
 //! if driver.shows(later) { .. } // a reply is written only while this is so
 //! ```
 //!
-//! Proved: what is formatted starts as a new machine of its group, or as one that waits. A machine leads exactly while its replica is shown
-//! as the primary of a view that goes on normally, and submits a scan only then, where one is due: of one sample, at
-//! the moment of the last scan of its log and the time since that came in. What waited when it was deposed is never
-//! asked for again. It shows outputs only for so long behind the submission of their scan, and, where it takes over,
-//! only so long behind the last scan that came in here: so by one clock no two machines show at a time
-//! (`no_two_show`), and moments never go back (`moments_rise`).
+//! Proved: what is formatted starts as a new machine of its group, or as one that waits. A machine leads exactly while
+//! its replica is shown as the primary of a view that goes on normally, and submits a scan only then, where one is due:
+//! of one sample, if the staging has a ghost history, at the moment of the last scan of its log and the time since that
+//! came in. What waited when it was deposed is never asked for again. It shows outputs only for so long behind the
+//! submission of their scan, and, where it takes over, only so long behind the last scan that came in here: so by one
+//! clock what a machine shows of a scan has expired where the next opens behind it (`no_two_show`). Moments never go
+//! back (`moments_rise`).
 //!
 //! `plc_member` drives by it. That clocks of machines go equally fast is a premise.
 #![tactic(auto)]

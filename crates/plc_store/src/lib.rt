@@ -14,9 +14,9 @@
 //! where it has entered an epoch and not begun it; where nothing was formatted, where the view of an epoch that was
 //! begun is gone, and where the group file is another's it's refused, with what is wrong. `format` changes only a
 //! directory that holds nothing. What a store has of epochs never goes back; `keep` answers only once the store has it,
-//! and begins an epoch only in a directory from which the views of the one before are gone, so what was begun is never
-//! new again, whatever happens to the view (`a_start_is_new_once`). By hand a store that was marked by a change of the
-//! program goes on only with an image that is given.
+//! and begins an epoch only in a directory from which the views of the one before are gone, so a store that has begun
+//! its epoch is never judged new in it again, whatever happens to the view (`a_start_is_new_once`). By hand a store that
+//! was marked by a change of the program goes on only with an image that is given.
 //!
 //! By its code alone: that a file is written beside, flushed and renamed, that views are taken away and that is flushed,
 //! and that one process at a time has the directory. That a disk keeps what was flushed is a premise.
