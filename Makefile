@@ -118,7 +118,7 @@ install:
 	tools/man-page build/plc > $(SHARE)/man/man1/plc.1
 	install -m 644 README.md SECURITY.md CHANGELOG.md CONTRIBUTING.md $(SHARE)/plc
 	install -m 644 docs/*.md $(SHARE)/plc/docs
-	install -m 644 docs/pictures/*.svg $(SHARE)/plc/docs/pictures
+	install -m 644 docs/pictures/*.svg docs/pictures/*.png $(SHARE)/plc/docs/pictures
 	install -m 755 tools/number-lines $(SHARE)/plc/tools
 	install -m 644 examples/*.* $(SHARE)/plc/examples
 	install -m 644 examples/console/*.* $(SHARE)/plc/examples/console

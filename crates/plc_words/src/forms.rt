@@ -130,7 +130,7 @@ A fault is one line on standard error. Of the program's text, at line L and colu
                              there, or a line that ends too early, 6 a name or the text is too long
   plc: decl N at L:C         1 a name that was declared before, 2 no such type, 3 a name that isn't
                              declared, 4 no location, or one of another type, 5 two names at one
-                             location, 6 a first value that doesn't fit, or any on an input or an
+                             location, 6 an initial value that doesn't fit, or any on an input or an
                              instance, 7 a word of the language as a name or a label, 8 too many
                              variables, instances or instructions
   plc: asm N at I            1 types that differ, 2 no current result, 3 a jump to no label, 4 a
@@ -177,8 +177,8 @@ Answers:
                              forced, 4 a value of another type, 5 there is no current result,
                              6 no image, 7 a scan is held or stopped: no change
 
-Where COMMANDS is no such array, 'plc: commands' is told, and nothing has run. Before it a line tells
-'no command N', counted from 1, 'no list', or 'no JSON at L:C'.
+Where COMMANDS is no such array, 'plc: commands' is reported, and nothing has run. Before it a line
+says 'no command N', counted from 1, 'no list', or 'no JSON at L:C'.
 "
 );
 
@@ -196,7 +196,7 @@ instance, END_VAR, a line for each instruction. It assembles to the same image.
 A fault is one line on standard error; POS is a byte of the image, counted from 0:
   plc: load N                1 the image is cut short, 2 it doesn't begin as one, 3 it's of another
                              version, or of version 2 without LINT, 4 it counts more than its limits,
-                             8 bytes stand behind its end
+                             8 bytes stand after its end
   plc: load N at POS         5 a value that may not stand there, 6 a type that doesn't fit, 7 a jump
                              to no label
   plc: device read PATH      the file can't be read
@@ -212,7 +212,7 @@ place, and the table of Modbus (coil, discrete input, holding register, input re
 const DIFFERENCE: &str = with_source_faults!(
     "Prints a line for each variable and instance of NEW, and for each of OLD that ends:
   goes on   it keeps its value: OLD has one of that name and type (an instance: of that kind)
-  begins    it starts at its first value
+  begins    it starts at its initial value
   at place  it lies at a place, which keeps its value
   ends      OLD's alone: its value is lost
 So a plant that runs OLD goes on with NEW after 'plc ask --change'. OLD is judged first.
@@ -241,9 +241,9 @@ The report is one line of JSON:
   releases                the answers that reached their clients, as [event, client, number, answer]
   sent                    how many messages were sent
 
-Where SCHEDULE is no such array, or a name in it is none of the program's, 'plc: schedule' is told, and
-nothing has run. Before it a line tells 'no event I', counted from 0, 'no list', or 'no JSON
-at L:C'. Where event I, counted from 0, can't take place, 'plc: schedule I R' is: 1 its client or
+Where SCHEDULE is no such array, or a name in it is none of the program's, 'plc: schedule' is
+reported, and nothing has run. Before it a line says 'no event I', counted from 0, 'no list', or
+'no JSON at L:C'. Where event I, counted from 0, can't take place, 'plc: schedule I R' is: 1 its client or
 replica is out of range, 2 the message is not yet sent, 3 the replica had the nonce before, 4 the client
 submits while it waits, or retries while it doesn't, 5 the replica is up, 6 the client's numbers are used
 up.
@@ -266,22 +266,22 @@ Bits are numbered 0 to 511 (%IXb.n is 8b+n), registers 0 to 63:
 
 Each replica keeps its view in a file of DIR, replica-0 to replica-2F. With --store given 2F+1 times
 each has it in a directory of its own, in their order. DIR is made where it isn't there. Where it
-holds such a file, or another start has it by a lock on the file 'lock', 'plc: store' is told, and
+holds such a file, or another start has it by a lock on the file 'lock', 'plc: store' is reported, and
 nothing has started.
 
-What changes is told by a line on standard error, and the status stays:
+What changes is reported by a line on standard error, and the status stays:
   replica I down             replica I has not been normal for a second
   replica I normal           it's normal again
   replica I store            its file couldn't be read or written: it's down. A save is tried again
                              after 1 s, then after 2 s, up to each minute, and it keeps what it knows;
-                             behind a start that failed it's started anew after 5 s, then after 10 s,
+                             after a start that failed it's started anew after 5 s, then after 10 s,
                              up to each minute, until it's normal again
   replica I starts           it's started anew
   replica I crashed          it was crashed and restarted, as --crash asks for
   held P                     a scan is held before instruction P; outputs stay as they were released last
   stopped WHY P              the program stopped at instruction P: overflow, zerodivisor or budget; all
                              outputs are FALSE or 0 from then on, until a reset
-  goes on                    a scan was neither held nor stopped, behind one that was
+  goes on                    a scan was neither held nor stopped, after one that was
   console begins             an operator has the console
   console ends               he has gone
   console taken over         he has it no more: another one has come
@@ -323,7 +323,7 @@ With --group GROUP one machine of a group is served, in a process of its own: DI
 'plc format' made it with the program, and GROUP the file of the group, which has all other settings.
 It goes on until it's ended from outside, or something fails, and then it's started anew by the same
 words. One machine drives at a time: its port for Modbus answers, and the others' are closed. Of the
-lines above it tells those of scans and of a console, and of machines, counted from 0:
+lines above it reports those of scans and of a console, and of machines, counted from 0:
   driving view V             this machine drives from now on
   standing by view V         another one does
   stale view V               it leads, and released nothing for as long as outputs are shown
@@ -335,13 +335,13 @@ lines above it tells those of scans and of a console, and of machines, counted f
                              program, own party, no member, or fewer starts
   replica normal view V      the replica of this machine takes part
   replica not normal         it learns what it missed, or the group has no majority; after a minute that's
-                             told once more
+                             reported once more
 With --trace FILE, for trials, a line goes to the end of FILE for each start, 'machine I start N', and
 for each release: the epoch, the place of its scan in the list of the group's commands, from 0, the
 number of the scan's request, the scan's moment, how many lines were left out before this one, since
 FILE took them too slowly, and the outputs, as 'plc run' prints them. A dash stands for a place or a
 moment that the machine's own replica didn't have.
-Where GROUP or DIR is refused, it's told as by 'plc format', and nothing has started. Further:
+Where GROUP or DIR is refused, it's reported as by 'plc format', and nothing has started. Further:
   plc: store missing         nothing was formatted in DIR
   plc: store of another group  GROUP isn't the file with which DIR was formatted
   plc: store of another machine  GROUP has fewer machines
@@ -360,9 +360,9 @@ the console gives way to this one.
 With --change SOURCE one command is sent: the change to the program of a text. Where the answer is
 'done', the console looks names up in that program from then on.
 
-The status is 0 where each command was done or told what it asked for, 4 where one was answered
-'refused N', and 5 where one was answered 'plc: commands'. Where the console can't be asked:
-  plc: commands              COMMANDS is no list of commands; nothing was sent. Before it a line tells
+The status is 0 where each command was done or answered what it asked for, 4 where one was answered
+'refused N', and 5 where an answer began with 'plc: '. Where the console can't be asked:
+  plc: commands              COMMANDS is no list of commands; nothing was sent. Before it a line says
                              'no command N', counted from 1, 'no list', or 'no JSON at L:C'
   plc: change of N bytes     the image of SOURCE has more than 32768 bytes; nothing was sent
   plc: device port PORT      nobody serves a console at the port
@@ -401,7 +401,7 @@ const FIELD: &str = "FIELD is a text in TOML; times are in milliseconds, 1 to 60
 Each cycle the outputs that the controller released are taken and written to the devices, and their
 inputs are read and handed over to it: those of a device whole, by one write, or not at all. While
 the controller is lost no device is asked, so one of these may run beside each of several
-controllers of which one serves at a time. What changes is told by a line on standard error:
+controllers of which one serves at a time. What changes is reported by a line on standard error:
   NAME found                      it answers; 'controller' is the controller's name
   NAME lost: WHY                  closed, timeout, bad protocol, bad length, another transaction,
                                   another unit, another function, another length, or exception N
@@ -434,7 +434,7 @@ GROUP is the same file on each machine, in TOML. Its keys, and what they are whe
   patience = 100             milliseconds without a word of the leading machine, 10 to 60000
   resend = 25                milliseconds until what may be lost is sent again, 5 to 60000
   fresh                      milliseconds that outputs are shown, 1 to 86400000: a period and 40
-  idle = 300                 seconds until a silent client is let go, 1 to 86400
+  idle = 300                 seconds until a silent client is disconnected, 1 to 86400
   cold_start = \"auto\"        or \"by hand\": where all have lost their memory together
   [[machine]]                three, five or seven times, each with
     replica, modbus          an address and a port, for the other machines and for Modbus clients
@@ -454,7 +454,7 @@ Of --next-epoch further, beside those of 'plc show':
   plc: store waits for its group  the machine is in no epoch: call it at another one
   plc: store of a program that was changed: give one  SOURCE is wanted
   plc: store in the last epoch  no number is left
-An address that's no loopback is told, and is no fault:
+An address that's no loopback is reported, and is no fault:
   ADDRESS: anybody on that network can write here
 "
 );
@@ -722,9 +722,9 @@ fn serve_command<'a>(alloc: Global) -> Result<Command<'a>, AllocError> {
                 .help("Milliseconds from scan to scan"),
         )?
         .arg(
-            count(alloc, IDLE, "S")
-                .default_value("300")
-                .help("Seconds until a client without a whole request is let go"),
+            count(alloc, IDLE, "S").default_value("300").help(
+                "Seconds until a client without a whole request is disconnected",
+            ),
         )?
         .arg(budget(alloc))?
         .arg(links(alloc))?
