@@ -8,9 +8,11 @@ import time
 
 import checker
 import console
+import network
 from group import Group, now
 
 LONGEST = 4.0           # seconds from the last machine's start to a port that answers
+FAR = 15                # milliseconds that messages need where machines are far apart
 
 
 def cut(machines):
@@ -87,6 +89,25 @@ def power_cut(options):
             time.sleep(chance.uniform(0, 1))
         print(f'  from the last start to a port that answers {middle(took)}')
         return right and max(took) <= LONGEST and has_one_list_each(group)
+
+
+def power_cut_far_apart(options):
+    """The same once, of machines that are far from one another, by a file whose times have room for that."""
+    over = network.best(options.machines, options.loopback)
+    with Group(options, over=over, patience=1000, resend=100, fresh=400) as group:
+        over.delay(FAR, 0)
+        started(group.machines, [0.1] * group.size)
+        right = group.driving(20) is not None
+        cut(group.machines)
+        last = started(group.machines, [0.1] * group.size)
+        drives = group.driving(20)
+        print(f'  from the last start to a port that answers {now() - last:.2f} s')
+        told = begun(group, 2)
+        if not right or drives is None or told != list(range(group.size)):
+            print(f'  {drives} drives, told by {told}')
+            print('\n'.join(f'    {line}' for line in group.since(last - 1)))
+            return False
+        return has_one_list_each(group)
 
 
 def most_lose_their_memory(options):
@@ -237,5 +258,5 @@ def a_lost_disk_waits(options):
         return right
 
 
-TRIES = [power_cut, cut_while_it_begins, most_lose_their_memory, one_of_them_recovers, one_is_dead_for_good,
-         by_hand_alone, a_changed_program_waits_for_a_person, a_lost_disk_waits]
+TRIES = [power_cut, power_cut_far_apart, cut_while_it_begins, most_lose_their_memory, one_of_them_recovers,
+         one_is_dead_for_good, by_hand_alone, a_changed_program_waits_for_a_person, a_lost_disk_waits]

@@ -26,7 +26,7 @@ abbrev pub Publishes : Option Release → List Release → List Release → Type
 Publishes None old new = new ≡ old
 Publishes (Some release) old new = new ≡ old ++ release ∷ []
 
--- the scan of a sample of the inputs was submitted, as of a machine that leads and for which one was due
+-- the scan of some cells was submitted, as of a machine that leads and for which one was due at some time
 pub record HasScanned (a b : MachineDriver) : Type 0 where
   pub now : Duration
   pub told : Option Book

@@ -30,9 +30,13 @@ use plc_machine::{Course, led_view};
 use plc_status::halt_in;
 use std::net::{Net, TcpListener, TcpStream};
 use std::sync::Arc;
+use std::thread;
 use std::time::{Duration, Instant};
 use vr_model::Message;
 use vr_threads::Solo;
+
+/// In milliseconds: so often it looks whether its replica's thread is at its end.
+const LOOK: u64 = 1;
 
 /// The driver of a machine, with what it looks at and what it publishes and notes.
 #[derive(Drop)]
@@ -108,9 +112,25 @@ where
     /// the epoch is shown any more before anything is said in a later one. Then nothing more is noted.
     pub(crate) fn run(mut self, port: Port<R, J>) -> Ended {
         let ended = self.go_on(port);
-        self.solo.cut();
+        self.cut(ended);
         self.teller.end();
         ended
+    }
+
+    /// Cuts its replica's link. Where it leaves its epoch, that's done until the replica is served no longer: a start
+    /// that is under way makes the link anew.
+    fn cut(&mut self, ended: Ended) {
+        self.solo.cut();
+        if let Ended::Leaves(_) = ended {
+            let rt = self.host.rt;
+            for _ in rt.forever() {
+                self.solo.cut();
+                if self.solo.is_over() {
+                    return;
+                }
+                thread::sleep(&rt, Duration::from_millis(LOOK));
+            }
+        }
     }
 
     /// Turn by turn, until it ends.
@@ -260,7 +280,8 @@ where
     }
 
     /// Submits the scan of a sample of the staged inputs, where the machine leads and one is due; or asks again for the
-    /// one that waits, where no reply came for a while.
+    /// one that waits, where no reply came for a while. It fails once its client's numbers are used up: a machine that
+    /// starts anew has others.
     fn scan(&mut self) -> Result<(), Failed>
         ensures scanned { OnOk result (MayScan self.old.requester.driver self.new.requester.driver) }
         ensures same { self.new.publisher.writer ≡ self.old.publisher.writer }
@@ -276,7 +297,7 @@ where
         let alloc = self.host.alloc;
         let stage = &mut self.stage.handle(&self.host.rt);
         let Some(sends) = self.requester.driver.submit(alloc, stage, now)? else {
-            return Ok(());
+            return self.without_scan(now);
         };
         self.submitted = Submitted {
             at,
@@ -284,6 +305,14 @@ where
             is_late,
         };
         self.requester.send(sends, now);
+        Ok(())
+    }
+
+    /// No scan was submitted, though none waits: none is due, or there is no number for it.
+    fn without_scan(&self, now: Duration) -> Result<(), Failed> {
+        if self.requester.is_due(now) {
+            return Err(Failed::Device);
+        }
         Ok(())
     }
 

@@ -133,7 +133,8 @@ where
                 .hear_word(visit.from, &visit.epoch, &visit.word, now)
             {
                 Step::Freezes(word) | Step::Confirms(word) => {
-                    self.speaker.say(visit.from, visit.epoch, word);
+                    let connected = self.terms.exchange.reached();
+                    self.speaker.say(connected, visit.from, visit.epoch, word);
                 }
                 // What it asks now is said at once.
                 Step::AsksAgain => self.asked = None,

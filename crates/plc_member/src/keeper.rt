@@ -264,7 +264,8 @@ where
         };
         if is_past(self.asked, now, ASKING) {
             self.asked = Some(now);
-            self.speaker.say_to_all(*epoch, question);
+            let connected = self.terms.exchange.reached();
+            self.speaker.say_to_all(connected, *epoch, question);
         }
     }
 }

@@ -15,14 +15,17 @@
 //! A life of a machine begins from its store, as a process does, and ends where its epoch is left: then all of it is
 //! closed, and the store has the later epoch before the next life begins.
 //!
-//! Proved: a scan is submitted only as of a machine that leads, where one is due, and its inputs are one sample; what
-//! is published is what a reply released, and that reply is put into the trace, if there is one. What a stage is filled
-//! with it has (`fill`), and a machine whose stage is still to be filled, since it began to lead, only looks and shows
-//! nothing (`turn`). A held link gives no answer to a RECOVERY (`let_through`); a life ends for another epoch by the
-//! steps that say so alone (`leaving_by`); no machine begins anew by itself whose program was changed (`is_automatic`).
+//! Proved: a scan is submitted only as of a machine that leads, and for which one was due at some time; what is
+//! published is what a reply released, and that reply is put into the trace, if there is one. What a stage is filled
+//! with it has, if it has a ghost history (`fill`), and a machine whose stage is still to be filled, since it began to
+//! lead, only looks and shows nothing (`turn`). Of an answer to a RECOVERY on a held link nothing is made
+//! (`let_through`); a life ends for another epoch by the steps that say so alone (`leaving_by`); no machine begins anew
+//! by itself whose program was changed (`is_automatic`).
 //!
 //! By its code alone, and tested (`tests_machines`, `tools/try-machines`): how threads, locks, sockets and times are
-//! joined; that the port is open only while outputs are shown; that what a stage is filled with are the inputs of the
+//! joined, so that the time of a clause is the present one and the inputs of a scan are one sample of the stage; that a
+//! held link asks `let_through`; that a machine which stopped while it began an epoch starts there as new, and had said
+//! nothing; that the port is open only while outputs are shown; that what a stage is filled with are the inputs of the
 //! last scan that its replica's log kept, behind a closed port; that no answer is under way in the replica of a machine
 //! that freezes; that the store has an epoch as begun before its replica says a word; that nothing is said in a later
 //! epoch before port, sessions and links of the earlier one are closed; that a store is marked before a message tells

@@ -86,14 +86,22 @@ where
         }
     }
 
-    /// Whether a scan that is submitted now comes a period late or more.
-    pub(crate) fn is_late(&self, now: Duration) -> bool {
+    /// Whether the machine leads, and a scan was due so long ago.
+    fn is_due_since(&self, pause: Duration, now: Duration) -> bool {
         match self.driver.course() {
-            Course::Leading(lead) => {
-                lead.due.saturating_add(self.period).as_nanos() <= now.as_nanos()
-            }
+            Course::Leading(lead) => { lead.due.saturating_add(pause).as_nanos() <= now.as_nanos() }
             Course::StandingBy => false,
         }
+    }
+
+    /// Whether a scan is due.
+    pub(crate) fn is_due(&self, now: Duration) -> bool {
+        self.is_due_since(Duration::from_millis(0), now)
+    }
+
+    /// Whether a scan that is submitted now comes a period late or more.
+    pub(crate) fn is_late(&self, now: Duration) -> bool {
+        self.is_due_since(self.period, now)
     }
 
     /// For so long a receive waits: until the next scan is due, and not for long.

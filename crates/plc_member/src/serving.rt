@@ -67,7 +67,8 @@ where
     let shown = Shown {
         readers,
         stamp: Arc::try_clone(stamp)?,
-        limit: Some(group.times.fresh),
+        // Ages are whole milliseconds, rounded down: so none that is shown is older than `fresh`.
+        limit: Some(group.times.fresh.saturating_sub(1)),
     };
     let idle = Duration::from_secs(u64::from(group.times.idle));
     Seats::new(host, shown, idle, status.traffic()?)

@@ -12,6 +12,19 @@ use vr_model::MOST_REPLICAS;
 /// In milliseconds: a machine that isn't reached within that isn't told a word.
 const REACHING: u64 = 20;
 
+/// The same of a machine that there is a connection with, which may be far away.
+const REACHING_CONNECTED: u64 = 400;
+
+/// For so long it's tried to reach a machine, where there are connections with these, by bits.
+fn reaching(connected: u8, to: u8) -> Duration {
+    let is_connected = to < 8 && connected >> to & 1 == 1;
+    Duration::from_millis(if is_connected {
+        REACHING_CONNECTED
+    } else {
+        REACHING
+    })
+}
+
 /// What a machine says words by: one that recovers, since nobody else says any.
 #[derive(Drop)]
 pub(crate) struct Speaker<R: Drop> {
@@ -29,9 +42,9 @@ impl<R> Speaker<R>
 where
     R: Wait + Clock + Net<Listener = TcpListener, Stream = TcpStream> + Copy + Drop,
 {
-    /// Says a word to a machine, in this epoch. Where it isn't reached at once, or memory is wanting, the
-    /// word is lost.
-    pub(crate) fn say(&self, to: u8, epoch: Epoch, word: Word) {
+    /// Says a word to a machine, in this epoch. Where it isn't reached soon, or memory is wanting, the word is lost.
+    /// There are connections with these machines, by bits.
+    pub(crate) fn say(&self, connected: u8, to: u8, epoch: Epoch, word: Word) {
         let Some(address) = self.addresses.get(usize::from(to)) else {
             return;
         };
@@ -42,16 +55,20 @@ where
             word,
         };
         if let Ok(frame) = said.spell(self.alloc) {
-            let wait = Duration::from_millis(REACHING);
-            let _ = visit(&self.rt, *address, frame.as_slice(), wait);
+            let _ = visit(
+                &self.rt,
+                *address,
+                frame.as_slice(),
+                reaching(connected, to),
+            );
         }
     }
 
-    /// Says a word to each other machine, in this epoch.
-    pub(crate) fn say_to_all(&self, epoch: Epoch, word: Word) {
+    /// Says a word to each other machine, in this epoch. There are connections with these, by bits.
+    pub(crate) fn say_to_all(&self, connected: u8, epoch: Epoch, word: Word) {
         for machine in 0..MOST_REPLICAS as u8 {
             if machine != self.number {
-                self.say(machine, epoch, word);
+                self.say(connected, machine, epoch, word);
             }
         }
     }
