@@ -268,7 +268,7 @@ fn help_and_version_are_shown(rt: HostRuntime) -> Result<(), Fail> {
         ),
         (
             "plc ask -h",
-            "'refused N', and 5 where one was answered 'plc: commands'.",
+            "'refused N', and 5 where an answer began with 'plc: '.",
         ),
         ("./plc.bin --help", "Usage: plc <COMMAND>\n"),
         ("plc help", "Usage: plc <COMMAND>\n"),
