@@ -31,7 +31,7 @@ use Rattle.vr_replica.specs.Standing.{StandsFor}
 use Rattle.vr_replica.specs.Stepped.{StepResult, KeepsExecuted, Acted}
 use Rattle.vr_replica.specs.Stepped as step
 use Rattle.laws_threads.specs.KeptViews.{KeepsViews}
-use Rattle.vr_threads.specs.Serving.{StepsTo, sends_in}
+use Rattle.vr_serving.specs.Serving.{StepsTo, sends_in}
 use Rattle.vr_threads.specs.Working.{HasStarted, StandsDown}
 use Rattle.laws_threads.specs.ObservedMoves.{ObservedMove, ByReplica, ByClient, all_said, InputTakesSent}
 use Rattle.laws_threads.specs.ObservedMoves.{ObservationTakesSent, AreFromTheFirst, IsOneRun, known_at, MayPresuppose}

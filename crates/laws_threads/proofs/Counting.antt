@@ -5,7 +5,7 @@ use Rattle.vr_model.specs.declared.event.Stored.{Stored}
 use Rattle.vr_threads.specs.declared.file_store.Held.{Held}
 use Rattle.vr_threads.specs.declared.file_store.Held.TheVariants.{Unknown, One, OneOf}
 use Rattle.vr_threads.specs.Keeping.{IsOneOf, MayHold, with_view, started, Loads, Writes, Saves, CountsStart}
-use Rattle.laws_threads.specs.MachineMoves.{HoldsAtLeast}
+use Rattle.laws_threads.specs.MachineMoves.{HoldsAtLeast, HoldsJust}
 
 as_many : (n : ℕ) (a v : Stored) → v ≡ a → n ≤ a.starts → n ≤ v.starts
 as_many n a v is le = subst (λ (y : Stored). n ≤ y.starts) (sym is) le
@@ -60,3 +60,36 @@ begin_failed h t n at b = elim b [
 pub reopened : (left after : Held) (found stored : Stored) → MayHold left found → CountsStart Unknown (Some stored) after → stored ≡ started found → CountsStart left (Some stored) after
 reopened left after found stored may b is =
     (found, may, is, b.3)
+
+-- ---- just so many
+
+just_one : (t : Held) (a : Stored) (n : ℕ) → t ≡ One a → a.starts ≡ n → HoldsJust t n
+just_one t a n is e v may = subst (λ (y : Stored). y.starts ≡ n) (sym (subst (λ (h : Held). IsOneOf h v) is may)) e
+
+just_same : (h t : Held) (n : ℕ) → t ≡ h → HoldsJust h n → HoldsJust t n
+just_same h t n is at v may = at v (subst (λ (x : Held). IsOneOf x v) is may)
+
+pub begins_just : (h t : Held) (stored : Stored) → CountsStart h (Some stored) t → HoldsJust t stored.starts
+begins_just h t stored b = just_one t stored stored.starts b.3 refl
+
+pub loads_just : (h t : Held) (n : ℕ) (found : Stored) → HoldsJust h n → Loads h (Some found) t → (found.starts ≡ n) × HoldsJust t n
+loads_just h t n found at l = (at found l.0.1, just_one t found n l.1 (at found l.0.1))
+
+pub load_failed_just : (h t : Held) (n : ℕ) → HoldsJust h n → Loads h None t → HoldsJust t n
+load_failed_just h t n at l = just_same h t n l at
+
+pub saves_just : (h t : Held) (n view : ℕ) (made : Bool) → HoldsJust h n → Saves h view made t → HoldsJust t n
+saves_just Unknown t n view made at s = just_same Unknown t n s.1 at
+saves_just (OneOf a b) t n view made at s = just_same (OneOf a b) t n s.1 at
+saves_just (One found) t n view made at s = of (ltb 0 found.starts) made s
+  where
+    is : found.starts ≡ n
+    is = at found refl
+
+    of : (b did : Bool) → MatchBool b (Writes found (with_view found view) did t) ((did ≡ false) × (t ≡ One found)) → HoldsJust t n
+    of true true w = just_one t (with_view found view) n w is
+    of true false w = λ v may. elim (subst (λ (h : Held). IsOneOf h v) w may) [
+      | inl same ↦ subst (λ (y : Stored). y.starts ≡ n) (sym same) is
+      | inr other ↦ subst (λ (y : Stored). y.starts ≡ n) (sym other) is
+    ]
+    of false did w = just_same (One found) t n w.1 at

@@ -7,7 +7,7 @@ use Rattle.vr_threads.specs.Working.{BeginsAsJudged}
 use Rattle.laws_threads.specs.KeptViews.{KeepsViews}
 use Rattle.laws_threads.proofs.Tables.{put_other}
 
-only_is : (view u : ℕ) → only view u ≡ true → u ≡ view
+pub only_is : (view u : ℕ) → only view u ≡ true → u ≡ view
 only_is view u is = elim (cases_eq u view) [
   | inl e ↦ e
   | inr ne ↦ (let wrong : false ≡ true = sym (put_other (λ v. false) view true u ne) ∙ is in absurd cc)

@@ -13,3 +13,7 @@ pub mod Serving
 pub mod Machines
 pub mod Counting
 pub mod JudgedKept
+pub mod PatientKept
+pub mod NumberedKept
+pub mod Numbers
+pub mod Opened

@@ -12,7 +12,7 @@ use Rattle.vr_model.specs.Membership.{Group}
 use Rattle.vr_model.specs.Replicas.{put}
 use Rattle.vr_model.specs.World.{ClientState}
 use Rattle.vr_model.specs.Steps.{ClientStep, AreClientSteps, client_after, first_client}
-use Rattle.vr_threads.specs.Serving.{sends_in}
+use Rattle.vr_serving.specs.Serving.{sends_in}
 use Rattle.laws_threads.specs.CodeMoves.{CodeMove, Starts, Steps, Serves, Seat, given_with, TakesHanded, AreCodeMoves, AreFromTheStart}
 use Rattle.laws_threads.specs.OwnMoves.{OwnMove, Started, Stepped, MayTake, own_moves, own_steps, EventHanded, AllTakeHanded, AreOwnMoves, EachInOneOrder}
 use Rattle.laws_threads.proofs.Tables.{put_same, put_other}

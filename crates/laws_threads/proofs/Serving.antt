@@ -8,7 +8,7 @@ use Rattle.vr_model.specs.declared.message.Message as code
 use Rattle.vr_model.specs.Membership.{Group}
 use Rattle.vr_replica.specs.declared.state.Replica.{Replica}
 use Rattle.vr_ports.specs.declared.link.Input.TheVariants as input
-use Rattle.vr_threads.specs.Serving.{Turn, TimedOut, Resent, Received, Scene, event_of, sends_in, Ran, Did}
+use Rattle.vr_serving.specs.Serving.{Turn, TimedOut, Resent, Received, Scene, event_of, sends_in, Ran, Did}
 use Rattle.laws_threads.specs.CodeMoves.{Seat, given_with}
 use Rattle.laws_threads.specs.OwnMoves.{OwnMove, Started, Stepped, MayTake, events_in, own_handed, seat_after, AreOwnMoves, given_after, IsServed}
 

@@ -19,7 +19,7 @@ use Rattle.vr_replica.specs.Standing.{StandsFor}
 use Rattle.vr_replica.specs.Stepped.{StepResult, Acted, KeepsExecuted}
 use Rattle.vr_replica.specs.Stepped as step
 use Rattle.laws_threads.specs.KeptViews.{KeepsViews}
-use Rattle.vr_threads.specs.Serving.{StepsTo, sends_in}
+use Rattle.vr_serving.specs.Serving.{StepsTo, sends_in}
 use Rattle.laws_threads.specs.ObservedMoves.{Means, FitsIn, observation_of, IsShownAs}
 use Rattle.laws_threads.proofs.Tables.{put_same, put_other}
 

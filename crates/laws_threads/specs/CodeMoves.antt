@@ -23,7 +23,7 @@ use Rattle.vr_core.specs.StandsFor.{IsSavedAs}
 use Rattle.vr_replica.specs.declared.state.Replica.{Replica}
 use Rattle.vr_replica.specs.Standing.{StandsFor}
 use Rattle.vr_replica.specs.Stepped.{StepResult}
-use Rattle.vr_threads.specs.Serving.{StepsTo, sends_in}
+use Rattle.vr_serving.specs.Serving.{StepsTo, sends_in}
 use Rattle.vr_threads.specs.Working.{HasStarted}
 use Rattle.laws_threads.specs.ObservedMoves.{ObservedMove, ByReplica, ByClient, IsOneRun, known_at, all_said}
 

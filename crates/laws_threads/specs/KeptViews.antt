@@ -26,3 +26,10 @@ pub record KeepsViews {S : Type 0} (load_gives : S → Option Stored → S → T
 -- the file of a store holds no other view than these
 abbrev pub HoldsNoOther : Held → (ℕ → Bool) → Type 0
 HoldsNoOther h k = (v : Stored) → MayHold h v → k v.view ≡ true
+
+-- This start is one of a store that knew what its file had, and holds no views but those.
+pub record StartsKnowing {S : Type 0} (begin_gives : S → Option Stored → S → Type 0) (holds : S → (ℕ → Bool) → Type 0)
+    (had : Held) (stored : Stored) (left : S) : Type 0 where
+  pub knowing : S
+  pub starts : begin_gives knowing (Some stored) left
+  pub knows : (k : ℕ → Bool) → HoldsNoOther had k → holds knowing k

@@ -7,7 +7,7 @@ use Rattle.vr_model.specs.Steps.{AreClientSteps, first_client}
 use Rattle.vr_model.specs.Stores.{only}
 use Rattle.vr_threads.specs.declared.file_store.Held.{Held}
 use Rattle.vr_threads.specs.Keeping.{IsOneOf}
-use Rattle.vr_threads.specs.Serving.{StepsTo}
+use Rattle.vr_serving.specs.Serving.{StepsTo}
 use Rattle.vr_threads.specs.Working.{HasStarted}
 use Rattle.laws_threads.specs.CodeMoves.{CodeMove, Seat}
 use Rattle.laws_threads.specs.OwnMoves.{OwnMove, Started, Stepped, MayTake, AllTakeHanded, own_moves, own_steps}
@@ -29,6 +29,10 @@ counted_with counted (Some starts) = starts
 -- whatever the file of a store holds counts so many starts at least
 abbrev pub HoldsAtLeast : Held → ℕ → Type 0
 HoldsAtLeast h counted = (v : Stored) → IsOneOf h v → counted ≤ v.starts
+
+-- or just so many
+abbrev pub HoldsJust : Held → ℕ → Type 0
+HoldsJust h counted = (v : Stored) → IsOneOf h v → v.starts ≡ counted
 
 -- the stores of one kind, of which is known whether their next start was judged to be the first, and the group
 module _ {S : Type 0} (load_gives : S → Option Stored → S → Type 0) (save_gives : S → ℕ → Bool → S → Type 0)

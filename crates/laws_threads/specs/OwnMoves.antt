@@ -15,7 +15,7 @@ use Rattle.vr_model.specs.StandsFor.{AllStand}
 use Rattle.vr_core.specs.StandsFor.{IsSavedAs}
 use Rattle.vr_replica.specs.declared.state.Replica.{Replica}
 use Rattle.vr_replica.specs.Stepped.{StepResult}
-use Rattle.vr_threads.specs.Serving.{StepsTo, Scene, Turn, event_of, sends_in}
+use Rattle.vr_serving.specs.Serving.{StepsTo, Scene, Turn, event_of, sends_in}
 use Rattle.vr_threads.specs.Working.{HasStarted}
 use Rattle.laws_threads.specs.CodeMoves.{CodeMove, Starts, Steps, Serves, Seat, given_with, IsUnused}
 use Rattle.laws_threads.specs.CodeMoves.{HearsHanded}

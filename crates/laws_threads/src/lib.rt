@@ -2,12 +2,11 @@
 //! law, and its empty body is proved to meet it.
 //!
 //! ```rust
-//! use vr_threads::FileStore;
-//!
-//! laws_threads::threads_are_one_run::<FileStore<R>>(); // for whoever's clause rests on it
+//! laws_threads::served_threads_are_one_run::<R>(); // for whoever's clause rests on it
 //! ```
 //!
-//! Proved, for each group and each store of which it's said what it may hold (`Kept`; a `FileStore` is one):
+//! Proved, for each group and each store of which it's said what it may hold (`Kept`; a `FileStore` is one, and a store
+//! whose saves are tried again holds no more than the one inside):
 //!
 //! - What `serve` does is moves of its replica's own list (`serving_is_own_moves`). Such lists join, one start after
 //!   another (`own_moves_join`).
@@ -19,6 +18,10 @@
 //! - The processes of machines, each by itself, are one such run: from stores that were formatted once, judged before
 //!   each start, with starts that rise (`machines_are_one_run`). What a file counts rises with each start and never
 //!   falls, and a store that was opened anew goes on from it (`counts_rise`).
+//! - Both hold of the stores that run: in one process a file whose saves are tried again
+//!   (`served_threads_are_one_run`), in a machine such a one whose starts are numbered and judged
+//!   (`served_machines_are_one_run`). Numbers of starts rise as counts do (`numbers_rise`). A store that was just
+//!   opened starts as one that knew what its file had (`opened_stores_start_knowing`): so that stands in its place.
 //!
 //! Premises that are left to the links, to disks and to people: there is one order in which a link hands out only what
 //! was handed out before, to that party; a replica's first start comes once, and finds a store that holds no view; each
@@ -42,20 +45,27 @@ ghost use Rattle.vr_model.specs.Stores.{KnownState};
 ghost use Rattle.vr_replica.specs.declared.state.Replica.{Replica};
 ghost use Rattle.vr_replica.specs.Standing.{StandsFor};
 ghost use Rattle.vr_replica.specs.Stepped.{StepResult, KeepsExecuted};
+ghost use Rattle.vr_threads.specs.declared.file_store.FileStore.{FileStore};
 ghost use Rattle.vr_threads.specs.declared.file_store.Held.{Held};
-ghost use Rattle.vr_threads.specs.declared.file_store.Held.TheVariants.{Unknown};
+ghost use Rattle.vr_threads.specs.declared.file_store.Held.TheVariants.{Unknown, One};
+ghost use Rattle.vr_threads.specs.declared.judged_starts.JudgedStarts.{JudgedStarts};
+ghost use Rattle.vr_threads.specs.declared.numbered_starts.NumberedStarts.{NumberedStarts};
+ghost use Rattle.vr_threads.specs.declared.patient_store.PatientStore.{PatientStore};
 ghost use Rattle.vr_threads.specs.Keeping.{CountsStart, Loads, MayHold, Saves, started};
-ghost use Rattle.vr_threads.specs.Serving.{StepsTo, Scene, Turn, Did, sends_in};
+ghost use Rattle.vr_threads.specs.Numbering.{count_in, number_of, HasNumber};
+ghost use Rattle.vr_serving.specs.Serving.{StepsTo, Scene, Turn, Did, sends_in};
 ghost use Rattle.laws_threads.specs.ObservedMoves.{ObservedMove, AreFromTheFirst, IsOneRun, MayPresuppose, Means};
 ghost use Rattle.laws_threads.specs.ObservedMoves.{FitsIn, observation_of, IsShownAs};
 ghost use Rattle.laws_threads.specs.CodeMoves.{CodeMove, Seat, AreFromTheStart, AreOneRun};
 ghost use Rattle.laws_threads.specs.OwnMoves.{OwnMove, AreOwnMoves, EachInOneOrder, IsServed, seat_after, given_after};
-ghost use Rattle.laws_threads.specs.MachineMoves.{MachinesInOneOrder, HoldsAtLeast};
+ghost use Rattle.laws_threads.specs.KeptViews.{StartsKnowing};
+ghost use Rattle.laws_threads.specs.MachineMoves.{MachinesInOneOrder, HoldsAtLeast, HoldsJust};
 
 use il_model::{Answer, Command};
 use std::rt::Files;
+use std::time::Clock;
 use vr_replica::ViewStore;
-use vr_threads::{FileStore, JudgedStarts, Starts};
+use vr_threads::{FileStore, JudgedStarts, NumberedStarts, PatientStore, Starts};
 
 /// A store of which it is said what views it may hold.
 pub trait Kept: Starts {
@@ -76,6 +86,25 @@ impl<R: Files + Drop> Kept for FileStore<R> {
     ghost holds = { λ s k. HoldsNoOther s.held k };
 
     fn know_kept() {}
+}
+
+/// A store whose saves are tried again holds no more than one that tries once.
+impl<T: Kept, R: Clock> Kept for PatientStore<T, R> {
+    ghost holds = { λ s k. T.holds s.store k };
+
+    fn know_kept() {
+        T::know_kept();
+    }
+}
+
+/// A store whose starts are numbered holds what the store inside does, by those that it counts and those that it
+/// doesn't.
+impl<T: Kept> Kept for NumberedStarts<T> {
+    ghost holds = { λ s k. T.holds s.store k };
+
+    fn know_kept() {
+        T::know_kept();
+    }
 }
 
 impl<T: Kept> Kept for JudgedStarts<T> {
@@ -149,6 +178,18 @@ pub fn threads_are_one_run<S: Kept>()
     next_moves_may_presuppose::<Command, Answer>();
 }
 
+/// The same of the stores that run in one process: each has a file, and its saves are tried again.
+pub fn served_threads_are_one_run<R: Files + Clock + Drop>()
+    ensures { (group : Group) (early late : List (CodeMove (PatientStore (FileStore R R.File R.Dir) R)))
+        → AreFromTheStart ⟦<PatientStore<FileStore<R>, R> as ViewStore>⟧.load_gives
+        ⟦<PatientStore<FileStore<R>, R> as ViewStore>⟧.save_gives ⟦<PatientStore<FileStore<R>, R> as ViewStore>⟧.faults
+        ⟦<PatientStore<FileStore<R>, R> as Starts>⟧.begin_gives ⟦<PatientStore<FileStore<R>, R> as Kept>⟧.holds
+        group (early ++ late)
+        → AreOneRun group early late }
+{
+    threads_are_one_run::<PatientStore<FileStore<R>, R>>();
+}
+
 /// What a thread serves, from its clause, is moves of its replica's own list: a step for each event of its turns.
 pub fn serving_is_own_moves<S: Kept>()
     ensures { (turns : List Turn) (a b : Scene S) (did : Did S.load_gives S.save_gives S.faults turns a b)
@@ -186,6 +227,61 @@ pub fn machines_are_one_run<S: Judged>()
     lists_are_moves::<S>();
     threads_are_one_run::<S>();
 }
+
+/// The same of the stores that run in machines: judged, with numbered starts, each in a file, and their saves are tried
+/// again.
+pub fn served_machines_are_one_run<R: Files + Clock + Drop>()
+    ensures { (group : Group)
+        (early late : List (CodeMove (JudgedStarts (NumberedStarts (PatientStore (FileStore R R.File R.Dir) R)))))
+        → MachinesInOneOrder
+        ⟦<JudgedStarts<NumberedStarts<PatientStore<FileStore<R>, R>>> as ViewStore>⟧.load_gives
+        ⟦<JudgedStarts<NumberedStarts<PatientStore<FileStore<R>, R>>> as ViewStore>⟧.save_gives
+        ⟦<JudgedStarts<NumberedStarts<PatientStore<FileStore<R>, R>>> as ViewStore>⟧.faults
+        ⟦<JudgedStarts<NumberedStarts<PatientStore<FileStore<R>, R>>> as Starts>⟧.begin_gives
+        ⟦<JudgedStarts<NumberedStarts<PatientStore<FileStore<R>, R>>> as Kept>⟧.holds
+        ⟦<JudgedStarts<NumberedStarts<PatientStore<FileStore<R>, R>>> as Judged>⟧.is_first group (early ++ late)
+        → AreOneRun group early late }
+{
+    machines_are_one_run::<JudgedStarts<NumberedStarts<PatientStore<FileStore<R>, R>>>>();
+}
+
+/// A store that was just opened doesn't know what its file has. But where its start found a value that the store before
+/// may hold (`had`; that of a file that was never there is nothing), it's also the start of one that knew as much as
+/// that store did, and holds no views but those. So among moves the one that knew stands for the one that was opened.
+pub fn opened_stores_start_knowing<R: Files + Clock + Drop>()
+    ensures threads { (had : Held) (was stored : Stored) (found left : PatientStore (FileStore R R.File R.Dir) R)
+        → MayHold had was
+        → ⟦<PatientStore<FileStore<R>, R> as Starts>⟧.begin_gives found (Some stored) left
+        → left.store.held ≡ One (started was)
+        → StartsKnowing ⟦<PatientStore<FileStore<R>, R> as Starts>⟧.begin_gives
+        ⟦<PatientStore<FileStore<R>, R> as Kept>⟧.holds had stored left }
+    ensures machines { (had : Held) (was stored : Stored)
+        (found left : JudgedStarts (NumberedStarts (PatientStore (FileStore R R.File R.Dir) R))) → MayHold had was
+        → found.store.started ≡ 0
+        → ⟦<JudgedStarts<NumberedStarts<PatientStore<FileStore<R>, R>>> as Starts>⟧.begin_gives found (Some stored) left
+        → left.store.store.store.held ≡ One (started was)
+        → (same : StartsKnowing
+        ⟦<JudgedStarts<NumberedStarts<PatientStore<FileStore<R>, R>>> as Starts>⟧.begin_gives
+        ⟦<JudgedStarts<NumberedStarts<PatientStore<FileStore<R>, R>>> as Kept>⟧.holds had stored left)
+        × (same.knowing.is_first ≡ found.is_first) }
+{}
+
+/// The numbers of starts rise within a process, and from each process to a later one, by which more were counted; and
+/// each tells how many were. What a process has counted its file keeps, whatever is loaded and saved: so each of its
+/// starts has a number of that count.
+pub fn numbers_rise()
+    ensures within { (count before later : ℕ) → HasNumber count before → before < later
+        → number_of count before < number_of count later }
+    ensures between { (count before later : ℕ) → HasNumber count before → count < later
+        → number_of count before < number_of later 0 }
+    ensures tells { (count before : ℕ) → HasNumber count before → count_in (number_of count before) ≡ count }
+    ensures counts { (h t : Held) (stored : Stored) → CountsStart h (Some stored) t → HoldsJust t stored.starts }
+    ensures loads { (h t : Held) (count : ℕ) (found : Stored) → HoldsJust h count → Loads h (Some found) t
+        → (found.starts ≡ count) × HoldsJust t count }
+    ensures fails { (h t : Held) (count : ℕ) → HoldsJust h count → Loads h None t → HoldsJust t count }
+    ensures saves { (h t : Held) (count view : ℕ) (made : Bool) → HoldsJust h count → Saves h view made t
+        → HoldsJust t count }
+{}
 
 /// What the file of a store holds counts no fewer starts behind a load, a save or a start that failed, and more behind
 /// each start. And a store that was opened anew starts as the one before would, where it finds what that may hold.

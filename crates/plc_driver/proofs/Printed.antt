@@ -9,9 +9,11 @@ pub nothing : {W : Type 0} (w : CountedWriter W) (p : Printer) (a : W) → Print
 nothing w p a = record {
   of_driver = [];
   of_console = [];
+  of_page = [];
   notices = [];
   driver = record { same = ((refl, refl, refl, refl), refl); taken = sym (append-nil (printed p.driver)) };
   console = record { same = ((refl, refl, refl, refl), refl); taken = sym (append-nil (printed p.console)) };
-  merged = (refl, refl);
+  page = record { same = ((refl, refl, refl, refl), refl); taken = sym (append-nil (printed p.page)) };
+  merged = ([], (refl, refl), (refl, refl));
   lines = refl;
 }

@@ -1,8 +1,7 @@
--- When a replica crashes on purpose, when one is started anew, and what a store has done whose saves are tried again.
+-- When a replica crashes on purpose, and when one is started anew.
 use Rattle.std.specs.Prelude.{ℕ, ◌+◌, ◌*◌, min, nat_le, nat_lt, ◌&&◌, ◌||◌, not, Bool, false, if◌then◌else◌, Option}
-use Rattle.std.specs.Prelude.{Some, None, ◌≡◌, ◌⊎◌, zero, suc}
+use Rattle.std.specs.Prelude.{Some, None}
 use Rattle.std.specs.Duration.{max_nanos}
-use Rattle.vr_model.specs.declared.event.Stored.{Stored}
 use Rattle.vr_shown.specs.declared.shown.Shown.{Shown}
 
 -- whether one crashes behind a release: by each how many releases, how many there were since the last crash with this
@@ -37,27 +36,3 @@ due_then pause (Some due) now = due
 -- a replica that nothing is done for, or whose store failed, is to be started anew
 abbrev pub needs_start : Shown → Bool
 needs_start shown = shown.has_failed || not shown.is_served
-
--- ---- saves that are tried again
-
--- A save is tried once more, behind one that failed: what the store holds was read, and the save made or failed; or the
--- read failed.
-abbrev pub TriesAgain : {S : Type 0} → (S → Option Stored → S → Type 0) → (S → ℕ → Bool → S → Type 0) → S → ℕ → Bool → S
-    → Type 0
-TriesAgain {S} load_gives save_gives s view made t =
-    ((stored : Stored) × (read : S) × load_gives s (Some stored) read × save_gives read view made t)
-    ⊎ ((made ≡ false) × load_gives s None t)
-
--- it was tried, and so many times more, each behind one that failed
-abbrev pub SavesBehind : {S : Type 0} → (S → Option Stored → S → Type 0) → (S → ℕ → Bool → S → Type 0) → ℕ → S → ℕ → Bool
-    → S → Type 0
-SavesBehind load_gives save_gives zero s view made t = save_gives s view made t
-SavesBehind {S} load_gives save_gives (suc tries) s view made t =
-    (failed : S) × SavesBehind load_gives save_gives tries s view false failed
-    × TriesAgain load_gives save_gives failed view made t
-
--- it was tried as often as it took, or until no more was to be tried
-abbrev pub SavesAtLast : {S : Type 0} → (S → Option Stored → S → Type 0) → (S → ℕ → Bool → S → Type 0) → S → ℕ → Bool → S
-    → Type 0
-SavesAtLast load_gives save_gives s view made t =
-    (tries : ℕ) × SavesBehind load_gives save_gives tries s view made t

@@ -6,7 +6,7 @@ ghost use Rattle.vr_model.specs.Groups.{group_size};
 ghost use Rattle.plc_status.specs.Journal.{AreNoted};
 ghost use Rattle.plc_driver.specs.Driving.{start_failed};
 
-use crate::saving::{Saves, patient_stores};
+use crate::saving::patient_stores;
 use crate::watch::Watch;
 use il_loader::Image;
 use plc_host::{Failed, Host, ServiceRuntime};
@@ -20,7 +20,7 @@ use vr_model::Config;
 use vr_ports::{OpenGate, Relink};
 use vr_shown::Shown;
 use vr_threads::{
-    Cluster, ClusterConfig, ClusterError, ClusterThreads, MachineTimer, Seat, Starts,
+    Cluster, ClusterConfig, ClusterError, ClusterThreads, MachineTimer, Saves, Seat, Starts,
 };
 
 /// For so many milliseconds a replica hears nothing of its view before it begins another.

@@ -15,9 +15,9 @@
 //! just what its replies release (`specs/Driving`), and ends well only after exactly so many releases, where a number is
 //! given; the scan after one is due a period later, or a period after one that came late (`specs/Driving`); what is put
 //! into the journal of a replica or a scan is by what was seen (`specs/Watching`); who crashes on purpose, and when one
-//! is started anew (`specs/Tending`); a save of a replica that failed is tried again, and what that does to its store
-//! (`specs/Tending`); what is printed while it runs are lines of what was noted, in order, and the journal that it
-//! leaves goes on that with which it was started.
+//! is started anew (`specs/Tending`); what is printed while it runs are lines of what was noted, in order, and the
+//! journal that it leaves goes on that with which it was started. Saves of its replicas that failed are tried again by
+//! `PatientStore` of vr_threads.
 //!
 //! Only tested: that the replicas of a group scan, crash and come back, and what clients see of it (`serve_rows`,
 //! `failing_rows` and `saving_rows` of `tests_threads`). Nothing says when a scan comes, or that one does.

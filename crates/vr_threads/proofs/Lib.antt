@@ -1,4 +1,3 @@
 mod Files
+mod Tries
 pub mod Observing
-pub mod Runs
-pub mod Showing

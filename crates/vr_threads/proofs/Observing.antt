@@ -14,7 +14,7 @@ use Rattle.vr_replica.specs.declared.fault.StepFault.TheVariants as fault
 use Rattle.vr_replica.specs.Standing.{StandsFor}
 use Rattle.vr_replica.specs.Stepped.{StepResult}
 use Rattle.vr_replica.specs.Stepped as step
-use Rattle.vr_threads.specs.Serving as serving
+use Rattle.vr_serving.specs.Serving as serving
 use Rattle.vr_threads.specs.Observed.{AreRight, known_after, Restarted}
 
 module _ {S : Type 0} (loads : S → Option Stored → S → Type 0) (saves : S → ℕ → Bool → S → Type 0) (m : Membership) (q r : Replica) (s t : S) (nonce : ℕ) (k : KnownState Command) where

@@ -17,6 +17,10 @@ stored_from bytes = record { view = big_number 8 bytes; starts = big_number 8 (d
 abbrev pub IsFileOf : Stored → List ℕ → Type 0
 IsFileOf stored bytes = (length bytes ≡ 16) × (stored ≡ stored_from bytes) × (0 < stored.starts)
 
+-- what is kept before the first start
+abbrev pub unstarted : Stored
+unstarted = record { view = 0; starts = 0 }
+
 -- a view is kept only after a start
 abbrev pub IsLawful : Stored → Type 0
 IsLawful v = v.starts ≡ 0 → v.view ≡ 0

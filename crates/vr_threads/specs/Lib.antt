@@ -1,6 +1,6 @@
 pub mod Patience
 pub mod Keeping
+pub mod Numbering
 pub mod Observed
-pub mod Serving
-pub mod Showing
+pub mod Trying
 pub mod Working

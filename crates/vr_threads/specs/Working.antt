@@ -14,7 +14,7 @@ use Rattle.vr_replica.specs.Stepped.{StepResult}
 use Rattle.vr_ports.specs.Parties.{Grows}
 use Rattle.vr_threads.specs.declared.cluster.ClusterConfig.{ClusterConfig}
 use Rattle.vr_threads.specs.declared.working.Plan.{Plan}
-use Rattle.vr_threads.specs.Serving.{Scene, Served, StepsTo, sends_in}
+use Rattle.vr_serving.specs.Serving.{Scene, Served, StepsTo, sends_in}
 
 -- ---- how a replica starts
 

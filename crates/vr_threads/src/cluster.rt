@@ -4,8 +4,6 @@ ghost use Rattle.std.specs.Prelude.{◌≡◌, IfOk, vec_len};
 ghost use Rattle.vr_model.specs.Groups.{group_size};
 ghost use Rattle.vr_threads.specs.Working.{IsPlannedFor};
 
-use crate::observer::Observer;
-use crate::seat::Seat;
 use crate::starting::Starts;
 use crate::working::{Plan, Work, spawned};
 use crossbeam_channel::{Sender, bounded};
@@ -17,6 +15,7 @@ use std::thread::{JoinHandle, Threads};
 use thiserror::Error;
 use vr_model::Config;
 use vr_ports::{Cutter, Relink, Timer};
+use vr_serving::{Observer, Seat};
 use vr_shown::{Shown, ShownReader, ShownWriter};
 
 /// Why no replica is served.
@@ -100,8 +99,8 @@ impl<L: Relink + Drop> Member<L> {
         true
     }
 
-    /// Has its thread start it anew, unless an order has not come to its end: one that is up crashes first. Whether that
-    /// is ordered.
+    /// Has its thread start it anew, unless an order has not come to its end: one that is up crashes first. Whether
+    /// that is ordered.
     pub(crate) fn restart<R: Wait>(&mut self, rt: &R) -> bool {
         if self.is_starting() {
             return false;

@@ -1,10 +1,11 @@
 //! A store in a file of 16 bytes.
 
-ghost use Rattle.std.specs.Prelude.{◌≡◌, ◌≤◌, ◌<◌, ◌↔◌, [], ◌∷◌, IfOk, IfSome, IsTrue, MatchOption, MatchResult};
+ghost use Rattle.std.specs.Prelude.{◌≡◌, ◌≤◌, ◌<◌, ◌↔◌, ◌⊎◌, [], ◌∷◌, IfOk, IfSome, IsTrue, MatchOption, MatchResult};
 ghost use Rattle.std.specs.Prelude.{true, false, length, OnOk, OnErr};
 ghost use Rattle.std.specs.Io.KnownBytes.{Consumes, IsAtEnd};
 ghost use Rattle.io_model.specs.Streams.{Failed};
-ghost use Rattle.vr_threads.specs.Keeping.{stored_bytes, stored_from, IsFileOf, MayHold, Rose, Writes};
+ghost use Rattle.vr_threads.specs.Keeping.{stored_bytes, stored_from, unstarted, IsFileOf, IsOneOf, MayHold, Rose};
+ghost use Rattle.vr_threads.specs.Keeping.{Writes};
 
 use crate::starting::Starts;
 use byteorder::{BigEndian, ByteOrder};
@@ -18,6 +19,9 @@ use vr_model::Stored;
 use vr_replica::{StoreFault, ViewStore};
 
 const LENGTH: usize = 16;
+
+/// What a file holds that no start has made.
+const UNSTARTED: Stored = Stored { view: 0, starts: 0 };
 
 /// What the file may hold.
 #[derive(Clone, Copy, Debug, PartialEq, Eq)]
@@ -44,11 +48,26 @@ impl Held {
             Held::OneOf(one, other) => stored == one || stored == other,
         }
     }
+
+    /// What was written last, where a start was counted by then: if the file isn't there now, somebody took it away.
+    fn last(self) -> Option<Stored>
+        ensures { MatchOption result (MayHold self unstarted)
+            (λ last. IsOneOf self last × (MayHold self unstarted → ⊥)) }
+    {
+        if self.has(UNSTARTED) {
+            return None;
+        }
+        match self {
+            Held::Unknown => None,
+            Held::One(last) | Held::OneOf(_, last) => Some(last),
+        }
+    }
 }
 
 /// Stable storage of a replica: its view and its starts, in a file. They are written beside it, flushed, and renamed.
-/// The store counts its failures, and the writes that went well. A replica that starts again is handed the store that
-/// it had: another one would not know what the file may hold.
+/// The store counts its failures, and the starts and saves that were written. A replica that starts again is handed the
+/// store that it had: another one would not know what the file may hold. A file that was taken away meanwhile is put
+/// back by the next load or start, once there is a directory for it.
 #[derive(Drop)]
 pub struct FileStore<R: Files + Drop> {
     rt: R,
@@ -161,16 +180,30 @@ impl<R: Files + Drop> FileStore<R> {
         let _ = fs::remove_file(&self.rt, self.path.as_str());
     }
 
-    /// What the file holds: zeros where there is none.
+    /// What the file holds. One that isn't there is put back, or holds no start.
     fn read(&self) -> Result<Stored, StoreFault> {
         match fs::open(&self.rt, self.path.as_str()) {
             Ok(file) => match stored_in(&mut Counted::new(file)) {
                 Ok(Some(stored)) => Ok(stored),
                 _ => Err(StoreFault),
             },
-            Err(error) if error.kind() == ErrorKind::NotFound => Ok(Stored { view: 0, starts: 0 }),
+            Err(error) if error.kind() == ErrorKind::NotFound => self.put_back(),
             Err(_) => Err(StoreFault),
         }
+    }
+
+    /// What a file holds that isn't there: what was written last, which is written anew; or no start, where none was
+    /// counted yet.
+    fn put_back(&self) -> Result<Stored, StoreFault>
+        ensures { IfOk result (λ stored. (stored ≡ unstarted) ⊎ IsOneOf self.now.held stored) }
+    {
+        let Some(last) = self.held.last() else {
+            return Ok(UNSTARTED);
+        };
+        if self.write(last).is_err() {
+            return Err(StoreFault);
+        }
+        Ok(last)
     }
 
     /// Writes this to a new file beside the file, flushes it, and puts it in the file's place.

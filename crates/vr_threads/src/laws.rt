@@ -11,7 +11,7 @@ ghost use Rattle.vr_model.specs.Stores.{KnownState, Observation};
 ghost use Rattle.vr_replica.specs.declared.state.Replica.{Replica};
 ghost use Rattle.vr_replica.specs.Standing.{StandsFor};
 ghost use Rattle.vr_replica.specs.Stepped.{StepResult};
-ghost use Rattle.vr_threads.specs.Serving.{StepsTo, sends_in};
+ghost use Rattle.vr_serving.specs.Serving.{StepsTo, sends_in};
 ghost use Rattle.vr_threads.specs.Observed.{AreRight, known_after, Restarted};
 
 use vr_replica::ViewStore;

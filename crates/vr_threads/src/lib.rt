@@ -1,7 +1,7 @@
-//! Replicas, each started and served by a thread of its own: the loop of that thread over any link, timer, gate and
-//! store; links over channels; a store in a file; and the machine's time as a timer. A `Cluster` has a whole group in
-//! one process, a `Solo` one replica, of a machine that has no other. What shows of each replica others read
-//! (`vr_shown`). A disk that hangs holds up its replica and nobody else: orders wait for nothing.
+//! Replicas, each started and served by a thread of its own (`vr_serving` has its loop); links over channels; a store
+//! in a file; and the machine's time as a timer. A `Cluster` has a whole group in one process, a `Solo` one replica, of
+//! a machine that has no other. What shows of each replica others read (`vr_shown`). A disk that hangs holds up its
+//! replica and nobody else: orders wait for nothing.
 //!
 //! ```rust
 //! use vr_threads::{FileStore, Starts};
@@ -10,21 +10,22 @@
 //! let stored = store.begin().ok()?; // the view that it kept, and how often it was started
 //! ```
 //!
-//! Proved: `serve` takes exactly its turns, or fewer where the link is closed; each takes one event at most, and what
-//! was handed to `send` is, in order, the sends of `Replica::step` on these events. From whatever is known of the
-//! replica a restart is an observation that is right by the rules (`restart_is_observed`); how the steps of a group
-//! come to one history is said in `laws_threads`. `FileStore`: what its file may hold after each load, save and start,
-//! by what the calls answered, and that what is read of it is its 16 bytes or a fault. The first start finds the
-//! replica normal in view 0, each later one finds it down, with the count as its nonce; the thread of a replica has it
-//! come up with that before all else (`specs/Working`). A start that is another one than was judged fails
-//! (`JudgedStarts`): a blank file begins no replica anew. Which tick comes, by what a timer heard (`specs/Patience`),
-//! and in a group of machines by who is near and reached (`specs/Patience`): no timeout while fewer than f are near,
-//! but of a primary. What `serve` showed last is what the replica is after its last step (`specs/Showing`).
+//! Proved: from whatever is known of the replica a restart is an observation that is right by the rules
+//! (`restart_is_observed`). `FileStore`: what its file may hold after each load, save and start, by what the calls
+//! answered, and that what is read of it is its 16 bytes or a fault. A save that failed is tried again, behind a read
+//! of what the store holds by then (`PatientStore`, `specs/Trying`). The first start finds the replica normal in view
+//! 0, each later one finds it down, with the start's number as its nonce; the thread of a replica has it come up with
+//! that before all else (`specs/Working`), and serves it then. Where a process starts its replica again and again, its
+//! store counts one start, and all have numbers that rise (`NumberedStarts`, `specs/Numbering`). A start that is
+//! another one than was judged fails (`JudgedStarts`): a blank file begins no replica anew. Which tick comes, by what a
+//! timer heard (`specs/Patience`), and in a group of machines by who is near and reached (`specs/Patience`): no timeout
+//! while fewer than f are near, but of a primary. How the steps of a group come to one history is said in
+//! `laws_threads`.
 //!
 //! Only tested: that replicas run at once, that a group over channels answers, that one which was started before
-//! recovers, that nobody waits for a disk that hangs (`cluster_rows` of `tests_threads`), and stores on real files
-//! (`store_rows`). No contract says that a channel hands out what was sent, that a disk keeps what was flushed, or what
-//! a gate looks at.
+//! recovers, that nobody waits for a disk that hangs (`cluster_rows` of `tests_threads`), stores on real files, and
+//! that a file that was taken away is put back (`store_rows`). No contract says that a channel hands out what was sent,
+//! or that a disk keeps what was flushed.
 #![tactic(auto)]
 
 mod channels;
@@ -35,10 +36,11 @@ mod group_timer;
 mod judged_starts;
 mod laws;
 mod machine_timer;
-mod observer;
+mod numbered_starts;
+mod numbers;
 mod patience;
-mod seat;
-mod serving;
+mod patient_store;
+mod saves;
 mod solo;
 mod starting;
 mod working;
@@ -51,8 +53,9 @@ pub use group_timer::{GroupTimer, Neighbours};
 pub use judged_starts::JudgedStarts;
 pub use laws::{observations_join, restart_is_observed};
 pub use machine_timer::MachineTimer;
-pub use observer::Observer;
-pub use seat::Seat;
-pub use serving::serve;
+pub use numbered_starts::NumberedStarts;
+pub use patient_store::PatientStore;
+pub use saves::{Pauses, Saves};
 pub use solo::{Solo, SoloThread};
 pub use starting::Starts;
+pub use vr_serving::{Observer, Seat, serve};

@@ -1,14 +1,13 @@
 //! One replica with a thread of its own.
 
 use crate::cluster::{ClusterConfig, ClusterError, Member, enrolled, work};
-use crate::observer::Observer;
-use crate::seat::Seat;
 use crate::starting::Starts;
 use il_loader::Image;
 use std::alloc::Global;
 use std::sync::Wait;
 use std::thread::{JoinHandle, Threads};
 use vr_ports::{Cutter, Relink, Timer};
+use vr_serving::{Observer, Seat};
 use vr_shown::Shown;
 
 /// One replica of a group, started and served by a thread of its own, as on a machine that has no other.

@@ -1,10 +1,12 @@
 //! How a replica starts from a store that counts its starts.
 
-ghost use Rattle.std.specs.Prelude.{IfOk};
+ghost use Rattle.std.specs.Prelude.{◌≡◌, IfOk, option_map};
 ghost use Rattle.vr_model.specs.Membership.{member};
 ghost use Rattle.vr_core.specs.StandsFor.{group_of};
+ghost use Rattle.vr_threads.specs.Numbering.{count_in};
 ghost use Rattle.vr_threads.specs.Working.{HasStarted};
 
+use crate::numbers::count_in;
 use il_loader::Image;
 use il_model::Budget;
 use std::alloc::{AllocError, Global};
@@ -20,8 +22,9 @@ pub trait Starts: ViewStore {
     // How a start leaves it that gave this, or failed.
     ghost begin_gives: { Self → Option Stored → Self → Type 0 };
 
-    /// One start more, which is kept: the view, and how many there were with this one. Before the first start there is
-    /// no view. It answers a fault only where the store failed in this call, or no greater number is left.
+    /// One start more: the view that is kept, and the number of this start, which is how many there were with it where
+    /// each is counted. Before the first start there is no view. It answers a fault only where the store failed in this
+    /// call, or no greater number is left.
     fn begin(&mut self) -> Result<Stored, StoreFault>
         ensures first { IfOk result (λ stored. stored.starts ≡ 1 → stored.view ≡ 0) }
         ensures gives { MatchResult result (λ stored. begin_gives self.old (Some stored) self.new)
@@ -36,8 +39,20 @@ pub(crate) struct Started {
     pub replica: Replica,
     /// With which it is to come up, where it is down and its store did not fail.
     pub nonce: Option<u64>,
-    /// How many starts its store has counted with this one; none where it failed.
+    /// The number of this start in its store; none where that failed.
     pub starts: Option<u64>,
+}
+
+impl Started {
+    /// How many starts its store has counted by this one; none where it failed.
+    pub(crate) fn count(&self) -> Option<u64>
+        ensures { result ≡ option_map count_in self.now.starts }
+    {
+        let Some(number) = self.starts else {
+            return None;
+        };
+        Some(count_in(number))
+    }
 }
 
 /// Counts one start more in the store, and makes the replica. It fails only where memory runs out.

@@ -1,13 +1,10 @@
 //! What the thread of a replica does.
 
 ghost use Rattle.std.specs.Prelude.{◌≡◌, IfOk, OnOk, false};
-ghost use Rattle.vr_threads.specs.Serving.{scene};
+ghost use Rattle.vr_serving.specs.Serving.{scene};
 ghost use Rattle.vr_shown.specs.Showing.{down_standing};
 ghost use Rattle.vr_threads.specs.Working.{HasStarted, ComesUp, Worked, planned};
 
-use crate::observer::Observer;
-use crate::seat::Seat;
-use crate::serving::{act, serve_from};
 use crate::starting::{Started, Starts, start_from};
 use crossbeam_channel::Receiver;
 use il_loader::Image;
@@ -19,6 +16,7 @@ use std::thread::{JoinHandle, Threads};
 use vr_model::{Config, Event};
 use vr_ports::{Relink, Timer};
 use vr_replica::Replica;
+use vr_serving::{Observer, Seat, act, serve_from};
 use vr_shown::ShownWriter;
 
 /// What a replica is started from, each time: its group and its number there, its program, and for how long it is
@@ -105,7 +103,7 @@ impl<L: Relink, S: Starts, T: Timer, G: Observer> Work<L, S, T, G> {
         // Before it shows, as behind each step.
         self.seat.gate.observe(&started.replica);
         self.shown
-            .show_start(started.replica.standing(), started.starts);
+            .show_start(started.replica.standing(), started.count());
         Ok(started)
     }
 

@@ -1,5 +1,5 @@
 use Rattle.std.proofs.Common.{◌∙◌}
-use Rattle.vr_threads.specs.Serving.{scene}
+use Rattle.vr_serving.specs.Serving.{scene}
 use Rattle.vr_threads.proofs.working.Work.run.Goals as goal
 
 pub returns-clause-worked : goal.returns-clause-worked
