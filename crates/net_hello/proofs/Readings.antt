@@ -1,21 +1,22 @@
 -- A hello that is read is the one that was spelled.
 use Rattle.std.proofs.Common.{◌≡◌, ℕ, ◌+◌, ◌*◌, ◌/◌, ◌%◌, ◌^◌, ◌<◌, ◌≤◌, Bool, true, false, cond, ltb, eqb, not, List, [], ◌∷◌, ◌++◌, length, get_or, take, drop, Option, Some, None, Result, Ok, Err, IfOk, IfSome, refl, sym, ap, ap₂, subst, ◌∙◌, append_assoc, arith, inl, inr, length-append, length-take, length-drop}
 use Rattle.std.specs.Prelude.{slice_index, ◌⊎◌}
-use Rattle.std.specs.Int.{w64, from_be_bytes, to_be_bytes}
+use Rattle.std.specs.Int.{w32, w64, from_be_bytes, to_be_bytes}
 use Rattle.std.proofs.lemmas.Bool.{cases_lt, ltb-false, ltb-true, le-ltb, lt-ltb, eqb-true}
 use Rattle.std.proofs.lemmas.List.{take_at, drop_at, take-append-drop, take-append-le, get_or-drop, get_or-take, get_or_past}
-use Rattle.std.proofs.lemmas.Nat.{be_bytes_8, from_be_bytes-to_be_bytes_8}
+use Rattle.std.proofs.lemmas.Nat.{be_bytes_4, be_bytes_8, from_be_bytes-to_be_bytes_4, from_be_bytes-to_be_bytes_8}
 use native.Mathlib.Bridge.{le_prop}
 use mathlib.Core.HLevel.{is_prop→PathP}
 use Rattle.vr_model.specs.Groups.{client_count}
 use Rattle.vr_model.specs.declared.client.ClientNumber.{ClientNumber}
 use Rattle.vr_model.specs.declared.message.Party.{Party}
 use Rattle.vr_model.specs.declared.message.Party.TheVariants.{Replica, Client}
+use Rattle.net_hello.specs.declared.hello.Known.{Known}
 use Rattle.net_hello.specs.declared.hello.Hello.{Hello}
 use Rattle.net_hello.specs.declared.hello.HelloFault.{HelloFault}
 use Rattle.net_hello.specs.declared.hello.HelloFault.TheVariants.{NoHello, OtherVersion}
-use Rattle.net_hello.specs.Hellos.{magic, version, party_bytes, said_bytes, hello_bytes, FitsParty, FitsHello, IsHello}
-use Rattle.net_hello.specs.Hellos.{client_by, party_of, said_with, said_behind, said_of, if_said, whole_of}
+use Rattle.net_hello.specs.Hellos.{magic, version, party_bytes, known_bytes, numbers_bytes, said_bytes, hello_bytes, FitsKnown, FitsNumbers, FitsParty, FitsHello, IsHello}
+use Rattle.net_hello.specs.Hellos.{client_by, known_of, party_of, said_with, said_behind, said_of, if_said, whole_of}
 use Rattle.net_hello.specs.Hellos.{behind_front, hello_of}
 
 abbrev pub IsBytes : List ℕ → Type 0
@@ -66,35 +67,62 @@ party_again (Client c) starts = (client_again c (cases_lt c.number client_count)
 -- ---- what is said
 
 module _ (h : Hello) (fits : FitsHello h) where
+  -- what it says of its numbers
+  numbers_again : said_with (Some h.party) h.identity (to_be_bytes w64 h.epoch.number) h.epoch.image (numbers_bytes h) ≡ Some h
+  numbers_again = λ i. Some (record {
+    identity = h.identity;
+    epoch = record { number = from_be_bytes-to_be_bytes_8 h.epoch.number fits.number i; image = h.epoch.image };
+    party = h.party;
+    starts = from_be_bytes-to_be_bytes_8 h.starts fits.numbers.starts i;
+    fresh = from_be_bytes-to_be_bytes_4 h.fresh fits.numbers.fresh i;
+    store = from_be_bytes-to_be_bytes_8 h.store fits.numbers.store i;
+    known = record {
+      store = from_be_bytes-to_be_bytes_8 h.known.store fits.numbers.known.0 i;
+      starts = from_be_bytes-to_be_bytes_8 h.known.starts fits.numbers.known.1 i;
+    };
+  })
+
   pub said_again : said_of (said_bytes h) ≡ Some h
   said_again =
       let number = to_be_bytes w64 h.epoch.number in
-      let starts = to_be_bytes w64 h.starts in
-      let third = party_bytes h.party ++ starts in
+      let numbers = numbers_bytes h in
+      let third = party_bytes h.party ++ numbers in
       let second = h.epoch.image ++ third in
       let first = number ++ second in
       let by_identity : said_of (said_bytes h) ≡ said_behind h.identity (take 8 first) (drop 8 first) = ap₂ (λ (i r : List ℕ). said_behind i (take 8 r) (drop 8 r)) (take_at h.identity first 32 fits.identity) (drop_at h.identity first 32 fits.identity) in
       let by_number : said_behind h.identity (take 8 first) (drop 8 first) ≡ said_behind h.identity number second = ap₂ (λ (n r : List ℕ). said_behind h.identity n r) (take_at number second 8 refl) (drop_at number second 8 refl) in
       let by_image : said_behind h.identity number second ≡ said_with (party_of (slice_index third 0) (slice_index third 1)) h.identity number h.epoch.image (drop 2 third) = ap₂ (λ (m r : List ℕ). said_with (party_of (slice_index r 0) (slice_index r 1)) h.identity number m (drop 2 r)) (take_at h.epoch.image third 32 fits.image) (drop_at h.epoch.image third 32 fits.image) in
-      let by_party : said_with (party_of (slice_index third 0) (slice_index third 1)) h.identity number h.epoch.image (drop 2 third) ≡ said_with (Some h.party) h.identity number h.epoch.image starts = ap₂ (λ (p : Option Party) (r : List ℕ). said_with p h.identity number h.epoch.image r) (party_again h.party starts).0 (party_again h.party starts).1 in
-      let numbers : said_with (Some h.party) h.identity number h.epoch.image starts ≡ Some h = ap₂ (λ (n s : ℕ). Some (record { identity = h.identity; epoch = record { number = n; image = h.epoch.image }; party = h.party; starts = s })) (from_be_bytes-to_be_bytes_8 h.epoch.number fits.number) (from_be_bytes-to_be_bytes_8 h.starts fits.starts) in
-      by_identity ∙ (by_number ∙ (by_image ∙ (by_party ∙ numbers)))
+      let by_party : said_with (party_of (slice_index third 0) (slice_index third 1)) h.identity number h.epoch.image (drop 2 third) ≡ said_with (Some h.party) h.identity number h.epoch.image numbers = ap₂ (λ (p : Option Party) (r : List ℕ). said_with p h.identity number h.epoch.image r) (party_again h.party numbers).0 (party_again h.party numbers).1 in
+      by_identity ∙ (by_number ∙ (by_image ∙ (by_party ∙ numbers_again)))
 
   party_length : (p : Party) → length (party_bytes p) ≡ 2
   party_length (Replica n) = refl
   party_length (Client c) = refl
 
-  pub said_length : length (said_bytes h) ≡ 82
+  pub said_length : length (said_bytes h) ≡ 110
   said_length =
       let number = to_be_bytes w64 h.epoch.number in
-      let starts = to_be_bytes w64 h.starts in
-      omega (arith, fits.identity, fits.image, party_length h.party, length-append h.identity (number ++ (h.epoch.image ++ (party_bytes h.party ++ starts))), length-append number (h.epoch.image ++ (party_bytes h.party ++ starts)), length-append h.epoch.image (party_bytes h.party ++ starts), length-append (party_bytes h.party) starts)
+      let numbers = numbers_bytes h in
+      let many : length numbers ≡ 36 = refl in
+      omega (arith, many, fits.identity, fits.image, party_length h.party, length-append h.identity (number ++ (h.epoch.image ++ (party_bytes h.party ++ numbers))), length-append number (h.epoch.image ++ (party_bytes h.party ++ numbers)), length-append h.epoch.image (party_bytes h.party ++ numbers), length-append (party_bytes h.party) numbers)
+
+-- what was read, by its parts
+abbrev made : List ℕ → List ℕ → List ℕ → Party → List ℕ → Hello
+made identity number image party numbers = record {
+  identity = identity;
+  epoch = record { number = from_be_bytes w64 number; image = image };
+  party = party;
+  starts = from_be_bytes w64 (take 8 numbers);
+  fresh = from_be_bytes w32 (take 4 (drop 8 numbers));
+  store = from_be_bytes w64 (take 8 (drop 4 (drop 8 numbers)));
+  known = known_of (drop 8 (drop 4 (drop 8 numbers)));
+}
 
 -- the parts of what is said are those that were read
-said_with_found : (q : Option Party) (identity number image starts : List ℕ) (h : Hello) → said_with q identity number image starts ≡ Some h
-    → (p : Party) × (q ≡ Some p) × (record { identity = identity; epoch = record { number = from_be_bytes w64 number; image = image }; party = p; starts = from_be_bytes w64 starts } ≡ h)
-said_with_found (Some p) identity number image starts h e = (p, refl, cc)
-said_with_found None identity number image starts h e = absurd cc
+said_with_found : (q : Option Party) (identity number image numbers : List ℕ) (h : Hello) → said_with q identity number image numbers ≡ Some h
+    → (p : Party) × (q ≡ Some p) × (made identity number image p numbers ≡ h)
+said_with_found (Some p) identity number image numbers h e = (p, refl, cc)
+said_with_found None identity number image numbers h e = absurd cc
 
 two_front : (xs : List ℕ) → 2 ≤ length xs → take 2 xs ≡ slice_index xs 0 ∷ slice_index xs 1 ∷ []
 two_front [] le = absurd (omega arith)
@@ -104,7 +132,77 @@ two_front (x ∷ y ∷ xs) le = refl
 split : (n : ℕ) (xs : List ℕ) → xs ≡ take n xs ++ drop n xs
 split n xs = sym (take-append-drop n xs)
 
-module _ (bytes : List ℕ) (are : IsBytes bytes) (long : length bytes ≡ 82) where
+eight_again : (bytes : List ℕ) → IsBytes bytes → length bytes ≡ 8 → to_be_bytes w64 (from_be_bytes w64 bytes) ≡ bytes
+eight_again bytes are long = be_bytes_8 bytes _ long are refl
+
+eight_below : (bytes : List ℕ) → IsBytes bytes → from_be_bytes w64 bytes < 2 ^ 64
+eight_below bytes are = omega (arith, are 0, are 1, are 2, are 3, are 4, are 5, are 6, are 7)
+
+four_again : (bytes : List ℕ) → IsBytes bytes → length bytes ≡ 4 → to_be_bytes w32 (from_be_bytes w32 bytes) ≡ bytes
+four_again bytes are long = be_bytes_4 bytes _ long are refl
+
+four_below : (bytes : List ℕ) → IsBytes bytes → from_be_bytes w32 bytes < 2 ^ 32
+four_below bytes are = omega (arith, are 0, are 1, are 2, are 3)
+
+-- what is known, from 16 bytes
+known_found : (bytes : List ℕ) → IsBytes bytes → length bytes ≡ 16 → (bytes ≡ known_bytes (known_of bytes)) × FitsKnown (known_of bytes)
+known_found bytes are long =
+    let front = take 8 bytes in
+    let back = drop 8 bytes in
+    let are_front : IsBytes front = IsBytes-take 8 bytes are in
+    let are_back : IsBytes back = IsBytes-drop 8 bytes are in
+    let store = eight_again front are_front (omega (arith, length-take 8 bytes)) in
+    let starts = eight_again back are_back (omega (arith, length-drop 8 bytes)) in
+    (split 8 bytes ∙ ap₂ (λ (x y : List ℕ). x ++ y) (sym store) (sym starts), (eight_below front are_front, eight_below back are_back))
+
+-- the numbers, from 36 bytes
+module _ (numbers : List ℕ) (are : IsBytes numbers) (long : length numbers ≡ 36) (h : Hello)
+    (is_starts : from_be_bytes w64 (take 8 numbers) ≡ h.starts) (is_fresh : from_be_bytes w32 (take 4 (drop 8 numbers)) ≡ h.fresh)
+    (is_store : from_be_bytes w64 (take 8 (drop 4 (drop 8 numbers))) ≡ h.store) (is_known : known_of (drop 8 (drop 4 (drop 8 numbers))) ≡ h.known) where
+  abbrev first : List ℕ
+  first = drop 8 numbers
+
+  abbrev second : List ℕ
+  second = drop 4 first
+
+  abbrev third : List ℕ
+  third = drop 8 second
+
+  are_first : IsBytes first
+  are_first = IsBytes-drop 8 numbers are
+
+  are_second : IsBytes second
+  are_second = IsBytes-drop 4 first are_first
+
+  are_third : IsBytes third
+  are_third = IsBytes-drop 8 second are_second
+
+  long_first : length first ≡ 28
+  long_first = omega (arith, long, length-drop 8 numbers)
+
+  long_second : length second ≡ 24
+  long_second = omega (arith, long_first, length-drop 4 first)
+
+  long_third : length third ≡ 16
+  long_third = omega (arith, long_second, length-drop 8 second)
+
+  pub numbers_found : numbers ≡ numbers_bytes h
+  numbers_found =
+      let starts : take 8 numbers ≡ to_be_bytes w64 h.starts = sym (eight_again (take 8 numbers) (IsBytes-take 8 numbers are) (omega (arith, long, length-take 8 numbers))) ∙ ap (to_be_bytes w64) is_starts in
+      let fresh : take 4 first ≡ to_be_bytes w32 h.fresh = sym (four_again (take 4 first) (IsBytes-take 4 first are_first) (omega (arith, long_first, length-take 4 first))) ∙ ap (to_be_bytes w32) is_fresh in
+      let store : take 8 second ≡ to_be_bytes w64 h.store = sym (eight_again (take 8 second) (IsBytes-take 8 second are_second) (omega (arith, long_second, length-take 8 second))) ∙ ap (to_be_bytes w64) is_store in
+      let known : third ≡ known_bytes h.known = (known_found third are_third long_third).0 ∙ ap known_bytes is_known in
+      split 8 numbers ∙ ap₂ (λ (x y : List ℕ). x ++ y) starts (split 4 first ∙ ap₂ (λ (x y : List ℕ). x ++ y) fresh (split 8 second ∙ ap₂ (λ (x y : List ℕ). x ++ y) store known))
+
+  pub numbers_fit : FitsNumbers h
+  numbers_fit = record {
+    starts = subst (λ (n : ℕ). n < 2 ^ 64) is_starts (eight_below (take 8 numbers) (IsBytes-take 8 numbers are));
+    fresh = subst (λ (n : ℕ). n < 2 ^ 32) is_fresh (four_below (take 4 first) (IsBytes-take 4 first are_first));
+    store = subst (λ (n : ℕ). n < 2 ^ 64) is_store (eight_below (take 8 second) (IsBytes-take 8 second are_second));
+    known = subst FitsKnown is_known (known_found third are_third long_third).1;
+  }
+
+module _ (bytes : List ℕ) (are : IsBytes bytes) (long : length bytes ≡ 110) where
   pub said_found : (h : Hello) → said_of bytes ≡ Some h → (bytes ≡ said_bytes h) × FitsHello h
   said_found h e =
       let first = drop 32 bytes in
@@ -113,34 +211,34 @@ module _ (bytes : List ℕ) (are : IsBytes bytes) (long : length bytes ≡ 82) w
       let identity = take 32 bytes in
       let number = take 8 first in
       let image = take 32 second in
-      let starts = drop 2 third in
-      let long_first : length first ≡ 50 = omega (arith, length-drop 32 bytes) in
-      let long_second : length second ≡ 42 = omega (arith, length-drop 8 first) in
-      let long_third : length third ≡ 10 = omega (arith, length-drop 32 second) in
+      let numbers = drop 2 third in
+      let long_first : length first ≡ 78 = omega (arith, length-drop 32 bytes) in
+      let long_second : length second ≡ 70 = omega (arith, length-drop 8 first) in
+      let long_third : length third ≡ 38 = omega (arith, length-drop 32 second) in
       let are_first : IsBytes first = IsBytes-drop 32 bytes are in
       let are_second : IsBytes second = IsBytes-drop 8 first are_first in
       let are_third : IsBytes third = IsBytes-drop 32 second are_second in
-      let found = said_with_found (party_of (slice_index third 0) (slice_index third 1)) identity number image starts h e in
+      let found = said_with_found (party_of (slice_index third 0) (slice_index third 1)) identity number image numbers h e in
       let party = party_found (slice_index third 0) (slice_index third 1) found.0 (are_third 1) found.1 in
-      let of_party : third ≡ party_bytes found.0 ++ starts = split 2 third ∙ ap (λ (t : List ℕ). t ++ starts) (two_front third (omega arith) ∙ party.0) in
-      let number_again : to_be_bytes w64 (from_be_bytes w64 number) ≡ number = be_bytes_8 number _ (omega (arith, length-take 8 first)) (IsBytes-take 8 first are_first) refl in
-      let starts_again : to_be_bytes w64 (from_be_bytes w64 starts) ≡ starts = be_bytes_8 starts _ (omega (arith, length-drop 2 third)) (IsBytes-drop 2 third are_third) refl in
-      let read : Hello = record { identity = identity; epoch = record { number = from_be_bytes w64 number; image = image }; party = found.0; starts = from_be_bytes w64 starts } in
-      let whole : bytes ≡ said_bytes read = split 32 bytes ∙ ap (λ (t : List ℕ). identity ++ t) (split 8 first ∙ ap₂ (λ (n t : List ℕ). n ++ t) (sym number_again) (split 32 second ∙ ap (λ (t : List ℕ). image ++ t) (of_party ∙ ap (λ (t : List ℕ). party_bytes found.0 ++ t) (sym starts_again)))) in
-      let below : (xs : List ℕ) → IsBytes xs → from_be_bytes w64 xs < 2 ^ 64 = λ xs fits. omega (arith, fits 0, fits 1, fits 2, fits 3, fits 4, fits 5, fits 6, fits 7) in
+      let read : Hello = made identity number image found.0 numbers in
+      let are_numbers : IsBytes numbers = IsBytes-drop 2 third are_third in
+      let long_numbers : length numbers ≡ 36 = omega (arith, length-drop 2 third) in
+      let of_party : third ≡ party_bytes found.0 ++ numbers_bytes read = split 2 third ∙ ap₂ (λ (t u : List ℕ). t ++ u) (two_front third (omega arith) ∙ party.0) (numbers_found numbers are_numbers long_numbers read refl refl refl refl) in
+      let number_again : to_be_bytes w64 (from_be_bytes w64 number) ≡ number = eight_again number (IsBytes-take 8 first are_first) (omega (arith, length-take 8 first)) in
+      let whole : bytes ≡ said_bytes read = split 32 bytes ∙ ap (λ (t : List ℕ). identity ++ t) (split 8 first ∙ ap₂ (λ (n t : List ℕ). n ++ t) (sym number_again) (split 32 second ∙ ap (λ (t : List ℕ). image ++ t) of_party)) in
       let fits : FitsHello read = record {
         identity = omega (arith, length-take 32 bytes);
-        number = below number (IsBytes-take 8 first are_first);
+        number = eight_below number (IsBytes-take 8 first are_first);
         image = omega (arith, length-take 32 second);
         party = party.1;
-        starts = below starts (IsBytes-drop 2 third are_third);
+        numbers = numbers_fit numbers are_numbers long_numbers read refl refl refl refl;
       } in
       subst (λ (x : Hello). (bytes ≡ said_bytes x) × FitsHello x) found.2 (whole, fits)
 
 -- ---- a whole hello
 
-whole_by : (n : ℕ) (said : Option Hello) → n ≡ 82 → cond (ltb n 82) (Ok None) (cond (ltb 82 n) (Err NoHello) (if_said said)) ≡ if_said said
-whole_by n said e = subst (λ (m : ℕ). cond (ltb m 82) (Ok None) (cond (ltb 82 m) (Err NoHello) (if_said said)) ≡ if_said said) (sym e) refl
+whole_by : (n : ℕ) (said : Option Hello) → n ≡ 110 → cond (ltb n 110) (Ok None) (cond (ltb 110 n) (Err NoHello) (if_said said)) ≡ if_said said
+whole_by n said e = subst (λ (m : ℕ). cond (ltb m 110) (Ok None) (cond (ltb 110 m) (Err NoHello) (if_said said)) ≡ if_said said) (sym e) refl
 
 -- bytes behind the magic and the version
 behind : (bytes rest : List ℕ) → 8 ≤ length bytes → take 8 bytes ≡ to_be_bytes w64 (65536 * magic + version) → drop 8 bytes ≡ rest → hello_of bytes ≡ whole_of rest
@@ -163,13 +261,13 @@ pub hello_prefix : (h : Hello) (bytes more : List ℕ) → FitsHello h → 0 < l
 unfolding hello_of
 hello_prefix h bytes more fits some is =
     let first = to_be_bytes w64 (65536 * magic + version) in
-    let all : length bytes + length more ≡ 90 = sym (length-append bytes more) ∙ (ap length is ∙ (length-append first (said_bytes h) ∙ ap (λ (n : ℕ). 8 + n) (said_length h fits))) in
+    let all : length bytes + length more ≡ 118 = sym (length-append bytes more) ∙ (ap length is ∙ (length-append first (said_bytes h) ∙ ap (λ (n : ℕ). 8 + n) (said_length h fits))) in
     elim (cases_lt (length bytes) 8) [
       | inl few ↦ (let short : ltb (length bytes) 8 ≡ true = lt-ltb (length bytes) 8 few in ap (λ (b : Bool). cond b (Ok None) (behind_front (from_be_bytes w64 (take 8 bytes)) (drop 8 bytes))) short)
       | inr le ↦
           (let fronts : take 8 bytes ≡ first = sym (take-append-le 8 bytes more le) ∙ (ap (take 8) is ∙ take_at first (said_bytes h) 8 refl) in
-          let fewer : ltb (length (drop 8 bytes)) 82 ≡ true = lt-ltb (length (drop 8 bytes)) 82 (omega (arith, length-drop 8 bytes)) in
-          behind bytes (drop 8 bytes) le fronts refl ∙ ap (λ (b : Bool). cond b (Ok None) (cond (ltb 82 (length (drop 8 bytes))) (Err NoHello) (if_said (said_of (drop 8 bytes))))) fewer)
+          let fewer : ltb (length (drop 8 bytes)) 110 ≡ true = lt-ltb (length (drop 8 bytes)) 110 (omega (arith, length-drop 8 bytes)) in
+          behind bytes (drop 8 bytes) le fronts refl ∙ ap (λ (b : Bool). cond b (Ok None) (cond (ltb 110 (length (drop 8 bytes))) (Err NoHello) (if_said (said_of (drop 8 bytes))))) fewer)
     ]
 
 -- ---- what was read
@@ -178,12 +276,12 @@ said_if : (said : Option Hello) (h : Hello) → if_said said ≡ Ok (Some h) →
 said_if (Some x) h e = cc
 said_if None h e = absurd cc
 
-whole_found : (few many : Bool) (rest : List ℕ) (h : Hello) → IsBytes rest → ltb (length rest) 82 ≡ few → ltb 82 (length rest) ≡ many
+whole_found : (few many : Bool) (rest : List ℕ) (h : Hello) → IsBytes rest → ltb (length rest) 110 ≡ few → ltb 110 (length rest) ≡ many
     → cond few (Ok None) (cond many (Err NoHello) (if_said (said_of rest))) ≡ Ok (Some h) → (rest ≡ said_bytes h) × FitsHello h
 whole_found true many rest h are a b e = absurd cc
 whole_found false true rest h are a b e = absurd cc
 whole_found false false rest h are a b e =
-    let long : length rest ≡ 82 = omega (arith, ltb-false (length rest) 82 a, ltb-false 82 (length rest) b) in
+    let long : length rest ≡ 110 = omega (arith, ltb-false (length rest) 110 a, ltb-false 110 (length rest) b) in
     said_found rest are long h (said_if (said_of rest) h e)
 
 front_found : (first second : Bool) (f : ℕ) (rest : List ℕ) (h : Hello) → IsBytes rest → eqb (f / 65536) magic ≡ first → eqb (f % 65536) version ≡ second
@@ -193,7 +291,7 @@ front_found true false f rest h are a b e = absurd cc
 front_found true true f rest h are a b e =
     let high : f / 65536 ≡ magic = eqb-true (f / 65536) magic a in
     let low : f % 65536 ≡ version = eqb-true (f % 65536) version b in
-    let whole = whole_found (ltb (length rest) 82) (ltb 82 (length rest)) rest h are refl refl e in
+    let whole = whole_found (ltb (length rest) 110) (ltb 110 (length rest)) rest h are refl refl e in
     (omega (arith, high, low), whole.0, whole.1)
 
 hello_found_by : (short : Bool) (bytes : List ℕ) (h : Hello) → IsBytes bytes → ltb (length bytes) 8 ≡ short

@@ -18,16 +18,15 @@ of_four x y lt lt' e = sym (from_be_bytes-to_be_bytes_4 x lt) ∙ (ap (from_be_b
 heads : (x y : ℕ) (xs ys : List ℕ) → x ∷ xs ≡ y ∷ ys → (x ≡ y) × (xs ≡ ys)
 heads x y xs ys e = (cc, cc)
 
-same_terms : (a b : Terms) → a.name ≡ b.name → a.f ≡ b.f → a.budget ≡ b.budget → a.every ≡ b.every → a.fresh ≡ b.fresh → a ≡ b
-same_terms a b p q r s t = λ i. record { name = p i; f = q i; budget = r i; every = s i; fresh = t i }
+same_terms : (a b : Terms) → a.name ≡ b.name → a.drawn ≡ b.drawn → a.f ≡ b.f → a.budget ≡ b.budget → a.every ≡ b.every → a ≡ b
+same_terms a b p d q r s = λ i. record { name = p i; drawn = d i; f = q i; budget = r i; every = s i }
 
 pub are_told : AreTold
 are_told a b fits fits' e =
-    let last = λ (t : Terms). to_be_bytes w32 t.fresh ++ t.name in
-    let third = λ (t : Terms). to_be_bytes w16 t.every ++ (to_be_bytes w32 t.fresh ++ t.name) in
-    let second = λ (t : Terms). to_be_bytes w32 t.budget ++ (to_be_bytes w16 t.every ++ (to_be_bytes w32 t.fresh ++ t.name)) in
+    let third = λ (t : Terms). to_be_bytes w16 t.every ++ (t.drawn ++ t.name) in
+    let second = λ (t : Terms). to_be_bytes w32 t.budget ++ (to_be_bytes w16 t.every ++ (t.drawn ++ t.name)) in
     let one = heads a.f b.f (second a) (second b) e in
     let two = fronts (to_be_bytes w32 a.budget) (to_be_bytes w32 b.budget) (third a) (third b) 4 refl refl one.1 in
-    let three = fronts (to_be_bytes w16 a.every) (to_be_bytes w16 b.every) (last a) (last b) 2 refl refl two.1 in
-    let four = fronts (to_be_bytes w32 a.fresh) (to_be_bytes w32 b.fresh) a.name b.name 4 refl refl three.1 in
-    same_terms a b four.1 one.0 (of_four a.budget b.budget fits.budget fits'.budget two.0) (of_two a.every b.every fits.every fits'.every three.0) (of_four a.fresh b.fresh fits.fresh fits'.fresh four.0)
+    let three = fronts (to_be_bytes w16 a.every) (to_be_bytes w16 b.every) (a.drawn ++ a.name) (b.drawn ++ b.name) 2 refl refl two.1 in
+    let four = fronts a.drawn b.drawn a.name b.name 16 fits.drawn fits'.drawn three.1 in
+    same_terms a b four.1 four.0 one.0 (of_four a.budget b.budget fits.budget fits'.budget two.0) (of_two a.every b.every fits.every fits'.every three.0)

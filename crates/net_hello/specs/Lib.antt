@@ -1,2 +1,3 @@
 pub mod Hellos
 pub mod Identity
+pub mod Answering

@@ -1,3 +1,4 @@
 pub mod Heard
 pub mod Courses
 pub mod Passing
+pub mod Refusals

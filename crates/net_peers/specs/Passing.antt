@@ -11,6 +11,7 @@ use Rattle.vr_model.specs.declared.message.Body.TheVariants as says
 use Rattle.vr_wire.specs.declared.fault.WireFault.{WireFault}
 use Rattle.vr_wire.specs.Frames.{frame_of, IsFramed}
 use Rattle.vr_wire.specs.Streams.{frames}
+use Rattle.net_hello.specs.declared.hello.Known.{Known}
 use Rattle.net_hello.specs.declared.hello.Hello.{Hello}
 use Rattle.net_hello.specs.Identity.{Judges}
 use Rattle.vr_ports.specs.declared.link.Input.{Input}
@@ -59,7 +60,7 @@ IsGiven source to inputs.Nothing = Unit {0}
 IsGiven source to inputs.Closed = Unit {0}
 
 -- a connection isn't opened because its hello was refused so, or because memory ran out
-abbrev pub IsRefused : Hello → Option ℕ → Hello → Unopened → Type 0
+abbrev pub IsRefused : Hello → Option Known → Hello → Unopened → Type 0
 IsRefused own seen other (unopened.Refused refusal) = Judges own seen other (Err refusal)
 IsRefused own seen other unopened.Memory = Unit {0}
 

@@ -3,7 +3,7 @@
 ghost use Rattle.std.specs.Prelude.{◌≡◌, filter, Ok, Err, IfOk, OnOk, OnErr, IfErr};
 ghost use Rattle.vr_wire.specs.Frames.{IsFramed, frame_of};
 ghost use Rattle.net_ends.specs.Ends.{IsTooMuch};
-ghost use Rattle.net_ends.specs.declared.outbox.Loss.TheVariants.{NoFrame};
+ghost use Rattle.net_ends.specs.declared.outbox.Loss.TheVariants.{NoFrame, Slow};
 ghost use Rattle.net_hello.specs.Identity.{Judges};
 ghost use Rattle.net_peers.specs.Heard.{IsAccepted};
 ghost use Rattle.net_peers.specs.Passing.{IsRefused, MayPass, is_scan, may_pass};
@@ -12,7 +12,7 @@ use crate::accepted::Accepted;
 use il_model::Command;
 use mio::net::TcpStream as Wire;
 use net_ends::{Flow, Inbox, Loss, NonBlocking, Outbox, Stop};
-use net_hello::{Hello, Refusal, judge};
+use net_hello::{Hello, Known, Refusal, judge};
 use net_links::is_between;
 use net_records::{Records, Signs};
 use std::alloc::{AllocError, Global};
@@ -74,12 +74,12 @@ impl Connection {
         })
     }
 
-    /// The connection whose other end said this hello, by the most starts that were seen of its party; nothing came
-    /// behind the hello. The connection is closed where the hello is refused, or where memory runs out.
+    /// The connection whose other end said this hello, by what is known of its party; nothing came behind the hello. The
+    /// connection is closed where the hello is refused, or where memory runs out.
     pub(crate) fn accept(
         alloc: Global,
         own: &Hello,
-        seen: Option<u64>,
+        seen: Option<Known>,
         hello: &Hello,
         wire: Wire,
     ) -> Result<Connection, Unopened>
@@ -126,9 +126,11 @@ impl Connection {
 
     /// Sends a message: `false` where the connection is over. One that's lost changes nothing.
     pub(crate) fn send(&mut self, alloc: Global, message: &Message) -> Result<bool, Loss>
+        ensures framed { OnOk result (IsFramed message.now) }
         ensures room { OnOk result (IsTooMuch self.old.outbox (frame_of message.now) → ⊥) }
         ensures lost { OnErr result (self.new.outbox ≡ self.old.outbox) }
         ensures no_frame { result ≡ Err NoFrame → IsFramed message.now → ⊥ }
+        ensures slow { result ≡ Err Slow → IsTooMuch self.old.outbox (frame_of message.now) }
     {
         self.outbox.put(alloc, message)?;
         Ok(self.flush())

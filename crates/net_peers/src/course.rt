@@ -174,7 +174,7 @@ impl Course {
         matches!(self.phase, Phase::Open { .. })
     }
 
-    /// Whether something came just now.
+    /// Whether it's open, and something came within the pulse's `near`.
     pub fn is_near(&self, now: u64) -> bool
         ensures { IsTrue result ↔ IsNear self.now.pulse.near self.now.phase now }
     {

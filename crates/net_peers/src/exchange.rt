@@ -57,6 +57,7 @@ pub struct Exchange {
     notices: Waiting<LinkNotice>,
     hellos: Waiting<(u8, Epoch)>,
     visits: Waiting<[u8; VISIT]>,
+    stores: Waiting<(u8, u64)>,
     /// Which replicas are connected to the machine's own, by bits.
     reached: AtomicU8,
     /// From which of them something came just now.
@@ -71,6 +72,7 @@ impl Exchange {
             notices: Waiting::new(alloc),
             hellos: Waiting::new(alloc),
             visits: Waiting::new(alloc),
+            stores: Waiting::new(alloc),
             reached: AtomicU8::new(0),
             near: AtomicU8::new(0),
         }
@@ -167,6 +169,17 @@ impl Exchange {
     /// of a visit.
     pub fn visits<R: Wait>(&self, rt: &R, alloc: Global) -> Vec<[u8; VISIT]> {
         self.visits.take(rt, alloc)
+    }
+
+    /// The store of another machine was seen that has this number.
+    pub(crate) fn see<R: Wait>(&self, rt: &R, machine: u8, store: u64) {
+        self.stores.add(rt, (machine, store));
+    }
+
+    /// The stores of other machines that were seen since that was asked last, and weren't known before: the machine, and
+    /// the number of its store. Who is to know them in another life of this machine keeps them, beside its epoch.
+    pub fn stores<R: Wait>(&self, rt: &R, alloc: Global) -> Vec<(u8, u64)> {
+        self.stores.take(rt, alloc)
     }
 
     /// Shows which replicas are connected to the machine's own, and from which something came just now, by bits.

@@ -1,10 +1,11 @@
 //! A connection whose other end has said no hello yet.
 
 ghost use Rattle.std.specs.Prelude.{◌≡◌, ◌≤◌, length};
-ghost use Rattle.net_peers.specs.Heard.{begins_visit, greeted_by, heard_in, visited_by};
+ghost use Rattle.net_peers.specs.Heard.{begins_visit, denies, greeted_by, heard_in, visited_by};
 
 use mio::net::TcpStream as Wire;
 use net_hello::{Epoch, HELLO, Hello, HelloFault};
+use std::alloc::Global;
 use std::io::{ErrorKind, Read, Write};
 use vr_model::Party;
 
@@ -12,7 +13,7 @@ use vr_model::Party;
 pub const VISIT: usize = 153;
 
 /// The first bytes of a visit: `PLC-CS`, and the version.
-const VISIT_FRONT: [u8; 8] = [0x50, 0x4C, 0x43, 0x2D, 0x43, 0x53, 0, 1];
+const VISIT_FRONT: [u8; 8] = [0x50, 0x4C, 0x43, 0x2D, 0x43, 0x53, 0, 2];
 
 /// How far a greeting has come.
 #[derive(Clone, Copy)]
@@ -70,12 +71,23 @@ fn greeted_by(bytes: &[u8]) -> Greeted
     }
 }
 
+/// Whether who says this hello is in one's own epoch, and has seen another store of one's own machine there.
+fn denies(own: &Hello, hello: &Hello) -> bool
+    ensures { result ≡ denies own.now hello.now }
+{
+    own.epoch.number == hello.epoch.number
+        && own.epoch.image == hello.epoch.image
+        && hello.known.store != 0
+        && hello.known.store != own.store
+}
+
 /// The number of the replica of one's own group that says this hello, and the epoch in which it does; `None` where
-/// another group or a client says it.
+/// another group or a client says it, or one that has seen another store of one's own machine in that epoch: nothing is
+/// begun by its hello.
 pub(crate) fn heard_in(own: &Hello, hello: &Hello) -> Option<(u8, Epoch)>
     ensures { result ≡ heard_in own.now hello.now }
 {
-    if own.identity != hello.identity {
+    if own.identity != hello.identity || denies(own, hello) {
         return None;
     }
     match hello.party {
@@ -93,10 +105,13 @@ pub(crate) struct Greeting {
     ghost fits: { count ≤ 153 },
 }
 
-/// Says hello at once: a new connection takes so few bytes. False where it doesn't.
-pub(crate) fn greet(wire: &mut Wire, hello: &[u8]) -> bool {
-    match wire.write(hello) {
-        Ok(count) => count == hello.len(),
+/// Says this hello at once: a new connection takes so few bytes. False where it doesn't, or memory runs out.
+pub(crate) fn greet(alloc: Global, wire: &mut Wire, hello: &Hello) -> bool {
+    let Ok(bytes) = hello.spell(alloc) else {
+        return false;
+    };
+    match wire.write(bytes.as_slice()) {
+        Ok(count) => count == bytes.len(),
         Err(_) => false,
     }
 }

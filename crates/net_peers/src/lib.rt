@@ -7,12 +7,14 @@
 //! use net_peers::{Machine, Pulse, machine_links, visit};
 //!
 //! let pulse = Pulse::of(100, 25); // a beat each 25 ms; near is of whom something came within 60 ms
-//! let machine = Machine { identity, epoch, starts: 3, number: 0, replicas: addresses, has_console: true, pulse };
+//! let (number, starts, fresh, has_console) = (0, 3, 140, true);
+//! let machine = Machine { identity, epoch, starts, fresh, store, seen, number, replicas, has_console, pulse };
 //! // the links of replica 0, of driver 0 and of the console, which is client 8
 //! let (exchange, links) = machine_links(rt, alloc, &machine, listener, Duration::from_millis(5))?;
 //! let is_connected = exchange.reached() & 0b10 != 0; // to replica 1; `near`: it was heard of just now
 //! for notice in exchange.notices(&rt, alloc) {} // LinkNotice::Joined(..), Lost(..), Refused(..)
 //! for (replica, epoch) in exchange.hellos(&rt, alloc) {} // said by replicas of other machines, accepted or refused
+//! for (machine, store) in exchange.stores(&rt, alloc) {} // seen for the first time in this epoch: to be kept
 //! visit(&rt, address, frame, Duration::from_millis(50)); // at another machine's replica, without a link
 //! for visit in exchange.visits(&rt, alloc) {} // each of VISIT bytes
 //! ```
@@ -21,21 +23,25 @@
 //! and over after 500 ms of silence, and when its other end is near, as definitions (`Course`, `Pulse`). A message that
 //! a link gives is to its own party, and came from the machine's own parties or over a connection whose other end said
 //! a hello that was accepted, of another party of this group in this epoch, which is the message's sender; then it's no
-//! scan. Behind 1 MiB that waits for a party a message to it is lost, whole. A refusal is told once for each cause and
-//! party. Of what was put at the other end since the hello a prefix is given, in order, where TCP gives a prefix of
-//! what was written (`only_sent_is_given_in_records`). What a connection's first bytes say, a hello or a visit, is
-//! exactly `greeted_by`, and of whom a hello is heard `heard_in` (`specs/Heard`). Each call is safe and returns, but
-//! for the wait of a poll or a lock.
+//! scan. What is known of a party is the store of its machine, from its first accepted hello on, and its starts, as
+//! long as it's connected and ten seconds longer (`specs/Heard`). Where more than 1 MiB would wait for a party with a
+//! message, it's lost, and nothing of it goes. A refusal that was told isn't told again before its party is forgotten.
+//! Of what was put at the other end since the hello a prefix is given, in order, where TCP gives a prefix of what was
+//! written (`only_sent_is_given_in_records`). What a connection's first bytes say, a hello or a visit, is exactly
+//! `greeted_by`, and of whom a hello is heard `heard_in`: of nobody who has seen another store of this machine in its
+//! epoch. Each call is safe and returns, but for the wait of a poll or a lock.
 //!
 //! Tested (`peer_rows` of `tests_threads`): each refusal, that it's answered and noticed at both ends, that a higher
 //! start replaces an older one, hello and record cut at each byte, strangers that are let go, a partition that heals,
-//! and a party that stands still. By its code alone: that a party which isn't connected has no `Outbox`, since only an
-//! open connection has one. In no clause: that a socket delivers, what a poll reports, that a send doesn't wait, that
-//! what is handed to the exchange is given to its party. Nothing is authentic or secret: addresses belong on a network
-//! of the group's own.
+//! and a party that stands still. By its code alone: that the hello by which a link judges others' is its own; that a
+//! party is forgotten only once it's connected; that a party which isn't connected has no `Outbox`, since only an open
+//! connection has one. In no clause: that a socket delivers, what a poll reports, that a send doesn't wait, that what is
+//! handed to the exchange is given to its party. Nothing is authentic or secret: addresses belong on a network of the
+//! group's own.
 #![tactic(auto)]
 
 mod accepted;
+mod acquaintance;
 mod connection;
 mod course;
 mod exchange;

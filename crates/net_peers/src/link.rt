@@ -12,12 +12,12 @@ use crate::exchange::{Exchange, PeerCutter};
 use crate::greeting::{greet, heard_in};
 use crate::machine::EVENTS;
 use crate::notice::{LinkNotice, Told};
-use crate::peer::{Change, Own, Peer};
+use crate::peer::{Change, Peer};
 use crate::strangers::{Introduced, Strangers};
 use mio::net::{TcpListener as Listener, TcpStream as Wire};
 use mio::{Events, Interest, Poll, Token};
 use net_ends::Loss;
-use net_hello::{Hello, Refusal};
+use net_hello::{Hello, Known, Refusal, said_to_strangers};
 use net_links::is_same;
 use std::alloc::{AllocError, Global};
 use std::io;
@@ -49,7 +49,8 @@ pub struct PeerLink<R: Wait + Drop> {
     pub(crate) exchange: Arc<Exchange>,
     pub(crate) place: usize,
     pub(crate) party: Party,
-    pub(crate) own: Own,
+    /// What it says first, to one of which it knows nothing.
+    pub(crate) own: Hello,
     /// Times are counted from here.
     pub(crate) started: Instant,
     pub(crate) listener: Option<Listener>,
@@ -221,10 +222,21 @@ where
             return;
         }
         let (party, change) = (peer.party, peer.tend(self.alloc, &self.own, now));
-        if let Some(hello) = peer.take_heard() {
+        let (heard, store) = (peer.take_heard(), peer.take_store());
+        if let Some(hello) = heard {
             self.hear(&hello);
         }
+        if let Some(store) = store {
+            self.see(party, store);
+        }
         self.note(party, change);
+    }
+
+    /// Tells which store a machine has, if this party and that are replicas: one link of a machine does.
+    fn see(&self, party: Party, store: u64) {
+        if let (Party::Replica(_), Party::Replica(number)) = (self.party, party) {
+            self.exchange.see(&self.rt, number, store);
+        }
     }
 
     /// Tells whose hello came, if it's of a replica of this group that this party is connected with.
@@ -232,7 +244,7 @@ where
         if self.place_of(hello.party) == self.peers.len() {
             return;
         }
-        if let Some((replica, epoch)) = heard_in(&self.own.hello, hello) {
+        if let Some((replica, epoch)) = heard_in(&self.own, hello) {
             self.exchange.hear(&self.rt, replica, epoch);
         }
     }
@@ -245,10 +257,18 @@ where
             Introduced::Said(wire, hello) => self.answer(wire, &hello, now),
             Introduced::OtherVersion(wire) => {
                 let mut wire = wire;
-                greet(&mut wire, self.own.bytes.as_slice());
+                greet(self.alloc, &mut wire, &said_to_strangers(self.party));
                 self.refuse(None, Refusal::OtherVersion);
             }
             Introduced::Visited(visit) => self.exchange.visited(&self.rt, visit),
+        }
+    }
+
+    /// What is known now of a party; nothing of one that it isn't connected with.
+    fn known(&self, party: Party, now: u64) -> Known {
+        match self.peers.get(self.place_of(party)) {
+            Some(peer) => peer.known(now),
+            None => Known::nothing(),
         }
     }
 
@@ -257,8 +277,9 @@ where
         ensures { self.new.party ≡ self.old.party }
     {
         self.hear(hello);
+        let answer = self.own.answer_to(hello, self.known(hello.party, now));
         let mut wire = wire;
-        if greet(&mut wire, self.own.bytes.as_slice()) {
+        if greet(self.alloc, &mut wire, &answer) {
             let change = self.join(hello, wire, now);
             self.note(hello.party, change);
         }
@@ -279,8 +300,8 @@ where
         {
             return Change::None;
         }
-        let seen = self.peers.get(place).and_then(|peer| peer.seen());
-        match Connection::accept(self.alloc, &self.own.hello, seen, hello, wire) {
+        let seen = self.peers.get(place).and_then(|peer| peer.seen(now));
+        match Connection::accept(self.alloc, &self.own, seen, hello, wire) {
             Ok(connection) => match self.peers.get_mut(place) {
                 Some(peer) => peer.opens(self.alloc, connection, now),
                 None => Change::None,

@@ -4,18 +4,18 @@ use crate::course::Pulse;
 use crate::exchange::Exchange;
 use crate::link::{LISTENER, PeerLink, WAKER};
 use crate::notice::Told;
-use crate::peer::{Own, Peer};
+use crate::peer::Peer;
 use crate::strangers::Strangers;
 use mio::net::TcpListener as Listener;
 use mio::{Events, Interest, Poll, Token, Waker};
-use net_hello::{Epoch, Hello};
+use net_hello::{Epoch, Hello, Known};
 use std::alloc::Global;
 use std::io;
 use std::io::ErrorKind;
 use std::net::{Net, SocketAddr, TcpListener, TcpStream};
 use std::sync::{Arc, Wait};
 use std::time::{Clock, Duration, Instant};
-use vr_model::{ClientNumber, Party};
+use vr_model::{ClientNumber, MOST_REPLICAS, Party};
 
 /// The number of machine 0's console among the clients: those below are the machines' drivers.
 pub const FIRST_CONSOLE: u8 = 8;
@@ -31,6 +31,12 @@ pub struct Machine {
     pub epoch: Epoch,
     /// How often this machine was started in the epoch.
     pub starts: u64,
+    /// For so many milliseconds it shows outputs, as all machines of its group do.
+    pub fresh: u32,
+    /// The number of its store, which was drawn when that was formatted; never 0.
+    pub store: u64,
+    /// Those of the other machines' stores that were seen in the epoch, by the machines' numbers; 0 where none was.
+    pub seen: [u64; MOST_REPLICAS],
     /// This one.
     pub number: u8,
     /// Where the replica of each machine listens, by their numbers.
@@ -64,6 +70,13 @@ fn parties_of(alloc: Global, machine: &Machine) -> io::Result<Vec<Party>> {
     Ok(parties)
 }
 
+/// A party of the machine of this number, as what was seen of that machine tells; where it's dialled, if it's this end
+/// that dials.
+fn peer_of(machine: &Machine, number: u8, party: Party, address: Option<SocketAddr>) -> Peer {
+    let store = machine.seen.get(usize::from(number)).copied();
+    Peer::new(party, address, machine.pulse, store.unwrap_or(0))
+}
+
 /// Whom a replica is connected with: each replica of another machine, of which it dials those below it, and the
 /// consoles of the other machines, which dial it.
 fn peers_of_replica(alloc: Global, machine: &Machine) -> io::Result<Vec<Peer>> {
@@ -76,8 +89,9 @@ fn peers_of_replica(alloc: Global, machine: &Machine) -> io::Result<Vec<Peer>> {
             } else {
                 None
             };
-            peers.push(Peer::new(Party::Replica(number), dialled, machine.pulse))?;
-            peers.push(Peer::new(console(number)?, None, machine.pulse))?;
+            let replica = Party::Replica(number);
+            peers.push(peer_of(machine, number, replica, dialled))?;
+            peers.push(peer_of(machine, number, console(number)?, None))?;
         }
         number = number.saturating_add(1);
     }
@@ -91,7 +105,7 @@ fn peers_of_console(alloc: Global, machine: &Machine) -> io::Result<Vec<Peer>> {
     for address in machine.replicas.iter() {
         if number != machine.number {
             let party = Party::Replica(number);
-            peers.push(Peer::new(party, Some(*address), machine.pulse))?;
+            peers.push(peer_of(machine, number, party, Some(*address)))?;
         }
         number = number.saturating_add(1);
     }
@@ -108,18 +122,17 @@ fn peers_of(alloc: Global, machine: &Machine, party: Party) -> io::Result<Vec<Pe
     }
 }
 
-/// What a party of a machine says first.
-fn own_of(alloc: Global, machine: &Machine, party: Party) -> io::Result<Own> {
-    let hello = Hello {
+/// What a party of a machine says first, to one of which it knows nothing.
+fn own_of(machine: &Machine, party: Party) -> Hello {
+    Hello {
         identity: machine.identity,
         epoch: machine.epoch,
         party,
         starts: machine.starts,
-    };
-    Ok(Own {
-        hello,
-        bytes: hello.spell(alloc)?,
-    })
+        fresh: machine.fresh,
+        store: machine.store,
+        known: Known::nothing(),
+    }
 }
 
 /// The place of a party in an exchange, and what tells it of what happens.
@@ -153,7 +166,7 @@ where
         exchange,
         place,
         party,
-        own: own_of(alloc, machine, party)?,
+        own: own_of(machine, party),
         started: Instant::now(&rt)?,
         listener: None,
         poll,
@@ -173,7 +186,8 @@ where
 
 /// The links of the parties of a machine, and what they share: its replica's, which listens, its driver's, and its
 /// console's if it has one. A receive waits for so long at most. `InvalidInput` where the group hasn't this machine, or
-/// more than eight.
+/// more than eight; otherwise it fails where the system has no poll or no clock for it, or memory runs out. Then the
+/// listener is closed.
 pub fn machine_links<R>(
     rt: R,
     alloc: Global,

@@ -1,15 +1,17 @@
 //! What changed of the connections to other machines.
 
-ghost use Rattle.std.specs.Prelude.{◌≡◌, [], ◌∷◌, ◌++◌, true, false};
+ghost use Rattle.std.specs.Prelude.{◌≡◌, [], ◌∷◌, ◌++◌, filter, true, false};
 ghost use Rattle.std.specs.List.{list_any};
+ghost use Rattle.net_peers.specs.Refusals.{is_of_another};
 
 use net_hello::Refusal;
+use net_links::is_same;
 use std::alloc::Global;
 use vr_model::Party;
 
-/// So many refusals are remembered; a further one isn't told. There are seven causes, and fewer than 16 parties that a
+/// So many refusals are remembered; a further one isn't told. There are twelve causes, and fewer than 16 parties that a
 /// link knows.
-const MOST_TOLD: usize = 128;
+const MOST_TOLD: usize = 256;
 
 /// What changed of the connections to other machines.
 #[derive(Clone, Copy, Debug, PartialEq, Eq)]
@@ -41,9 +43,25 @@ impl Told {
         add_new(&mut self.refusals, (party, refusal))
     }
 
-    /// The party is connected: what is refused of it is told again.
-    pub(crate) fn forget(&mut self, party: Party) {
-        self.refusals.retain(|told: &(Option<Party>, Refusal)| -> bool { told.0 != Some(party) });
+    /// The party is connected: what is refused of it is told again, and of others no more than before.
+    pub(crate) fn forget(&mut self, party: Party)
+        ensures { self.new.refusals.items ≡ filter (is_of_another party) self.old.refusals.items }
+    {
+        self.refusals.retain(
+            |told: &(Option<Party>, Refusal)| -> bool
+                ensures { result ≡ is_of_another party told.now }
+            { is_of_another(party, told) },
+        );
+    }
+}
+
+/// Whether a hello that was refused is one of another party than this, or names none.
+fn is_of_another(party: Party, told: &(Option<Party>, Refusal)) -> bool
+    ensures { result ≡ is_of_another party told.now }
+{
+    match told.0 {
+        Some(refused) => !is_same(refused, party),
+        None => true,
     }
 }
 

@@ -6,13 +6,14 @@ ghost use Rattle.net_ends.specs.declared.outbox.Loss.TheVariants.{NoFrame};
 ghost use Rattle.net_peers.specs.Passing.{CameFrom};
 
 use crate::accepted::Accepted;
+use crate::acquaintance::Acquaintance;
 use crate::connection::{Connection, Unopened};
 use crate::course::{Course, Pulse};
 use crate::greeting::{Greeted, Greeting, greet};
 use crate::phase::Duty;
 use mio::net::TcpStream as Wire;
 use net_ends::Loss;
-use net_hello::{Hello, HelloFault, Refusal};
+use net_hello::{Hello, HelloFault, Known, Refusal};
 use std::alloc::Global;
 use std::mem;
 use std::net::SocketAddr;
@@ -49,13 +50,6 @@ impl Change {
     }
 }
 
-/// What this end says, and its bytes.
-#[derive(Drop)]
-pub(crate) struct Own {
-    pub(crate) hello: Hello,
-    pub(crate) bytes: Vec<u8>,
-}
-
 /// A party of another machine.
 #[derive(Drop)]
 pub(crate) struct Peer {
@@ -64,33 +58,50 @@ pub(crate) struct Peer {
     address: Option<SocketAddr>,
     state: State,
     course: Course,
-    /// The most starts that it told.
-    starts: u64,
+    acquaintance: Acquaintance,
+    /// Whether its machine's store was seen for the first time, and nobody asked for that yet.
+    is_store_new: bool,
     has_joined: bool,
     /// The last hello that came where it was dialled, until it's asked for.
     heard: Option<Hello>,
 }
 
 impl Peer {
-    /// A party that is not connected yet, and is dialled at once if it's this end that dials.
-    pub(crate) fn new(party: Party, address: Option<SocketAddr>, pulse: Pulse) -> Peer {
+    /// A party that is not connected yet, and is dialled at once if it's this end that dials. Its machine has this store,
+    /// as far as it's known; 0 where none was seen.
+    pub(crate) fn new(party: Party, address: Option<SocketAddr>, pulse: Pulse, store: u64) -> Peer {
         Peer {
             party,
             address,
             state: State::Away,
             course: Course::new(pulse, 0),
-            starts: 0,
+            acquaintance: Acquaintance::new(store),
+            is_store_new: false,
             has_joined: false,
             heard: None,
         }
     }
 
-    /// The most starts that it told, if it's the other end that dials.
-    pub(crate) fn seen(&self) -> Option<u64> {
+    /// What is known of it now.
+    pub(crate) fn known(&self, now: u64) -> Known {
+        self.acquaintance.known(now)
+    }
+
+    /// The same, if it's the other end that dials.
+    pub(crate) fn seen(&self, now: u64) -> Option<Known> {
         match self.address {
-            None => Some(self.starts),
+            None => Some(self.known(now)),
             Some(_) => None,
         }
+    }
+
+    /// The number of its machine's store, where that was seen for the first time since it was asked.
+    pub(crate) fn take_store(&mut self) -> Option<u64> {
+        if !self.is_store_new {
+            return None;
+        }
+        self.is_store_new = false;
+        Some(self.acquaintance.known.store)
     }
 
     /// The hello that came last where it was dialled, accepted or not, unless that was asked before.
@@ -144,6 +155,9 @@ impl Peer {
     /// Its connection is over.
     pub(crate) fn over(&mut self, now: u64) -> Change {
         self.state = State::Away;
+        if self.course.is_open() {
+            self.acquaintance.end(now);
+        }
         self.course.closed(now);
         if self.has_joined {
             self.has_joined = false;
@@ -155,7 +169,9 @@ impl Peer {
     /// From now on this is its connection. One that it had is over.
     pub(crate) fn opens(&mut self, alloc: Global, connection: Connection, now: u64) -> Change {
         let change = self.over(now);
-        self.starts = connection.accepted().hello.starts;
+        if self.acquaintance.accept(&connection.accepted().hello) {
+            self.is_store_new = true;
+        }
         if let Ok(connection) = Box::new(alloc, connection) {
             self.state = State::Open(connection);
             self.course.opened(now);
@@ -164,11 +180,11 @@ impl Peer {
     }
 
     /// Goes on with what is under way.
-    pub(crate) fn tend(&mut self, alloc: Global, own: &Own, now: u64) -> Change {
+    pub(crate) fn tend(&mut self, alloc: Global, own: &Hello, now: u64) -> Change {
         match mem::replace(&mut self.state, State::Away) {
             State::Away => Change::None,
             State::Dialling(wire) => {
-                self.tend_dialling(wire, own, now);
+                self.tend_dialling(alloc, wire, own, now);
                 Change::None
             }
             State::Greeting(greeting) => self.tend_greeting(alloc, greeting, own, now),
@@ -177,7 +193,7 @@ impl Peer {
     }
 
     /// Says hello once it's connected.
-    fn tend_dialling(&mut self, wire: Wire, own: &Own, now: u64) {
+    fn tend_dialling(&mut self, alloc: Global, wire: Wire, own: &Hello, now: u64) {
         let is_late = self.course.duty(now) == Duty::GiveUp;
         if is_late || !matches!(wire.take_error(), Ok(None)) {
             return self.failed(now);
@@ -186,15 +202,22 @@ impl Peer {
             self.state = State::Dialling(wire);
             return;
         }
+        let known = self.known(now);
         let mut wire = wire;
-        if !greet(&mut wire, own.bytes.as_slice()) {
+        if !greet(alloc, &mut wire, &Hello { known, ..*own }) {
             return self.failed(now);
         }
         self.state = State::Greeting(Greeting::new(wire));
     }
 
     /// Hears the other end's hello.
-    fn tend_greeting(&mut self, alloc: Global, greeting: Greeting, own: &Own, now: u64) -> Change {
+    fn tend_greeting(
+        &mut self,
+        alloc: Global,
+        greeting: Greeting,
+        own: &Hello,
+        now: u64,
+    ) -> Change {
         let mut greeting = greeting;
         match greeting.hear() {
             Greeted::Waits if self.course.duty(now) != Duty::GiveUp => {
@@ -218,17 +241,17 @@ impl Peer {
         &mut self,
         alloc: Global,
         wire: Wire,
-        own: &Own,
+        own: &Hello,
         hello: &Hello,
         now: u64,
     ) -> Change {
         self.heard = Some(*hello);
         let seen = if hello.party == self.party {
-            Some(self.starts)
+            Some(self.known(now))
         } else {
             None
         };
-        match Connection::accept(alloc, &own.hello, seen, hello, wire) {
+        match Connection::accept(alloc, own, seen, hello, wire) {
             Ok(connection) => self.opens(alloc, connection, now),
             Err(unopened) => {
                 self.failed(now);

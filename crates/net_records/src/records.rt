@@ -1,6 +1,6 @@
 //! Records over what reads and writes.
 
-ghost use Rattle.std.specs.Prelude.{◌≡◌, ◌≤◌, ◌<◌, ◌↔◌, [], false, length, take, IfOk, IsTrue, OnErr, OnOk};
+ghost use Rattle.std.specs.Prelude.{◌≡◌, ◌≤◌, ◌<◌, ◌↔◌, [], false, length, take, Err, IfOk, IsTrue, OnErr, OnOk};
 ghost use Rattle.std.specs.Io.KnownBytes.{Keeps, WriteAppends};
 ghost use Rattle.net_ends.specs.Ends.{Counts, IsCounted};
 ghost use Rattle.net_ends.specs.declared.non_blocking.Stop.TheVariants.{ForGood};
@@ -14,8 +14,9 @@ use net_ends::{NonBlockingRead, NonBlockingWrite, Stop};
 use std::alloc::{AllocError, Global};
 use std::marker::Model;
 
-/// In so many pieces in a row there may be nothing but beats and lengths.
-const MOST_BLANK: u32 = 1000;
+/// Behind so many bytes in a row that are nothing but beats and lengths, without a pause between them, nothing comes any
+/// more: an end that is well sends a beat each few milliseconds.
+const MOST_BLANK: usize = 1 << 16;
 
 /// Whether anything came, and whether anything went.
 #[derive(Clone, Copy, Debug, PartialEq, Eq)]
@@ -114,8 +115,8 @@ impl<T: NonBlockingRead> Records<T> {
         self.incoming.unwrap(out)
     }
 
-    /// Reads a piece, where nothing of the one before waits.
-    fn fill(&mut self) -> Result<(), Stop>
+    /// Reads a piece, where nothing of the one before waits, and tells how many bytes came.
+    fn fill(&mut self) -> Result<usize, Stop>
         requires { self.old.coming.waiting ≡ [] }
         ensures bytes { Keeps (to_give self.old.coming (T.left self.old.inner))
             (to_give self.new.coming (T.left self.new.inner)) }
@@ -123,12 +124,36 @@ impl<T: NonBlockingRead> Records<T> {
             (stops_of (T.stops self.new.inner) self.new.ends) }
     {
         match self.incoming.fill(&mut self.inner) {
-            Ok(_) => {
+            Ok(count) => {
                 self.signs.has_come = true;
-                Ok(())
+                Ok(count)
             }
             Err(Stop::ForNow) => Err(Stop::ForNow),
             Err(Stop::ForGood) => Err(self.end()),
+        }
+    }
+}
+
+impl<T: NonBlockingRead> Records<T> {
+    /// Reads a piece, where nothing of the one before waits, behind so many bytes that were blank, to which it adds those
+    /// that come; behind `MOST_BLANK` of them nothing comes any more.
+    fn fill_behind(&mut self, blank: &mut usize) -> Result<(), Stop>
+        requires { self.old.coming.waiting ≡ [] }
+        ensures bytes { Keeps (to_give self.old.coming (T.left self.old.inner))
+            (to_give self.new.coming (T.left self.new.inner)) }
+        ensures stops { Counts result (stops_of (T.stops self.old.inner) self.old.ends)
+            (stops_of (T.stops self.new.inner) self.new.ends) }
+        ensures limit { 65536 ≤ blank.old → (result ≡ Err ForGood) × (self.new.inner ≡ self.old.inner) }
+    {
+        if *blank >= MOST_BLANK {
+            return Err(self.end());
+        }
+        match self.fill() {
+            Ok(count) => {
+                *blank = blank.saturating_add(count);
+                Ok(())
+            }
+            Err(stop) => Err(stop),
         }
     }
 }
@@ -142,12 +167,13 @@ impl<T: NonBlockingRead> NonBlockingRead for Records<T> {
         if buf.is_empty() {
             return Ok(0);
         }
-        'pieces: for _ in 0..MOST_BLANK {
+        let mut blank = 0usize;
+        'pieces: for _ in 0..=MOST_BLANK {
             let given = self.unwrap(buf);
             if given > 0 {
                 return Ok(given);
             }
-            match self.fill() {
+            match self.fill_behind(&mut blank) {
                 Ok(()) => {}
                 Err(stop) => return Err(stop),
             }

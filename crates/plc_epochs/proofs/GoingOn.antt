@@ -1,19 +1,19 @@
 -- That the store of a machine never goes back, step by step.
-use Rattle.std.proofs.Common.{◌≡◌, ◌+◌, ◌<◌, ℕ, Bool, true, false, List, Option, Some, None, refl, sym, ap, subst, inl, inr, unwrap_or, arith}
+use Rattle.std.proofs.Common.{◌≡◌, ◌+◌, ◌<◌, ℕ, Bool, true, false, not, List, Option, Some, None, refl, sym, ap, subst, inl, inr, unwrap_or, arith}
 use Rattle.std.proofs.lemmas.Bool.{false≢true}
-use Rattle.std.specs.Prelude.{MatchBool, count_by, is_some, nat_lt, slice_set, if◌then◌else◌}
+use Rattle.std.specs.Prelude.{MatchBool, ◌&&◌, count_by, is_some, nat_lt, slice_set, if◌then◌else◌}
 use Rattle.std.specs.Cmp.{nat_cmp_is}
 use Rattle.std.specs.Ordering.{nat_cmp}
 use Rattle.std.specs.declared.cmp.Ordering.TheVariants.{Greater}
 use Rattle.net_hello.specs.declared.hello.Epoch.{Epoch}
-use Rattle.plc_epochs.specs.Epochs.{is_later, is_later_by, is_same, last_number, next_epoch, nothing_told}
+use Rattle.plc_epochs.specs.Epochs.{is_later, is_later_by, is_recent_of, is_same, last_number, next_epoch, nothing_told}
 use Rattle.plc_epochs.specs.GoingOn.{GoesOn, StoreGoesOn}
 use Rattle.plc_epochs.specs.Recovering as recovering
 use Rattle.plc_epochs.specs.Recovering.{thawed}
 use Rattle.plc_epochs.specs.Table
 use Rattle.plc_epochs.specs.Table.{kept_in, leaving}
 use Rattle.plc_epochs.specs.declared.word.Word.{Word}
-use Rattle.plc_epochs.specs.declared.word.Word.TheVariants.{Freeze, Frozen, Confirm, StillFrozen}
+use Rattle.plc_epochs.specs.declared.word.Word.TheVariants.{Freeze, Frozen, Confirm, StillFrozen, Marked}
 use Rattle.plc_epochs.specs.declared.kept.Kept.{Kept}
 use Rattle.plc_epochs.specs.declared.kept.Kept.TheVariants as keeps
 use Rattle.plc_epochs.specs.declared.recovery.Recovery.{Recovery}
@@ -63,7 +63,7 @@ looks now (Entered epoch heard) a b step was h =
     either (Table.may_begin a epoch heard) _ _ _ h (λ e g. moves (Entered epoch heard) (Beginning epoch) a b was g.1 refl) (λ e s. stays a b s.1)
 looks now (Beginning epoch) a b step was h = stays a b h.1
 looks now (TakingPart epoch) a b step was h = stays a b h.1
-looks now (Recovering epoch r) a b step was h = looks_recovering now epoch r (thawed r now) a b step was h
+looks now (Recovering epoch r) a b step was h = looks_recovering now epoch r (thawed r a.place.config.f now) a b step was h
 
 -- ---- The store
 
@@ -92,9 +92,14 @@ stores has (Recovering epoch r) a b step was h = stays a b h.1
 
 -- ---- Hello
 
+-- it stays for a reason, or leaves
+leaves_unless : (why : Option Step) (phase : Phase) (epoch : Epoch) (from now : ℕ) (a b : ColdStart) (step : Step) → a.phase ≡ phase → GoesOn (kept_in phase) (keeps.Entered epoch) → Table.LeavesUnless why from epoch now a step b → StoreGoesOn a b
+leaves_unless (Some does) phase epoch from now a b step was k h = stays a b h.1
+leaves_unless None phase epoch from now a b step was k h = leaves phase epoch (slice_set nothing_told from (Some now)) a b was h.1 k
+
 hears_later : (phase : Phase) (own epoch : Epoch) (from now : ℕ) (a b : ColdStart) (step : Step) → a.phase ≡ phase → (is_later epoch own ≡ true → GoesOn (kept_in phase) (keeps.Entered epoch)) → Table.HearsLater own from epoch now a step b → StoreGoesOn a b
 hears_later phase own epoch from now a b step was k h =
-    either (is_later epoch own) _ _ _ h (λ e l. leaves phase epoch (slice_set nothing_told from (Some now)) a b was l.1 (k e)) (λ e s. stays a b s.1)
+    either (is_later epoch own) _ _ _ h (λ e l. leaves_unless (Table.staying a own epoch now) phase epoch from now a b step was (k e) l) (λ e s. stays a b s.1)
 
 hears_in : (phase : Phase) (from now : ℕ) (epoch : Epoch) (a b : ColdStart) (step : Step) → a.phase ≡ phase → Table.HearsIn phase from epoch now a step b → StoreGoesOn a b
 hears_in (Waiting heard above) from now epoch a b step was h =
@@ -107,8 +112,10 @@ hears_in (Entering own heard) from now epoch a b step was h =
     either (is_same epoch own) _ _ _ h (λ e g. moves (Entering own heard) (Entering own (slice_set heard from (Some now))) a b was g.1 (inl refl))
     (λ e g. hears_later (Entering own heard) own epoch from now a b step was (λ l. inr l) g)
 hears_in (Entered own heard) from now epoch a b step was h =
-    either (is_same epoch own) _ _ _ h (λ e g. moves (Entered own heard) (Entered own (slice_set heard from (Some now))) a b was g.1 (inl refl))
-    (λ e g. hears_later (Entered own heard) own epoch from now a b step was (λ l. inr l) g)
+    either (is_later epoch own) _ _ _ h (λ e g. hears_later (Entered own heard) own epoch from now a b step was (λ l. inr l) g)
+    (λ e g.
+    either (is_same epoch own) _ _ _ g (λ d m. moves (Entered own heard) (Entered own (slice_set heard from (Some now))) a b was m.1 (inl refl))
+    (λ d t. stays a b t.1))
 hears_in (Beginning own) from now epoch a b step was h = hears_later (Beginning own) own epoch from now a b step was (λ l. l) h
 hears_in (TakingPart own) from now epoch a b step was h = hears_later (TakingPart own) own epoch from now a b step was (λ l. l) h
 hears_in (Recovering own r) from now epoch a b step was h = hears_later (Recovering own r) own epoch from now a b step was (λ l. l) h
@@ -119,16 +126,25 @@ hears from now epoch a b step h =
 
 -- ---- Words
 
-pub recovery : (phase : Phase) (from now : ℕ) (epoch : Epoch) (a b : ColdStart) (step : Step) → a.phase ≡ phase → Table.RecoveryIn phase from epoch now a step b → StoreGoesOn a b
-recovery (Waiting heard above) from now epoch a b step was h = stays a b h.1
-recovery (Above above) from now epoch a b step was h = stays a b h.1
-recovery (Entering own heard) from now epoch a b step was h = stays a b h.1
-recovery (Entered own heard) from now epoch a b step was h = stays a b h.1
-recovery (Beginning own) from now epoch a b step was h = stays a b h.1
-recovery (TakingPart own) from now epoch a b step was h = stays a b h.1
-recovery (Recovering own r) from now epoch a b step was h =
-    either (Table.is_taken a from epoch own) _ _ _ h
-    (λ e c. goes a.phase a.phase a b refl (ap (λ (x : ColdStart). x.phase) c.1) (same (kept_in a.phase))) (λ e s. stays a b s.1)
+-- what was told of a machine changes, and nothing else
+counts : (a b : ColdStart) → b.phase ≡ a.phase → StoreGoesOn a b
+counts a b e = goes a.phase a.phase a b refl e (same (kept_in a.phase))
+
+sign_in : (spoken : Option Epoch) (from now : ℕ) (epoch : Epoch) (a b : ColdStart) (step : Step) → Table.SignIn spoken from epoch now a step b → StoreGoesOn a b
+sign_in None from now epoch a b step h = stays a b h.1
+sign_in (Some own) from now epoch a b step h =
+    either (Table.is_taken a from epoch own && not (is_recent_of a.recoveries from now)) _ _ _ h (λ e c. counts a b (ap (λ (x : ColdStart). x.phase) c.1)) (λ e s. stays a b s.1)
+
+pub sign : (from now : ℕ) (epoch : Epoch) (a b : ColdStart) (step : Step) → Table.HearsSign from epoch now a step b → StoreGoesOn a b
+sign from now epoch a b step h = sign_in (Table.spoken_in a.phase) from now epoch a b step h
+
+recovery_in : (spoken : Option Epoch) (from now : ℕ) (epoch : Epoch) (a b : ColdStart) (step : Step) → Table.RecoveryIn spoken from epoch now a step b → StoreGoesOn a b
+recovery_in None from now epoch a b step h = stays a b h.1
+recovery_in (Some own) from now epoch a b step h =
+    either (Table.is_taken a from epoch own) _ _ _ h (λ e c. counts a b (ap (λ (x : ColdStart). x.phase) c.1)) (λ e s. stays a b s.1)
+
+pub recovery : (from now : ℕ) (epoch : Epoch) (a b : ColdStart) (step : Step) → Table.HearsRecovery from epoch now a step b → StoreGoesOn a b
+recovery from now epoch a b step h = recovery_in (Table.spoken_in a.phase) from now epoch a b step h
 
 -- a number higher by one is a later epoch's
 higher : (n : ℕ) (image other : List ℕ) → is_later_by (nat_cmp (n + 1) n) image other ≡ true
@@ -151,8 +167,11 @@ ends (Some next) epoch r s a b step was later h = leaves (Recovering epoch r) ne
 
 takes_word : (word : Word) (epoch : Epoch) (r : Recovery) (from now : ℕ) (a b : ColdStart) (step : Step) → a.phase ≡ Recovering epoch r → Table.TakesWord word epoch r from now a step b → StoreGoesOn a b
 takes_word (Freeze question) epoch r from now a b step was h =
-    either (recovering.may_freeze r now) _ _ _ h (λ e g. moves (Recovering epoch r) (Recovering epoch (recovering.freezing r now)) a b was g.1 refl)
-    (λ e s. stays a b s.1)
+    either a.place.is_marked _ _ _ h (λ e t. stays a b t.1)
+    (λ e f.
+    either (Table.may_freeze a r now) _ _ _ f (λ d g. moves (Recovering epoch r) (Recovering epoch (recovering.freezing r now)) a b was g.1 refl)
+    (λ d s. stays a b s.1))
+takes_word (Marked question) epoch r from now a b step was h = stays a b h.1
 takes_word (Frozen answer) epoch r from now a b step was h =
     let more = recovering.with_first r from answer.nonce in
     either (recovering.is_first_answer r answer) _ _ _ h

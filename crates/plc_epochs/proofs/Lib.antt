@@ -2,3 +2,4 @@ pub mod GoingOn
 pub mod Nonces
 pub mod VisitReadings
 pub mod StayingFrozen
+pub mod GoingOnTogether

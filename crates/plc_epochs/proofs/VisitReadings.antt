@@ -10,10 +10,10 @@ use Rattle.vr_model.specs.Groups.{most_replicas}
 use Rattle.plc_epochs.specs.declared.visit.Visit.{Visit}
 use Rattle.plc_epochs.specs.declared.word.Answer.{Answer}
 use Rattle.plc_epochs.specs.declared.word.Word.{Word}
-use Rattle.plc_epochs.specs.declared.word.Word.TheVariants.{Freeze, Frozen, Confirm, StillFrozen}
+use Rattle.plc_epochs.specs.declared.word.Word.TheVariants.{Freeze, Frozen, Confirm, StillFrozen, Marked}
 use Rattle.plc_epochs.specs.Visits.{magic, version, nonce_bytes, answer_bytes, word_bytes, said_bytes, visit_bytes}
 use Rattle.plc_epochs.specs.Visits.{FitsNonce, FitsAnswer, FitsTold, FitsWord, FitsVisit, IsVisit, is_zero, nonce_by}
-use Rattle.plc_epochs.specs.Visits.{nonce_of, with_nonce, nonces_of, told_of, freeze_of, answer_of, frozen_by}
+use Rattle.plc_epochs.specs.Visits.{nonce_of, with_nonce, nonces_of, told_of, freeze_of, marked_of, answer_of, frozen_by}
 use Rattle.plc_epochs.specs.Visits.{confirm_by, still_frozen_by, word_by, word_of, said_with, said_behind, said_of}
 use Rattle.plc_epochs.specs.Visits.{visit_of}
 
@@ -147,12 +147,23 @@ word_length (Freeze question) fits = word_length_by 0 question (replicate 63 0) 
 word_length (Frozen a) fits = word_length_by 1 a.question (to_be_bytes w64 a.nonce ++ replicate 55 0) (answer_length a)
 word_length (Confirm question asked) fits = word_length_by 2 question (flat_map nonce_bytes asked) (omega (arith, nonces_length asked, fits.1.0))
 word_length (StillFrozen a) fits = word_length_by 3 a.question (to_be_bytes w64 a.nonce ++ replicate 55 0) (answer_length a)
+word_length (Marked question) fits = word_length_by 4 question (replicate 63 0) refl
 
 word_again : (w : Word) → FitsWord w → word_of (word_bytes w) ≡ Some w
 word_again (Freeze question) fits = word_parts 0 question (replicate 63 0) fits
 word_again (Frozen a) fits = word_parts 1 a.question (to_be_bytes w64 a.nonce ++ replicate 55 0) fits.0 ∙ ap frozen_by (answer_again a fits)
 word_again (Confirm question asked) fits = word_parts 2 question (flat_map nonce_bytes asked) fits.0 ∙ ap (confirm_by question) (told_again asked fits.1)
 word_again (StillFrozen a) fits = word_parts 3 a.question (to_be_bytes w64 a.nonce ++ replicate 55 0) fits.0 ∙ ap still_frozen_by (answer_again a fits)
+word_again (Marked question) fits = word_parts 4 question (replicate 63 0) fits
+
+-- a word by the parts of its bytes
+pub word_in : (bytes rest front back : List ℕ) (kind n : ℕ) (w : Option Word) → rest ≡ drop 1 bytes → front ≡ take 8 rest → back ≡ drop 8 rest
+    → kind ≡ slice_index bytes 0 → n ≡ from_be_bytes w64 front → w ≡ word_by kind n back → w ≡ word_of bytes
+unfolding word_of
+word_in bytes rest front back kind n w is_rest is_front is_back is_kind is_n is =
+    let first : front ≡ take 8 (drop 1 bytes) = is_front ∙ ap (take 8) is_rest in
+    let second : back ≡ drop 8 (drop 1 bytes) = is_back ∙ ap (drop 8) is_rest in
+    is ∙ (ap (λ (k : ℕ). word_by k n back) is_kind ∙ ap₂ (λ (m : ℕ) (r : List ℕ). word_by (slice_index bytes 0) m r) (is_n ∙ ap (from_be_bytes w64) first) second)
 
 module _ (question : ℕ) (rest : List ℕ) (below : question < 2 ^ 64) (are : IsBytes rest) (long : length rest ≡ 63) where
   freeze_found : (all : Bool) (w : Word) → list_all is_zero rest ≡ all → cond all (Some (Freeze question)) None ≡ Some w
@@ -162,6 +173,14 @@ module _ (question : ℕ) (rest : List ℕ) (below : question < 2 ^ 64) (are : I
       let zeros : rest ≡ replicate 63 0 = so_many_zeros 63 rest long a in
       subst (λ (x : Word). (0 ∷ (to_be_bytes w64 question ++ rest) ≡ word_bytes x) × FitsWord x) is (ap (λ (r : List ℕ). 0 ∷ (to_be_bytes w64 question ++ r)) zeros, below)
   freeze_found false w a e = absurd cc
+
+  marked_found : (all : Bool) (w : Word) → list_all is_zero rest ≡ all → cond all (Some (Marked question)) None ≡ Some w
+      → (4 ∷ (to_be_bytes w64 question ++ rest) ≡ word_bytes w) × FitsWord w
+  marked_found true w a e =
+      let is : Marked question ≡ w = cc in
+      let zeros : rest ≡ replicate 63 0 = so_many_zeros 63 rest long a in
+      subst (λ (x : Word). (4 ∷ (to_be_bytes w64 question ++ rest) ≡ word_bytes x) × FitsWord x) is (ap (λ (r : List ℕ). 4 ∷ (to_be_bytes w64 question ++ r)) zeros, below)
+  marked_found false w a e = absurd cc
 
   answer_found_by : (all : Bool) (a : Answer) → list_all is_zero (drop 8 rest) ≡ all
       → cond all (Some (record { question = question; nonce = from_be_bytes w64 (take 8 rest) })) None ≡ Some a
@@ -205,18 +224,20 @@ module _ (question : ℕ) (rest : List ℕ) (below : question < 2 ^ 64) (are : I
       (ap (λ (r : List ℕ). 2 ∷ (to_be_bytes w64 question ++ r)) found.0, (below, (found.1, found.2)))
   confirm_found None w was e = absurd cc
 
-  word_found_by : (first one two three : Bool) (kind : ℕ) (w : Word) → eqb kind 0 ≡ first → eqb kind 1 ≡ one → eqb kind 2 ≡ two → eqb kind 3 ≡ three
-      → cond first (freeze_of question rest) (cond one (frozen_by (answer_of question rest)) (cond two (confirm_by question (told_of rest)) (cond three (still_frozen_by (answer_of question rest)) None))) ≡ Some w
+  word_found_by : (first one two three four : Bool) (kind : ℕ) (w : Word) → eqb kind 0 ≡ first → eqb kind 1 ≡ one → eqb kind 2 ≡ two → eqb kind 3 ≡ three → eqb kind 4 ≡ four
+      → cond first (freeze_of question rest) (cond one (frozen_by (answer_of question rest)) (cond two (confirm_by question (told_of rest)) (cond three (still_frozen_by (answer_of question rest)) (cond four (marked_of question rest) None)))) ≡ Some w
       → (kind ∷ (to_be_bytes w64 question ++ rest) ≡ word_bytes w) × FitsWord w
-  word_found_by true one two three kind w a b c d e =
+  word_found_by true one two three four kind w a b c d g e =
       subst (λ (k : ℕ). (k ∷ (to_be_bytes w64 question ++ rest) ≡ word_bytes w) × FitsWord w) (sym (eqb-true kind 0 a)) (freeze_found (list_all is_zero rest) w refl e)
-  word_found_by false true two three kind w a b c d e =
+  word_found_by false true two three four kind w a b c d g e =
       subst (λ (k : ℕ). (k ∷ (to_be_bytes w64 question ++ rest) ≡ word_bytes w) × FitsWord w) (sym (eqb-true kind 1 b)) (frozen_found (answer_of question rest) w refl e)
-  word_found_by false false true three kind w a b c d e =
+  word_found_by false false true three four kind w a b c d g e =
       subst (λ (k : ℕ). (k ∷ (to_be_bytes w64 question ++ rest) ≡ word_bytes w) × FitsWord w) (sym (eqb-true kind 2 c)) (confirm_found (told_of rest) w refl e)
-  word_found_by false false false true kind w a b c d e =
+  word_found_by false false false true four kind w a b c d g e =
       subst (λ (k : ℕ). (k ∷ (to_be_bytes w64 question ++ rest) ≡ word_bytes w) × FitsWord w) (sym (eqb-true kind 3 d)) (still_frozen_found (answer_of question rest) w refl e)
-  word_found_by false false false false kind w a b c d e = absurd cc
+  word_found_by false false false false true kind w a b c d g e =
+      subst (λ (k : ℕ). (k ∷ (to_be_bytes w64 question ++ rest) ≡ word_bytes w) × FitsWord w) (sym (eqb-true kind 4 g)) (marked_found (list_all is_zero rest) w refl e)
+  word_found_by false false false false false kind w a b c d g e = absurd cc
 
 word_found : (bytes : List ℕ) (w : Word) → IsBytes bytes → length bytes ≡ 72 → word_of bytes ≡ Some w → (bytes ≡ word_bytes w) × FitsWord w
 unfolding word_of
@@ -228,7 +249,7 @@ word_found (kind ∷ rest) w are long e =
     let are_question : IsBytes question = IsBytes-take 8 rest are_rest in
     let again : to_be_bytes w64 (from_be_bytes w64 question) ≡ question = again_8 question are_question (omega (arith, long, length-take 8 rest)) in
     let found = word_found_by (from_be_bytes w64 question) others (below_8 question are_question) (IsBytes-drop 8 rest are_rest) (omega (arith, long, length-drop 8 rest))
-    (eqb kind 0) (eqb kind 1) (eqb kind 2) (eqb kind 3) kind w refl refl refl refl e in
+    (eqb kind 0) (eqb kind 1) (eqb kind 2) (eqb kind 3) (eqb kind 4) kind w refl refl refl refl refl e in
     let whole : rest ≡ to_be_bytes w64 (from_be_bytes w64 question) ++ others = split 8 rest ∙ ap (λ (q : List ℕ). q ++ others) (sym again) in
     (ap (λ (r : List ℕ). kind ∷ r) whole ∙ found.0, found.1)
 

@@ -25,6 +25,10 @@ is_later epoch other = is_later_by (nat_cmp epoch.number other.number) epoch.ima
 abbrev pub is_same : Epoch → Epoch → Bool
 is_same epoch other = (epoch.number == other.number) && bytes_eq epoch.image other.image
 
+-- more than one number above the other
+abbrev pub is_far_above : Epoch → Epoch → Bool
+is_far_above epoch other = nat_lt 1 (epoch.number - other.number)
+
 -- the greatest number is never used
 abbrev pub last_number : ℕ
 last_number = 18_446_744_073_709_551_615
@@ -57,6 +61,14 @@ nothing_told = replicate most_replicas None
 abbrev pub is_recent : ℕ → Option ℕ → Bool
 is_recent now None = false
 is_recent now (Some came) = nat_le (now - came) 1000
+
+abbrev pub is_recent_in : ℕ → Option (Option ℕ) → Bool
+is_recent_in now (Some came) = is_recent now came
+is_recent_in now None = false
+
+-- of this machine
+abbrev pub is_recent_of : List (Option ℕ) → ℕ → ℕ → Bool
+is_recent_of told machine now = is_recent_in now (slice_get told machine)
 
 abbrev pub is_word : Option (Option ℕ) → ℕ → Bool
 is_word (Some (Some said)) word = said == word

@@ -115,21 +115,21 @@ is_still_frozen_by (Second asked still) f = nat_le f (count_by is_some still)
 abbrev pub evidence : Recovery → ℕ → Bool
 evidence r f = is_some r.frozen && is_still_frozen_by r.question f
 
-abbrev pub is_past : Option ℕ → ℕ → Bool
-is_past None now = false
-is_past (Some since) now = nat_le 2000 (now - since)
+abbrev pub is_past : Option ℕ → ℕ → ℕ → Bool
+is_past None time now = false
+is_past (Some since) time now = nat_le time (now - since)
 
--- for two seconds
-abbrev pub is_frozen_long : Recovery → ℕ → Bool
-is_frozen_long r now = is_past r.frozen now
+-- for f+1 seconds: a machine thaws for a second of each f+2, so f+1 of them don't thaw in turn for ever, one at each time
+abbrev pub is_frozen_long : Recovery → ℕ → ℕ → Bool
+is_frozen_long r f now = is_past r.frozen ((f + 1) * 1000) now
 
 abbrev pub recovering_anew : Option ℕ → ℕ → Option Recovery
 recovering_anew None now = None
 recovering_anew (Some nonce) now = Some (recovering_under nonce now)
 
 -- under a nonce that was never used: all that was frozen, asked or answered is forgotten
-abbrev pub thawed : Recovery → ℕ → Option Recovery
-thawed r now = if is_frozen_long r now then recovering_anew (next_nonce r.nonce) now else None
+abbrev pub thawed : Recovery → ℕ → ℕ → Option Recovery
+thawed r f now = if is_frozen_long r f now then recovering_anew (next_nonce r.nonce) now else None
 
 -- what it asks others
 abbrev pub question_word : ℕ → Question → Option Word

@@ -7,7 +7,7 @@ use Rattle.vr_model.specs.Groups.{most_replicas}
 use Rattle.plc_epochs.specs.declared.visit.Visit.{Visit}
 use Rattle.plc_epochs.specs.declared.word.Answer.{Answer}
 use Rattle.plc_epochs.specs.declared.word.Word.{Word}
-use Rattle.plc_epochs.specs.declared.word.Word.TheVariants.{Freeze, Frozen, Confirm, StillFrozen}
+use Rattle.plc_epochs.specs.declared.word.Word.TheVariants.{Freeze, Frozen, Confirm, StillFrozen, Marked}
 
 -- ---- spelling a visit; all numbers are big-endian
 
@@ -16,7 +16,7 @@ abbrev pub magic : ℕ
 magic = 0x504C432D4353
 
 abbrev pub version : ℕ
-version = 1
+version = 2
 
 -- the nonce that a machine told, in nine bytes
 abbrev pub nonce_bytes : Option ℕ → List ℕ
@@ -33,6 +33,7 @@ word_bytes (Freeze question) = 0 ∷ (to_be_bytes w64 question ++ replicate 63 0
 word_bytes (Frozen a) = 1 ∷ answer_bytes a
 word_bytes (Confirm question asked) = 2 ∷ (to_be_bytes w64 question ++ flat_map nonce_bytes asked)
 word_bytes (StillFrozen a) = 3 ∷ answer_bytes a
+word_bytes (Marked question) = 4 ∷ (to_be_bytes w64 question ++ replicate 63 0)
 
 -- the group's identity; the epoch, with the digest of the image with which it began; the machine that says the word
 abbrev pub said_bytes : Visit → List ℕ
@@ -60,6 +61,7 @@ FitsWord (Freeze question) = question < 2 ^ 64
 FitsWord (Frozen a) = FitsAnswer a
 FitsWord (Confirm question asked) = (question < 2 ^ 64) × FitsTold asked
 FitsWord (StillFrozen a) = FitsAnswer a
+FitsWord (Marked question) = question < 2 ^ 64
 
 pub record FitsVisit (v : Visit) : Type 0 where
   pub identity : length v.identity ≡ 32
@@ -106,6 +108,9 @@ told_of bytes = nonces_of most_replicas bytes
 abbrev pub freeze_of : ℕ → List ℕ → Option Word
 freeze_of question rest = if list_all is_zero rest then Some (Freeze question) else None
 
+abbrev pub marked_of : ℕ → List ℕ → Option Word
+marked_of question rest = if list_all is_zero rest then Some (Marked question) else None
+
 abbrev pub answer_of : ℕ → List ℕ → Option Answer
 answer_of question rest = if list_all is_zero (drop 8 rest)
     then Some (record { question = question; nonce = from_be_bytes w64 (take 8 rest) }) else None
@@ -127,7 +132,8 @@ abbrev pub word_by : ℕ → ℕ → List ℕ → Option Word
 word_by kind question rest = if kind == 0 then freeze_of question rest
     else (if kind == 1 then frozen_by (answer_of question rest)
     else (if kind == 2 then confirm_by question (told_of rest)
-    else (if kind == 3 then still_frozen_by (answer_of question rest) else None)))
+    else (if kind == 3 then still_frozen_by (answer_of question rest)
+    else (if kind == 4 then marked_of question rest else None))))
 
 -- from 72 bytes
 unfoldable pub word_of : List ℕ → Option Word

@@ -5,10 +5,12 @@ ghost use Rattle.vr_model.specs.Groups.{most_replicas};
 ghost use Rattle.plc_epochs.specs.Recovering.{first_nonce, thawed};
 ghost use Rattle.plc_epochs.specs.Table as table;
 
-use crate::epoch::{is_later, is_same, next_epoch};
+use crate::epoch::{is_far_above, is_later, is_same, next_epoch};
 use crate::kept::Kept;
 use crate::recovery::{Recovery, first_nonce};
-use crate::told::{Moment, Told, count, count_recent, nothing_told, with_told};
+use crate::told::{
+    Moment, Told, count, count_recent, is_recent_of, nothing_told, with_told, without_told,
+};
 use crate::word::{Answer, Word};
 use net_hello::Epoch;
 use vr_model::Config;
@@ -21,6 +23,9 @@ pub struct Place {
     pub number: u8,
     /// Whether the group begins anew by itself; else by hand alone.
     pub is_automatic: bool,
+    /// Whether the program was changed in the epoch that it has begun: then its store has the one before, and the group
+    /// begins anew with it by hand alone.
+    pub is_marked: bool,
 }
 
 /// Where a machine is.
@@ -58,11 +63,23 @@ pub enum Step {
     AsksAgain,
     /// It's still frozen: this is said to the machine that asked.
     Confirms(Word),
+    /// It doesn't freeze, since it's marked: this is said to the machine that asked.
+    Declines(Word),
+    /// The machine that it asked doesn't freeze, since that is marked: a cold start takes a person.
+    HearsMarked,
     /// Its epoch can't go on. Port, sessions, links, and what waits in memory are closed and dropped; then its store is
     /// to have the next epoch, this one.
     Ends(Epoch),
     /// Another machine is in this later epoch: as with `Ends`, its store is to have it.
     Hears(Epoch),
+    /// Another machine is in this later epoch, and this group goes on: a majority takes part in its own.
+    Refuses(Epoch),
+    /// Another machine is in this epoch, whose number is more than one above its own: following it takes a person.
+    FarAbove(Epoch),
+    /// Another machine is in this later epoch, whose image its store hasn't: following it takes a person.
+    OtherProgram(Epoch),
+    /// Another machine is in this epoch, which is before the one that it has entered and waits in for others.
+    Before(Epoch),
     /// Its store is to have that it waits for an epoch above this one.
     WaitsAbove(Epoch),
     /// Its store has this epoch: hello is said in it.
@@ -71,8 +88,17 @@ pub enum Step {
     Begins(Epoch),
     /// Its store has that: its replica is normal in view 0 of this epoch, with an empty log.
     Starts(Epoch),
-    /// It thaws: its replica crashes and recovers anew, which its words tell by this nonce. Nothing is stored.
+    /// It thaws: its replica crashes and recovers anew under this nonce, without a start. Nothing is stored.
     Thaws(u64),
+}
+
+/// What a machine waits for before it goes on.
+#[derive(Clone, Copy, Debug, PartialEq, Eq)]
+pub struct OthersHeard {
+    /// So many others were heard.
+    pub heard: usize,
+    /// It goes on when so many were.
+    pub wanted: usize,
 }
 
 /// What a machine says first at each connection.
@@ -95,6 +121,8 @@ pub struct ColdStart {
     pub(crate) phase: Phase,
     /// When a RECOVERY of each other came last, in this epoch.
     pub(crate) recoveries: Told,
+    /// When each other was last known to take part in this epoch.
+    pub(crate) parts: Told,
 }
 
 /// Where a machine is whose process starts.
@@ -144,6 +172,17 @@ fn recovered_in(phase: Phase) -> Phase
     }
 }
 
+/// What it does where a machine that it asked this is marked, which recovers itself.
+fn hear_marked(recovery: &Recovery, question: u64) -> Step
+    ensures { result ≡ table.marked_step recovery.now question }
+{
+    if recovery.asks_first(question) {
+        Step::HearsMarked
+    } else {
+        Step::Nothing
+    }
+}
+
 impl ColdStart {
     /// A machine whose process starts, with what its store has of epochs, and the sum of the image there. The store has
     /// counted this start, so often it started before.
@@ -155,6 +194,7 @@ impl ColdStart {
             image,
             phase: phase_from(kept, first_nonce(starts), now),
             recoveries: nothing_told(),
+            parts: nothing_told(),
         }
     }
 
@@ -220,6 +260,25 @@ impl ColdStart {
         match self.phase {
             Phase::Recovering { recovery, .. } => !recovery.is_frozen(),
             _ => false,
+        }
+    }
+
+    /// For what it waits, where it waits for others: of one whose disk was lost, for f+1 that tell their epochs; of one
+    /// that has entered an epoch, for f in it.
+    pub fn waits_for(&self) -> Option<OthersHeard>
+        ensures { result ≡ table.waits_in self.now.phase self.now.place.config.f }
+    {
+        let f = usize::from(self.place.config.f);
+        match &self.phase {
+            Phase::Waiting { heard, .. } => Some(OthersHeard {
+                heard: count(heard),
+                wanted: f + 1,
+            }),
+            Phase::Entered { heard, .. } => Some(OthersHeard {
+                heard: count(heard),
+                wanted: f,
+            }),
+            _ => None,
         }
     }
 
@@ -327,19 +386,20 @@ impl ColdStart {
         }
     }
 
-    /// Whether it asks: the group begins by itself, and f others recover, too.
+    /// Whether it asks: the group begins by itself, it isn't marked, and f others recover, too.
     fn may_ask(&self, recovery: &Recovery, now: Moment) -> bool
         ensures { result ≡ table.may_ask self.now recovery.now now }
     {
         self.place.is_automatic
+            && !self.place.is_marked
             && recovery.may_ask(now)
             && usize::from(self.place.config.f) <= count_recent(&self.recoveries, now)
     }
 
     fn look_recovering(&mut self, epoch: Epoch, recovery: Recovery, now: Moment) -> Step
-        ensures { table.LooksBy epoch recovery now (thawed recovery now) self.old result self.new }
+        ensures { table.LooksBy epoch recovery now (thawed recovery self.old.place.config.f now) self.old result self.new }
     {
-        match recovery.thaw(now) {
+        match recovery.thaw(self.place.config.f, now) {
             Some(recovery) => {
                 self.phase = Phase::Recovering { epoch, recovery };
                 Step::Thaws(recovery.nonce)
@@ -407,7 +467,7 @@ impl ColdStart {
         Step::Counts
     }
 
-    /// It has entered an epoch, and another machine said hello.
+    /// It has entered an epoch, and another machine said hello in it, or in another one, before it or later.
     fn hear_entered(
         &mut self,
         own: Epoch,
@@ -419,8 +479,11 @@ impl ColdStart {
         requires { from < most_replicas }
         ensures { table.HearsEntered own heard from epoch.now now self.old result self.new }
     {
-        if !is_same(epoch, &own) {
+        if is_later(epoch, &own) {
             return self.hear_later(&own, from, epoch, now);
+        }
+        if !is_same(epoch, &own) {
+            return Step::Before(*epoch);
         }
         self.phase = Phase::Entered {
             epoch: own,
@@ -445,7 +508,47 @@ impl ColdStart {
         }
     }
 
-    /// A machine said hello in this epoch: where it's later than its own, it leaves that.
+    /// Whether its group goes on: it takes part in its epoch, and so did f others within the last second; or it recovers
+    /// there, and f+1 others did, who bring it back.
+    fn goes_on(&self, now: Moment) -> bool
+        ensures { result ≡ table.goes_on self.now now }
+    {
+        let f = usize::from(self.place.config.f);
+        match self.phase {
+            Phase::TakingPart { .. } => f <= count_recent(&self.parts, now),
+            Phase::Recovering { .. } => f < count_recent(&self.parts, now),
+            _ => false,
+        }
+    }
+
+    /// Whether it can't know yet who takes part: it has recovered for less than a second.
+    fn is_early(&self, now: Moment) -> bool
+        ensures { result ≡ table.is_early self.now now }
+    {
+        match &self.phase {
+            Phase::Recovering { recovery, .. } => !recovery.recovers_long(now),
+            _ => false,
+        }
+    }
+
+    /// Why it stays in its own epoch though another machine is in this later one; `None` where it leaves.
+    fn stays(&self, own: &Epoch, epoch: &Epoch, now: Moment) -> Option<Step>
+        ensures { result ≡ table.staying self.now own.now epoch.now now }
+    {
+        if self.is_early(now) {
+            Some(Step::Nothing)
+        } else if self.goes_on(now) {
+            Some(Step::Refuses(*epoch))
+        } else if is_far_above(epoch, own) {
+            Some(Step::FarAbove(*epoch))
+        } else if epoch.image != self.image {
+            Some(Step::OtherProgram(*epoch))
+        } else {
+            None
+        }
+    }
+
+    /// A machine said hello in this epoch: where it's later than its own, it leaves that, unless there's a reason to stay.
     fn hear_later(&mut self, own: &Epoch, from: u8, epoch: &Epoch, now: Moment) -> Step
         requires { from < most_replicas }
         ensures { table.HearsLater own.now from epoch.now now self.old result self.new }
@@ -453,8 +556,13 @@ impl ColdStart {
         if !is_later(epoch, own) {
             return Step::Nothing;
         }
-        self.leave(*epoch, with_told(nothing_told(), from, now));
-        Step::Hears(*epoch)
+        match self.stays(own, epoch, now) {
+            Some(step) => step,
+            None => {
+                self.leave(*epoch, with_told(nothing_told(), from, now));
+                Step::Hears(*epoch)
+            }
+        }
     }
 
     /// It leaves its epoch for a later one.
@@ -463,19 +571,36 @@ impl ColdStart {
     {
         self.phase = Phase::Entering { epoch, heard };
         self.recoveries = nothing_told();
+        self.parts = nothing_told();
     }
 
-    /// RECOVERY of a machine came, in this epoch.
+    /// Something came of a machine over a connection of this epoch, as it does as long as that one is near: it takes part,
+    /// unless it recovers.
+    pub fn hear_sign(&mut self, from: u8, epoch: &Epoch, now: Moment) -> Step
+        ensures { table.HearsSign from epoch.now now self.old result self.new }
+    {
+        let Some(own) = self.speaks_in() else {
+            return Step::Nothing;
+        };
+        if !self.takes(from, epoch, &own) || is_recent_of(&self.recoveries, from, now) {
+            return Step::Nothing;
+        }
+        self.parts = with_told(self.parts, from, now);
+        Step::Counts
+    }
+
+    /// RECOVERY of a machine came, in this epoch: it takes no part.
     pub fn hear_recovery(&mut self, from: u8, epoch: &Epoch, now: Moment) -> Step
         ensures { table.HearsRecovery from epoch.now now self.old result self.new }
     {
-        let Phase::Recovering { epoch: own, .. } = self.phase else {
+        let Some(own) = self.speaks_in() else {
             return Step::Nothing;
         };
         if !self.takes(from, epoch, &own) {
             return Step::Nothing;
         }
         self.recoveries = with_told(self.recoveries, from, now);
+        self.parts = without_told(self.parts, from);
         Step::Counts
     }
 
@@ -498,13 +623,18 @@ impl ColdStart {
             Word::Frozen(answer) => self.hear_frozen(own, recovery, from, answer),
             Word::Confirm { question, asked } => self.confirm(&recovery, *question, asked),
             Word::StillFrozen(answer) => self.hear_still_frozen(own, recovery, from, answer),
+            Word::Marked { question } => hear_marked(&recovery, *question),
         }
     }
 
+    /// It's asked to freeze. One that is marked declines; one of a group that begins by hand alone says nothing.
     fn freeze(&mut self, epoch: Epoch, recovery: Recovery, question: u64, now: Moment) -> Step
-        ensures { table.FreezesOrStays epoch recovery question now self.old result self.new }
+        ensures { table.HearsFreeze epoch recovery question now self.old result self.new }
     {
-        if !recovery.may_freeze(now) {
+        if self.place.is_marked {
+            return Step::Declines(Word::Marked { question });
+        }
+        if !self.place.is_automatic || !recovery.may_freeze(now) {
             return Step::Nothing;
         }
         self.phase = Phase::Recovering {

@@ -1,7 +1,7 @@
 //! Which of two epochs is the later one, and which comes next.
 
 ghost use Rattle.std.specs.Prelude.{◌≡◌};
-ghost use Rattle.plc_epochs.specs.Epochs.{is_later, is_same, next_epoch};
+ghost use Rattle.plc_epochs.specs.Epochs.{is_far_above, is_later, is_same, next_epoch};
 
 use net_hello::Epoch;
 use std::cmp::Ordering;
@@ -22,6 +22,13 @@ pub(crate) fn is_same(epoch: &Epoch, other: &Epoch) -> bool
     ensures { result ≡ is_same epoch.now other.now }
 {
     epoch.number == other.number && epoch.image == other.image
+}
+
+/// Whether an epoch is more than one above the other.
+pub(crate) fn is_far_above(epoch: &Epoch, other: &Epoch) -> bool
+    ensures { result ≡ is_far_above epoch.now other.now }
+{
+    epoch.number.saturating_sub(other.number) > 1
 }
 
 /// The epoch behind this one, which begins with this image; `None` where there is no number left. The greatest number

@@ -18,6 +18,8 @@ pub fn no_store_goes_back()
     ensures stores { (has : Has) (a b : Machine) (step : Taken) → table.Stores has a step b → StoreGoesOn a b }
     ensures hello { (from now : ℕ) (epoch : Numbered) (a b : Machine) (step : Taken)
         → table.HearsHello from epoch now a step b → StoreGoesOn a b }
+    ensures sign { (from now : ℕ) (epoch : Numbered) (a b : Machine) (step : Taken)
+        → table.HearsSign from epoch now a step b → StoreGoesOn a b }
     ensures recovery { (from now : ℕ) (epoch : Numbered) (a b : Machine) (step : Taken)
         → table.HearsRecovery from epoch now a step b → StoreGoesOn a b }
     ensures word { (from now : ℕ) (epoch : Numbered) (word : Said) (a b : Machine) (step : Taken)
@@ -38,10 +40,20 @@ pub fn who_is_frozen_stays_so()
     ensures hello { (from now : ℕ) (epoch other : Numbered) (r : Recovers) (a b : Machine) (step : Taken)
         → a.phase ≡ Recovering epoch r → is_some r.frozen ≡ true → table.HearsHello from other now a step b
         → StaysFrozen epoch r.nonce b.phase }
+    ensures sign { (from now : ℕ) (epoch other : Numbered) (r : Recovers) (a b : Machine) (step : Taken)
+        → a.phase ≡ Recovering epoch r → is_some r.frozen ≡ true → table.HearsSign from other now a step b
+        → StaysFrozen epoch r.nonce b.phase }
     ensures recovery { (from now : ℕ) (epoch other : Numbered) (r : Recovers) (a b : Machine) (step : Taken)
         → a.phase ≡ Recovering epoch r → is_some r.frozen ≡ true → table.HearsRecovery from other now a step b
         → StaysFrozen epoch r.nonce b.phase }
     ensures word { (from now : ℕ) (epoch other : Numbered) (word : Said) (r : Recovers) (a b : Machine) (step : Taken)
         → a.phase ≡ Recovering epoch r → is_some r.frozen ≡ true → table.HearsWord from other word now a step b
         → StaysFrozen epoch r.nonce b.phase }
+{}
+
+/// No hello, of whatever epoch, changes a machine in whose epoch a majority takes part: itself with f others, or f+1
+/// others where it recovers.
+pub fn no_hello_ends_a_group()
+    ensures { (from now : ℕ) (epoch : Numbered) (a b : Machine) (step : Taken) → table.goes_on a now ≡ true
+        → table.HearsHello from epoch now a step b → b ≡ a }
 {}

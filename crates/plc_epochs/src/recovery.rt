@@ -3,8 +3,8 @@
 ghost use Rattle.std.specs.Prelude.{◌≡◌, ◌<◌, ◌&&◌, is_some};
 ghost use Rattle.vr_model.specs.Groups.{most_replicas};
 ghost use Rattle.plc_epochs.specs.Recovering.{answer_of, asking, asking_again, evidence, first_nonce, freezing};
-ghost use Rattle.plc_epochs.specs.Recovering.{is_first_answer, is_frozen_long, is_second_answer, is_unasked, may_ask};
-ghost use Rattle.plc_epochs.specs.Recovering.{may_ask_again, may_confirm, may_freeze, next_nonce, question_word};
+ghost use Rattle.plc_epochs.specs.Recovering.{is_first_answer, is_first_in, is_frozen_long, is_second_answer, is_unasked};
+ghost use Rattle.plc_epochs.specs.Recovering.{may_ask, may_ask_again, may_confirm, may_freeze, next_nonce, question_word};
 ghost use Rattle.plc_epochs.specs.Recovering.{recovering_under, recovers_long, thawed, with_first, with_second};
 
 use crate::told::{Moment, Told, count, has_told, nothing_told, with_told};
@@ -13,8 +13,9 @@ use crate::word::{Answer, Word};
 /// So long a machine recovers before it freezes, in milliseconds.
 pub const BEFORE_FREEZING: u64 = 1000;
 
-/// So long it's frozen, in milliseconds.
-pub const FROZEN: u64 = 2000;
+/// For so many milliseconds it's frozen for itself and for each machine of the f that may fail. So machines that thaw one
+/// after another are all frozen at one moment, though each is unfrozen for a second in turn.
+const FROZEN_EACH: u64 = 1000;
 
 /// So many nonces belong to each start of a machine.
 const NONCES: u64 = 1 << 32;
@@ -80,7 +81,7 @@ impl Recovery {
     }
 
     /// Whether it has recovered for a second under its nonce.
-    fn recovers_long(&self, now: Moment) -> bool
+    pub(crate) fn recovers_long(&self, now: Moment) -> bool
         ensures { result ≡ recovers_long self.now now }
     {
         now.saturating_sub(self.since) >= BEFORE_FREEZING
@@ -140,14 +141,21 @@ impl Recovery {
         }
     }
 
+    /// Whether it asks this, which is its first question.
+    pub(crate) fn asks_first(&self, question: u64) -> bool
+        ensures { result ≡ is_first_in self.now.question self.now.nonce question }
+    {
+        match self.question {
+            Question::First { .. } => question == self.nonce,
+            _ => false,
+        }
+    }
+
     /// Whether an answer is one to its first question.
     pub(crate) fn is_first_answer(&self, answer: &Answer) -> bool
         ensures { result ≡ is_first_answer self.now answer.now }
     {
-        match self.question {
-            Question::First { .. } => answer.question == self.nonce,
-            _ => false,
-        }
+        self.asks_first(answer.question)
     }
 
     /// The same, with a machine that froze under this nonce.
@@ -238,22 +246,22 @@ impl Recovery {
         }
     }
 
-    /// Whether it has been frozen for two seconds.
-    fn is_frozen_long(&self, now: Moment) -> bool
-        ensures { result ≡ is_frozen_long self.now now }
+    /// Whether it has been frozen for f+1 seconds.
+    fn is_frozen_long(&self, f: u8, now: Moment) -> bool
+        ensures { result ≡ is_frozen_long self.now f now }
     {
         match self.frozen {
-            Some(since) => now.saturating_sub(since) >= FROZEN,
+            Some(since) => now.saturating_sub(since) >= (u64::from(f) + 1) * FROZEN_EACH,
             None => false,
         }
     }
 
     /// What it is once it thaws, where it's time: it recovers anew, under the next nonce. `None` also where its start
     /// has no nonce left.
-    pub(crate) fn thaw(&self, now: Moment) -> Option<Recovery>
-        ensures { result ≡ thawed self.now now }
+    pub(crate) fn thaw(&self, f: u8, now: Moment) -> Option<Recovery>
+        ensures { result ≡ thawed self.now f now }
     {
-        if !self.is_frozen_long(now) {
+        if !self.is_frozen_long(f, now) {
             return None;
         }
         let nonce = next_nonce(self.nonce)?;

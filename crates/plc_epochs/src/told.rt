@@ -1,8 +1,8 @@
 //! What machines of a group have told, one by one.
 
-ghost use Rattle.std.specs.Prelude.{◌≡◌, ◌<◌, Some, count_by, is_some, slice_set};
+ghost use Rattle.std.specs.Prelude.{◌≡◌, ◌<◌, None, Some, count_by, is_some, slice_set};
 ghost use Rattle.vr_model.specs.Groups.{most_replicas};
-ghost use Rattle.plc_epochs.specs.Epochs.{has_told, is_recent, nothing_told};
+ghost use Rattle.plc_epochs.specs.Epochs.{has_told, is_recent, is_recent_of, nothing_told};
 
 use vr_model::MOST_REPLICAS;
 
@@ -28,6 +28,15 @@ pub(crate) fn with_told(mut told: Told, machine: u8, word: u64) -> Told
     ensures { result ≡ slice_set told machine (Some word) }
 {
     told[usize::from(machine)] = Some(word);
+    told
+}
+
+/// Nothing of this machine any more.
+pub(crate) fn without_told(mut told: Told, machine: u8) -> Told
+    requires { machine < most_replicas }
+    ensures { result ≡ slice_set told machine None }
+{
+    told[usize::from(machine)] = None;
     told
 }
 
@@ -63,4 +72,14 @@ pub(crate) fn count_recent(told: &Told, now: Moment) -> usize
     ensures { result ≡ count_by (is_recent now) told.now }
 {
     told.iter().filter(|came| is_recent(**came, now)).count()
+}
+
+/// Whether something of this machine came within the last second.
+pub(crate) fn is_recent_of(told: &Told, machine: u8, now: Moment) -> bool
+    ensures { result ≡ is_recent_of told.now machine now }
+{
+    match told.get(usize::from(machine)) {
+        Some(came) => is_recent(*came, now),
+        None => false,
+    }
 }

@@ -22,7 +22,7 @@ pub const VISIT: usize = 153;
 const MAGIC: u64 = 0x504C_432D_4353;
 
 /// In the next two.
-const VERSION: u64 = 1;
+const VERSION: u64 = 2;
 
 /// So many bytes has the nonce that a machine told.
 const NONCE: usize = 9;
@@ -104,6 +104,11 @@ fn put_word(out: &mut Vec<u8>, word: &Word) -> Result<(), AllocError>
             out.push(3)?;
             put_answer(out, answer)
         }
+        Word::Marked { question } => {
+            out.push(4)?;
+            put_number(out, *question)?;
+            out.extend_from_slice(&[0; 63])
+        }
     }
 }
 
@@ -171,11 +176,11 @@ fn word_by(kind: u8, question: u64, rest: &[u8]) -> Option<Word>
             asked: told_of(rest)?,
         }),
         3 => Some(Word::StillFrozen(answer_of(question, rest)?)),
+        4 if are_zeros(rest) => Some(Word::Marked { question }),
         _ => None,
     }
 }
 
-#[tactic(auto, unfolding(crate::specs::Visits::word_of))]
 fn word_of(bytes: &[u8]) -> Option<Word>
     requires { length bytes.now ≡ 72 }
     ensures { result ≡ word_of bytes.now }

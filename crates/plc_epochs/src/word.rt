@@ -24,4 +24,6 @@ pub enum Word {
     Confirm { question: u64, asked: Told },
     /// It's still frozen.
     StillFrozen(Answer),
+    /// To who asks to freeze: it doesn't, since the program was changed in the epoch, and its store has the one before.
+    Marked { question: u64 },
 }

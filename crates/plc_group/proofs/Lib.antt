@@ -4,3 +4,5 @@ pub mod Tables
 pub mod Walks
 pub mod Sizes
 pub mod Loopbacks
+pub mod Consoles
+pub mod Copies

@@ -1,6 +1,7 @@
 -- The faults of a group file, in their order: keys that no group has, then what stands at the other keys, as `Key` has
--- them, then machine by machine, and at last the addresses that stand twice. The first of them is told.
-use Rattle.std.specs.Prelude.{◌≡◌, ℕ, ◌+◌, Bool, not, List, [], ◌∷◌, ◌++◌, map, filter, bytes_eq, Option, Some, None}
+-- them, then machine by machine, the addresses that stand twice, consoles that are two things at once, and at last an
+-- identity that's missing. The first of them is told.
+use Rattle.std.specs.Prelude.{◌≡◌, ℕ, ◌+◌, ◌/◌, ◌&&◌, is_some, nat_lt, Bool, not, List, [], ◌∷◌, ◌++◌, map, filter, bytes_eq, Option, Some, None}
 use Rattle.std.specs.Prelude.{Result, Ok, Err, unwrap_or, string_bytes, IsUtf8, if◌then◌else◌}
 use Rattle.std.specs.List.{flat_map, enumerate_from, list_any}
 use Rattle.std.specs.declared.net.socket_addr.SocketAddr.{SocketAddr}
@@ -11,15 +12,17 @@ use Rattle.toml.specs.Parse.{parse_document}
 use Rattle.plc_group.specs.declared.fault.GroupFault.{GroupFault}
 use Rattle.plc_group.specs.declared.fault.GroupFault.TheVariants as told
 use Rattle.plc_group.specs.declared.fault.Why.{Why}
-use Rattle.plc_group.specs.declared.fault.Why.TheVariants.{Missing, Refused, Twice}
+use Rattle.plc_group.specs.declared.fault.Why.TheVariants.{Missing, Refused, Twice, BelowPeriod}
+use Rattle.plc_group.specs.declared.fault.Why.TheVariants.{AbovePatience, Everywhere, BesidePorts}
 use Rattle.plc_group.specs.declared.group.Machine.{Machine}
 use Rattle.plc_group.specs.declared.key.Key.{Key}
 use Rattle.plc_group.specs.declared.machines.Place.{Place}
 use Rattle.plc_group.specs.declared.key.Key.TheVariants as keys
 use Rattle.plc_group.specs.declared.key.TheConstants.{GROUP_KEYS, MACHINE_KEYS, PERIODS, BUDGETS}
 use Rattle.plc_group.specs.declared.key.TheConstants.{DISTANCES, PATIENCES, RESENDS, FRESHNESSES, IDLES}
-use Rattle.plc_group.specs.Values.{word_of, is_among, number_in, name_of, cold_start_of, address_of, machines_of}
-use Rattle.plc_group.specs.Values.{machine_of, all_of}
+use Rattle.plc_group.specs.Values.{word_of, is_among, number_in, number_or, name_of, cold_start_of, address_of}
+use Rattle.plc_group.specs.Values.{machines_of, machine_of, all_of, console_key_of, directory_of, identity_of, value_at}
+use Rattle.plc_group.specs.Values.{machines_said, usual_resend}
 
 -- a fault, with a machine's place in the file, from 0, where it's one of a machine
 pub data Fault : Type 0 where
@@ -60,19 +63,52 @@ wanted_faults read machine key members = wanted read machine key (get_member (wo
 abbrev pub needed_faults : {A : Type 0} → (Data → Option A) → Option ℕ → Key → Members → List Fault
 needed_faults read machine key members = needed read machine key (get_member (word_of key) members)
 
-abbrev pub times_faults : Members → List Fault
-times_faults members = wanted_faults (number_in PATIENCES) None keys.Patience members
-    ++ (wanted_faults (number_in RESENDS) None keys.Resend members
-    ++ (wanted_faults (number_in FRESHNESSES) None keys.Fresh members
-    ++ wanted_faults (number_in IDLES) None keys.Idle members))
+-- what is sent again later than a fifth of the patience would be missed
+abbrev pub late_faults : ℕ → ℕ → List Fault
+late_faults patience resend = if nat_lt (patience / 5) resend then At None keys.Resend AbovePatience ∷ [] else []
+
+abbrev pub resend_faults : ℕ → Members → List Fault
+resend_faults patience members = wanted_faults (number_in RESENDS) None keys.Resend members
+    ++ late_faults patience (number_or (usual_resend patience) RESENDS keys.Resend members)
+
+-- what is shown for less than a period and 20 ms would come and go with each scan
+abbrev pub short_faults : ℕ → ℕ → List Fault
+short_faults period fresh = if nat_lt fresh (period + 20) then At None keys.Fresh BelowPeriod ∷ [] else []
+
+abbrev pub fresh_faults : ℕ → Members → List Fault
+fresh_faults period members = wanted_faults (number_in FRESHNESSES) None keys.Fresh members
+    ++ short_faults period (number_or (period + 40) FRESHNESSES keys.Fresh members)
+
+-- with this period
+abbrev pub times_faults : ℕ → Members → List Fault
+times_faults period members = wanted_faults (number_in PATIENCES) None keys.Patience members
+    ++ (resend_faults (number_or 100 PATIENCES keys.Patience members) members
+    ++ (fresh_faults period members ++ wanted_faults (number_in IDLES) None keys.Idle members))
 
 -- ---- machines
 
+-- 0.0.0.0, or ::
+abbrev pub is_everywhere : SocketAddr → Bool
+is_everywhere (V4 a) = bytes_eq a.ip.octets (0 ∷ 0 ∷ 0 ∷ 0 ∷ [])
+is_everywhere (V6 a) = bytes_eq a.ip.segments (0 ∷ 0 ∷ 0 ∷ 0 ∷ 0 ∷ 0 ∷ 0 ∷ 0 ∷ [])
+
+-- an address by which others reach a machine is one of its own
+abbrev pub everywhere_faults : ℕ → Key → Option SocketAddr → List Fault
+everywhere_faults i key None = []
+everywhere_faults i key (Some address) = if is_everywhere address then At (Some i) key Everywhere ∷ [] else []
+
+abbrev pub replica_faults : ℕ → Members → List Fault
+replica_faults i members = needed_faults address_of (Some i) keys.Replica members
+    ++ everywhere_faults i keys.Replica (value_at address_of keys.Replica members)
+
+abbrev pub status_faults : ℕ → Members → List Fault
+status_faults i members = wanted_faults address_of (Some i) keys.Status members
+    ++ everywhere_faults i keys.Status (value_at address_of keys.Status members)
+
 abbrev pub addresses_faults : ℕ → Members → List Fault
-addresses_faults i members = needed_faults address_of (Some i) keys.Replica members
+addresses_faults i members = replica_faults i members
     ++ (needed_faults address_of (Some i) keys.Modbus members
-    ++ (wanted_faults address_of (Some i) keys.Console members
-    ++ wanted_faults address_of (Some i) keys.Status members))
+    ++ (wanted_faults address_of (Some i) keys.Console members ++ status_faults i members))
 
 -- those of the machine at place i
 abbrev pub machine_faults : ℕ → Data → List Fault
@@ -141,11 +177,30 @@ settings_faults members = needed_faults name_of None keys.Name members
     ++ (wanted_faults (number_in PERIODS) None keys.Period members
     ++ (wanted_faults (number_in BUDGETS) None keys.Budget members
     ++ (wanted_faults (number_in DISTANCES) None keys.Every members
-    ++ (times_faults members
-    ++ wanted_faults cold_start_of None keys.ColdStart members))))
+    ++ (times_faults (number_or 100 PERIODS keys.Period members) members
+    ++ (wanted_faults cold_start_of None keys.ColdStart members
+    ++ (wanted_faults console_key_of None keys.ConsoleKey members
+    ++ wanted_faults directory_of None keys.ConsoleSockets members))))))
+
+abbrev pub has_console : Machine → Bool
+has_console machine = is_some machine.console
+
+-- sockets for consoles beside a console at a port
+abbrev pub beside_faults : Bool → List Machine → List Fault
+beside_faults has_sockets machines =
+    if has_sockets && list_any has_console machines then At None keys.ConsoleSockets BesidePorts ∷ [] else []
+
+abbrev pub consoles_faults : Members → List Fault
+consoles_faults members = beside_faults (is_some (value_at directory_of keys.ConsoleSockets members))
+    (unwrap_or (machines_said members) [])
+
+-- of what is good otherwise, that it has no identity
+abbrev pub identity_faults : Members → List Fault
+identity_faults members = needed_faults identity_of None keys.Identity members
 
 abbrev pub faults_of : Members → List Fault
-faults_of members = unknown_faults None GROUP_KEYS members ++ (settings_faults members ++ machines_faults members)
+faults_of members = unknown_faults None GROUP_KEYS members ++ (settings_faults members
+    ++ (machines_faults members ++ (consoles_faults members ++ identity_faults members)))
 
 -- ---- which is told
 

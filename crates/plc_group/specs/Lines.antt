@@ -9,7 +9,8 @@ use Rattle.std.specs.declared.net.socket_addr.SocketAddr.TheVariants.{V4, V6}
 use Rattle.il_text.specs.Telling.{numbered}
 use Rattle.plc_group.specs.declared.fault.GroupFault.{GroupFault}
 use Rattle.plc_group.specs.declared.fault.Why.{Why}
-use Rattle.plc_group.specs.declared.fault.Why.TheVariants.{Missing, Refused, Twice}
+use Rattle.plc_group.specs.declared.fault.Why.TheVariants.{Missing, Refused, Twice, BelowPeriod}
+use Rattle.plc_group.specs.declared.fault.Why.TheVariants.{AbovePatience, Everywhere, BesidePorts}
 use Rattle.plc_group.specs.declared.key.Key.{Key}
 use Rattle.plc_group.specs.declared.group.Machine.{Machine}
 use Rattle.plc_group.specs.declared.machines.Place.{Place}
@@ -26,11 +27,29 @@ abbrev pub place_text : Option ℕ → List ℕ
 place_text None = codes "plc: group "
 place_text (Some machine) = machine_text machine
 
+-- an identity is made by the program
+abbrev pub missing_text : Key → List ℕ
+missing_text keys.Identity = codes " missing: plc format --new-group\n"
+missing_text key = codes " missing\n"
+
+-- what a key takes, where that isn't a number
+abbrev pub refused_text : Key → List ℕ
+refused_text keys.Replica = codes " refused: an address and a port, as 127.0.0.1:7600\n"
+refused_text keys.Modbus = codes " refused: an address and a port, as 127.0.0.1:7600\n"
+refused_text keys.Console = codes " refused: an address and a port, as 127.0.0.1:7600\n"
+refused_text keys.Status = codes " refused: an address and a port, as 127.0.0.1:7600\n"
+refused_text keys.Identity = codes " refused: 32 hexadecimal digits\n"
+refused_text key = codes " refused\n"
+
 -- behind a key
-abbrev pub why_text : Why → List ℕ
-why_text Missing = codes " missing\n"
-why_text Refused = codes " refused\n"
-why_text Twice = codes " twice\n"
+abbrev pub why_text : Key → Why → List ℕ
+why_text key Missing = missing_text key
+why_text key Refused = refused_text key
+why_text key Twice = codes " twice\n"
+why_text key BelowPeriod = codes " refused: below a period and 20\n"
+why_text key AbovePatience = codes " refused: above a fifth of patience\n"
+why_text key Everywhere = codes " refused: one address of the machine\n"
+why_text key BesidePorts = codes " refused: a machine has a console of its own\n"
 
 abbrev pub toml_line : ℕ → ℕ → List ℕ
 toml_line line column = numbered (codes "plc: group at ") line ++ (numbered (codes ":") column ++ codes "\n")
@@ -39,7 +58,7 @@ abbrev pub unknown_line : Option ℕ → List ℕ → List ℕ
 unknown_line machine key = place_text machine ++ (key ++ codes " unknown\n")
 
 abbrev pub value_line : Option ℕ → Key → Why → List ℕ
-value_line machine key why = place_text machine ++ (word_of key ++ why_text why)
+value_line machine key why = place_text machine ++ (word_of key ++ why_text key why)
 
 abbrev pub group_fault_line : GroupFault → List ℕ
 group_fault_line (told.Toml line column) = toml_line line column

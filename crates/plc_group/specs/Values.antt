@@ -1,7 +1,10 @@
 -- The keys of a group file, and what a value is read as: nothing, where the key doesn't take it.
 use Rattle.std.specs.Prelude.{ℕ, Bool, List, bytes_eq, codes, ◌≡◌, ◌⊎◌, ◌==◌, ◌&&◌, ◌||◌, ℤ, pos, negsuc, [], ◌∷◌}
 use Rattle.std.specs.Prelude.{length, Option, Some, None, option_and_then, option_map, nat_eq, nat_le, if◌then◌else◌}
-use Rattle.std.specs.List.{list_any, list_all}
+use Rattle.std.specs.Prelude.{Result, Ok, Err, unwrap_or, nat_lt, ◌/◌}
+use Rattle.std.specs.List.{list_any, list_all, starts_with}
+use Rattle.hex.specs.Hex.{decode_sized}
+use Rattle.hex.specs.declared.error.FromHexError.{FromHexError}
 use Rattle.std.specs.Net.Reader.{read_socket_v4, read_socket_v6, whole_value}
 use Rattle.std.specs.Net.Socket.{socket_port}
 use Rattle.std.specs.declared.net.ipv4_addr.Ipv4Addr.{Ipv4Addr}
@@ -17,6 +20,8 @@ use Rattle.plc_group.specs.declared.group.ColdStart.TheVariants.{Auto, ByHand}
 use Rattle.plc_group.specs.declared.group.Machine.{Machine}
 use Rattle.plc_group.specs.declared.key.Range.{Range}
 use Rattle.plc_group.specs.declared.key.Key.TheVariants as keys
+use Rattle.plc_group.specs.declared.key.Sharing.{Sharing}
+use Rattle.plc_group.specs.declared.key.Sharing.TheVariants as shared
 
 -- ---- the words of the keys
 
@@ -30,11 +35,25 @@ word_of keys.Resend = codes "resend"
 word_of keys.Fresh = codes "fresh"
 word_of keys.Idle = codes "idle"
 word_of keys.ColdStart = codes "cold_start"
+word_of keys.ConsoleKey = codes "console_key"
+word_of keys.ConsoleSockets = codes "console_sockets"
 word_of keys.Machine = codes "machine"
 word_of keys.Replica = codes "replica"
 word_of keys.Modbus = codes "modbus"
 word_of keys.Console = codes "console"
 word_of keys.Status = codes "status"
+word_of keys.Identity = codes "identity"
+
+-- What makes a group is as old as its stores. No two machines may show outputs for another time. All else is a
+-- machine's own.
+abbrev pub sharing_of : Key → Sharing
+sharing_of keys.Name = shared.Store
+sharing_of keys.Identity = shared.Store
+sharing_of keys.Budget = shared.Store
+sharing_of keys.Every = shared.Store
+sharing_of keys.Machine = shared.Store
+sharing_of keys.Fresh = shared.Group
+sharing_of key = shared.Machine
 
 -- the word is that of one of the keys
 abbrev pub is_among : List Key → List ℕ → Bool
@@ -60,6 +79,14 @@ within range (negsuc n) = None
 abbrev pub number_in : Range → Data → Option ℕ
 number_in range d = option_and_then (within range) (as_integer d)
 
+-- the number at a key, or the one that is taken where nothing stands there
+abbrev pub number_or : ℕ → Range → Key → Members → ℕ
+number_or default range key table = unwrap_or (value_at (number_in range) key table) default
+
+-- what may have been lost is sent again behind 20 ms, or behind a fifth of the patience where that's less
+abbrev pub usual_resend : ℕ → ℕ
+usual_resend patience = if nat_lt (patience / 5) 20 then patience / 5 else 20
+
 -- ---- texts
 
 -- a byte of ASCII that is printed, and no space
@@ -75,6 +102,37 @@ named text = if is_name text then Some text else None
 
 abbrev pub name_of : Data → Option (List ℕ)
 name_of d = option_and_then named (as_str d)
+
+-- from 8 to 128 visible bytes
+abbrev pub is_console_key : List ℕ → Bool
+is_console_key text = (nat_le 8 (length text) && nat_le (length text) 128) && list_all is_visible text
+
+abbrev pub console_key_in : List ℕ → Option (List ℕ)
+console_key_in text = if is_console_key text then Some text else None
+
+abbrev pub console_key_of : Data → Option (List ℕ)
+console_key_of d = option_and_then console_key_in (as_str d)
+
+-- a path from the root, of at most 90 visible bytes
+abbrev pub is_directory : List ℕ → Bool
+is_directory text = (starts_with nat_eq text (codes "/") && nat_le (length text) 90) && list_all is_visible text
+
+abbrev pub directory_in : List ℕ → Option (List ℕ)
+directory_in text = if is_directory text then Some text else None
+
+abbrev pub directory_of : Data → Option (List ℕ)
+directory_of d = option_and_then directory_in (as_str d)
+
+abbrev pub read_well : Result (List ℕ) FromHexError → Option (List ℕ)
+read_well (Ok bytes) = Some bytes
+read_well (Err error) = None
+
+-- sixteen bytes, as 32 hexadecimal digits
+abbrev pub identity_in : List ℕ → Option (List ℕ)
+identity_in text = read_well (decode_sized text 16)
+
+abbrev pub identity_of : Data → Option (List ℕ)
+identity_of d = option_and_then identity_in (as_str d)
 
 abbrev pub cold_start_in : List ℕ → Option ColdStart
 cold_start_in text = if bytes_eq text (codes "auto") then Some Auto
@@ -152,3 +210,7 @@ machine_of d = option_and_then machine_in (as_table d)
 abbrev pub all_of : {A B : Type 0} → (A → Option B) → List A → Option (List B)
 all_of f [] = Some []
 all_of f (x ∷ xs) = option_and_then (λ y. option_map (λ ys. y ∷ ys) (all_of f xs)) (f x)
+
+-- the machines of a table
+abbrev pub machines_said : Members → Option (List Machine)
+machines_said table = option_and_then (λ ds. all_of machine_of ds) (value_at machines_of keys.Machine table)

@@ -15,6 +15,14 @@ pub enum Why {
     Refused,
     /// Its address stands before it too.
     Twice,
+    /// It's below a period and 20, so outputs would come and go with each scan.
+    BelowPeriod,
+    /// It's above a fifth of the patience, so a machine that leads would be given up.
+    AbovePatience,
+    /// Its address stands for each one of the machine, and the others can't reach it by that.
+    Everywhere,
+    /// A machine has a console at a port beside it.
+    BesidePorts,
 }
 
 /// Why a file is no group. A machine goes by its place in the file, from 0; outside machines there is none.

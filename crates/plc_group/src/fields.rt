@@ -6,13 +6,15 @@ ghost use Rattle.std.specs.BTreeMap.{keys};
 ghost use Rattle.toml.specs.Data.{get_member};
 ghost use Rattle.toml.specs.View.{view, table_view};
 ghost use Rattle.plc_group.specs.Faults.{Judges, is_unknown, keys_in, needed_faults, unknown_faults, wanted_faults};
-ghost use Rattle.plc_group.specs.Values.{is_among, word_of, address_of, cold_start_of, name_of, number_in, value_at};
-ghost use Rattle.plc_group.specs.Said.{number_or};
+ghost use Rattle.plc_group.specs.Values.{is_among, word_of, address_of, cold_start_of, console_key_of, directory_of};
+ghost use Rattle.plc_group.specs.Values.{identity_of, name_of, number_in, number_or, value_at};
 
 use crate::fault::{GroupFault, Why};
 use crate::group::ColdStart;
 use crate::key::{Key, Range};
-use crate::values::{address_of, cold_start_of, name_of, number_in};
+use crate::values::{
+    address_of, cold_start_of, console_key_of, directory_of, identity_of, name_of, number_in,
+};
 use std::alloc::Global;
 use std::net::SocketAddr;
 use toml::{Table, Value};
@@ -98,6 +100,48 @@ pub(crate) fn name(alloc: Global, table: &Table) -> Result<String, GroupFault>
     match name_of(value) {
         Some(name) => Ok(String::from_str(alloc, name)?),
         None => Err(wrong(None, Key::Name, Why::Refused)),
+    }
+}
+
+/// The identity of the group.
+pub(crate) fn identity(table: &Table) -> Result<[u8; 16], GroupFault>
+    ensures { Judges (needed_faults identity_of None Key.Identity (table_view table.now))
+        (λ i. value_at identity_of Key.Identity (table_view table.now) ≡ Some i) result }
+{
+    let Some(value) = value_at(table, Key::Identity) else {
+        return Err(wrong(None, Key::Identity, Why::Missing));
+    };
+    match identity_of(value) {
+        Some(identity) => Ok(identity),
+        None => Err(wrong(None, Key::Identity, Why::Refused)),
+    }
+}
+
+/// What a console asks for first, if anything.
+pub(crate) fn console_key(alloc: Global, table: &Table) -> Result<Option<String>, GroupFault>
+    ensures { Judges (wanted_faults console_key_of None Key.ConsoleKey (table_view table.now))
+        (λ o. value_at console_key_of Key.ConsoleKey (table_view table.now) ≡ option_map string_bytes o) result }
+{
+    let Some(value) = value_at(table, Key::ConsoleKey) else {
+        return Ok(None);
+    };
+    match console_key_of(value) {
+        Some(key) => Ok(Some(String::from_str(alloc, key)?)),
+        None => Err(wrong(None, Key::ConsoleKey, Why::Refused)),
+    }
+}
+
+/// The directory of the sockets of consoles, if they have sockets.
+pub(crate) fn console_sockets(alloc: Global, table: &Table) -> Result<Option<String>, GroupFault>
+    ensures { Judges (wanted_faults directory_of None Key.ConsoleSockets (table_view table.now))
+        (λ o. value_at directory_of Key.ConsoleSockets (table_view table.now) ≡ option_map string_bytes o) result }
+{
+    let Some(value) = value_at(table, Key::ConsoleSockets) else {
+        return Ok(None);
+    };
+    match directory_of(value) {
+        Some(path) => Ok(Some(String::from_str(alloc, path)?)),
+        None => Err(wrong(None, Key::ConsoleSockets, Why::Refused)),
     }
 }
 

@@ -25,9 +25,9 @@ pub struct Machine {
 pub struct Times {
     /// In milliseconds: a backup that hears nothing of its primary for so long begins a view change.
     pub patience: u32,
-    /// In milliseconds: what may have been lost is sent again.
+    /// In milliseconds: what may have been lost is sent again. At most a fifth of the patience.
     pub resend: u32,
-    /// In milliseconds: outputs are shown for so long after their scan was submitted.
+    /// In milliseconds: outputs are shown for so long after their scan was submitted. At least a period and 20.
     pub fresh: u32,
     /// In seconds: a session ends whose client sends nothing, or takes nothing, for so long.
     pub idle: u32,
@@ -47,6 +47,8 @@ pub enum ColdStart {
 pub struct Group {
     /// From 1 to 64 visible bytes of ASCII.
     pub name: String,
+    /// Drawn for this group alone: names are copied with the file.
+    pub identity: [u8; 16],
     /// How many machines there are, and how often their replicas make checkpoints.
     pub config: Config,
     /// How many instructions a scan may perform.
@@ -55,6 +57,10 @@ pub struct Group {
     pub period: u32,
     pub times: Times,
     pub cold_start: ColdStart,
+    /// What a console asks for first, if anything: from 8 to 128 visible bytes of ASCII.
+    pub console_key: Option<String>,
+    /// The directory in which the console of machine I is the socket `console-I`, in place of a port, if that's so.
+    pub console_sockets: Option<String>,
     pub machines: Vec<Machine>,
     ghost one_each: { vec_len machines ≡ group_size config.f },
 }

@@ -1,7 +1,7 @@
 //! The keys of the file, and the ranges of its numbers.
 
 ghost use Rattle.std.specs.Prelude.{◌≡◌};
-ghost use Rattle.plc_group.specs.Values.{word_of};
+ghost use Rattle.plc_group.specs.Values.{sharing_of, word_of};
 
 /// A key of the file.
 #[derive(Clone, Copy, Debug, PartialEq, Eq)]
@@ -15,15 +15,18 @@ pub enum Key {
     Fresh,
     Idle,
     ColdStart,
+    ConsoleKey,
+    ConsoleSockets,
     Machine,
     Replica,
     Modbus,
     Console,
     Status,
+    Identity,
 }
 
 /// The keys of the whole group.
-pub(crate) const GROUP_KEYS: [Key; 10] = [
+pub(crate) const GROUP_KEYS: [Key; 13] = [
     Key::Name,
     Key::Period,
     Key::Budget,
@@ -33,7 +36,10 @@ pub(crate) const GROUP_KEYS: [Key; 10] = [
     Key::Fresh,
     Key::Idle,
     Key::ColdStart,
+    Key::ConsoleKey,
+    Key::ConsoleSockets,
     Key::Machine,
+    Key::Identity,
 ];
 
 /// The keys of a machine.
@@ -54,13 +60,38 @@ impl Key {
             Key::Fresh => "fresh",
             Key::Idle => "idle",
             Key::ColdStart => "cold_start",
+            Key::ConsoleKey => "console_key",
+            Key::ConsoleSockets => "console_sockets",
             Key::Machine => "machine",
             Key::Replica => "replica",
             Key::Modbus => "modbus",
             Key::Console => "console",
             Key::Status => "status",
+            Key::Identity => "identity",
         }
     }
+
+    /// Whether the machines of a group have to have the same there, and when it may change.
+    pub fn sharing(self) -> Sharing
+        ensures { result ≡ sharing_of self }
+    {
+        match self {
+            Key::Name | Key::Identity | Key::Budget | Key::Every | Key::Machine => Sharing::Store,
+            Key::Fresh => Sharing::Group,
+            _ => Sharing::Machine,
+        }
+    }
+}
+
+/// Whether the machines of a group have to have the same at a key, and when it may change.
+#[derive(Clone, Copy, Debug, PartialEq, Eq)]
+pub enum Sharing {
+    /// All have the same, and it stays for as long as their stores do.
+    Store,
+    /// All have the same. It may change while all are stopped.
+    Group,
+    /// Each may have its own, and it may change at one after the other.
+    Machine,
 }
 
 /// The numbers from one to another.
@@ -90,14 +121,14 @@ pub(crate) const DISTANCES: Range = Range {
 
 /// In milliseconds.
 pub(crate) const PATIENCES: Range = Range {
-    least: 10,
+    least: 25,
     most: 60_000,
 };
 
 /// In milliseconds.
 pub(crate) const RESENDS: Range = Range {
     least: 5,
-    most: 60_000,
+    most: 12_000,
 };
 
 /// In milliseconds.

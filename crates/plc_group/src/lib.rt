@@ -13,7 +13,8 @@
 //! Proved: a group is given exactly where its table has no fault, and is the one that the table says (`Says` of
 //! `specs/Said`, defaults in it); else the fault is the first of those that the table has, in the order of
 //! `specs/Faults` (`faults_of`), or the bytes are no table of TOML 1.1 in UTF-8. An address is one that std's grammar
-//! has, with a port. Each fault has its line.
+//! has, with a port. Each fault has its line. What lacks nothing but an identity is told so (`lacks_identity`), since
+//! that's the last fault, and gets one (`with_identity`). Which keys machines have to share is a table (`Key::sharing`).
 //!
 //! In no clause: where the fault of bytes lies that are no TOML, which is the crate `toml`'s to say.
 #![tactic(auto)]
@@ -22,7 +23,9 @@ mod exposed;
 mod fault;
 mod fields;
 mod group;
+mod identity;
 mod key;
+mod laws;
 mod machines;
 mod reading;
 mod telling;
@@ -31,7 +34,9 @@ mod values;
 pub use exposed::exposed_lines;
 pub use fault::{GroupFault, Why};
 pub use group::{ColdStart, Group, Machine, Times};
-pub use key::{Key, Range};
+pub use identity::{lacks_identity, with_identity};
+pub use key::{Key, Range, Sharing};
+pub use laws::copies_are_of_one_group;
 pub use reading::read_group;
 pub use telling::tell_group_fault;
 pub use values::addresses_are_written;

@@ -1,12 +1,13 @@
 //! The machines of the file.
 
-ghost use Rattle.std.specs.Prelude.{◌≡◌, ◌++◌, IfOk, OnOk, [], Some, map, option_map, vec_len};
+ghost use Rattle.std.specs.Prelude.{◌≡◌, ◌++◌, ⊤, IfOk, OnOk, [], Some, is_some, map, option_map, vec_len};
+ghost use Rattle.std.specs.List.{list_any};
 ghost use Rattle.toml.specs.View.{view, table_view};
 ghost use Rattle.plc_group.specs.Faults.{Judges, addresses_faults, again, each_faults, first, is_same, machine_faults};
 ghost use Rattle.plc_group.specs.Faults.{machines_faults, places_in, places_of, stands_in, twice_after, twice_faults};
+ghost use Rattle.plc_group.specs.Faults.{beside_faults, has_console, is_everywhere, replica_faults, status_faults};
 ghost use Rattle.plc_group.specs.Faults.{wanted_place};
-ghost use Rattle.plc_group.specs.Said.{machines_said};
-ghost use Rattle.plc_group.specs.Values.{IsSize, all_of, machine_in, machine_of};
+ghost use Rattle.plc_group.specs.Values.{IsSize, address_of, all_of, machine_in, machine_of, machines_said, value_at};
 
 use crate::fault::{GroupFault, Why};
 use crate::fields::{needed_address, refuse_unknown, value_at, wanted_address, wrong};
@@ -64,11 +65,66 @@ fn addresses(table: &Table, place: usize) -> Result<Machine, GroupFault>
         (λ m. machine_in (table_view table.now) ≡ Some m) result }
 {
     Ok(Machine {
-        replica: needed_address(table, Key::Replica, place)?,
+        replica: replica(table, place)?,
         modbus: needed_address(table, Key::Modbus, place)?,
         console: wanted_address(table, Key::Console, place)?,
-        status: wanted_address(table, Key::Status, place)?,
+        status: status(table, place)?,
     })
+}
+
+/// Where the other machines reach a machine: at one address of it.
+fn replica(table: &Table, place: usize) -> Result<SocketAddr, GroupFault>
+    ensures { Judges (replica_faults place (table_view table.now))
+        (λ a. value_at address_of Key.Replica (table_view table.now) ≡ Some a) result }
+{
+    let address = needed_address(table, Key::Replica, place)?;
+    if is_everywhere(address) {
+        return Err(wrong(Some(place), Key::Replica, Why::Everywhere));
+    }
+    Ok(address)
+}
+
+/// Where a machine shows its status, if it does: at one address of it.
+fn status(table: &Table, place: usize) -> Result<Option<SocketAddr>, GroupFault>
+    ensures { Judges (status_faults place (table_view table.now))
+        (λ a. value_at address_of Key.Status (table_view table.now) ≡ a) result }
+{
+    match wanted_address(table, Key::Status, place)? {
+        Some(address) if is_everywhere(address) => {
+            Err(wrong(Some(place), Key::Status, Why::Everywhere))
+        }
+        address => Ok(address),
+    }
+}
+
+/// Whether an address stands for each one of a machine.
+fn is_everywhere(address: SocketAddr) -> bool
+    ensures { result ≡ is_everywhere address }
+{
+    address.ip().is_unspecified()
+}
+
+/// Refuses sockets for consoles beside a console at a port.
+pub(crate) fn refuse_ports(sockets: &Option<String>, machines: &[Machine]) -> Result<(), GroupFault>
+    ensures { Judges (beside_faults (is_some sockets.now) machines.now) (λ _. ⊤) result }
+{
+    if sockets.is_some() && has_port(machines) {
+        return Err(wrong(None, Key::ConsoleSockets, Why::BesidePorts));
+    }
+    Ok(())
+}
+
+/// Whether a machine has a console at a port.
+fn has_port(machines: &[Machine]) -> bool
+    ensures { result ≡ list_any has_console machines.now }
+{
+    machines.iter().any(has_console)
+}
+
+fn has_console(machine: &Machine) -> bool
+    ensures { result ≡ has_console machine.now }
+{
+    machine.console.is_some()
 }
 
 /// An address, where it stands.

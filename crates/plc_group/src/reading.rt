@@ -1,21 +1,26 @@
 //! The group of a file.
 
-ghost use Rattle.std.specs.Prelude.{◌≡◌, ◌≤◌, [], IfErr, IfOk, take};
+ghost use Rattle.std.specs.Prelude.{◌≡◌, ◌≤◌, ◌+◌, ◌/◌, [], IfErr, IfOk, take};
 ghost use Rattle.toml.specs.Data.{Members};
 ghost use Rattle.toml.specs.Errors.{IsMemory, IsWithin, span_start};
 ghost use Rattle.toml.specs.View.{table_view};
 ghost use Rattle.plc_group.specs.declared.fault.GroupFault.TheVariants.{Memory, Toml};
 ghost use Rattle.plc_group.specs.Lines.{column_behind, line_behind};
-ghost use Rattle.plc_group.specs.Faults.{IsFileFault, IsTable, Judges, faults_of, settings_faults, times_faults};
+ghost use Rattle.plc_group.specs.Faults.{IsFileFault, IsTable, Judges, faults_of, fresh_faults, resend_faults};
+ghost use Rattle.plc_group.specs.Faults.{settings_faults, times_faults};
 ghost use Rattle.plc_group.specs.Said.{Says, SaysSettings, SaysTimes};
+ghost use Rattle.plc_group.specs.Values.{number_or, usual_resend};
+ghost use Rattle.plc_group.specs.declared.key.TheConstants.{FRESHNESSES, RESENDS};
 
-use crate::fault::GroupFault;
-use crate::fields::{cold_start, name, number, refuse_unknown};
+use crate::fault::{GroupFault, Why};
+use crate::fields::{
+    cold_start, console_key, console_sockets, identity, name, number, refuse_unknown, wrong,
+};
 use crate::group::{ColdStart, Group, Times};
 use crate::key::{
     BUDGETS, DISTANCES, FRESHNESSES, GROUP_KEYS, IDLES, Key, PATIENCES, PERIODS, RESENDS,
 };
-use crate::machines::machines;
+use crate::machines::{machines, refuse_ports};
 use il_model::Budget;
 use std::alloc::Global;
 use toml::Table;
@@ -23,6 +28,15 @@ use vr_model::Config;
 
 /// In milliseconds: by default outputs are shown for so long beyond a period.
 const MARGIN: u32 = 40;
+
+/// In milliseconds: for so long beyond a period they're shown at least.
+const LEAST_MARGIN: u32 = 20;
+
+/// What may have been lost is sent again within this part of the patience.
+const PART: u32 = 5;
+
+/// In milliseconds: by default it's sent again behind so long, where the patience allows that.
+const RESEND: u32 = 20;
 
 /// The group of a file of these bytes: TOML 1.1 in UTF-8. It's given exactly where its table has no fault; else the
 /// first fault is, and nothing else happened.
@@ -73,8 +87,11 @@ fn group_of(alloc: Global, table: &Table) -> Result<Group, GroupFault>
     refuse_unknown(alloc, table, GROUP_KEYS.as_slice(), None)?;
     let settings = settings_of(alloc, table)?;
     let machines = machines(alloc, table)?;
+    refuse_ports(&settings.console_sockets, machines.as_slice())?;
+    let identity = identity(table)?;
     Ok(Group {
         name: settings.name,
+        identity,
         config: Config {
             f: ((machines.len() - 1) / 2) as u8,
             every: settings.every,
@@ -83,6 +100,8 @@ fn group_of(alloc: Global, table: &Table) -> Result<Group, GroupFault>
         period: settings.period,
         times: settings.times,
         cold_start: settings.cold_start,
+        console_key: settings.console_key,
+        console_sockets: settings.console_sockets,
         machines,
     })
 }
@@ -96,6 +115,8 @@ pub(crate) struct Settings {
     pub(crate) every: u16,
     pub(crate) times: Times,
     pub(crate) cold_start: ColdStart,
+    pub(crate) console_key: Option<String>,
+    pub(crate) console_sockets: Option<String>,
 }
 
 fn settings_of(alloc: Global, table: &Table) -> Result<Settings, GroupFault>
@@ -107,6 +128,8 @@ fn settings_of(alloc: Global, table: &Table) -> Result<Settings, GroupFault>
     let every = number(table, Key::Every, DISTANCES, 64)?;
     let times = times(table, period)?;
     let cold_start = cold_start(table)?;
+    let console_key = console_key(alloc, table)?;
+    let console_sockets = console_sockets(alloc, table)?;
     Ok(Settings {
         name,
         period,
@@ -114,18 +137,57 @@ fn settings_of(alloc: Global, table: &Table) -> Result<Settings, GroupFault>
         every: every as u16,
         times,
         cold_start,
+        console_key,
+        console_sockets,
     })
 }
 
 /// The times of a table with this period.
 fn times(table: &Table, period: u32) -> Result<Times, GroupFault>
     requires { period ≤ 3600000 }
-    ensures { Judges (times_faults (table_view table.now)) (SaysTimes (table_view table.now) period) result }
+    ensures { Judges (times_faults period (table_view table.now)) (SaysTimes (table_view table.now) period) result }
 {
+    let patience = number(table, Key::Patience, PATIENCES, 100)?;
     Ok(Times {
-        patience: number(table, Key::Patience, PATIENCES, 100)?,
-        resend: number(table, Key::Resend, RESENDS, 25)?,
-        fresh: number(table, Key::Fresh, FRESHNESSES, period + MARGIN)?,
+        patience,
+        resend: resend(table, patience)?,
+        fresh: fresh(table, period)?,
         idle: number(table, Key::Idle, IDLES, 300)?,
     })
+}
+
+/// When what may have been lost is sent again, by a table with this patience.
+fn resend(table: &Table, patience: u32) -> Result<u32, GroupFault>
+    ensures { Judges (resend_faults patience (table_view table.now))
+        (λ n. n ≡ number_or (usual_resend patience) RESENDS Key.Resend (table_view table.now)) result }
+{
+    let resend = number(table, Key::Resend, RESENDS, usual_resend(patience))?;
+    if resend > patience / PART {
+        return Err(wrong(None, Key::Resend, Why::AbovePatience));
+    }
+    Ok(resend)
+}
+
+/// When that is where nothing is said.
+fn usual_resend(patience: u32) -> u32
+    ensures { result ≡ usual_resend patience }
+{
+    if patience / PART < RESEND {
+        patience / PART
+    } else {
+        RESEND
+    }
+}
+
+/// For how long outputs are shown, by a table with this period.
+fn fresh(table: &Table, period: u32) -> Result<u32, GroupFault>
+    requires { period ≤ 3600000 }
+    ensures { Judges (fresh_faults period (table_view table.now))
+        (λ n. n ≡ number_or (period + 40) FRESHNESSES Key.Fresh (table_view table.now)) result }
+{
+    let fresh = number(table, Key::Fresh, FRESHNESSES, period + MARGIN)?;
+    if fresh < period + LEAST_MARGIN {
+        return Err(wrong(None, Key::Fresh, Why::BelowPeriod));
+    }
+    Ok(fresh)
 }

@@ -3,8 +3,7 @@
 ghost use Rattle.std.specs.Prelude.{◌≡◌};
 ghost use Rattle.il_text.specs.Telling.{Sends, WentOut};
 ghost use Rattle.plc_group.specs.Lines.{group_fault_line, machine_text, place_text, status_of, toml_line};
-ghost use Rattle.plc_group.specs.Lines.{unknown_line, value_line};
-ghost use Rattle.plc_group.specs.Lines.{why_text};
+ghost use Rattle.plc_group.specs.Lines.{missing_text, refused_text, unknown_line, value_line, why_text};
 
 use crate::fault::{GroupFault, Why};
 use crate::key::Key;
@@ -66,7 +65,7 @@ fn put_at<E: CountedWrite>(
 {
     put_place(machine, err)?;
     put(err, key.word().as_bytes())?;
-    put(err, why_text(why))
+    put(err, why_text(key, why))
 }
 
 fn put_place<E: CountedWrite>(machine: Option<usize>, err: &mut E) -> Result<(), DeviceFault>
@@ -85,12 +84,38 @@ fn put_machine<E: CountedWrite>(number: usize, err: &mut E) -> Result<(), Device
     put(err, b" ")
 }
 
-fn why_text(why: Why) -> &'static [u8]
-    ensures { result.now ≡ why_text why }
+/// What is said behind a key.
+fn why_text(key: Key, why: Why) -> &'static [u8]
+    ensures { result.now ≡ why_text key why }
 {
     match why {
-        Why::Missing => b" missing\n",
-        Why::Refused => b" refused\n",
+        Why::Missing => missing_text(key),
+        Why::Refused => refused_text(key),
         Why::Twice => b" twice\n",
+        Why::BelowPeriod => b" refused: below a period and 20\n",
+        Why::AbovePatience => b" refused: above a fifth of patience\n",
+        Why::Everywhere => b" refused: one address of the machine\n",
+        Why::BesidePorts => b" refused: a machine has a console of its own\n",
+    }
+}
+
+fn missing_text(key: Key) -> &'static [u8]
+    ensures { result.now ≡ missing_text key }
+{
+    match key {
+        Key::Identity => b" missing: plc format --new-group\n",
+        _ => b" missing\n",
+    }
+}
+
+fn refused_text(key: Key) -> &'static [u8]
+    ensures { result.now ≡ refused_text key }
+{
+    match key {
+        Key::Replica | Key::Modbus | Key::Console | Key::Status => {
+            b" refused: an address and a port, as 127.0.0.1:7600\n"
+        }
+        Key::Identity => b" refused: 32 hexadecimal digits\n",
+        _ => b" refused\n",
     }
 }

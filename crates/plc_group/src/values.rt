@@ -4,9 +4,9 @@ ghost use Rattle.std.specs.Prelude.{◌≡◌, ◌↔◌, ℕ, List, Some, map, 
 ghost use Rattle.std.specs.List.{list_all};
 ghost use Rattle.std.specs.Net.Grammar.{IsSocketText};
 ghost use Rattle.toml.specs.View.{view};
-ghost use Rattle.plc_group.specs.Values.{address_in, address_of, cold_start_of, is_name, is_size, is_visible};
-ghost use Rattle.plc_group.specs.Values.{machines_of, name_of};
-ghost use Rattle.plc_group.specs.Values.{number_in, written_address};
+ghost use Rattle.plc_group.specs.Values.{address_in, address_of, cold_start_of, console_key_of, directory_of, identity_in};
+ghost use Rattle.plc_group.specs.Values.{identity_of, is_console_key, is_directory, is_name, is_size, is_visible};
+ghost use Rattle.plc_group.specs.Values.{machines_of, name_of, number_in, written_address};
 
 use crate::group::ColdStart;
 use crate::key::Range;
@@ -44,6 +44,59 @@ fn is_name(bytes: &[u8]) -> bool
     ensures { result ≡ is_name bytes.now }
 {
     1 <= bytes.len() && bytes.len() <= LONGEST_NAME && are_visible(bytes)
+}
+
+/// The key of a console: from 8 to 128 visible bytes of ASCII.
+pub(crate) fn console_key_of(value: &Value) -> Option<&str>
+    ensures { option_copied result ≡ console_key_of (view value.now) }
+{
+    let key = value.as_str()?;
+    if is_console_key(key.as_bytes()) {
+        Some(key)
+    } else {
+        None
+    }
+}
+
+fn is_console_key(bytes: &[u8]) -> bool
+    ensures { result ≡ is_console_key bytes.now }
+{
+    8 <= bytes.len() && bytes.len() <= 128 && are_visible(bytes)
+}
+
+/// A directory: a path from the root, of at most 90 visible bytes of ASCII.
+pub(crate) fn directory_of(value: &Value) -> Option<&str>
+    ensures { option_copied result ≡ directory_of (view value.now) }
+{
+    let path = value.as_str()?;
+    if is_directory(path.as_bytes()) {
+        Some(path)
+    } else {
+        None
+    }
+}
+
+fn is_directory(bytes: &[u8]) -> bool
+    ensures { result ≡ is_directory bytes.now }
+{
+    bytes.starts_with(b"/") && bytes.len() <= 90 && are_visible(bytes)
+}
+
+/// An identity: sixteen bytes, as 32 hexadecimal digits.
+pub(crate) fn identity_of(value: &Value) -> Option<[u8; 16]>
+    ensures { result ≡ identity_of (view value.now) }
+{
+    identity_in(value.as_str()?)
+}
+
+fn identity_in(text: &str) -> Option<[u8; 16]>
+    ensures { result ≡ identity_in text.now }
+{
+    let mut identity = [0u8; 16];
+    match hex::decode_to_slice(text, &mut identity) {
+        Ok(()) => Some(identity),
+        Err(_) => None,
+    }
 }
 
 fn are_visible(bytes: &[u8]) -> bool

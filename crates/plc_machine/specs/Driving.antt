@@ -1,6 +1,6 @@
 -- What the driver of a machine does by a look at its replica, by a scan and by a reply, and when it shows outputs.
 use Rattle.std.specs.Prelude.{◌≡◌, ℕ, ◌+◌, ◌*◌, ◌≤◌, ◌<◌, List, Option, Some, None, nat_lt, is_some}
-use Rattle.std.specs.Prelude.{false, if◌then◌else◌}
+use Rattle.std.specs.Prelude.{Bool, false, true, if◌then◌else◌, option_map}
 use Rattle.std.specs.Duration.{as_nanos}
 use Rattle.std.specs.declared.time.Duration.{Duration}
 use Rattle.vr_model.specs.declared.message.Message.{Message}
@@ -57,11 +57,19 @@ pub record SubmitsScan (now : Duration) (told : Option Book) (sends : List Messa
   pub submitted : b.submitted ≡ now
   pub kept : (b.shown ≡ a.shown) × (b.pace ≡ a.pace)
 
--- what is released is shown, for as long as it's fresh since its scan was submitted; else what was shown before
-abbrev pub TakesReply : Option Release → MachineDriver → MachineDriver → Type 0
-TakesReply None a b = (b.shown ≡ a.shown) × (b.course ≡ a.course) × (b.submitted ≡ a.submitted) × (b.pace ≡ a.pace)
-TakesReply (Some release) a b =
-    (b.shown ≡ Some a.submitted) × (b.course ≡ a.course) × (b.submitted ≡ a.submitted) × (b.pace ≡ a.pace)
+-- As of which submission outputs are shown, once the scan that was submitted then is answered, or isn't: what it
+-- releases is shown as of then. Where it's answered and releases nothing it's held, and what was shown before stays, as
+-- of then, if anything was. Behind any other message all is as before.
+abbrev pub shown_by : Bool → Bool → Duration → Option Duration → Option Duration
+shown_by true is_answered submitted before = Some submitted
+shown_by false true submitted before = option_map (λ earlier. submitted) before
+shown_by false false submitted before = before
+
+-- a message released this, if anything, and answered the scan that waits, or didn't
+abbrev pub TakesReply : Option Release → Bool → MachineDriver → MachineDriver → Type 0
+TakesReply release is_answered a b =
+    (b.shown ≡ shown_by (is_some release) is_answered a.submitted a.shown) × (b.course ≡ a.course)
+    × (b.submitted ≡ a.submitted) × (b.pace ≡ a.pace)
 
 -- by which times outputs are shown now
 abbrev pub ShowsAt : ℕ → Course → Option Duration → ℕ → Type 0

@@ -1,15 +1,16 @@
 //! The driver of one machine: a client of its group, which submits scans while the machine leads.
 
-ghost use Rattle.std.specs.Prelude.{◌≡◌, ◌↔◌, List, None, Some, IfNone, IfOk, IfSome, IsTrue, OnErr, OnOk};
+ghost use Rattle.std.specs.Prelude.{◌≡◌, ◌↔◌, ◌&&◌, List, None, Some, IfNone, IfOk, IfSome, IsTrue, OnErr, OnOk};
+ghost use Rattle.std.specs.Prelude.{is_some, not};
 ghost use Rattle.std.specs.Duration.{as_nanos};
 ghost use Rattle.il_model.specs.declared.command.Command.{Command as Asked};
-ghost use Rattle.vr_client.specs.Client.{SendsAt, new_client};
+ghost use Rattle.vr_client.specs.Client.{SendsAt, answer_by, new_client};
 ghost use Rattle.vr_model.specs.Logs.{Request as Entry};
 ghost use Rattle.vr_model.specs.StandsFor.{body_with};
 ghost use Rattle.vr_model.specs.Steps.{Retries};
 ghost use Rattle.io_driver.specs.Driver.{release_by};
 ghost use Rattle.plc_machine.specs.Driving.{GivesUp, IsKept, Looks, Shows, SubmitsScan, TakesReply};
-ghost use Rattle.plc_machine.specs.Driving.{client_starts};
+ghost use Rattle.plc_machine.specs.Driving.{client_starts, shown_by};
 ghost use Rattle.plc_machine.specs.declared.leading.Course.TheVariants.{StandingBy};
 
 use crate::leading::{Course, LastScan, Pace};
@@ -48,9 +49,34 @@ pub struct MachineDriver {
     pub(crate) restarts: u16,
     /// When the scan was submitted that was submitted last.
     pub(crate) submitted: Duration,
-    /// When the scan was submitted that released what is shown; none where the machine has released nothing since it
-    /// leads.
+    /// When the scan was submitted as of which outputs are shown: that released them, or is held behind that one; none
+    /// where the machine has released nothing since it leads.
     pub(crate) shown: Option<Duration>,
+}
+
+/// When the scan was submitted as of which outputs are shown, where one that was submitted then was answered or not,
+/// and released some or not: before it was another one, if any.
+fn shown_by(
+    is_released: bool,
+    is_answered: bool,
+    submitted: Duration,
+    shown: Option<Duration>,
+) -> Option<Duration>
+    ensures { result ≡ shown_by is_released is_answered submitted shown }
+{
+    match (is_released, is_answered, shown) {
+        (true, _, _) => Some(submitted),
+        (false, true, Some(_)) => Some(submitted),
+        (false, true, None) => None,
+        (false, false, shown) => shown,
+    }
+}
+
+/// Whether a request was answered that waited before or didn't, and waits now or doesn't.
+fn is_answered(waited: bool, waits: bool) -> bool
+    ensures { result ≡ (waited && not waits) }
+{
+    waited && !waits
 }
 
 impl MachineDriver {
@@ -78,7 +104,9 @@ impl MachineDriver {
     }
 
     /// Whether a scan waits for its reply.
-    pub fn is_waiting(&self) -> bool {
+    pub fn is_waiting(&self) -> bool
+        ensures { result ≡ is_some self.now.driver.state.waits }
+    {
         self.driver.is_waiting()
     }
 
@@ -169,17 +197,29 @@ impl MachineDriver {
     }
 
     /// Takes a message to its client: the release of the scan that waits, if the message is the first REPLY to it and
-    /// has an image. That is shown from now on.
+    /// has an image. That is shown from now on. A scan that is held has no image: behind its REPLY what is shown stays,
+    /// as fresh as that scan, since a majority has it, and whoever leads next waits until it's no longer fresh.
     pub fn on_reply(&mut self, message: &Message) -> Option<Release>
         ensures release { (log : List (Entry Asked))
             → result ≡ release_by self.old.driver.state (body_with log message.now.body) }
-        ensures shown { TakesReply result self.old self.new }
+        ensures shown { (log : List (Entry Asked))
+            → TakesReply result (is_some (answer_by self.old.driver.state (body_with log message.now.body)))
+            self.old self.new }
     {
+        let waited = self.driver.is_waiting();
         let release = self.driver.on_reply(message);
-        if release.is_some() {
-            self.shown = Some(self.submitted);
-        }
+        let waits = self.driver.is_waiting();
+        let is_answered = is_answered(waited, waits);
+        self.shown = shown_by(release.is_some(), is_answered, self.submitted, self.shown);
         release
+    }
+
+    /// When the scan was submitted as of which outputs are shown, while the machine leads; none where it has released
+    /// nothing since.
+    pub fn shown(&self) -> Option<Duration>
+        ensures { result ≡ self.now.shown }
+    {
+        self.shown
     }
 
     /// Whether outputs are shown now: the machine leads, whoever led before shows nothing any more, and they are fresh.

@@ -26,10 +26,10 @@ pub fn no_two_show()
 /// What is formatted for a machine of a group starts as a new machine of that group, or waits where it's one whose disk
 /// was lost, if nothing else was put into its directory.
 pub fn what_is_formatted_starts()
-    ensures new { (group : Group) (machine : ℕ) (image : List ℕ) → machine < group_size group.config.f
-        → length image < 2 ^ 32
-        → judged (Some (spelling (new_saying group machine image))) [] (wanted_by group) ≡ Ok First }
-    ensures waiting { (group : Group) (machine : ℕ) (image : List ℕ) → machine < group_size group.config.f
-        → length image < 2 ^ 32
-        → judged (Some (spelling (waiting_saying group machine image))) [] (wanted_by group) ≡ Ok Waits }
+    ensures new { (group : Group) (machine : ℕ) (image : List ℕ) (store : ℕ) → machine < group_size group.config.f
+        → length image < 2 ^ 32 → store < 2 ^ 64
+        → judged (Some (spelling (new_saying group machine image store))) [] (wanted_by group) ≡ Ok First }
+    ensures waiting { (group : Group) (machine : ℕ) (image : List ℕ) (store : ℕ) → machine < group_size group.config.f
+        → length image < 2 ^ 32 → store < 2 ^ 64
+        → judged (Some (spelling (waiting_saying group machine image store))) [] (wanted_by group) ≡ Ok Waits }
 {}

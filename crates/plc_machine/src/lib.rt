@@ -2,7 +2,7 @@
 //! It knows no socket, no thread and no clock: times are told to it, from a beginning of its own on.
 //!
 //! ```rust
-//! let store = new_store(&group, 0, image)?; // it has entered the first epoch
+//! let store = new_store(&group, 0, image, number)?; // it has entered the first epoch
 //! let mut driver = MachineDriver::new(&group.config, client, starts, pace);
 //! driver.look(led_view(standing, has_failed), last_scan, now)?; // by what its own replica shows
 //! let sends = driver.submit(alloc, &mut staging, now)?; // a scan, where one is due and it leads

@@ -1,3 +1,4 @@
 pub mod Fields
 pub mod Readings
 pub mod GoingOn
+pub mod Marks

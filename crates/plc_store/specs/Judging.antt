@@ -1,8 +1,8 @@
 -- What a machine may do with what its directory holds: the bytes of its store, if there are any, the views of
 -- replicas, and the mark of a change.
 use Rattle.std.specs.Prelude.{◌≡◌, ◌==◌, ◌⊎◌, ⊤, ℕ, Bool, true, false, not, List, [], ◌∷◌, bytes_eq, nat_le, Option, Some}
-use Rattle.std.specs.Prelude.{None, Result, Ok, Err, if◌then◌else◌}
-use Rattle.std.specs.List.{list_any}
+use Rattle.std.specs.Prelude.{None, Result, Ok, Err, if◌then◌else◌, nat_eq}
+use Rattle.std.specs.List.{list_any, starts_with}
 use Rattle.net_hello.specs.declared.hello.Epoch.{Epoch}
 use Rattle.plc_epochs.specs.declared.kept.Kept.{Kept}
 use Rattle.plc_epochs.specs.declared.kept.Kept.TheVariants as keeps
@@ -69,7 +69,7 @@ IsBlank group views mark = (group ≡ None) × (views ≡ []) × (mark ≡ None)
 -- what no directory decides: memory ran out, or the disk failed
 abbrev pub IsFromOutside : Refusal → Type 0
 IsFromOutside refusals.Memory = ⊤
-IsFromOutside refusals.Device = ⊤
+IsFromOutside (refusals.Device fault) = ⊤
 IsFromOutside e = ⊥
 
 -- there is no store to be read, or that's from outside
@@ -88,9 +88,10 @@ HasEntered group = (said : Saying) × (epoch : Epoch) × (group ≡ Some (spelli
 
 abbrev pub has_mark : Epoch → Option (List ℕ) → Bool
 has_mark epoch None = false
-has_mark epoch (Some bytes) = bytes_eq bytes (epoch_bytes epoch)
+has_mark epoch (Some bytes) = starts_with nat_eq bytes (epoch_bytes epoch)
 
--- a change of the program was marked in the epoch that the store has begun; a mark of another epoch doesn't count
+-- a change of the program was marked in the epoch that the store has begun: its mark begins with that epoch, whatever
+-- stands behind; a mark of another epoch doesn't count
 abbrev pub is_changed : Kept → Option (List ℕ) → Bool
 is_changed (keeps.Begun epoch) mark = has_mark epoch mark
 is_changed kept mark = false

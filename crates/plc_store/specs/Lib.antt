@@ -1,4 +1,6 @@
 pub mod Spelling
+pub mod Marking
 pub mod Judging
 pub mod Keeping
+pub mod Changed
 pub mod Showing

@@ -5,6 +5,7 @@ use crate::judging::Refusal;
 use crate::marking::MARK;
 use std::alloc::{AllocError, Global};
 use std::fs::{File, OpenFile, TryLockError};
+use std::io::ErrorKind;
 use std::os::unix::fs::MetadataExt;
 use std::rt::Files;
 use std::{fs, io};
@@ -13,9 +14,29 @@ use vr_model::MOST_REPLICAS;
 /// The bit of a mode by which all may write.
 const OTHERS_WRITE: u32 = 0o002;
 
-/// A store couldn't be written.
+/// Why a store can't be read or written, as far as the system says it.
 #[derive(Clone, Copy, Debug, PartialEq, Eq)]
-pub struct NotWritten;
+pub enum DiskFault {
+    /// Its directory, or a file there, may not be read or written.
+    Rights,
+    /// The disk is full.
+    Space,
+    /// The directory, or a file there, is gone.
+    Missing,
+    /// Something else failed.
+    Other,
+}
+
+impl From<io::Error> for DiskFault {
+    fn from(error: io::Error) -> DiskFault {
+        match error.kind() {
+            ErrorKind::PermissionDenied | ErrorKind::ReadOnlyFilesystem => DiskFault::Rights,
+            ErrorKind::StorageFull | ErrorKind::QuotaExceeded => DiskFault::Space,
+            ErrorKind::NotFound => DiskFault::Missing,
+            _ => DiskFault::Other,
+        }
+    }
+}
 
 /// Where the store of one machine is kept, beside the views of its replica and the mark of a change.
 pub trait StoreDirectory {
@@ -43,14 +64,14 @@ pub trait StoreDirectory {
         ensures { option_map (λ bytes. bytes.now) result ≡ mark self.now };
 
     /// Puts these bytes in the store's place. Where that fails the store is as it was, or these bytes.
-    fn put(&mut self, bytes: Vec<u8>) -> Result<(), NotWritten>
+    fn put(&mut self, bytes: Vec<u8>) -> Result<(), DiskFault>
         ensures done { OnOk result (group self.new ≡ Some bytes.items) }
         ensures failed { OnErr result ((group self.new ≡ group self.old) ⊎ (group self.new ≡ Some bytes.items)) }
         ensures views { views self.new ≡ views self.old }
         ensures mark { mark self.new ≡ mark self.old };
 
     /// Takes the views away, and the mark. Where that fails some of them may be left.
-    fn forget_views(&mut self) -> Result<(), NotWritten>
+    fn forget_views(&mut self) -> Result<(), DiskFault>
         ensures views { OnOk result (views self.new ≡ []) }
         ensures mark { OnOk result (mark self.new ≡ None) }
         ensures group { group self.new ≡ group self.old };
@@ -171,18 +192,14 @@ impl<R: Files<File = File> + Alloc<A = Global> + Drop> StoreDirectory for FileDi
         }
     }
 
-    fn put(&mut self, bytes: Vec<u8>) -> Result<(), NotWritten> {
-        if self.store.put(&self.rt, bytes.as_slice()).is_err() {
-            return Err(NotWritten);
-        }
+    fn put(&mut self, bytes: Vec<u8>) -> Result<(), DiskFault> {
+        self.store.put(&self.rt, bytes.as_slice())?;
         self.group = Some(bytes);
         Ok(())
     }
 
-    fn forget_views(&mut self) -> Result<(), NotWritten> {
-        if self.clear_views().is_err() {
-            return Err(NotWritten);
-        }
+    fn forget_views(&mut self) -> Result<(), DiskFault> {
+        self.clear_views()?;
         self.views.clear();
         self.mark = None;
         Ok(())

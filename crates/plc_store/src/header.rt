@@ -3,6 +3,10 @@
 ghost use Rattle.std.specs.Prelude.{◌<◌, ◌^◌, ◌≡◌, ◌↔◌, IfSome, IsSome, vec_len};
 
 use plc_epochs::Kept;
+use vr_model::MOST_REPLICAS;
+
+/// By machine: which store was seen of it, or 0 for none.
+pub type Seen = [u64; MOST_REPLICAS];
 
 /// Which store it is.
 #[derive(Clone, Copy, Debug, PartialEq, Eq)]
@@ -15,6 +19,10 @@ pub struct Header {
     pub program: [u8; 32],
     /// The machine's place in the group file, from 0.
     pub machine: u8,
+    /// What tells it from another store of the same machine: drawn when it was made, and never 0.
+    pub store: u64,
+    /// Which stores of the other machines were seen in the epoch that it's in.
+    pub seen: Seen,
 }
 
 /// A store: its header, and the image of the program that its machine begins with.

@@ -7,9 +7,9 @@ ghost use Rattle.plc_store.specs.Judging.{judgement, refusal_of};
 ghost use Rattle.plc_store.specs.Keeping.{by_hand_refusal};
 ghost use Rattle.plc_store.specs.declared.judging.Refusal.TheVariants.{Device, Memory};
 
-use crate::directory::NotWritten;
+use crate::directory::DiskFault;
 use crate::header::Header;
-use crate::marking::mark_of;
+use crate::marking::front_of;
 use crate::reading::StoreFault;
 use net_hello::Epoch;
 use plc_epochs::{ByHandFault, Kept};
@@ -50,8 +50,14 @@ pub enum Refusal {
     Waits,
     /// There is no epoch behind the one that it's in.
     LastEpoch,
+    /// It has reached the epoch into which it's to be put, or a later one.
+    NotAbove,
     /// The program of its group was changed in its epoch, so which one the next epoch begins with has to be said.
     Changed,
+    /// No change of the program is kept beside it that was made in its epoch.
+    NotChanged,
+    /// A change of the program was made in its epoch, and the image is kept nowhere.
+    NoImage,
     /// It holds something of a store, so nothing is formatted there.
     Used,
     /// The image of the program has 4 GiB or more.
@@ -61,7 +67,7 @@ pub enum Refusal {
     /// All may write to it, so somebody else could put a link in a file's place.
     Open,
     /// It can't be read or written.
-    Device,
+    Device(DiskFault),
     Memory,
 }
 
@@ -81,11 +87,11 @@ impl<T: Drop> From<AllocFailed<T>> for Refusal {
     }
 }
 
-impl From<NotWritten> for Refusal {
-    ghost from_gives = { λ _ e. e ≡ Device };
+impl From<DiskFault> for Refusal {
+    ghost from_gives = { λ fault e. e ≡ Device fault };
 
-    fn from(_fault: NotWritten) -> Refusal {
-        Refusal::Device
+    fn from(fault: DiskFault) -> Refusal {
+        Refusal::Device(fault)
     }
 }
 
@@ -118,7 +124,7 @@ impl From<io::Error> for Refusal {
         match error.kind() {
             io::ErrorKind::NotFound => Refusal::NoStore,
             io::ErrorKind::OutOfMemory => Refusal::Memory,
-            _ => Refusal::Device,
+            _ => Refusal::Device(DiskFault::from(error)),
         }
     }
 }
@@ -187,7 +193,8 @@ pub fn is_unbegun(kept: &Kept) -> bool
     !matches!(kept, Kept::Begun(_))
 }
 
-/// Whether a change of the program was marked in the epoch that a store has begun, by what the mark's file has.
+/// Whether a change of the program was marked in the epoch that a store has begun, by what the mark's file has: also by
+/// a mark that is torn behind its epoch.
 pub fn is_changed(kept: &Kept, mark: Option<&[u8]>) -> bool
     ensures { result ≡ is_changed kept.now (option_map (λ bytes. bytes.now) mark.entry) }
 {
@@ -201,7 +208,7 @@ fn has_mark(epoch: &Epoch, mark: Option<&[u8]>) -> bool
     ensures { result ≡ has_mark epoch.now (option_map (λ bytes. bytes.now) mark.entry) }
 {
     match mark {
-        Some(bytes) => bytes == mark_of(epoch).as_slice(),
+        Some(bytes) => bytes.starts_with(front_of(epoch).as_slice()),
         None => false,
     }
 }

@@ -1,35 +1,70 @@
 //! A store goes on from epoch to epoch.
 
-ghost use Rattle.std.specs.Prelude.{◌≡◌, ◌≤◌, ◌^◌, ◌⊎◌, IfErr, IfOk, IfSome, OnOk, Some, None, [], option_map, length};
+ghost use Rattle.std.specs.Prelude.{◌≡◌, ◌≤◌, ◌<◌, ◌^◌, ◌⊎◌, IfErr, IfOk, IfSome, OnOk, Some, None, [], option_map, length};
+ghost use Rattle.vr_model.specs.Groups.{most_replicas};
 ghost use Rattle.net_hello.specs.declared.hello.Epoch.{Epoch as Numbered};
 ghost use Rattle.plc_epochs.specs.declared.kept.Kept.TheVariants as keeps;
 ghost use Rattle.plc_store.specs.Judging.{IsFromOutside, IsUnread};
-ghost use Rattle.plc_store.specs.Keeping.{IsByHand, IsNext, IsProgramWanted, IsRefusedByHand, WouldGoBack};
-ghost use Rattle.plc_store.specs.Keeping.{kept_by_hand, lacks, with_image, with_kept};
+ghost use Rattle.plc_store.specs.Keeping.{HasSeen, IsByHand, IsNext, IsProgramWanted, IsRefusedByHand, WouldGoBack};
+ghost use Rattle.plc_store.specs.Keeping.{are_of_one_epoch, kept_by_hand, lacks, next_by_hand, numbered_by_hand};
+ghost use Rattle.plc_store.specs.Keeping.{seen_in, with_image, with_kept, with_seen};
 ghost use Rattle.plc_store.specs.Spelling.{Saying, saying, spelling};
-ghost use Rattle.plc_store.specs.declared.judging.Refusal.TheVariants.{Backward, TooLong};
+ghost use Rattle.plc_store.specs.declared.judging.Refusal.TheVariants.{Backward, OtherMachine, TooLong};
 
 use crate::directory::StoreDirectory;
-use crate::header::{Header, Store};
+use crate::header::{Header, Seen, Store};
 use crate::judging::{Refusal, is_changed};
 use crate::opening::stored_in;
-use crate::spelling::spell;
-use plc_epochs::{ByHandFault, Kept};
+use crate::spelling::{epoch_of, spell};
+use net_hello::Epoch;
+use plc_epochs::Kept;
 use sha2::{Digest, Sha256};
 use std::alloc::Global;
+use vr_model::MOST_REPLICAS;
 
-/// A store with something else of epochs.
+/// Whether both have something of one epoch, or nothing of any.
+fn are_of_one_epoch(kept: &Kept, other: &Kept) -> bool
+    ensures { result ≡ are_of_one_epoch kept.now other.now }
+{
+    let (epoch, other) = (epoch_of(kept), epoch_of(other));
+    epoch.number == other.number && epoch.image == other.image
+}
+
+/// Which stores were seen in the epoch of which a store of this header is to have something: none in another one.
+fn seen_in(header: &Header, kept: &Kept) -> Seen
+    ensures { result ≡ seen_in header.now kept.now }
+{
+    if are_of_one_epoch(&header.kept, kept) {
+        header.seen
+    } else {
+        [0; MOST_REPLICAS]
+    }
+}
+
+/// A store with something else of epochs. Which stores were seen is forgotten where that's another epoch.
 fn with_kept(store: Store, kept: &Kept) -> Store
     ensures { saying result ≡ with_kept (saying store) kept.now }
 {
+    let seen = seen_in(&store.header, kept);
     let Store { header, image } = store;
     Store {
         header: Header {
             kept: *kept,
+            seen,
             ..header
         },
         image,
     }
+}
+
+/// A store that has seen this one of a machine.
+fn with_seen(store: Store, machine: u8, seen: u64) -> Store
+    requires { machine < most_replicas }
+    ensures { saying result ≡ with_seen (saying store) machine seen }
+{
+    let Store { mut header, image } = store;
+    header.seen[usize::from(machine)] = seen;
+    Store { header, image }
 }
 
 /// Puts a store into its directory, in the place of the one that's there.
@@ -109,6 +144,31 @@ pub fn keep<D: StoreDirectory>(
     go_on(alloc, directory, store, kept)
 }
 
+/// Has the store of a directory say that this store of a machine was seen in its epoch, and answers it: it stands there
+/// before it's answered. Where no group has such a machine it's `OtherMachine`. Where it fails the store is as it was,
+/// or says so.
+pub fn see<D: StoreDirectory>(
+    alloc: Global,
+    directory: &mut D,
+    machine: u8,
+    seen: u64,
+) -> Result<Store, Refusal>
+    ensures seen { IfOk result (λ store. HasSeen (D.group directory.old) machine seen (saying store)) }
+    ensures kept { IfOk result (λ store. D.group directory.new ≡ Some (spelling (saying store))) }
+    ensures refused { IfErr result (λ e. IsUnread (D.group directory.old) e
+        ⊎ ((e ≡ OtherMachine) × (most_replicas ≤ machine))) }
+    ensures whole { (D.group directory.new ≡ D.group directory.old) ⊎ (said : Saying)
+        × HasSeen (D.group directory.old) machine seen said × (D.group directory.new ≡ Some (spelling said)) }
+    ensures views { D.views directory.new ≡ D.views directory.old }
+    ensures mark { D.mark directory.new ≡ D.mark directory.old }
+{
+    if usize::from(machine) >= MOST_REPLICAS {
+        return Err(Refusal::OtherMachine);
+    }
+    let store = stored_in(alloc, directory)?;
+    put(alloc, directory, with_seen(store, machine, seen))
+}
+
 /// A store with this image in place of its own, if there is one.
 fn with_image(store: Store, image: Option<Vec<u8>>) -> Result<Store, Refusal>
     ensures made { IfOk result (λ made. saying made ≡ with_image (saying store) (option_map (λ v. v.items) image)) }
@@ -137,35 +197,72 @@ fn lacks(kept: &Kept, own: &[u8; 32], program: &[u8; 32]) -> bool
     }
 }
 
-/// What a store of this header has of epochs by hand, with an image of this sum.
-fn kept_by_hand(header: &Header, program: &[u8; 32]) -> Result<Kept, ByHandFault>
-    ensures { result ≡ kept_by_hand header.now program.now }
+/// Into which epoch a store is put by hand.
+#[derive(Clone, Copy, Debug, PartialEq, Eq)]
+pub enum ByHand {
+    /// The one behind its own.
+    Next,
+    /// The one of this number, above its own, whatever that is: also where it waits.
+    Numbered(u64),
+}
+
+/// What a store that has this of epochs has in the epoch behind its own, with an image of this sum.
+fn next_by_hand(kept: &Kept, program: &[u8; 32]) -> Result<Kept, Refusal>
+    ensures { result ≡ next_by_hand kept.now program.now }
 {
-    if lacks(&header.kept, &header.program, program) {
-        Ok(header.kept)
-    } else {
-        header.kept.by_hand(*program)
+    match kept.by_hand(*program) {
+        Ok(next) => Ok(next),
+        Err(fault) => Err(Refusal::from(fault)),
     }
 }
 
-/// Puts the store of a directory into the next epoch by hand, with this image, or the one that it has. Where it has
-/// entered an epoch that begins with this image, and has another one, it gets the image, and stays in that epoch. A store
-/// of which the program was changed in its epoch wants an image: `Changed`. `Waits` and `LastEpoch` are those of
-/// `Kept::by_hand`. Where it fails the store is as it was, or the next one.
+/// What a store that has this of epochs has in the epoch of this number, with an image of this sum.
+fn numbered_by_hand(kept: &Kept, program: &[u8; 32], number: u64) -> Result<Kept, Refusal>
+    ensures { result ≡ numbered_by_hand kept.now program.now number }
+{
+    if number <= epoch_of(kept).number {
+        return Err(Refusal::NotAbove);
+    }
+    if number == u64::MAX {
+        return Err(Refusal::LastEpoch);
+    }
+    Ok(Kept::Entered(Epoch {
+        number,
+        image: *program,
+    }))
+}
+
+/// What a store of this header has of epochs by hand, with an image of this sum.
+fn kept_by_hand(header: &Header, program: &[u8; 32], into: ByHand) -> Result<Kept, Refusal>
+    ensures { result ≡ kept_by_hand header.now program.now into }
+{
+    match into {
+        ByHand::Next if lacks(&header.kept, &header.program, program) => Ok(header.kept),
+        ByHand::Next => next_by_hand(&header.kept, program),
+        ByHand::Numbered(number) => numbered_by_hand(&header.kept, program, number),
+    }
+}
+
+/// Puts the store of a directory into an epoch by hand, with this image, or the one that it has. Where it has entered an
+/// epoch that begins with this image, and has another one, it gets the image for the next one, and stays in that epoch.
+/// A store of which the program was changed in its epoch wants an image: `Changed`. `Waits` and `LastEpoch` are those of
+/// `Kept::by_hand`; `NotAbove` is told of a number that is no greater than its own epoch's. Where it fails the store is
+/// as it was, or the next one.
 pub fn enter_by_hand<D: StoreDirectory>(
     alloc: Global,
     directory: &mut D,
+    into: ByHand,
     image: Option<Vec<u8>>,
 ) -> Result<Store, Refusal>
     ensures entered { IfOk result (λ store.
-        IsByHand (D.group directory.old) (option_map (λ v. v.items) image) (saying store)) }
+        IsByHand (D.group directory.old) into (option_map (λ v. v.items) image) (saying store)) }
     ensures kept { IfOk result (λ store. D.group directory.new ≡ Some (spelling (saying store))) }
     ensures refused { IfErr result (λ e. IsUnread (D.group directory.old) e
-        ⊎ IsRefusedByHand (D.group directory.old) (D.mark directory.old) (option_map (λ v. v.items) image) e) }
+        ⊎ IsRefusedByHand (D.group directory.old) (D.mark directory.old) into (option_map (λ v. v.items) image) e) }
     ensures changed { OnOk result
         (¬ IsProgramWanted (D.group directory.old) (D.mark directory.old) (option_map (λ v. v.items) image)) }
     ensures whole { (D.group directory.new ≡ D.group directory.old) ⊎ (said : Saying)
-        × IsByHand (D.group directory.old) (option_map (λ v. v.items) image) said
+        × IsByHand (D.group directory.old) into (option_map (λ v. v.items) image) said
         × (D.group directory.new ≡ Some (spelling said)) }
 {
     let store = stored_in(alloc, directory)?;
@@ -174,6 +271,6 @@ pub fn enter_by_hand<D: StoreDirectory>(
     }
     let header = store.header;
     let store = with_image(store, image)?;
-    let kept = kept_by_hand(&header, &store.header.program)?;
+    let kept = kept_by_hand(&header, &store.header.program, into)?;
     put(alloc, directory, with_kept(store, &kept))
 }

@@ -4,6 +4,7 @@ ghost use Rattle.std.specs.Prelude.{◌≡◌, ◌≢◌, ◌<◌, ℕ, List, []
 ghost use Rattle.net_hello.specs.declared.hello.Epoch.{Epoch as Numbered};
 ghost use Rattle.plc_epochs.specs.declared.kept.Kept.TheVariants as keeps;
 ghost use Rattle.plc_store.specs.Judging.{HasEntered, judged};
+ghost use Rattle.plc_store.specs.Marking.{changed_image, mark_bytes};
 ghost use Rattle.plc_store.specs.Spelling.{Fits, Saying, spelling};
 ghost use Rattle.plc_store.specs.declared.judging.Refusal.TheVariants.{NoStore};
 ghost use Rattle.plc_store.specs.declared.judging.Start.TheVariants.{First};
@@ -13,6 +14,12 @@ ghost use Rattle.plc_store.specs.declared.judging.Wanted.{Wanted};
 pub fn cut_is_refused()
     ensures { (said other : Saying) (n : ℕ) → Fits said → Fits other → n < length (spelling said)
         → take n (spelling said) ≢ spelling other }
+{}
+
+/// A mark has its image: what it says of a change in its epoch is read of it.
+pub fn a_mark_has_its_image()
+    ensures { (epoch : Numbered) (image : List ℕ) → length epoch.image ≡ 32 → 0 < length image
+        → changed_image epoch (mark_bytes epoch image) ≡ Some image }
 {}
 
 /// A directory without a store is never a new machine, whatever views it holds; and a store whose machine has begun its

@@ -3,10 +3,10 @@
 ghost use Rattle.std.specs.Prelude.{◌≡◌, ◌≢◌, ◌<◌, IfErr, IfOk, length, option_map};
 ghost use Rattle.std.specs.Int.{w32, w64, from_be_bytes};
 ghost use Rattle.plc_store.specs.Spelling.{Gives, IsOtherFormat, epoch_by, fields_of, header_of, is_other_format};
-ghost use Rattle.plc_store.specs.Spelling.{kept_by, read_of, Fits, Saying, saying, spelling};
+ghost use Rattle.plc_store.specs.Spelling.{kept_by, numbers_by, read_of, Fits, Saying, saying, spelling};
 ghost use Rattle.plc_store.specs.declared.reading.StoreFault.TheVariants.{Memory, OtherFormat, Torn};
 
-use crate::header::{Header, Store};
+use crate::header::{Header, Seen, Store};
 use crate::spelling::spell;
 use net_hello::Epoch;
 use plc_epochs::Kept;
@@ -32,7 +32,7 @@ impl From<AllocError> for StoreFault {
 }
 
 /// So many bytes stand before the image.
-const FRONT: usize = 120;
+const FRONT: usize = 184;
 
 /// So many bytes begin each store of any format, the last two its number.
 const BEGINNING: usize = 10;
@@ -72,7 +72,7 @@ fn is_other_format(bytes: &[u8]) -> bool
 {
     bytes.len() >= BEGINNING
         && &bytes[..8] == b"PLCSTORE".as_slice()
-        && &bytes[8..10] != [0u8, 2].as_slice()
+        && &bytes[8..10] != [0u8, 3].as_slice()
 }
 
 /// What stands where the fields of a store do; None where it's too short for that.
@@ -95,7 +95,7 @@ fn fields_of(alloc: Global, bytes: &[u8]) -> Result<Option<Store>, AllocError>
 /// What stands where the fields of a header do.
 #[tactic(auto, unfolding(crate::specs::Spelling::header_of))]
 fn header_of(bytes: &[u8]) -> Header
-    requires { length bytes.now ≡ 116 }
+    requires { length bytes.now ≡ 180 }
     ensures { result ≡ header_of bytes.now }
 {
     let (_, rest) = bytes.split_at(BEGINNING);
@@ -104,11 +104,15 @@ fn header_of(bytes: &[u8]) -> Header
     let (number, rest) = rest.split_at(8);
     let (image, rest) = rest.split_at(32);
     let (program, rest) = rest.split_at(32);
+    let (machine, rest) = rest.split_at(1);
+    let (store, seen) = rest.split_at(8);
     Header {
         identity: array_of(identity),
         kept: kept_by(kind[0], epoch_by(number, image)),
         program: array_of(program),
-        machine: rest[0],
+        machine: machine[0],
+        store: long_of(store),
+        seen: seen_by(seen),
     }
 }
 
@@ -133,6 +137,28 @@ fn kept_by(kind: u8, epoch: Epoch) -> Kept
         2 => Kept::Entered(epoch),
         _ => Kept::Begun(epoch),
     }
+}
+
+/// Which stores were seen.
+fn seen_by(bytes: &[u8]) -> Seen
+    requires { length bytes.now ≡ 56 }
+    ensures { result ≡ numbers_by 7 bytes.now }
+{
+    let (first, rest) = bytes.split_at(8);
+    let (second, rest) = rest.split_at(8);
+    let (third, rest) = rest.split_at(8);
+    let (fourth, rest) = rest.split_at(8);
+    let (fifth, rest) = rest.split_at(8);
+    let (sixth, seventh) = rest.split_at(8);
+    [
+        long_of(first),
+        long_of(second),
+        long_of(third),
+        long_of(fourth),
+        long_of(fifth),
+        long_of(sixth),
+        long_of(seventh),
+    ]
 }
 
 /// These bytes as an array.

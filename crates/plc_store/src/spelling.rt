@@ -2,7 +2,8 @@
 
 ghost use Rattle.std.specs.Prelude.{◌≡◌, ◌++◌, IfOk, OnOk, length};
 ghost use Rattle.std.specs.Int.{w16, w32, w64, to_be_bytes};
-ghost use Rattle.plc_store.specs.Spelling.{epoch_bytes, epoch_of, header_bytes, kind_of, saying, spelling};
+ghost use Rattle.plc_store.specs.Spelling.{epoch_bytes, epoch_of, header_bytes, kind_of, machine_bytes};
+ghost use Rattle.plc_store.specs.Spelling.{numbers_bytes, saying, spelling, stores_bytes};
 
 use crate::header::{Header, Store};
 use net_hello::Epoch;
@@ -10,8 +11,8 @@ use plc_epochs::Kept;
 use sha2::{Digest, Sha256};
 use std::alloc::{AllocError, Global};
 
-/// The first bytes of each store, in which its format is the last: `PLCSTORE`, and 2.
-pub(crate) const MAGIC: [u8; 10] = *b"PLCSTORE\x00\x02";
+/// The first bytes of each store, in which its format is the last: `PLCSTORE`, and 3.
+pub(crate) const MAGIC: [u8; 10] = *b"PLCSTORE\x00\x03";
 
 /// The bytes of a store, whose last 32 are the SHA-256 of those before.
 pub fn spell(alloc: Global, store: &Store) -> Result<Vec<u8>, AllocError>
@@ -34,8 +35,33 @@ fn put_header(bytes: &mut Vec<u8>, header: &Header) -> Result<(), AllocError>
     bytes.extend_from_slice(header.identity.as_slice())?;
     bytes.push(kind_of(&header.kept))?;
     put_epoch(bytes, &epoch_of(&header.kept))?;
+    put_machine(bytes, header)
+}
+
+/// Puts the sum of the image behind others, the machine, and the stores.
+fn put_machine(bytes: &mut Vec<u8>, header: &Header) -> Result<(), AllocError>
+    ensures { OnOk result (bytes.new.items ≡ bytes.old.items ++ machine_bytes header.now) }
+{
     bytes.extend_from_slice(header.program.as_slice())?;
     bytes.push(header.machine)?;
+    put_stores(bytes, header)
+}
+
+/// Puts behind others what the store is known by, and which stores of other machines were seen.
+fn put_stores(bytes: &mut Vec<u8>, header: &Header) -> Result<(), AllocError>
+    ensures { OnOk result (bytes.new.items ≡ bytes.old.items ++ stores_bytes header.now) }
+{
+    bytes.extend_from_slice(header.store.to_be_bytes().as_slice())?;
+    put_numbers(bytes, header.seen.as_slice())
+}
+
+/// Puts numbers behind other bytes.
+fn put_numbers(bytes: &mut Vec<u8>, numbers: &[u64]) -> Result<(), AllocError>
+    ensures { OnOk result (bytes.new.items ≡ bytes.old.items ++ numbers_bytes numbers.now) }
+{
+    for number in numbers {
+        bytes.extend_from_slice(number.to_be_bytes().as_slice())?;
+    }
     Ok(())
 }
 

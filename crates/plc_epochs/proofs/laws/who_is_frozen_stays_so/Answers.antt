@@ -13,6 +13,9 @@ returns-clause-stores c = staying.stores
 pub returns-clause-hello : goal.returns-clause-hello
 returns-clause-hello c = staying.hears
 
+pub returns-clause-sign : goal.returns-clause-sign
+returns-clause-sign c = staying.sign
+
 pub returns-clause-recovery : goal.returns-clause-recovery
 returns-clause-recovery c = staying.recovery
 

@@ -1,8 +1,9 @@
-use Rattle.std.proofs.Common.{None}
+use Rattle.std.proofs.Common.{None, ◌≡◌, [], ◌++◌, subst}
 use Rattle.toml.specs.View.{table_view}
-use Rattle.plc_group.specs.Faults.{settings_faults, times_faults, wanted_faults}
+use Rattle.plc_group.specs.Faults.{IsFirst, settings_faults, times_faults, wanted_faults}
 use Rattle.plc_group.specs.Said.{SaysSettings}
-use Rattle.plc_group.specs.Values.{cold_start_of}
+use Rattle.plc_group.specs.Values.{cold_start_of, console_key_of, directory_of, number_or}
+use Rattle.plc_group.specs.declared.key.TheConstants.{PERIODS}
 use Rattle.plc_group.specs.declared.key.Key.TheVariants as keys
 use Rattle.plc_group.proofs.Firsts.{handed, told_front}
 use Rattle.plc_group.proofs.reading.settings_of.Goals as goal
@@ -10,6 +11,33 @@ use Rattle.plc_group.proofs.reading.settings_of.Goals as goal
 pub returns-in_err-times : goal.returns-in_err-times
 returns-in_err-times c =
     let table = table_view c.args.table.now in
-    handed (settings_faults table) (SaysSettings table) c.from_residual-in_err-times.result c.in_err-times.field-0.0 c.from_residual-in_err-times.ensures.1
+    let period = c.in_ok-period.period in
+    let e = c.in_err-times.field-0.0 in
+    let more = wanted_faults cold_start_of None keys.ColdStart table
+    ++ (wanted_faults console_key_of None keys.ConsoleKey table ++ wanted_faults directory_of None keys.ConsoleSockets table) in
+    handed (settings_faults table) (SaysSettings table) c.from_residual-in_err-times.result e c.from_residual-in_err-times.ensures.1
     (rw (c.in_ok-name.ensures.0, c.in_ok-period.ensures.judged.0, c.in_ok-instructions.ensures.judged.0, c.in_ok-every.ensures.judged.0)
-    (told_front (times_faults table) (wanted_faults cold_start_of None keys.ColdStart table) c.in_err-times.field-0.0 c.in_err-times.ensures))
+    (subst (λ p. IsFirst (times_faults p table ++ more) e) c.in_ok-period.ensures.judged.1
+    (told_front (times_faults period table) more e c.in_err-times.ensures)))
+
+pub returns-in_err-cold_start : goal.returns-in_err-cold_start
+returns-in_err-cold_start c =
+    let table = table_view c.args.table.now in
+    let e = c.in_err-cold_start.field-0.0 in
+    let times : times_faults (number_or 100 PERIODS keys.Period table) table ≡ [] =
+    subst (λ p. times_faults p table ≡ []) c.in_ok-period.ensures.judged.1 c.in_ok-times.ensures.0 in
+    let more = wanted_faults console_key_of None keys.ConsoleKey table ++ wanted_faults directory_of None keys.ConsoleSockets table in
+    handed (settings_faults table) (SaysSettings table) c.from_residual-in_err-cold_start.result e c.from_residual-in_err-cold_start.ensures.1
+    (rw (c.in_ok-name.ensures.0, c.in_ok-period.ensures.judged.0, c.in_ok-instructions.ensures.judged.0, c.in_ok-every.ensures.judged.0, times)
+    (told_front (wanted_faults cold_start_of None keys.ColdStart table) more e c.in_err-cold_start.ensures))
+
+pub returns-in_err-console_key : goal.returns-in_err-console_key
+returns-in_err-console_key c =
+    let table = table_view c.args.table.now in
+    let e = c.in_err-console_key.field-0.0 in
+    let times : times_faults (number_or 100 PERIODS keys.Period table) table ≡ [] =
+    subst (λ p. times_faults p table ≡ []) c.in_ok-period.ensures.judged.1 c.in_ok-times.ensures.0 in
+    let more = wanted_faults directory_of None keys.ConsoleSockets table in
+    handed (settings_faults table) (SaysSettings table) c.from_residual-in_err-console_key.result e c.from_residual-in_err-console_key.ensures.1
+    (rw (c.in_ok-name.ensures.0, c.in_ok-period.ensures.judged.0, c.in_ok-instructions.ensures.judged.0, c.in_ok-every.ensures.judged.0, times, c.in_ok-cold_start.ensures.0)
+    (told_front (wanted_faults console_key_of None keys.ConsoleKey table) more e c.in_err-console_key.ensures))

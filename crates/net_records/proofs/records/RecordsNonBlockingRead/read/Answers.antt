@@ -9,10 +9,10 @@ returns-then-given-gt0-clause-bytes g c =
 
 pub returns-in-Err-clause-bytes : goal.returns-in-Err-clause-bytes
 returns-in-Err-clause-bytes g c =
-    Keeps-trans _ _ _ (blank_turn _ _ _ _ _ c.unwrap-given.new.out c.unwrap-given.result c.pieces.invariant.kept (ap g.T.NonBlockingRead.left c.unwrap-given.ensures.inner) c.unwrap-given.ensures.given (omega arith)) c.fill.ensures.bytes
+    Keeps-trans _ _ _ (blank_turn _ _ _ _ _ c.unwrap-given.new.out c.unwrap-given.result c.pieces.invariant.kept (ap g.T.NonBlockingRead.left c.unwrap-given.ensures.inner) c.unwrap-given.ensures.given (omega arith)) c.fill_behind.ensures.bytes
 
 pub pieces-preserved : goal.pieces-preserved
 pieces-preserved g c = record {
-  kept = Keeps-trans _ _ _ (blank_turn _ _ _ _ _ c.unwrap-given.new.out c.unwrap-given.result c.pieces.invariant.kept (ap g.T.NonBlockingRead.left c.unwrap-given.ensures.inner) c.unwrap-given.ensures.given (omega arith)) c.fill.ensures.bytes;
+  kept = Keeps-trans _ _ _ (blank_turn _ _ _ _ _ c.unwrap-given.new.out c.unwrap-given.result c.pieces.invariant.kept (ap g.T.NonBlockingRead.left c.unwrap-given.ensures.inner) c.unwrap-given.ensures.given (omega arith)) c.fill_behind.ensures.bytes;
   stops = search rules;
 }
