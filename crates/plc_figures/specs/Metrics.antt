@@ -121,11 +121,20 @@ group_metrics replicas =
     ++ (starts_lines replicas
     ++ gauge_text (codes "plc_view") (codes "The greatest view of a replica.") (greatest_view replicas))))
 
+abbrev pub hearing_metrics : Machine → List ℕ
+hearing_metrics machine =
+    gauge_text (codes "plc_machines_connected") (codes "Other machines of the group that this machine hears.")
+    machine.heard
+    ++ gauge_text (codes "plc_majority")
+    (codes "Whether this machine hears enough others for a majority with it.")
+    (flag_number machine.has_majority)
+
 abbrev pub known_machine : Machine → List ℕ
 known_machine machine =
     gauge_text (codes "plc_driving") (codes "Whether this machine drives: its scans are the group's, and it shows outputs.")
     (flag_number machine.is_driving)
-    ++ gauge_text (codes "plc_epoch") (codes "The epoch of the group.") machine.epoch
+    ++ (gauge_text (codes "plc_epoch") (codes "The epoch of the group.") machine.epoch
+    ++ hearing_metrics machine)
 
 abbrev pub machine_metrics : Option Machine → List ℕ
 machine_metrics None = []

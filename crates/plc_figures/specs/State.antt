@@ -75,7 +75,14 @@ known_machine machine =
     codes "{\"number\":"
     ++ (decimal machine.number
     ++ (codes ",\"epoch\":"
-    ++ (decimal machine.epoch ++ (codes ",\"driving\":" ++ (flag_json machine.is_driving ++ codes "}")))))
+    ++ (decimal machine.epoch
+    ++ (codes ",\"driving\":"
+    ++ (flag_json machine.is_driving
+    ++ (codes ",\"heard\":"
+    ++ (decimal machine.heard
+    ++ (codes ",\"others\":"
+    ++ (decimal machine.others
+    ++ (codes ",\"majority\":" ++ (flag_json machine.has_majority ++ codes "}")))))))))))
 
 abbrev pub machine_json : Option Machine → List ℕ
 machine_json None = codes "null"

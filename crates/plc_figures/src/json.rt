@@ -20,7 +20,7 @@ fn hex_digit(number: u8) -> u8
 }
 
 /// Adds a byte as a code.
-fn put_code(out: &mut Vec<u8>, byte: u8) -> Result<(), AllocError>
+pub fn put_code(out: &mut Vec<u8>, byte: u8) -> Result<(), AllocError>
     ensures { OnOk result (IsAdded out.old.items (code_text byte) out.new.items) }
 {
     put(out, b"\\u00")?;
@@ -54,7 +54,7 @@ fn put_characters(out: &mut Vec<u8>, text: &[u8]) -> Result<(), AllocError>
 }
 
 /// Adds a string.
-pub(crate) fn put_string(out: &mut Vec<u8>, text: &[u8]) -> Result<(), AllocError>
+pub fn put_string(out: &mut Vec<u8>, text: &[u8]) -> Result<(), AllocError>
     ensures { OnOk result (IsAdded out.old.items (string_json text.now) out.new.items) }
 {
     put(out, b"\"")?;
@@ -64,7 +64,7 @@ pub(crate) fn put_string(out: &mut Vec<u8>, text: &[u8]) -> Result<(), AllocErro
 }
 
 /// Adds a truth value.
-pub(crate) fn put_flag(out: &mut Vec<u8>, is_so: bool) -> Result<(), AllocError>
+pub fn put_flag(out: &mut Vec<u8>, is_so: bool) -> Result<(), AllocError>
     ensures { OnOk result (IsAdded out.old.items (flag_json is_so) out.new.items) }
 {
     if is_so {
@@ -75,7 +75,7 @@ pub(crate) fn put_flag(out: &mut Vec<u8>, is_so: bool) -> Result<(), AllocError>
 }
 
 /// Adds what stands before an item with this number: nothing before the first.
-pub(crate) fn put_comma(out: &mut Vec<u8>, number: usize) -> Result<(), AllocError>
+pub fn put_comma(out: &mut Vec<u8>, number: usize) -> Result<(), AllocError>
     ensures { OnOk result (IsAdded out.old.items (comma number) out.new.items) }
 {
     if number > 0 { put(out, b",") } else { Ok(()) }

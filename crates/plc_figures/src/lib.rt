@@ -7,6 +7,8 @@
 //! put_state(&mut out, b"1.0.0", &reading)?; // {"version":"1.0.0","view":4, ..}
 //! ```
 //!
+//! The parts of such texts are there, too, for whatever else shows: a family of figures, a string of JSON.
+//!
 //! Proved: each text is the definition's of what shows, each replica under its own number and each point's value beside
 //! its own name, and nothing else (`specs/Metrics`, `specs/State`).
 //!
@@ -20,11 +22,12 @@ mod reading;
 mod state;
 mod text;
 
-pub use metrics::put_metrics;
+pub use json::{put_code, put_comma, put_flag, put_string};
+pub use metrics::{put_build, put_counter, put_family, put_metrics, sum_of};
 pub use names::{phase_name, put_place, stop_name};
 pub use reading::{
     BOUNDS, BUCKETS, Clients, EXCEPTIONS, FUNCTIONS, Halt, Machine, PLACES, Point, Process,
     Reading, Replica, Scans, Told,
 };
-pub use state::put_state;
+pub use state::{put_notices, put_state};
 pub use text::{put, put_number, put_seconds, put_signed, put_small_number};

@@ -7,7 +7,7 @@ ghost use Rattle.plc_figures.specs.Metrics.{age_metrics, held_number, known_age}
 ghost use Rattle.plc_figures.specs.Metrics.{scan_counts, scan_metrics, stopped_number};
 ghost use Rattle.plc_figures.specs.Metrics.{bucket_line, bucket_lines, bucket_text, interval_metrics, totals_text};
 ghost use Rattle.plc_figures.specs.Metrics.{group_metrics, normal_line, normal_lines, starts_line, starts_lines};
-ghost use Rattle.plc_figures.specs.Metrics.{known_machine, machine_metrics};
+ghost use Rattle.plc_figures.specs.Metrics.{hearing_metrics, known_machine, machine_metrics};
 ghost use Rattle.plc_figures.specs.Metrics.{exception_line, exception_lines, function_line, function_lines};
 ghost use Rattle.plc_figures.specs.Metrics.{request_metrics, session_metrics};
 ghost use Rattle.plc_figures.specs.Metrics.{build_metrics, client_metrics, metrics_text};
@@ -23,7 +23,12 @@ use crate::text::{put, put_number, put_seconds, put_small_number};
 use std::alloc::AllocError;
 
 /// Begins the figures of one name: what they are, and of which type.
-fn put_family(out: &mut Vec<u8>, name: &[u8], kind: &[u8], help: &[u8]) -> Result<(), AllocError>
+pub fn put_family(
+    out: &mut Vec<u8>,
+    name: &[u8],
+    kind: &[u8],
+    help: &[u8],
+) -> Result<(), AllocError>
     ensures { OnOk result (IsAdded out.old.items (family_text name.now kind.now help.now) out.new.items) }
 {
     put(out, b"# HELP ")?;
@@ -74,7 +79,12 @@ fn put_of_replica(out: &mut Vec<u8>, name: &[u8], number: u8, value: u64) -> Res
 }
 
 /// A count that never falls.
-fn put_counter(out: &mut Vec<u8>, name: &[u8], help: &[u8], value: u64) -> Result<(), AllocError>
+pub fn put_counter(
+    out: &mut Vec<u8>,
+    name: &[u8],
+    help: &[u8],
+    value: u64,
+) -> Result<(), AllocError>
     ensures { OnOk result (IsAdded out.old.items (counter_text name.now help.now value) out.new.items) }
 {
     put_family(out, name, b"counter", help)?;
@@ -136,7 +146,7 @@ fn stopped_number(halt: Option<Halt>) -> u64
 }
 
 /// How many are counted at these places together.
-pub(crate) fn sum_of(counts: &[u64]) -> u64
+pub fn sum_of(counts: &[u64]) -> u64
     ensures { result ≡ sum_of counts.now }
 {
     counts
@@ -336,7 +346,26 @@ fn put_group(out: &mut Vec<u8>, replicas: &[Replica]) -> Result<(), AllocError>
     Ok(())
 }
 
-/// Whether a machine drives, and its epoch.
+/// How many other machines a machine hears, and whether they're a majority with it.
+fn put_hearing(out: &mut Vec<u8>, machine: Machine) -> Result<(), AllocError>
+    ensures { OnOk result (IsAdded out.old.items (hearing_metrics machine) out.new.items) }
+{
+    put_gauge(
+        out,
+        b"plc_machines_connected",
+        b"Other machines of the group that this machine hears.",
+        u64::from(machine.heard),
+    )?;
+    put_gauge(
+        out,
+        b"plc_majority",
+        b"Whether this machine hears enough others for a majority with it.",
+        flag(machine.has_majority),
+    )?;
+    Ok(())
+}
+
+/// Whether a machine drives, its epoch, and what it hears.
 fn put_known_machine(out: &mut Vec<u8>, machine: Machine) -> Result<(), AllocError>
     ensures { OnOk result (IsAdded out.old.items (known_machine machine) out.new.items) }
 {
@@ -347,6 +376,7 @@ fn put_known_machine(out: &mut Vec<u8>, machine: Machine) -> Result<(), AllocErr
         flag(machine.is_driving),
     )?;
     put_gauge(out, b"plc_epoch", b"The epoch of the group.", machine.epoch)?;
+    put_hearing(out, machine)?;
     Ok(())
 }
 
@@ -485,7 +515,7 @@ fn put_process(out: &mut Vec<u8>, process: Option<Process>) -> Result<(), AllocE
 }
 
 /// Which program it is.
-fn put_build(out: &mut Vec<u8>, version: &[u8]) -> Result<(), AllocError>
+pub fn put_build(out: &mut Vec<u8>, version: &[u8]) -> Result<(), AllocError>
     ensures { OnOk result (IsAdded out.old.items (build_metrics version.now) out.new.items) }
 {
     put_family(

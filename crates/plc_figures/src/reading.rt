@@ -98,6 +98,12 @@ pub struct Machine {
     pub epoch: u64,
     /// It drives: the scans of the group are its own, and it shows outputs.
     pub is_driving: bool,
+    /// So many other machines it hears.
+    pub heard: u8,
+    /// So many other machines the group has.
+    pub others: u8,
+    /// It hears enough of them for a majority with it, or did a few seconds ago: without one no scan is answered.
+    pub has_majority: bool,
 }
 
 /// What this process takes.

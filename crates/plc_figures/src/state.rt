@@ -115,6 +115,12 @@ fn put_known_machine(out: &mut Vec<u8>, machine: Machine) -> Result<(), AllocErr
     put_number(out, machine.epoch)?;
     put(out, b",\"driving\":")?;
     put_flag(out, machine.is_driving)?;
+    put(out, b",\"heard\":")?;
+    put_small_number(out, machine.heard)?;
+    put(out, b",\"others\":")?;
+    put_small_number(out, machine.others)?;
+    put(out, b",\"majority\":")?;
+    put_flag(out, machine.has_majority)?;
     put(out, b"}")?;
     Ok(())
 }
@@ -253,7 +259,7 @@ fn put_told(out: &mut Vec<u8>, number: usize, told: &Told) -> Result<(), AllocEr
 }
 
 /// The last notices.
-fn put_notices(out: &mut Vec<u8>, notices: &[Told]) -> Result<(), AllocError>
+pub fn put_notices(out: &mut Vec<u8>, notices: &[Told]) -> Result<(), AllocError>
     ensures { OnOk result (IsAdded out.old.items (notices_json notices.now) out.new.items) }
 {
     for (number, told) in notices.iter().enumerate() {

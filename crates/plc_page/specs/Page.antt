@@ -29,11 +29,22 @@ abbrev pub course_words : Bool → List ℕ
 course_words false = codes " stands by"
 course_words true = codes " drives"
 
--- machine 1 drives, epoch 2
+abbrev pub majority_words : Bool → List ℕ
+majority_words true = codes ", "
+majority_words false = codes ", no majority: "
+
+-- how many other machines it hears, of how many
+abbrev pub hearing_words : Machine → List ℕ
+hearing_words machine =
+    majority_words machine.has_majority
+    ++ (codes "hears " ++ (decimal machine.heard ++ (codes " of " ++ decimal machine.others)))
+
+-- machine 1 stands by, epoch 2, no majority: hears 0 of 2
 abbrev pub machine_line : Machine → List ℕ
 machine_line machine = codes "machine "
     ++ (decimal machine.number
-    ++ (course_words machine.is_driving ++ (codes ", epoch " ++ (decimal machine.epoch ++ codes "\n"))))
+    ++ (course_words machine.is_driving
+    ++ (codes ", epoch " ++ (decimal machine.epoch ++ (hearing_words machine ++ codes "\n")))))
 
 abbrev pub machine_words : Option Machine → List ℕ
 machine_words None = []

@@ -91,7 +91,14 @@ abbrev pub machine_of : Whose → Option MachineStatus → Option Machine
 machine_of (whose.Group count) published = None
 machine_of (whose.Machine number) None = None
 machine_of (whose.Machine number) (Some published) =
-    Some (record { number = number; epoch = published.epoch; is_driving = published.is_driving })
+    Some (record {
+      number = number;
+      epoch = published.epoch;
+      is_driving = published.is_driving;
+      heard = published.heard;
+      others = published.others;
+      has_majority = published.has_majority;
+    })
 
 -- outputs that were released here are those of the controller: of a machine that stands by they aren't
 abbrev pub shows_outputs : Option Machine → Bool

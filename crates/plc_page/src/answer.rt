@@ -4,7 +4,7 @@ ghost use Rattle.std.specs.Prelude.{◌≡◌, ◌++◌, ◌∷◌, [], IfOk, Is
 ghost use Rattle.http.specs.Request.{head_of};
 ghost use Rattle.http_header.specs.FieldValue.{is_visible_text};
 ghost use Rattle.http_header.specs.FieldName.{is_header_name};
-ghost use Rattle.http_server.specs.Response.{IsBlank, fields_of};
+ghost use Rattle.http_server.specs.Response.{IsBlank, IsResponse, fields_of};
 ghost use Rattle.plc_page.specs.Answers.{IsAnswered, is_ours, is_read, judged, shown_at, verdict_of};
 ghost use Rattle.plc_page.specs.Answers.{code_of, content_of, fields_by, kind_field, kind_of};
 ghost use Rattle.plc_figures.specs.Texts.{IsAdded};
@@ -224,6 +224,20 @@ fn content_of(
     Ok(out)
 }
 
+/// Answers by this verdict, with this content.
+pub fn put_answer(
+    verdict: Verdict,
+    content: &[u8],
+    response: &mut Response,
+) -> Result<(), AllocError>
+    requires { IsBlank response.old }
+    ensures { OnOk result (IsResponse (code_of verdict) (fields_by verdict) content.now response.new) }
+{
+    response.status = code_of(verdict);
+    put_fields(verdict, response)?;
+    response.body.put_slice(content)
+}
+
 /// Answers a request, by what shows, and by the text of the program.
 pub fn respond(
     alloc: Global,
@@ -238,7 +252,5 @@ pub fn respond(
 {
     let verdict = verdict_of(site, request);
     let content = content_of(alloc, site, verdict, reading, program)?;
-    response.status = code_of(verdict);
-    put_fields(verdict, response)?;
-    response.body.put_slice(content.as_slice())
+    put_answer(verdict, content.as_slice(), response)
 }

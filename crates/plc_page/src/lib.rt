@@ -27,9 +27,10 @@ mod shown;
 mod source;
 mod whose;
 
-pub use answer::{Show, Site, Verdict, respond, verdict_of};
+pub use answer::{Show, Site, Verdict, put_answer, respond, verdict_of};
 pub use notices::{Notices, Telling};
+pub use page::STYLE;
 pub use process::ProcessFiles;
-pub use service::{OpenPage, Page};
+pub use service::{OpenPage, Page, limits};
 pub use shown::{Published, Showing};
 pub use whose::Whose;

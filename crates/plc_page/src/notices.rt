@@ -97,7 +97,7 @@ impl Notices {
     }
 
     /// They, the oldest first.
-    pub(crate) fn last<R: Wait>(&self, rt: &R) -> Result<Vec<Told>, AllocError> {
+    pub fn last<R: Wait>(&self, rt: &R) -> Result<Vec<Told>, AllocError> {
         self.lines.lock(rt).told.clone()
     }
 }

@@ -3,7 +3,7 @@
 ghost use Rattle.std.specs.Prelude.{◌≡◌, OnOk};
 ghost use Rattle.plc_page.specs.Page.{age_words, halt_words, page_text, point_line, point_lines, replica_line};
 ghost use Rattle.plc_page.specs.Page.{replica_lines, scan_line, held_words, known_age, stopped_words};
-ghost use Rattle.plc_page.specs.Page.{course_words, machine_line, machine_words};
+ghost use Rattle.plc_page.specs.Page.{course_words, hearing_words, machine_line, machine_words, majority_words};
 ghost use Rattle.plc_figures.specs.Texts.{IsAdded};
 
 use plc_figures::{
@@ -54,7 +54,7 @@ const TAIL: &str = r#"</pre>
 "#;
 
 /// How the page looks.
-pub(crate) const STYLE: &str = r#":root {
+pub const STYLE: &str = r#":root {
   color-scheme: light dark;
   --page: #f4f5f7; --card: #ffffff; --text: #1c2128; --quiet: #626b77; --line: #dfe3e8;
   --good: #1a7f37; --bad: #c62828; --warn: #9a6700; --lit: #2fb344; --dark: #d5dae1; --mark: #ffe2df;
@@ -136,6 +136,8 @@ const duration = (time) => time < 1 ? Math.round(time * 1000) + ' ms' : time < 1
   : Math.round(time / 60) + ' min';
 const isNormal = (it) => it.status === 'normal' && !it.failed;
 const standsBy = (state) => state.machine !== null && !state.machine.driving;
+const isAlone = (state) => state.machine !== null && !state.machine.majority;
+const heard = (machine) => machine.heard + ' of ' + machine.others;
 let before = null;
 
 function rate(scans) {
@@ -155,7 +157,8 @@ function tiles(state) {
     made.push(tile('last release', duration(scans.age) + ' ago', scans.fresh ? '' : 'bad'));
   made.push(tile('scans', scans.count.toLocaleString('en')), tile('late scans', scans.late.toLocaleString('en')));
   if (machine === null) made.push(tile('replicas normal', normal + ' of ' + all, normal === all ? '' : 'warn'));
-  else made.push(tile('epoch', machine.epoch));
+  else made.push(tile('epoch', machine.epoch), tile('other machines heard', heard(machine),
+    isAlone(state) ? 'bad' : machine.heard < machine.others ? 'warn' : ''));
   made.push(tile('requests of clients', state.clients.requests.toLocaleString('en')));
   fill('tiles', made);
 }
@@ -173,9 +176,9 @@ function points(box, list, points) {
   fill(list, points.map(point));
 }
 
-function replica(it) {
+function replica(it, isGood) {
   const state = it.failed ? it.status + ', store failed' : it.primary ? it.status + ', primary' : it.status;
-  const kind = it.failed || it.status === 'down' ? 'bad' : it.status === 'normal' ? 'good' : 'warn';
+  const kind = it.failed || it.status === 'down' ? 'bad' : it.status === 'normal' && isGood ? 'good' : 'warn';
   return make('tr', '', make('td', '', it.replica), make('td', kind, state), make('td', '', it.view),
     make('td', '', it.starts));
 }
@@ -223,7 +226,8 @@ function judge(state) {
   const primary = state.replicas.find((it) => it.primary);
   const down = state.replicas.filter((it) => !isNormal(it)).map((it) => it.replica);
   const isBad = down.length > 0;
-  if (standsBy(state)) says(isBad ? 'warn' : 'good', 'machine ' + machine.number + ' stands by in view ' + view
+  if (isAlone(state)) says('bad', 'no majority: machine ' + machine.number + ' hears ' + heard(machine));
+  else if (standsBy(state)) says(isBad ? 'warn' : 'good', 'machine ' + machine.number + ' stands by in view ' + view
     + (isBad ? '; its replica is not normal' : ''));
   else if (halt !== null && halt.why === 'held') says('warn', 'held at a breakpoint');
   else if (halt !== null) says('bad', 'stopped: ' + halt.why);
@@ -243,7 +247,7 @@ async function show() {
     + (process === null ? '' : ', ' + (process.memory / 1048576).toFixed(1) + ' MB');
   judge(state);
   tiles(state);
-  fill('replicas', state.replicas.map(replica));
+  fill('replicas', state.replicas.map((it) => replica(it, !isAlone(state))));
   points('ins', 'inputs', state.inputs);
   points('outs', 'outputs', state.outputs);
   byId('told').hidden = state.notices.length === 0;
@@ -350,6 +354,29 @@ fn course_words(is_driving: bool) -> &'static [u8]
     }
 }
 
+/// Whether a machine and those that it hears are a majority, in words.
+fn majority_words(is_majority: bool) -> &'static [u8]
+    ensures { result.now ≡ majority_words is_majority }
+{
+    if is_majority {
+        b", "
+    } else {
+        b", no majority: "
+    }
+}
+
+/// What a machine hears, in words: whether that's a majority with it, how many others it hears, and how many there are.
+fn put_hearing(out: &mut Vec<u8>, machine: Machine) -> Result<(), AllocError>
+    ensures { OnOk result (IsAdded out.old.items (hearing_words machine) out.new.items) }
+{
+    put(out, majority_words(machine.has_majority))?;
+    put(out, b"hears ")?;
+    put_small_number(out, machine.heard)?;
+    put(out, b" of ")?;
+    put_small_number(out, machine.others)?;
+    Ok(())
+}
+
 /// A machine, in words.
 fn put_known_machine(out: &mut Vec<u8>, machine: Machine) -> Result<(), AllocError>
     ensures { OnOk result (IsAdded out.old.items (machine_line machine) out.new.items) }
@@ -359,6 +386,7 @@ fn put_known_machine(out: &mut Vec<u8>, machine: Machine) -> Result<(), AllocErr
     put(out, course_words(machine.is_driving))?;
     put(out, b", epoch ")?;
     put_number(out, machine.epoch)?;
+    put_hearing(out, machine)?;
     put(out, b"\n")?;
     Ok(())
 }

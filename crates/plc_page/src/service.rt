@@ -11,7 +11,8 @@ use http_server::{Config, Response, Service, serve};
 use http1::Limits;
 use io_image::Naming;
 use plc_host::{Failed, Host, ServiceRuntime};
-use plc_listener::{Connection, Door, Listener, OpenListener, Session, WhenFull};
+use plc_listener::{Connection, Door, DoorRuntime, Listener, OpenListener, Session, WhenFull};
+use plc_status::{DoorNotice, Doorway, Journal, Notice};
 use std::alloc::{AllocError, Global};
 use std::hash::RandomState;
 use std::sync::{Arc, Mutex, Wait};
@@ -30,7 +31,7 @@ const LONGEST_HEAD: usize = 8192;
 const MOST_PENDING: usize = 65536;
 
 /// The limits of a connection.
-fn limits() -> Config
+pub fn limits() -> Config
     ensures { IsLimited result }
 {
     Config {
@@ -52,28 +53,66 @@ struct Seat<J: Naming> {
     program: Arc<Vec<u8>>,
     source: Arc<Mutex<Source<J>>>,
     keys: RandomState,
+    /// What notes whether the page's port is had, at one of the seats.
+    doorkeeper: Option<Doorkeeper>,
+}
+
+/// What notes whether the page's port is had.
+#[derive(Drop)]
+struct Doorkeeper {
+    port: u16,
+    journal: Journal,
+}
+
+impl Doorkeeper {
+    /// Notes it.
+    fn note(&mut self, is_had: bool) {
+        let doorway = Doorway::PagePort(self.port);
+        self.journal
+            .put(Notice::Door(DoorNotice { doorway, is_had }));
+    }
 }
 
 impl<J: Naming> Seat<J> {
-    /// One more like this.
+    /// One more like this, which notes nothing.
     fn another(&self) -> Result<Seat<J>, AllocError> {
         Ok(Seat {
             site: Arc::try_clone(&self.site)?,
             program: Arc::try_clone(&self.program)?,
             source: Arc::try_clone(&self.source)?,
             keys: self.keys,
+            doorkeeper: None,
         })
     }
 }
 
-/// As many seats like this as connections are served at once.
-fn seats<J: Naming>(alloc: Global, first: Seat<J>) -> Result<Vec<Seat<J>>, AllocError> {
+/// As many seats like this as connections are served at once. It is the last one, and the first one has the doorkeeper.
+fn seats<J: Naming>(
+    alloc: Global,
+    last: Seat<J>,
+    doorkeeper: Doorkeeper,
+) -> Result<Vec<Seat<J>>, AllocError> {
     let mut seats = Vec::with_capacity(alloc, SESSIONS)?;
-    for _ in 1..SESSIONS {
-        seats.push(first.another()?)?;
+    seats.push(Seat {
+        doorkeeper: Some(doorkeeper),
+        ..last.another()?
+    })?;
+    for _ in 2..SESSIONS {
+        seats.push(last.another()?)?;
     }
-    seats.push(first)?;
+    seats.push(last)?;
     Ok(seats)
+}
+
+/// What is shown to whoever comes.
+#[derive(Drop)]
+pub(crate) struct Content<J: Naming> {
+    pub(crate) site: Site,
+    /// The text of the program that was served at first.
+    pub(crate) program: Vec<u8>,
+    pub(crate) source: Source<J>,
+    /// Of the tables of the fields of requests.
+    pub(crate) keys: RandomState,
 }
 
 /// What answers the requests of a connection.
@@ -124,6 +163,12 @@ impl<R: Wait + Clock + Copy + Drop, J: Naming> Session<R> for Seat<J> {
         let mut served = http_server::Connection::new(host.alloc, self.keys, limits());
         let _ = serve(&mut served, &mut answering, &mut reader, &mut writer);
     }
+
+    fn hear_of_door(&mut self, is_had: bool) {
+        if let Some(doorkeeper) = &mut self.doorkeeper {
+            doorkeeper.note(is_had);
+        }
+    }
 }
 
 /// A page that nobody is shown yet.
@@ -134,32 +179,40 @@ pub struct Page<R: ServiceRuntime, J: Naming> {
 
 impl<R: ServiceRuntime, J: Naming + Send + Sync + 'static> Page<R, J> {
     /// So many connections at this door are served at once as there are seats, each closed after 30 s without a
-    /// request.
+    /// request. Whether its port is had is noted in this journal, where it isn't at once.
     pub(crate) fn of(
         host: Host<R>,
         door: Door,
-        site: Site,
-        program: Vec<u8>,
-        source: Source<J>,
-        keys: RandomState,
+        content: Content<J>,
+        journal: Journal,
     ) -> Result<Page<R, J>, Failed> {
-        let first = Seat {
+        let Content {
+            site,
+            program,
+            source,
+            keys,
+        } = content;
+        let last = Seat {
             site: Arc::new(host.alloc, site)?,
             program: Arc::new(host.alloc, program)?,
             source: Arc::new(host.alloc, Mutex::new(source))?,
             keys,
+            doorkeeper: None,
         };
-        let seats = seats(host.alloc, first)?;
+        let port = door.port()?;
+        let seats = seats(host.alloc, last, Doorkeeper { port, journal })?;
         let idle = Duration::from_secs(IDLE);
         Ok(Page {
             listener: Listener::new(host, door, seats, idle, WhenFull::Closes)?,
         })
     }
+}
 
-    /// Shows it from now on.
+impl<R: DoorRuntime, J: Naming + Send + Sync + 'static> Page<R, J> {
+    /// Shows it as soon as its port is had; that it isn't at once is noted, and then that it is.
     pub fn open(self) -> Result<OpenPage<R, J>, Failed> {
         Ok(OpenPage {
-            listener: self.listener.open()?,
+            listener: self.listener.open_when_free()?,
         })
     }
 }

@@ -3,19 +3,19 @@
 use crate::answer::Site;
 use crate::notices::Notices;
 use crate::process::ProcessFiles;
-use crate::service::Page;
-use crate::source::{Source, outputs};
+use crate::service::{Content, Page};
+use crate::source::{Named, Source, outputs};
 use crate::whose::Whose;
 use il_lister::list;
 use il_loader::Image;
 use io_image::{Naming, ReleasedReader};
 use io_model::Counted;
-use plc_host::{Failed, Host, ServiceRuntime};
-use plc_listener::Door;
-use plc_status::StatusReader;
+use plc_host::{Failed, Host};
+use plc_listener::{Door, DoorRuntime};
+use plc_status::{Journal, StatusReader};
 use std::alloc::{AllocError, Global};
 use std::hash::RandomState;
-use std::net::{Net, SocketAddr, TcpListener, TcpStream};
+use std::net::SocketAddr;
 use std::sync::Arc;
 use std::sync::atomic::AtomicBool;
 use std::time::{Duration, Instant};
@@ -35,7 +35,7 @@ pub struct Showing {
     pub process: Option<ProcessFiles>,
 }
 
-/// What is published of a controller, and from when its moments count.
+/// What is published of a controller, from when its moments count, and where what becomes of its page is noted.
 #[derive(Drop)]
 pub struct Published<J: Naming> {
     pub whose: Whose,
@@ -46,6 +46,8 @@ pub struct Published<J: Naming> {
     pub begun: Instant,
     /// The program may be another one than that which was served at first. It's set before that is so.
     pub has_changed: Arc<AtomicBool>,
+    /// Where it's noted that the page's port isn't to be had at once, and then that it is.
+    pub journal: Journal,
 }
 
 /// Adds a name with its port as a `Host` has it: the port of HTTP needn't be told.
@@ -71,6 +73,20 @@ fn hosts_of(alloc: Global, address: SocketAddr) -> Result<Vec<Vec<u8>>, AllocErr
     Ok(hosts)
 }
 
+impl Site {
+    /// What is asked for by this address, of a program of this version.
+    pub fn at(
+        alloc: Global,
+        address: SocketAddr,
+        version: &'static str,
+    ) -> Result<Site, AllocError> {
+        Ok(Site {
+            hosts: hosts_of(alloc, address)?,
+            version: version.as_bytes(),
+        })
+    }
+}
+
 /// The text of a program.
 fn listing_of(alloc: Global, image: &Image) -> Result<Vec<u8>, AllocError> {
     let mut text = Vec::new(alloc);
@@ -80,23 +96,39 @@ fn listing_of(alloc: Global, image: &Image) -> Result<Vec<u8>, AllocError> {
     }
 }
 
-/// The door at an address, if its port is to be had.
-fn door_at<R: Net<Listener = TcpListener, Stream = TcpStream>>(
-    rt: &R,
-    address: SocketAddr,
-) -> Result<Door, Failed> {
-    match Door::at(rt, address) {
-        Ok(door) => Ok(door),
-        Err(error) => Err(Failed::from(error).known_as(Failed::Port(address.port()))),
-    }
+/// Where what shows is read, by what is published; and where what becomes of the page is noted.
+fn source_of<J: Naming>(
+    published: Published<J>,
+    outputs: Vec<Named>,
+    notices: Arc<Notices>,
+    process: Option<ProcessFiles>,
+) -> (Source<J>, Journal) {
+    let Published {
+        whose,
+        period,
+        status,
+        released,
+        begun,
+        has_changed,
+        journal,
+    } = published;
+    let source = Source {
+        status,
+        released,
+        outputs,
+        whose,
+        begun,
+        longest_age: Duration::from_millis(LONGEST_AGE.max(3 * u64::from(period))),
+        has_changed,
+        notices,
+        process,
+    };
+    (source, journal)
 }
 
-impl<R, J> Page<R, J>
-where
-    R: ServiceRuntime + Net<Listener = TcpListener, Stream = TcpStream>,
-    J: Naming + Send + Sync + 'static,
-{
-    /// The page of a controller, for connections at this address. The program is that of the image, until it's changed.
+impl<R: DoorRuntime, J: Naming + Send + Sync + 'static> Page<R, J> {
+    /// The page of a controller, for connections at this address: kept from now on if its port is free, and else as soon
+    /// as it is, once the page is opened. The program is that of the image, until it's changed.
     pub fn new(
         host: Host<R>,
         address: SocketAddr,
@@ -111,30 +143,15 @@ where
             keys,
             process,
         } = showing;
-        let Published {
-            whose,
-            period,
-            status,
-            released,
-            begun,
-            has_changed,
-        } = published;
-        let site = Site {
-            hosts: hosts_of(alloc, address)?,
-            version: version.as_bytes(),
+        let site = Site::at(alloc, address, version)?;
+        let outputs = outputs(alloc, image.variables())?;
+        let (source, journal) = source_of(published, outputs, notices, process);
+        let content = Content {
+            site,
+            program: listing_of(alloc, image)?,
+            source,
+            keys,
         };
-        let source = Source {
-            status,
-            released,
-            outputs: outputs(alloc, image.variables())?,
-            whose,
-            begun,
-            longest_age: Duration::from_millis(LONGEST_AGE.max(3 * u64::from(period))),
-            has_changed,
-            notices,
-            process,
-        };
-        let door = door_at(&host.rt, address)?;
-        Page::of(host, door, site, listing_of(alloc, image)?, source, keys)
+        Page::of(host, Door::wanted(&host, address), content, journal)
     }
 }

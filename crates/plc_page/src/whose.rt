@@ -40,6 +40,9 @@ impl Whose {
             number,
             epoch: published.epoch,
             is_driving: published.is_driving,
+            heard: published.heard,
+            others: published.others,
+            has_majority: published.has_majority,
         })
     }
 }

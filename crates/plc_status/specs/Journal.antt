@@ -67,27 +67,35 @@ Merges xs ys [] = (xs ≡ []) × (ys ≡ [])
 Merges xs ys (notice ∷ notices) = ((rest : List Notice) × (xs ≡ notice ∷ rest) × Merges rest ys notices)
     ⊎ ((rest : List Notice) × (ys ≡ notice ∷ rest) × Merges xs rest notices)
 
--- the lines of notices were printed that had been put into both journals, those of each in order, and nothing else was
+-- the last list has the elements of the other three, and nothing else, each in its list's order
+abbrev pub MergesAll : List Notice → List Notice → List Notice → List Notice → Type 0
+MergesAll xs ys zs notices = (others : List Notice) × Merges ys zs others × Merges xs others notices
+
+-- the lines of notices were printed that had been put into the journals, those of each in order, and nothing else was
 -- told
 pub record Prints {W : Type 0} (w : CountedWriter W) (old new : Printer) (before after : W) : Type 0 where
   pub of_driver : List Notice
   pub of_console : List Notice
+  pub of_page : List Notice
   pub notices : List Notice
   pub driver : Takes old.driver new.driver of_driver
   pub console : Takes old.console new.console of_console
-  pub merged : Merges of_driver of_console notices
+  pub page : Takes old.page new.page of_page
+  pub merged : MergesAll of_driver of_console of_page notices
   pub lines : WentOutInOrder w notices before after
 
--- all that was put into the driver's journal was printed now, in order, and what had been put into the console's, and
--- then how many of the driver's had been lost, if any were
+-- all that was put into the driver's journal was printed now, in order, and what had been put into the others, and then
+-- how many of the driver's had been lost, if any were
 pub record IsPrintedOut {W : Type 0} (w : CountedWriter W) (journal : Journal) (old new : Printer) (before after : W)
     : Type 0 where
   pub of_driver : List Notice
   pub of_console : List Notice
+  pub of_page : List Notice
   pub notices : List Notice
   pub left : noted journal ≡ printed old.driver ++ of_driver
   pub console : Takes old.console new.console of_console
-  pub merged : Merges of_driver of_console notices
+  pub page : Takes old.page new.page of_page
+  pub merged : MergesAll of_driver of_console of_page notices
   pub lines : WentOutInOrder w (notices ++ loss journal.lost) before after
 
 -- a journal into which nothing was put yet, and what is read of it
@@ -101,3 +109,4 @@ pub record IsEmpty (journal : Journal) (feed : Feed) : Type 0 where
 pub record IsNew (journals : Journals) : Type 0 where
   pub driver : IsEmpty journals.driver journals.printer.driver
   pub console : IsEmpty journals.console journals.printer.console
+  pub page : IsEmpty journals.page journals.printer.page

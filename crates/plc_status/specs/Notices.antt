@@ -1,7 +1,15 @@
 -- The lines that tell an operator what changed, and the report of a controller that was served.
-use Rattle.std.specs.Prelude.{◌≡◌, ◌⊎◌, ◌==◌, if◌then◌else◌, ℕ, List, [], ◌∷◌, ◌++◌, Option, Some, None, codes}
+use Rattle.std.specs.Prelude.{◌≡◌, ◌⊎◌, ◌==◌, if◌then◌else◌, Bool, true, false, ℕ, List, [], ◌∷◌, ◌++◌}
+use Rattle.std.specs.Prelude.{Option, Some, None, codes, slice_index}
 use Rattle.std.specs.Fmt.{decimal}
 use Rattle.std.specs.Io.KnownBytes.{Appends}
+use Rattle.std.specs.Net.Addr.{ipv4_octets}
+use Rattle.std.specs.Net.Socket.{v4_ip, v4_port, v6_port}
+use Rattle.std.specs.declared.net.socket_addr.SocketAddr.{SocketAddr}
+use Rattle.std.specs.declared.net.socket_addr.SocketAddr.TheVariants as addresses
+use Rattle.std.specs.declared.net.socket_addr.SocketAddrV4.{SocketAddrV4}
+use Rattle.std.specs.declared.net.socket_addr.SocketAddrV6.{SocketAddrV6}
+use Rattle.hex.specs.Hex.{encode_lower}
 use Rattle.io_model.specs.declared.counted.CountedWrite.{Ghosts as CountedWriter}
 use Rattle.il_model.specs.declared.command.Command.{Command}
 use Rattle.il_model.specs.declared.value.Stop.{Stop}
@@ -9,9 +17,13 @@ use Rattle.il_model.specs.declared.command.Command.TheVariants as commands
 use Rattle.il_text.specs.Lines.{stop_name}
 use Rattle.il_text.specs.Telling.{WentOut, numbered}
 use Rattle.plc_status.specs.declared.deed.Deed.{Deed}
+use Rattle.plc_status.specs.declared.door.Doorway.{Doorway}
+use Rattle.plc_status.specs.declared.group.GroupNotice.{GroupNotice}
 use Rattle.plc_status.specs.declared.notice.Notice.{Notice}
 use Rattle.plc_status.specs.declared.notice.Why.{Why}
 use Rattle.plc_status.specs.declared.deed.Deed.TheVariants as deeds
+use Rattle.plc_status.specs.declared.door.Doorway.TheVariants as doorways
+use Rattle.plc_status.specs.declared.group.GroupNotice.TheVariants as of_group
 use Rattle.plc_status.specs.declared.notice.Notice.TheVariants as notices
 use Rattle.plc_status.specs.declared.notice.Why.TheVariants as causes
 
@@ -37,6 +49,11 @@ why_name causes.OtherProgram = codes "another program"
 why_name causes.OwnParty = codes "own party"
 why_name causes.NoMember = codes "no member"
 why_name causes.FewerStarts = codes "fewer starts"
+why_name causes.MoreStarts = codes "more starts"
+why_name causes.OtherFresh = codes "another fresh"
+why_name causes.OtherStore = codes "another store: format it with --wait"
+why_name causes.OwnStore = codes "it has seen another store of this machine: format this one with --wait"
+why_name causes.OwnStarts = codes "it has seen a copy of this machine's store"
 
 -- who was refused: the machine of this number, or one that told none
 abbrev pub refused_party : Option ℕ → List ℕ
@@ -74,6 +91,71 @@ epoch_text epoch what = numbered_line (codes "epoch ") epoch what
 abbrev pub heard_line : ℕ → ℕ → Option ℕ → List ℕ
 heard_line epoch machine normal_in =
     epoch_text epoch (codes " heard from machine ") ++ (numbered_line [] machine [] ++ normal_in_line normal_in)
+
+-- no majority: hears 0 of 2
+abbrev pub hearing_line : ℕ → ℕ → List ℕ
+hearing_line heard others =
+    numbered (codes "no majority: hears ") heard ++ numbered_line (codes " of ") others (codes "\n")
+
+-- waits: hears 1 of 3 machines, wants 2
+abbrev pub waiting_line : ℕ → ℕ → ℕ → List ℕ
+waiting_line heard machines wanted =
+    numbered (codes "waits: hears ") heard
+    ++ (numbered (codes " of ") machines ++ numbered_line (codes " machines, wants ") wanted (codes "\n"))
+
+abbrev pub by_hand_line : ℕ → List ℕ
+by_hand_line f =
+    majority_of f ++ codes " have lost their memory: cold start by hand, plc format --next-epoch at each\n"
+
+-- of a later epoch that isn't followed: who is in it, and the first bytes of its program's sum
+abbrev pub goes_on_line : ℕ → ℕ → List ℕ → List ℕ
+goes_on_line epoch machine program =
+    epoch_text epoch (codes " heard from machine ")
+    ++ (numbered_line [] machine (codes ", program ") ++ (encode_lower program ++ codes ": this group goes on\n"))
+
+abbrev pub far_line : ℕ → ℕ → List ℕ
+far_line epoch machine =
+    epoch_text epoch (codes " heard from machine ")
+    ++ numbered_line [] machine (codes ": too far above, an operator is needed\n")
+
+-- four numbers with dots between them
+abbrev pub octets_text : List ℕ → List ℕ
+octets_text octets = numbered [] (slice_index octets 0)
+    ++ (numbered (codes ".") (slice_index octets 1)
+    ++ (numbered (codes ".") (slice_index octets 2) ++ numbered (codes ".") (slice_index octets 3)))
+
+abbrev pub v4_text : SocketAddrV4 → List ℕ
+v4_text address = octets_text (ipv4_octets (v4_ip address)) ++ numbered (codes ":") (v4_port address)
+
+abbrev pub v6_text : SocketAddrV6 → List ℕ
+v6_text address = numbered (codes "its address of IPv6, port ") (v6_port address)
+
+-- an address and its port; of IPv6 the port alone
+abbrev pub address_text : SocketAddr → List ℕ
+address_text (addresses.V4 address) = v4_text address
+address_text (addresses.V6 address) = v6_text address
+
+-- machine 2 isn't at 10.0.0.3:7700
+abbrev pub not_at_line : ℕ → SocketAddr → List ℕ
+not_at_line number address = machine_line number (codes " isn't at ") ++ (address_text address ++ codes "\n")
+
+abbrev pub group_line : GroupNotice → List ℕ
+group_line (of_group.NoMajority heard others) = hearing_line heard others
+group_line of_group.Majority = codes "majority\n"
+group_line (of_group.Waits heard machines wanted) = waiting_line heard machines wanted
+group_line (of_group.ByHand f) = by_hand_line f
+group_line (of_group.EpochRefused epoch machine program) = goes_on_line epoch machine program
+group_line (of_group.EpochFarAbove epoch machine) = far_line epoch machine
+group_line (of_group.NotAt number address) = not_at_line number address
+
+-- what is told of where a console or a page is found, by whether it's had
+abbrev pub door_line : Doorway → Bool → List ℕ
+door_line (doorways.ConsolePort port) false = numbered_line (codes "no console port ") port (codes "\n")
+door_line (doorways.ConsolePort port) true = numbered_line (codes "console port ") port (codes "\n")
+door_line doorways.ConsoleSocket false = codes "no console socket\n"
+door_line doorways.ConsoleSocket true = codes "console socket\n"
+door_line (doorways.PagePort port) false = numbered_line (codes "no page port ") port (codes "\n")
+door_line (doorways.PagePort port) true = numbered_line (codes "page port ") port (codes "\n")
 
 -- the line that tells the port at which clients are served
 abbrev pub port_line : ℕ → List ℕ
@@ -142,6 +224,9 @@ notice_line notices.GoesOn = codes "goes on\n"
 notice_line notices.ConsoleBegins = codes "console begins\n"
 notice_line notices.ConsoleEnds = codes "console ends\n"
 notice_line notices.ConsoleTaken = codes "console taken over\n"
+notice_line notices.ConsoleRefused = codes "console refused\n"
+notice_line (notices.Door notice) = door_line notice.doorway notice.is_had
+notice_line (notices.Group notice) = group_line notice
 notice_line (notices.Done deed) = deed_line deed
 notice_line (notices.Lost count) = numbered_line [] count (codes " lines lost\n")
 

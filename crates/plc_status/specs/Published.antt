@@ -1,5 +1,5 @@
 -- The words by which what shows of a group, of its machines and of its scans is published.
-use Rattle.std.specs.Prelude.{ℕ, Bool, true, false, List, [], ◌∷◌, Option, Some, None, ◌≡◌, ◌++◌, length}
+use Rattle.std.specs.Prelude.{ℕ, Bool, true, false, List, [], ◌∷◌, Option, Some, None, ◌≡◌, ◌<◌, ◌++◌, length}
 use Rattle.vr_shown.specs.declared.shown.Shown.{Shown}
 use Rattle.vr_shown.specs.Showing.{nothing_shown, shown_words}
 use Rattle.plc_status.specs.declared.machine.MachineStatus.{MachineStatus}
@@ -13,10 +13,21 @@ abbrev pub course_word : Bool → ℕ
 course_word false = 1
 course_word true = 2
 
+abbrev pub majority_word : Bool → ℕ
+majority_word false = 0
+majority_word true = 1
+
+-- so many machines as a byte counts
+abbrev pub IsCounted : Option MachineStatus → Type 0
+IsCounted None = Unit {0}
+IsCounted (Some machine) = (machine.heard < 256) × (machine.others < 256)
+
 -- zeros where the process is no machine of a group
 abbrev pub machine_words : Option MachineStatus → List ℕ
-machine_words None = 0 ∷ 0 ∷ []
-machine_words (Some machine) = course_word machine.is_driving ∷ machine.epoch ∷ []
+machine_words None = 0 ∷ 0 ∷ 0 ∷ 0 ∷ 0 ∷ []
+machine_words (Some machine) =
+    course_word machine.is_driving ∷ machine.epoch ∷ machine.heard ∷ machine.others
+    ∷ majority_word machine.has_majority ∷ []
 
 -- ---- a group, and its scans
 

@@ -57,8 +57,10 @@ pub struct Journal {
 pub struct Journals {
     /// What the driver notices of its scans and of the replicas.
     pub driver: Journal,
-    /// What an operator does at the console.
+    /// What an operator does at the console, and what becomes of where it's found.
     pub console: Journal,
+    /// What becomes of where the page is found.
+    pub page: Journal,
     pub printer: Printer,
 }
 
@@ -70,12 +72,15 @@ impl Journals {
         let bell = Arc::new(alloc, Bell::new())?;
         let (driver, from_driver) = Journal::new(alloc, &bell)?;
         let (console, from_console) = Journal::new(alloc, &bell)?;
+        let (page, from_page) = Journal::new(alloc, &bell)?;
         Ok(Journals {
             driver,
             console,
+            page,
             printer: Printer {
                 driver: from_driver,
                 console: from_console,
+                page: from_page,
                 bell,
             },
         })

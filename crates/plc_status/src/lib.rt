@@ -2,7 +2,7 @@
 //! thread, and knows none of the parts.
 //!
 //! ```rust
-//! let Journals { mut driver, console, mut printer } = Journals::new(alloc)?; // a journal for each of two threads
+//! let Journals { mut driver, console, page, mut printer } = Journals::new(alloc)?; // one for each of three threads
 //! driver.put(Notice::Down(2)); // it never waits; `driver.end()` ends the printer
 //! printer.attend(&rt, &mut err); // "replica 2 down\n"
 //! ```
@@ -20,7 +20,9 @@
 #![tactic(auto)]
 
 mod deed;
+mod door;
 mod feed;
+mod group;
 mod halting;
 mod journal;
 mod machine;
@@ -31,6 +33,8 @@ mod scans;
 mod status;
 
 pub use deed::Deed;
+pub use door::{DoorNotice, Doorway};
+pub use group::GroupNotice;
 pub use halting::{halt_in, note_halt};
 pub use journal::{Journal, Journals};
 pub use machine::MachineStatus;

@@ -9,6 +9,8 @@ ghost use Rattle.plc_status.specs.Notices.{normal_in_line, notice_line, numbered
 ghost use Rattle.plc_status.specs.Notices.{replica_line, stopped_line, view_line, waits_line, why_name};
 
 use crate::deed::{Deed, put_deed};
+use crate::door::{DoorNotice, put_door};
+use crate::group::{GroupNotice, put_group};
 use il_model::Stop;
 use il_text::{put, put_numbered};
 use io_model::{CountedWrite, DeviceFault};
@@ -25,6 +27,16 @@ pub enum Why {
     NoMember,
     /// It was started before the one that was seen last.
     FewerStarts,
+    /// It was started so many times more that it isn't believed.
+    MoreStarts,
+    /// Its machine's group's file has another time for which outputs are shown.
+    OtherFresh,
+    /// Its machine has another store than the one that was seen in this epoch.
+    OtherStore,
+    /// It has seen another store of this machine.
+    OwnStore,
+    /// It has seen this machine started more often: by a copy of its store.
+    OwnStarts,
 }
 
 /// A change, as it is told by a line of its own.
@@ -95,6 +107,12 @@ pub enum Notice {
     ConsoleEnds,
     /// It ends since another operator takes it over.
     ConsoleTaken,
+    /// It is ended: what came isn't from a console, or its key was wrong.
+    ConsoleRefused,
+    /// What became of the port of a console or of a page, or of a console's socket.
+    Door(DoorNotice),
+    /// What this machine tells of its group.
+    Group(GroupNotice),
     /// A command of it changed something.
     Done(Deed),
     /// So many notices found no room in the journal, and are lost.
@@ -133,7 +151,11 @@ fn put_replica<E: CountedWrite>(err: &mut E, number: u8, what: &[u8]) -> Result<
 }
 
 /// What is told of another machine.
-fn put_machine<E: CountedWrite>(err: &mut E, number: u8, what: &[u8]) -> Result<(), DeviceFault>
+pub(crate) fn put_machine<E: CountedWrite>(
+    err: &mut E,
+    number: u8,
+    what: &[u8],
+) -> Result<(), DeviceFault>
     ensures { Sends E.CountedWrite (machine_line number what.now) err.old err.new result }
 {
     put_line_of(err, b"machine ", usize::from(number), what)
@@ -159,6 +181,11 @@ fn name_of_why(why: Why) -> &'static str
         Why::OwnParty => "own party",
         Why::NoMember => "no member",
         Why::FewerStarts => "fewer starts",
+        Why::MoreStarts => "more starts",
+        Why::OtherFresh => "another fresh",
+        Why::OtherStore => "another store: format it with --wait",
+        Why::OwnStore => "it has seen another store of this machine: format this one with --wait",
+        Why::OwnStarts => "it has seen a copy of this machine's store",
     }
 }
 
@@ -196,7 +223,7 @@ fn put_not_normal_long<E: CountedWrite>(err: &mut E) -> Result<(), DeviceFault>
 }
 
 /// More than half of a group of 2f+1 machines.
-fn majority_of(f: u8) -> &'static str
+pub(crate) fn majority_of(f: u8) -> &'static str
     ensures { result.now ≡ majority_of f }
 {
     match f {
@@ -264,7 +291,11 @@ fn put_speaker<E: CountedWrite>(
 }
 
 /// What is told of an epoch.
-fn put_epoch_text<E: CountedWrite>(err: &mut E, epoch: u64, what: &[u8]) -> Result<(), DeviceFault>
+pub(crate) fn put_epoch_text<E: CountedWrite>(
+    err: &mut E,
+    epoch: u64,
+    what: &[u8],
+) -> Result<(), DeviceFault>
     ensures { Sends E.CountedWrite (epoch_text epoch what.now) err.old err.new result }
 {
     put_line_of(err, b"epoch ", epoch as usize, what)
@@ -338,6 +369,9 @@ pub(crate) fn put_line<E: CountedWrite>(err: &mut E, notice: Notice) -> Result<(
         Notice::ConsoleBegins => put(err, b"console begins\n"),
         Notice::ConsoleEnds => put(err, b"console ends\n"),
         Notice::ConsoleTaken => put(err, b"console taken over\n"),
+        Notice::ConsoleRefused => put(err, b"console refused\n"),
+        Notice::Door(notice) => put_door(err, notice),
+        Notice::Group(notice) => put_group(err, notice),
         Notice::Done(deed) => put_deed(err, deed),
         Notice::Lost(count) => put_line_of(err, b"", count, b" lines lost\n"),
     }

@@ -14,6 +14,7 @@ use std::sync::{Arc, Wait};
 pub struct Printer {
     pub(crate) driver: Feed,
     pub(crate) console: Feed,
+    pub(crate) page: Feed,
     pub(crate) bell: Arc<Bell>,
 }
 
@@ -24,6 +25,7 @@ impl Printer {
     {
         self.driver.print(err);
         self.console.print(err);
+        self.page.print(err);
     }
 
     /// Prints what is put, as soon as it is, until the journals end.
@@ -43,13 +45,14 @@ impl Printer {
     }
 
     /// Prints all that is left of the driver's journal, whose thread has ended, and how many of its notices were lost
-    /// at the end; of the console's what was put by now.
+    /// at the end; of the others what was put by now.
     pub fn finish<E: CountedWrite>(&mut self, journal: &mut Journal, err: &mut E)
         requires { IsJournalOf journal.old self.old.driver }
         ensures { IsPrintedOut E.CountedWrite journal.old self.old self.new err.old err.new }
     {
         self.driver.finish(journal, err);
         self.console.print(err);
+        self.page.print(err);
         print_loss(journal.lost, err);
     }
 }

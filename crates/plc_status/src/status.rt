@@ -1,7 +1,7 @@
 //! What shows of a served controller, for whoever watches it.
 
 ghost use Rattle.std.specs.Prelude.{◌≡◌, ◌<◌, List, Option, Some, None, get_or, length, set, IfOk};
-ghost use Rattle.plc_status.specs.Published.{machine_words, nothing, status_words, AreOfGroup};
+ghost use Rattle.plc_status.specs.Published.{machine_words, nothing, status_words, AreOfGroup, IsCounted};
 ghost use Rattle.plc_status.specs.Scans.{after_scan, no_scan, IsPlaced};
 ghost use Rattle.plc_status.specs.declared.machine.MachineStatus.{MachineStatus as Machine};
 ghost use Rattle.plc_status.specs.declared.scans.ScanStatus.{ScanStatus as Scanned};
@@ -70,7 +70,8 @@ impl Status {
 
     /// What shows of the machine; none where the process is no machine of a group, or has told nothing of it yet.
     pub fn machine(&self) -> Option<MachineStatus>
-        ensures { (machine : Option Machine) → self.now.machine ≡ machine_words machine → result ≡ machine }
+        ensures { (machine : Option Machine) → IsCounted machine → self.now.machine ≡ machine_words machine
+            → result ≡ machine }
     {
         machine_in(self.machine)
     }

@@ -4,6 +4,8 @@ use Rattle.std.specs.Io.KnownBytes.{Appends}
 use Rattle.il_model.specs.Program.{Program}
 use Rattle.il_text.specs.declared.fault.Fault.{Fault}
 use Rattle.il_text.specs.Meaning.{IsTypedProgramOfText, IsTextFault}
+use Rattle.plc_symbols.specs.declared.calls.Which.{Which}
+use Rattle.plc_symbols.specs.declared.calls.Which.TheVariants as which
 use Rattle.plc_symbols.specs.Symbols.{symbols_text}
 use Rattle.plc_symbols.specs.Compared.{compared_text}
 
@@ -26,6 +28,10 @@ pub record AreCompared (first second : List ℕ) (old new : Option (List ℕ)) :
   pub text : List ℕ
   pub says : IsComparison first second text
   pub written : Appends old new text
+
+abbrev pub source_of : Which → List ℕ → List ℕ → List ℕ
+source_of which.Old first second = first
+source_of which.New first second = second
 
 -- a fault of one of two texts
 abbrev pub IsFaultOfEither : List ℕ → List ℕ → Fault → Type 0

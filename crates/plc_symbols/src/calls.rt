@@ -1,10 +1,10 @@
 //! The calls of the program, over byte slices and writers, each answering the status.
 
-ghost use Rattle.std.specs.Prelude.{◌≡◌, ◌≤◌, ◌⊎◌, OnOk, IfOk, IfErr};
+ghost use Rattle.std.specs.Prelude.{◌≡◌, ◌≤◌, ◌⊎◌, OnOk, IfOk, IfErr, IfSome};
 ghost use Rattle.il_text.specs.Meaning.{IsTextFault, IsRefused, OrMemory};
 ghost use Rattle.il_text.specs.Telling.{EndsTold};
 ghost use Rattle.il_text.specs.declared.fault.Fault as told;
-ghost use Rattle.plc_symbols.specs.Told.{AreNamed, AreCompared, IsComparison, IsFaultOfEither};
+ghost use Rattle.plc_symbols.specs.Told.{AreNamed, AreCompared, IsComparison, IsFaultOfEither, source_of};
 
 use crate::comparing::compared;
 use crate::symbols::symbols;
@@ -48,6 +48,36 @@ fn put_compared<W: CountedWrite>(
     match comparison(alloc, old, new) {
         Ok(text) => Ok(write_all(out, text.as_slice())?),
         Err(fault) => Err(fault),
+    }
+}
+
+/// One of two sources.
+#[derive(Clone, Copy, Debug, PartialEq, Eq)]
+pub enum Which {
+    Old,
+    New,
+}
+
+/// Why there is no program of a source, if there is none: its first fault, or that memory ran out.
+fn fault_of(alloc: Global, source: &[u8]) -> Option<Fault>
+    ensures { IfSome result (OrMemory (IsTextFault source.now)) }
+{
+    match image(alloc, source) {
+        Ok(_) => None,
+        Err(fault) => Some(fault),
+    }
+}
+
+/// The first of two sources of which there is no program, and why: its first fault, or that memory ran out.
+pub fn first_fault(alloc: Global, old: &[u8], new: &[u8]) -> Option<(Which, Fault)>
+    ensures { IfSome result (λ first. OrMemory (IsTextFault (source_of first.0 old.now new.now)) first.1) }
+{
+    if let Some(fault) = fault_of(alloc, old) {
+        return Some((Which::Old, fault));
+    }
+    match fault_of(alloc, new) {
+        Some(fault) => Some((Which::New, fault)),
+        None => None,
     }
 }
 

@@ -20,4 +20,4 @@ mod comparing;
 mod symbols;
 mod words;
 
-pub use calls::{compare, names};
+pub use calls::{Which, compare, first_fault, names};

@@ -20,6 +20,7 @@ pub(crate) struct Bell {
     parker: Parker,
     is_over: AtomicBool,
     has_failed: AtomicBool,
+    has_ended: AtomicBool,
 }
 
 impl Bell {
@@ -28,6 +29,7 @@ impl Bell {
             parker: Parker::new(),
             is_over: AtomicBool::new(false),
             has_failed: AtomicBool::new(false),
+            has_ended: AtomicBool::new(false),
         }
     }
 
@@ -49,6 +51,16 @@ impl Bell {
     /// Nothing more is written.
     pub(crate) fn fail(&self) {
         self.has_failed.store(true, Ordering::SeqCst);
+    }
+
+    /// The thread that writes is at its end.
+    pub(crate) fn leave(&self) {
+        self.has_ended.store(true, Ordering::SeqCst);
+    }
+
+    /// Whether the thread that writes is at its end.
+    pub(crate) fn has_ended(&self) -> bool {
+        self.has_ended.load(Ordering::SeqCst)
     }
 }
 

@@ -12,6 +12,13 @@ use std::alloc::Global;
 use std::sync::Arc;
 use std::thread;
 use std::thread::JoinHandle;
+use std::time::Duration;
+
+/// In milliseconds: so long the thread that writes may take to its end.
+const LONGEST_END: u64 = 10_000;
+
+/// In milliseconds: from one look at whether it's there to the next.
+const LOOK: u64 = 10;
 
 /// What writes a trace, and doesn't yet.
 #[derive(Drop)]
@@ -20,7 +27,7 @@ pub struct TraceWriter {
     pub(crate) bell: Arc<Bell>,
 }
 
-/// What writes a trace, in a thread of its own. It can't be let go of but by `close`, which joins it.
+/// What writes a trace, in a thread of its own. It can't be let go of but by `close`.
 pub struct OpenTraceWriter {
     bell: Arc<Bell>,
     thread: JoinHandle<()>,
@@ -61,6 +68,7 @@ impl TraceWriter {
         if self.go_on(&host, started, &mut file).is_err() {
             self.bell.fail();
         }
+        self.bell.leave();
     }
 
     /// The same, until the trace ends; or the first fault.
@@ -96,10 +104,23 @@ impl TraceWriter {
 }
 
 impl OpenTraceWriter {
-    /// Writes what was put, and ends.
+    /// Writes what was put, and ends. A file that takes no more for ten seconds isn't waited for: its thread is left.
     pub fn close<R: ServiceRuntime>(self, rt: &R) {
         let OpenTraceWriter { bell, thread } = self;
         bell.end();
-        thread.join(rt);
+        if ends_soon(rt, &bell) {
+            thread.join(rt);
+        }
     }
+}
+
+/// Whether the thread that writes comes to its end, within ten seconds.
+fn ends_soon<R: ServiceRuntime>(rt: &R, bell: &Bell) -> bool {
+    for _ in 0..LONGEST_END / LOOK {
+        if bell.has_ended() {
+            return true;
+        }
+        thread::sleep(rt, Duration::from_millis(LOOK));
+    }
+    false
 }
