@@ -12,7 +12,8 @@ use Rattle.plc_json.specs.Asking.{HasAsked, HasNothing}
 use Rattle.plc_names.specs.Named.{meant}
 use Rattle.plc_console.specs.declared.line.Wish.{Wish}
 use Rattle.plc_console.specs.declared.line.Wish.TheVariants as wishes
-use Rattle.plc_console.specs.Lines.{longest_line, kept, IsScan, IsWish, IsWishOf, AsksFor, AsksAbout, AsksForScan, AsksForNothing}
+use Rattle.plc_console.specs.Web.{is_of_http}
+use Rattle.plc_console.specs.Lines.{longest_line, kept, IsOfHttp, IsScan, IsWish, IsWishOf, AsksFor, AsksAbout, AsksForScan, AsksForNothing}
 
 kept_short : (line : List ℕ) → length line ≤ longest_line → kept line ≡ Some line
 kept_short line le = let test : nat_le (length line) longest_line ≡ true = le-leb (length line) longest_line le in rw test refl
@@ -97,17 +98,32 @@ module _ (seen : Option (List ℕ)) (long : Bool) (bytes : List ℕ) (view : see
   keeps : (line : List ℕ) → long ≡ false → seen ≡ kept line → Some bytes ≡ kept line
   keeps line short is = sym (view ∙ ap (λ (b : Bool). marked b bytes) short) ∙ is
 
-  pub long_asked : long ≡ true → (line : List ℕ) → seen ≡ kept line → AsksForNothing line
-  long_asked too_long line is = asks_too_long line (sym (view ∙ ap (λ (b : Bool). marked b bytes) too_long) ∙ is)
+  -- a line that's kept as it is, is of HTTP where its bytes are
+  no_http : (line : List ℕ) → long ≡ false → seen ≡ kept line → is_of_http bytes ≡ false → IsOfHttp line → ⊥
+  no_http line short is other http =
+      let same : bytes ≡ line = (is_kept line bytes (keeps line short is)).0 in
+      absurd (let wrong : false ≡ true = sym other ∙ (ap is_of_http same ∙ http.1) in cc)
 
-  pub nothing_asked : long ≡ false → HasNothing bytes → (line : List ℕ) → seen ≡ kept line → AsksForNothing line
-  nothing_asked short none line is = asks_for_none line bytes (keeps line short is) none
+  pub http_asked : (Q : Program) → long ≡ false → is_of_http bytes ≡ true → (line : List ℕ) → seen ≡ kept line → IsWish Q line wishes.Leave
+  http_asked Q short http line is =
+      let kept_is = is_kept line bytes (keeps line short is) in
+      (kept_is.1, sym (ap is_of_http kept_is.0) ∙ http)
 
-  pub question_asked : (question : Question) → long ≡ false → HasAsked bytes (asked.Question question) → (line : List ℕ) → seen ≡ kept line → AsksAbout line question
-  question_asked question short read line is = asks_about line bytes question (keeps line short is) read
+  pub long_asked : (Q : Program) → long ≡ true → (line : List ℕ) → seen ≡ kept line → IsWish Q line wishes.Refuse
+  long_asked Q too_long line is =
+      let none : None ≡ kept line = sym (view ∙ ap (λ (b : Bool). marked b bytes) too_long) ∙ is in
+      let long_line : longest_line < length line = is_long line none in
+      ((λ http. omega (arith, long_line, http.0)), asks_too_long line none)
 
-  pub wish_asked : (Q : Program) (wish : Wish) (named : NamedCommand) → long ≡ false → HasAsked bytes (asked.Command named) → IsWishOf Q named wish → (line : List ℕ) → seen ≡ kept line → IsWish Q line wish
-  wish_asked Q (wishes.Submit command) named short read found line is =
-      subst (λ (c : Command). AsksFor Q line c) (sym found.1) (asks_for Q line bytes named (keeps line short is) read found.0)
-  wish_asked Q (wishes.Tell question) named short read found line is = absurd found
-  wish_asked Q wishes.Refuse named short read found line is = asks_for_scan line bytes named (keeps line short is) read found
+  pub nothing_asked : (Q : Program) → long ≡ false → is_of_http bytes ≡ false → HasNothing bytes → (line : List ℕ) → seen ≡ kept line → IsWish Q line wishes.Refuse
+  nothing_asked Q short other none line is = (no_http line short is other, asks_for_none line bytes (keeps line short is) none)
+
+  pub question_asked : (Q : Program) (question : Question) → long ≡ false → is_of_http bytes ≡ false → HasAsked bytes (asked.Question question) → (line : List ℕ) → seen ≡ kept line → IsWish Q line (wishes.Tell question)
+  question_asked Q question short other read line is = (no_http line short is other, asks_about line bytes question (keeps line short is) read)
+
+  pub wish_asked : (Q : Program) (wish : Wish) (named : NamedCommand) → long ≡ false → is_of_http bytes ≡ false → HasAsked bytes (asked.Command named) → IsWishOf Q named wish → (line : List ℕ) → seen ≡ kept line → IsWish Q line wish
+  wish_asked Q (wishes.Submit command) named short other read found line is =
+      (no_http line short is other, subst (λ (c : Command). AsksFor Q line c) (sym found.1) (asks_for Q line bytes named (keeps line short is) read found.0))
+  wish_asked Q (wishes.Tell question) named short other read found line is = absurd found
+  wish_asked Q wishes.Refuse named short other read found line is = (no_http line short is other, asks_for_scan line bytes named (keeps line short is) read found)
+  wish_asked Q wishes.Leave named short other read found line is = absurd found

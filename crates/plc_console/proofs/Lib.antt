@@ -1,5 +1,6 @@
 mod Waiting
 mod Kept
+mod Keys
 mod Sessions
 mod Passing
 mod Mirrors

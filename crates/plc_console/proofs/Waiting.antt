@@ -14,13 +14,13 @@ use Rattle.vr_model.specs.declared.message.Body.{Body}
 use Rattle.vr_model.specs.declared.message.Body.TheVariants as says
 use Rattle.vr_model.specs.Logs.{Request}
 use Rattle.vr_model.specs.StandsFor.{body_with}
-use Rattle.vr_model.specs.Steps.{Retries, heard}
+use Rattle.vr_model.specs.Steps.{Retries, StartsAgain, heard}
 use Rattle.vr_model.specs.World.{next_number, next_request, is_waiting, replied}
 use Rattle.vr_ports.specs.Parties.{Grows}
 use Rattle.vr_ports.specs.declared.link.Input.{Input}
 use Rattle.vr_ports.specs.declared.link.Input.TheVariants as input
-use Rattle.vr_client.specs.Client.{Client, SendsAt, SubmitsCommand, answer_by}
-use Rattle.plc_console.specs.Asking.{Way, reply_of, IsNoReplyTo, joined, Waits, IsAnswered, answer_in, IsAfter, Hears, FindsClosed, IsUnanswered}
+use Rattle.vr_client.specs.Client.{Client, SendsAt, BecomesAt, SubmitsCommand, answer_by}
+use Rattle.plc_console.specs.Asking.{Way, reply_of, IsNoReplyTo, joined, Waits, IsAnswered, answer_in, IsAfter, Hears, FindsClosed, GivesUp, IsUnanswered}
 
 pub grows_none : {X : Type 0} (o : Option (List X)) → Grows o o []
 grows_none None = refl
@@ -270,4 +270,14 @@ on_err P (Ok x) p = tt
 on_err P (Err e) p = p
 
 pub closes : (c d e : Client) (command : Command) (a b b' : Way) → Waits c command a b d → FindsClosed b b' × (e ≡ d) → IsUnanswered c command a b' e
-closes c d e command a b b' w h = inr (b, subst (λ (x : Client). Waits c command a b x) (sym h.1) w, h.0)
+closes c d e command a b b' w h = inr (inl (b, subst (λ (x : Client). Waits c command a b x) (sym h.1) w, h.0))
+
+-- ---- a wait that is given up
+
+-- a client that starts again, or can't
+pub lets_go : (b : Bool) (c d : Client) → (b ≡ true → BecomesAt c StartsAgain d) → (b ≡ false → d ≡ c) → GivesUp c d
+lets_go true c d again same = inl (again refl)
+lets_go false c d again same = inr (same refl)
+
+pub gives_up : (c d e : Client) (command : Command) (a b : Way) → Waits c command a b d → GivesUp d e → IsUnanswered c command a b e
+gives_up c d e command a b w h = inr (inr (d, w, h))

@@ -8,7 +8,7 @@ use Rattle.vr_model.specs.declared.message.Body.TheVariants as says
 use Rattle.vr_model.specs.declared.message.Message.{Message}
 use Rattle.vr_model.specs.StandsFor.{body_with, message_with}
 use Rattle.vr_model.specs.World.{next_number}
-use Rattle.vr_model.specs.Steps.{Retries, Hears as Heard}
+use Rattle.vr_model.specs.Steps.{Retries, StartsAgain, Hears as Heard}
 use Rattle.vr_ports.specs.declared.link.Input.{Input}
 use Rattle.vr_ports.specs.declared.link.Input.TheVariants as input
 use Rattle.vr_ports.specs.Parties.{Grows}
@@ -71,11 +71,16 @@ pub record FindsClosed (before after : Way) : Type 0 where
   pub received : Grows before.inputs after.inputs (input.Closed ∷ [])
   pub quiet : after.sent ≡ before.sent
 
+-- a client that waits for nothing any more, since it started again; or it couldn't, and goes on waiting
+abbrev pub GivesUp : Client → Client → Type 0
+GivesUp c c' = BecomesAt c StartsAgain c' ⊎ (c' ≡ c)
+
 -- Why there is no answer: nothing was submitted, nor anything done; or the command was, and waited until the link was
--- closed.
+-- closed, or it was given up.
 abbrev pub IsUnanswered : Client → Command → Way → Way → Client → Type 0
 IsUnanswered c command before after c' = ((c' ≡ c) × (after ≡ before))
-    ⊎ ((between : Way) × Waits c command before between c' × FindsClosed between after)
+    ⊎ (((between : Way) × Waits c command before between c' × FindsClosed between after)
+    ⊎ ((waiting : Client) × Waits c command before after waiting × GivesUp waiting c'))
 
 -- what one receive was to a client: the answer that it brings, if it does
 abbrev pub answer_in : Client → Input → Option Answer

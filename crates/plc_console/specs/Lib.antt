@@ -1,5 +1,6 @@
 pub mod Asking
 pub mod Mirrored
+pub mod Web
 pub mod Lines
 pub mod Sessions
 pub mod Sending

@@ -1,5 +1,5 @@
 -- The lines of an operator's console: which command each asks for, and what it comes to.
-use Rattle.std.specs.Prelude.{◌≡◌, ◌≤◌, ◌<◌, ◌⊎◌, ℕ, nat_le, if◌then◌else◌, List, [], ◌∷◌, length, Option, Some, None}
+use Rattle.std.specs.Prelude.{◌≡◌, ◌≤◌, ◌<◌, ◌+◌, ◌⊎◌, ℕ, nat_le, if◌then◌else◌, List, [], ◌∷◌, length, true, Option, Some, None}
 use Rattle.std.specs.List.{AllByRecursion}
 use Rattle.il_model.specs.declared.command.Answer.{Answer}
 use Rattle.il_model.specs.declared.command.Command.{Command}
@@ -16,6 +16,7 @@ use Rattle.il_text.specs.Telling.{fault_line}
 use Rattle.il_text.specs.declared.fault.Fault.TheVariants.{Commands}
 use Rattle.plc_console.specs.declared.line.Wish.{Wish}
 use Rattle.plc_console.specs.declared.line.Wish.TheVariants as wishes
+use Rattle.plc_console.specs.Web.{is_of_http}
 
 -- LF, which ends a line
 abbrev pub line_end : ℕ
@@ -61,6 +62,18 @@ pub record AsksForScan (line : List ℕ) : Type 0 where
 abbrev pub AsksForNothing : List ℕ → Type 0
 AsksForNothing line = (longest_line < length line) ⊎ (HasNothing line ⊎ AsksForScan line)
 
+-- The line is one of HTTP: no operator sends it, but a browser does, whatever port it's led to.
+abbrev pub IsOfHttp : List ℕ → Type 0
+IsOfHttp line = (length line ≤ longest_line) × (is_of_http line ≡ true)
+
+-- so many lines in a row may be refused; one more ends the session
+abbrev pub most_refused : ℕ
+most_refused = 2
+
+-- behind so many lines in a row that were refused, this one ends the session
+abbrev pub EndsSession : ℕ → List ℕ → Type 0
+EndsSession refused line = IsOfHttp line ⊎ (AsksForNothing line × (most_refused < refused + 1))
+
 -- what a line came to: its command was submitted and answered once, by this answer; or its question, by this text; or
 -- it was refused
 pub data Outcome : Type 0 where
@@ -85,17 +98,29 @@ submitted_by (Submitted command answer) = (command, answer) ∷ []
 submitted_by (Told question text) = []
 submitted_by Refused = []
 
+-- how many lines in a row were refused, up to one that came to this
+abbrev pub refused_behind : ℕ → Outcome → ℕ
+refused_behind refused Refused = refused + 1
+refused_behind refused outcome = 0
+
+-- what a line that isn't one of HTTP asks for
+abbrev pub Wants : Program → List ℕ → Wish → Type 0
+Wants Q line (wishes.Submit command) = AsksFor Q line command
+Wants Q line (wishes.Tell question) = AsksAbout line question
+Wants Q line wishes.Refuse = AsksForNothing line
+Wants Q line wishes.Leave = ⊥
+
 -- what is known of a line before it's answered
 abbrev pub IsWish : Program → List ℕ → Wish → Type 0
-IsWish Q line (wishes.Submit command) = AsksFor Q line command
-IsWish Q line (wishes.Tell question) = AsksAbout line question
-IsWish Q line wishes.Refuse = AsksForNothing line
+IsWish Q line wishes.Leave = IsOfHttp line
+IsWish Q line wish = (IsOfHttp line → ⊥) × Wants Q line wish
 
 -- what a named command is
 abbrev pub IsWishOf : Program → NamedCommand → Wish → Type 0
 IsWishOf Q named (wishes.Submit command) = (IsScan named → ⊥) × (command ≡ meant Q named)
 IsWishOf Q named (wishes.Tell question) = ⊥
 IsWishOf Q named wishes.Refuse = IsScan named
+IsWishOf Q named wishes.Leave = ⊥
 
 -- it came to what was known of it
 abbrev pub Fits : Wish → Outcome → Type 0
@@ -103,3 +128,19 @@ Fits (wishes.Submit asked) (Submitted command answer) = command ≡ asked
 Fits (wishes.Tell asked) (Told question text) = question ≡ asked
 Fits wishes.Refuse Refused = Unit {0}
 Fits _ _ = ⊥
+
+-- how many lines in a row were refused, up to one of which this is known
+abbrev pub refused_with : ℕ → Wish → ℕ
+refused_with refused wishes.Refuse = refused + 1
+refused_with refused wish = 0
+
+-- a line of which this is known ends the session, behind so many in a row that were refused
+abbrev pub EndsAt : ℕ → Wish → Type 0
+EndsAt refused wishes.Leave = Unit {0}
+EndsAt refused wishes.Refuse = most_refused < refused + 1
+EndsAt refused wish = ⊥
+
+-- It doesn't: this many are refused in a row with it.
+abbrev pub StaysAt : ℕ → Wish → ℕ → Type 0
+StaysAt refused wishes.Leave refused' = ⊥
+StaysAt refused wish refused' = (refused' ≡ refused_with refused wish) × (refused' ≤ most_refused)

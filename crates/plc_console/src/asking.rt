@@ -6,24 +6,26 @@ ghost use Rattle.vr_model.specs.declared.message.Message.{Message as Sent};
 ghost use Rattle.vr_model.specs.Steps.{Retries};
 ghost use Rattle.vr_ports.specs.Parties.{Grows};
 ghost use Rattle.vr_client.specs.Client.{SendsAt};
-ghost use Rattle.plc_console.specs.Asking.{way, joined, FindsClosed, Hears, IsAnswered, IsUnanswered};
+ghost use Rattle.plc_console.specs.Asking.{way, joined, FindsClosed, GivesUp, Hears, IsAnswered, IsUnanswered};
 
+use crate::patience::Patience;
 use crate::session::Unanswered;
 use il_model::{Answer, Command};
+use plc_host::Host;
 use std::alloc::Global;
 use std::sync::Wait;
-use std::time::{Clock, Duration, Instant};
+use std::time::{Clock, Instant};
 use vr_client::{GroupClient, RetryTimer};
 use vr_ports::{Input, Link, send_all};
 
 /// Submits a command under the client's next number, and receives until it is answered: by the first REPLY with that
 /// number, whatever else comes meanwhile. After each period without it the same request is sent again, to all. It is
-/// unanswered where the link is closed meanwhile; or nothing was submitted, since the client has a request that waits, its
-/// numbers are used up, or memory runs out.
-pub fn ask<R: Wait + Clock, L: Link>(
-    rt: &R,
-    alloc: Global,
-    period: Duration,
+/// unanswered where the link is closed meanwhile, or it's given up, since there has been no majority for as long as that
+/// is waited for: then the client has started again, and may submit; what was given up may still be done. Or nothing was
+/// submitted, since the client has a request that waits, its numbers are used up, or memory runs out.
+pub fn ask<R: Wait + Clock + Copy, L: Link>(
+    host: &Host<R>,
+    patience: &mut Patience,
     client: &mut GroupClient,
     link: &mut L,
     command: &Command,
@@ -33,6 +35,7 @@ pub fn ask<R: Wait + Clock, L: Link>(
     ensures unanswered { OnErr result (IsUnanswered client.old command.now
         (way (L.inputs link.old) (L.sent link.old)) (way (L.inputs link.new) (L.sent link.new)) client.new) }
 {
+    let Host { rt, alloc } = *host;
     let Ok(one) = command.copy(alloc) else {
         return Err(Unanswered);
     };
@@ -43,14 +46,28 @@ pub fn ask<R: Wait + Clock, L: Link>(
         return Err(Unanswered);
     };
     link.send(request);
-    let mut timer = RetryTimer::new(period, Instant::now(rt).ok());
+    let mut timer = RetryTimer::new(patience.period(), Instant::now(&rt).ok());
+    patience.begin();
     for _ in rt.forever() {
         if let Some(answer) = hear(client, link)? {
             return Ok(answer);
         }
-        ask_again(rt, alloc, client, link, &mut timer);
+        if patience.is_at_its_end(&rt) {
+            return Err(give_up(patience, client));
+        }
+        ask_again(&rt, alloc, client, link, &mut timer);
     }
     unreachable!()
+}
+
+/// Lets go of the request that waits: the client starts again, if it may.
+fn give_up(patience: &mut Patience, client: &mut GroupClient) -> Unanswered
+    ensures { GivesUp client.old client.new }
+{
+    if patience.may_start_again() {
+        let _ = client.start_again();
+    }
+    Unanswered
 }
 
 /// Receives once: the answer to the command that waits, if that is what came.

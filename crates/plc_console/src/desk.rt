@@ -6,6 +6,7 @@ ghost use Rattle.plc_console.specs.Sessions.{Notes, deed_done};
 
 use crate::asking::ask;
 use crate::others::Others;
+use crate::patience::Patience;
 use crate::session::Unanswered;
 use il_model::{Answer, Command};
 use plc_host::Host;
@@ -32,8 +33,7 @@ pub struct Desk<R: Copy + Drop, L: Drop> {
     host: Host<R>,
     client: GroupClient,
     link: L,
-    /// After so long without a reply a command is sent again.
-    period: Duration,
+    patience: Patience,
     /// So many replicas the group has.
     replicas: u8,
     /// What is done is told there.
@@ -59,7 +59,7 @@ impl<R: Wait + Clock + Copy + Drop, L: Link + Drop> Desk<R, L> {
             host,
             client: GroupClient::new(&config, client.number, client.starts),
             link,
-            period,
+            patience: Patience::new(period),
             replicas: config.group_size(),
             journal,
             others: None,
@@ -71,6 +71,15 @@ impl<R: Wait + Clock + Copy + Drop, L: Link + Drop> Desk<R, L> {
     pub fn telling_changes(self, has_changed: Arc<AtomicBool>) -> Desk<R, L> {
         Desk {
             has_changed: Some(has_changed),
+            ..self
+        }
+    }
+
+    /// The same, and a command is given up that waits while this is set for 10 s: there's no majority. What was given up
+    /// may still be done.
+    pub fn minding(self, has_no_majority: Arc<AtomicBool>) -> Desk<R, L> {
+        Desk {
+            patience: self.patience.minding(has_no_majority),
             ..self
         }
     }
@@ -94,6 +103,11 @@ impl<R: Wait + Clock + Copy + Drop, L: Link + Drop> Desk<R, L> {
             Some(others) => others.replica..others.replica.saturating_add(1),
             None => 0..self.replicas,
         }
+    }
+
+    /// Whether there's no majority, for want of which a command would be given up.
+    pub(crate) fn has_no_majority(&self) -> bool {
+        self.patience.has_no_majority()
     }
 
     /// Notes this.
@@ -140,10 +154,10 @@ impl<R: Wait + Clock + Copy + Drop, L: Link + Drop> Desk<R, L> {
             host,
             client,
             link,
-            period,
+            patience,
             ..
         } = self;
-        ask(&host.rt, host.alloc, *period, client, link, command)
+        ask(host, patience, client, link, command)
     }
 }
 

@@ -1,8 +1,9 @@
 //! The line that comes in.
 
-ghost use Rattle.std.specs.Prelude.{◌≡◌, ◌++◌, ◌∷◌, [], ◌↔◌, List, ℕ, true, IfOk, OnErr, OnOk};
-ghost use Rattle.plc_console.specs.Lines.{kept, IsScan, IsWish, IsWishOf};
+ghost use Rattle.std.specs.Prelude.{◌≡◌, ◌++◌, ◌∷◌, [], ◌↔◌, List, ℕ, false, true, IfOk, OnErr, OnOk};
+ghost use Rattle.plc_console.specs.Lines.{kept, EndsAt, IsScan, IsWish, IsWishOf, StaysAt};
 
+use crate::web::is_of_http;
 use il_loader::Image;
 use il_model::Command;
 use plc_json::{Asked, JsonFault, NamedCommand, Question, read_asked};
@@ -12,6 +13,9 @@ use std::marker::Model;
 
 /// So many bytes a line may have, without its end.
 const LONGEST: usize = 131_072;
+
+/// So many lines in a row may be refused; one more ends the session.
+const MOST_REFUSED: u8 = 2;
 
 /// LF, which ends a line.
 pub(crate) const LINE_END: u8 = b'\n';
@@ -28,6 +32,8 @@ pub(crate) enum Wish {
     Tell(Question),
     /// Nothing: it's refused.
     Refuse,
+    /// Nothing, and the session ends: it's a line of HTTP.
+    Leave,
 }
 
 /// What came of a line whose end is still to come: its bytes, or that there are too many.
@@ -79,20 +85,71 @@ impl Line {
         self.is_too_long = false;
     }
 
-    /// What the line asks for, the names of a command looked up in the program. It's refused where the line is too long,
-    /// neither a command nor a question, or a scan.
-    #[tactic(auto, using(crate::proofs::Kept::long_asked, crate::proofs::Kept::nothing_asked, crate::proofs::Kept::question_asked, crate::proofs::Kept::wish_asked))]
+    /// The bytes that are kept of it, and these behind them.
+    pub(crate) fn followed_by(self, rest: &[u8]) -> Result<Vec<u8>, AllocError> {
+        let mut bytes = self.bytes;
+        bytes.extend_from_slice(rest)?;
+        Ok(bytes)
+    }
+
+    /// What the line asks for, the names of a command looked up in the program. The session ends at a line of HTTP. The
+    /// line is refused where it's too long, neither a command nor a question, or a scan.
+    #[tactic(auto, using(crate::proofs::Kept::http_asked, crate::proofs::Kept::long_asked, crate::proofs::Kept::nothing_asked, crate::proofs::Kept::question_asked, crate::proofs::Kept::wish_asked))]
     pub(crate) fn wish(&self, alloc: Global, image: &Image) -> Result<Wish, AllocError>
         ensures { IfOk result (λ wish. (line : List ℕ) → self.now ≡ kept line → IsWish image.now line wish) }
     {
         if self.is_too_long {
             return Ok(Wish::Refuse);
         }
+        if is_of_http(self.bytes.as_slice()) {
+            return Ok(Wish::Leave);
+        }
         match read_asked(alloc, self.bytes.as_slice()) {
             Ok(Asked::Command(named)) => Ok(unless_scan(image, named)),
             Ok(Asked::Question(question)) => Ok(Wish::Tell(question)),
             Err(JsonFault::Shape) => Ok(Wish::Refuse),
             Err(JsonFault::Memory) => Err(AllocError),
+        }
+    }
+}
+
+/// What came of a session's lines.
+#[derive(Drop)]
+pub(crate) struct Intake {
+    /// The one that isn't at its end.
+    pub(crate) line: Line,
+    /// So many lines in a row were refused before it.
+    pub(crate) refused: u8,
+}
+
+impl Intake {
+    /// Nothing came yet.
+    pub(crate) fn new(alloc: Global) -> Intake
+        ensures line { result.line ≡ kept [] }
+        ensures refused { result.refused ≡ 0 }
+    {
+        Intake {
+            line: Line::new(alloc),
+            refused: 0,
+        }
+    }
+}
+
+/// Counts a line of which this is known among those in a row that were refused: whether the session goes on with it.
+pub(crate) fn stays(wish: &Wish, refused: &mut u8) -> bool
+    ensures stays { result ≡ true → StaysAt refused.old wish.now refused.new }
+    ensures ends { result ≡ false → EndsAt refused.old wish.now }
+{
+    match wish {
+        Wish::Leave => false,
+        Wish::Refuse if *refused >= MOST_REFUSED => false,
+        Wish::Refuse => {
+            *refused += 1;
+            true
+        }
+        Wish::Submit(_) | Wish::Tell(_) => {
+            *refused = 0;
+            true
         }
     }
 }

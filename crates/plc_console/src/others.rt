@@ -6,7 +6,10 @@ use std::sync::{Arc, Mutex, Wait};
 use std::thread;
 use std::time::{Clock, Duration};
 
-/// So often a snapshot is looked for.
+/// So often a snapshot is looked for of a replica that takes part: it may rest for a whole period before it leaves one.
+const MANY_TRIES: u32 = 2000;
+
+/// So often it's looked for of another one.
 const TRIES: u32 = 200;
 
 /// In milliseconds, from one look to the next.
@@ -40,11 +43,11 @@ impl SnapshotBoard {
         self.is_wanted.store(false, Ordering::SeqCst);
     }
 
-    /// Wants one that is newer than this call, and waits for it, a second at most.
-    fn get<R: Wait + Clock>(&self, rt: &R) -> Option<Snapshot> {
+    /// Wants one that is newer than this call, and looks for it so often.
+    fn get<R: Wait + Clock>(&self, rt: &R, tries: u32) -> Option<Snapshot> {
         *self.snapshot.lock(rt) = None;
         self.is_wanted.store(true, Ordering::SeqCst);
-        for _ in 0..TRIES {
+        for _ in 0..tries {
             let snapshot = self.snapshot.lock(rt).take();
             if snapshot.is_some() {
                 return snapshot;
@@ -68,8 +71,10 @@ pub struct Others {
 }
 
 impl Others {
-    /// A snapshot of the controller that is newer than this call, if the replica has one within a second.
-    pub(crate) fn snapshot<R: Wait + Clock>(&self, rt: &R) -> Option<Snapshot> {
-        self.board.get(rt)
+    /// A snapshot of the controller that is newer than this call, if the replica has one within a second, or within ten
+    /// where it's known to take part.
+    pub(crate) fn snapshot<R: Wait + Clock>(&self, rt: &R, takes_part: bool) -> Option<Snapshot> {
+        let tries = if takes_part { MANY_TRIES } else { TRIES };
+        self.board.get(rt, tries)
     }
 }

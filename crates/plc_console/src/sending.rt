@@ -1,9 +1,10 @@
 //! Commands that are sent to a console.
 
-ghost use Rattle.std.specs.Prelude.{◌≡◌, ◌≤◌, true, map, IfErr, IfOk};
+ghost use Rattle.std.specs.Prelude.{◌≡◌, ◌≤◌, ◌↔◌, true, codes, map, IfErr, IfOk};
 ghost use Rattle.std.specs.Io.KnownBytes.{Consumes};
 ghost use Rattle.plc_host.specs.declared.failed.Failed.TheVariants.{Device};
-ghost use Rattle.plc_console.specs.Sending.{Asked, AskedOne, EndsLine, IsUnread, IsWhyBroken, IsWorst, item_bytes, reply_to};
+ghost use Rattle.plc_console.specs.Sending.{Asked, AskedOne, EndsLine, IsUnread, IsWhyBroken, IsWorst, TellsKey};
+ghost use Rattle.plc_console.specs.Sending.{item_bytes, reply_to};
 
 use crate::line::{LINE_END, PIECE};
 use io_model::{CountedRead, CountedWrite, write_all};
@@ -70,6 +71,30 @@ pub fn send_commands<H: Wait + Copy, R: CountedRead, W: CountedWrite, O: Counted
         replies.push(reply)?;
     }
     Ok(replies)
+}
+
+/// Sends a console the key that it asks for first, as a line: whether it takes it. Where a device fails, that is the
+/// reader or the writer, or the reader came to its end before the answer did.
+pub fn send_key<H: Wait + Copy, R: CountedRead, W: CountedWrite>(
+    host: &Host<H>,
+    key: &[u8],
+    reader: &mut R,
+    writer: &mut W,
+) -> Result<bool, Failed>
+    ensures { IfOk result (λ is_taken. TellsKey key.now is_taken (R.left reader.old) (R.left reader.new)
+        (W.held writer.old) (W.held writer.new)) }
+{
+    write_all(writer, key)?;
+    write_all(writer, &[LINE_END])?;
+    let answer = read_answer(host, reader)?;
+    Ok(is_done(answer.as_slice()))
+}
+
+/// Whether an answer says that something was done.
+fn is_done(answer: &[u8]) -> bool
+    ensures { (result ≡ true) ↔ (answer.now ≡ codes "done\n") }
+{
+    answer == b"done\n".as_slice()
 }
 
 /// Sends one command as a line, and prints its answer.

@@ -11,7 +11,7 @@ ghost use Rattle.plc_console.specs.declared.line.Wish.TheVariants.{Submit};
 ghost use Rattle.plc_console.specs.Lines.{kept, line_end, HasNoEnd};
 ghost use Rattle.plc_console.specs.Sessions.{scene, Serves, Stops, StopsAt, Takes, Talks, Writes};
 
-use crate::line::{LINE_END, Line, PIECE, Wish};
+use crate::line::{Intake, LINE_END, Line, PIECE, Wish, stays};
 use il_loader::{Image, LoadError, load};
 use il_model::{Answer, Command};
 use il_text::{Fault, put_line};
@@ -53,6 +53,8 @@ pub trait Submits {
 pub enum SessionEnd {
     /// The reader came to its end.
     Closed,
+    /// A line of HTTP came, or too many in a row that were refused.
+    Dismissed,
     /// The reader or the writer failed.
     Device,
     Memory,
@@ -61,7 +63,7 @@ pub enum SessionEnd {
 }
 
 /// Writes that a line is no command.
-fn refuse<W: CountedWrite>(writer: &mut W) -> Result<(), SessionEnd>
+pub(crate) fn refuse<W: CountedWrite>(writer: &mut W) -> Result<(), SessionEnd>
     ensures wrote { Writes result (fault_line Commands) (Failed (W.faults writer.old) (W.faults writer.new))
         (W.held writer.old) (W.held writer.new) }
     ensures counts { W.faults writer.old ≤ W.faults writer.new }
@@ -113,7 +115,7 @@ fn follow(brought: Option<Image>, answer: &Answer, image: &mut Image)
 }
 
 /// Writes a line.
-fn put_text<W: CountedWrite>(text: &[u8], writer: &mut W) -> Result<(), SessionEnd>
+pub(crate) fn put_text<W: CountedWrite>(text: &[u8], writer: &mut W) -> Result<(), SessionEnd>
     ensures wrote { Writes result text.now (Failed (W.faults writer.old) (W.faults writer.new))
         (W.held writer.old) (W.held writer.new) }
     ensures counts { W.faults writer.old ≤ W.faults writer.new }
@@ -170,7 +172,8 @@ fn submit<W: CountedWrite, D: Submits>(
     }
 }
 
-/// Gives a line its turn: its command is submitted and answered by its line; or its question is; or it's refused.
+/// Gives a line its turn, with which the session goes on: its command is submitted and answered by its line; or its
+/// question is; or it's refused.
 fn take_turn<W: CountedWrite, D: Submits>(
     alloc: Global,
     wish: Wish,
@@ -190,6 +193,7 @@ fn take_turn<W: CountedWrite, D: Submits>(
         Wish::Submit(command) => submit(alloc, &command, image, writer, desk),
         Wish::Tell(question) => tell(question, writer, desk),
         Wish::Refuse => refuse(writer),
+        Wish::Leave => Err(SessionEnd::Dismissed),
     }
 }
 
@@ -204,30 +208,31 @@ fn extend(byte: u8, line: &mut Line) -> Result<(), SessionEnd>
     }
 }
 
-/// Ends a line, which has its turn.
+/// Ends a line, which has its turn, or ends the session.
 fn end_line<W: CountedWrite, D: Submits>(
     alloc: Global,
     image: &mut Image,
-    line: &mut Line,
+    intake: &mut Intake,
     writer: &mut W,
     desk: &mut D,
 ) -> Result<(), SessionEnd>
-    ensures served { (rest : List ℕ) → HasNoEnd rest → line.old ≡ kept rest → MatchResult result
-        (λ _. (line.new ≡ kept [])
-        × Serves rest (line_end ∷ []) [] (scene (D.answered desk.old) (W.held writer.old) image.old)
+    ensures served { (rest : List ℕ) → HasNoEnd rest → intake.old.line ≡ kept rest → MatchResult result
+        (λ _. (intake.new.line ≡ kept []) × Serves rest (line_end ∷ []) [] intake.old.refused intake.new.refused
+        (scene (D.answered desk.old) (W.held writer.old) image.old)
         (scene (D.answered desk.new) (W.held writer.new) image.new))
-        (λ end. Stops end rest (line_end ∷ []) (Failed (W.faults writer.old) (W.faults writer.new))
+        (λ end. Stops end rest (line_end ∷ []) intake.old.refused (Failed (W.faults writer.old) (W.faults writer.new))
         (scene (D.answered desk.old) (W.held writer.old) image.old)
         (scene (D.answered desk.new) (W.held writer.new) image.new)) }
     ensures counts { W.faults writer.old ≤ W.faults writer.new }
 {
-    match line.wish(alloc, image) {
-        Ok(wish) => {
-            line.clear();
-            take_turn(alloc, wish, image, writer, desk)
-        }
-        Err(_) => Err(SessionEnd::Memory),
+    let Ok(wish) = intake.line.wish(alloc, image) else {
+        return Err(SessionEnd::Memory);
+    };
+    intake.line.clear();
+    if !stays(&wish, &mut intake.refused) {
+        return Err(SessionEnd::Dismissed);
     }
+    take_turn(alloc, wish, image, writer, desk)
 }
 
 /// Takes one byte: the line that it ends has its turn.
@@ -235,23 +240,24 @@ fn take_byte<W: CountedWrite, D: Submits>(
     alloc: Global,
     image: &mut Image,
     byte: u8,
-    line: &mut Line,
+    intake: &mut Intake,
     writer: &mut W,
     desk: &mut D,
 ) -> Result<(), SessionEnd>
-    ensures served { (rest : List ℕ) → HasNoEnd rest → line.old ≡ kept rest → MatchResult result
-        (λ _. (rest' : List ℕ) × (line.new ≡ kept rest')
-        × Serves rest (byte ∷ []) rest' (scene (D.answered desk.old) (W.held writer.old) image.old)
+    ensures served { (rest : List ℕ) → HasNoEnd rest → intake.old.line ≡ kept rest → MatchResult result
+        (λ _. (rest' : List ℕ) × (intake.new.line ≡ kept rest')
+        × Serves rest (byte ∷ []) rest' intake.old.refused intake.new.refused
+        (scene (D.answered desk.old) (W.held writer.old) image.old)
         (scene (D.answered desk.new) (W.held writer.new) image.new))
-        (λ end. Stops end rest (byte ∷ []) (Failed (W.faults writer.old) (W.faults writer.new))
+        (λ end. Stops end rest (byte ∷ []) intake.old.refused (Failed (W.faults writer.old) (W.faults writer.new))
         (scene (D.answered desk.old) (W.held writer.old) image.old)
         (scene (D.answered desk.new) (W.held writer.new) image.new)) }
     ensures counts { W.faults writer.old ≤ W.faults writer.new }
 {
     if byte == LINE_END {
-        end_line(alloc, image, line, writer, desk)
+        end_line(alloc, image, intake, writer, desk)
     } else {
-        extend(byte, line)
+        extend(byte, &mut intake.line)
     }
 }
 
@@ -260,21 +266,22 @@ fn serve_piece<W: CountedWrite, D: Submits>(
     alloc: Global,
     image: &mut Image,
     piece: &[u8],
-    line: &mut Line,
+    intake: &mut Intake,
     writer: &mut W,
     desk: &mut D,
 ) -> Result<(), SessionEnd>
-    ensures served { (rest : List ℕ) → HasNoEnd rest → line.old ≡ kept rest → MatchResult result
-        (λ _. (rest' : List ℕ) × (line.new ≡ kept rest')
-        × Serves rest piece.now rest' (scene (D.answered desk.old) (W.held writer.old) image.old)
+    ensures served { (rest : List ℕ) → HasNoEnd rest → intake.old.line ≡ kept rest → MatchResult result
+        (λ _. (rest' : List ℕ) × (intake.new.line ≡ kept rest')
+        × Serves rest piece.now rest' intake.old.refused intake.new.refused
+        (scene (D.answered desk.old) (W.held writer.old) image.old)
         (scene (D.answered desk.new) (W.held writer.new) image.new))
-        (λ end. Stops end rest piece.now (Failed (W.faults writer.old) (W.faults writer.new))
+        (λ end. Stops end rest piece.now intake.old.refused (Failed (W.faults writer.old) (W.faults writer.new))
         (scene (D.answered desk.old) (W.held writer.old) image.old)
         (scene (D.answered desk.new) (W.held writer.new) image.new)) }
     ensures counts { W.faults writer.old ≤ W.faults writer.new }
 {
     for byte in piece {
-        if let Err(end) = take_byte(alloc, image, *byte, line, writer, desk) {
+        if let Err(end) = take_byte(alloc, image, *byte, intake, writer, desk) {
             return Err(end);
         }
     }
@@ -283,10 +290,12 @@ fn serve_piece<W: CountedWrite, D: Submits>(
 
 /// Serves a session to its end. Each line that is a command of those in files of commands, but for a scan, is submitted
 /// and answered once, its names looked up in the program in force, and the line of its answer is written; for a question
-/// what the desk tells is; for each other line, as one over 131072 bytes, `plc: commands`. The program in force is that of the image, and after a change
-/// that is done the one that it brought, whose image this is then. Lines have their turns in order, one behind the
-/// answer of the other. What the reader has behind its last whole line is no line. Where a session ends by `Device`, for
-/// want of memory or by a command without an answer, a prefix of the answers went out.
+/// what the desk tells is; for each other line, as one over 131072 bytes, `plc: commands`. The program in force is that of
+/// the image, and after a change that is done the one that it brought, whose image this is then. Lines have their turns in
+/// order, one behind the answer of the other. What the reader has behind its last whole line is no line. A line of HTTP
+/// ends it by `Dismissed`, and so does the third one in a row that would be refused: nothing is written or done for that
+/// one, nor for what comes behind it. Where a session ends by `Device`, for want of memory or by a command without an
+/// answer, a prefix of the answers went out.
 pub fn serve_console<H: Wait, R: CountedRead, W: CountedWrite, D: Submits>(
     rt: &H,
     alloc: Global,
@@ -299,7 +308,7 @@ pub fn serve_console<H: Wait, R: CountedRead, W: CountedWrite, D: Submits>(
         (W.faults writer.old) (W.faults writer.new) (scene (D.answered desk.old) (W.held writer.old) image.old)
         (scene (D.answered desk.new) (W.held writer.new) image.new) }
 {
-    let mut line = Line::new(alloc);
+    let mut intake = Intake::new(alloc);
     let mut piece = [0; PIECE];
     for _ in rt.forever() {
         let Ok(count) = reader.read(&mut piece) else {
@@ -308,7 +317,7 @@ pub fn serve_console<H: Wait, R: CountedRead, W: CountedWrite, D: Submits>(
         if count == 0 {
             return SessionEnd::Closed;
         }
-        if let Err(end) = serve_piece(alloc, image, &piece[..count], &mut line, writer, desk) {
+        if let Err(end) = serve_piece(alloc, image, &piece[..count], &mut intake, writer, desk) {
             return end;
         }
     }

@@ -28,6 +28,9 @@ pub enum Failed {
     /// This port isn't to be had.
     #[error("port {0}")]
     Port(u16),
+    /// The socket for operators isn't to be had at its path.
+    #[error("socket")]
+    Socket,
     /// The store of this replica isn't to be had: its directory, or its file there.
     #[error("store {0}")]
     Store(u8),

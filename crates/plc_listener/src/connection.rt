@@ -1,8 +1,8 @@
 //! A connection whose client is held to a limit of time.
 
+use crate::wire::Guest;
 use std::io;
 use std::io::{ErrorKind, Read, Write};
-use std::net::TcpStream;
 use std::sync::atomic::{AtomicBool, AtomicU64, Ordering};
 use std::time::{Clock, Duration, Instant};
 
@@ -12,40 +12,37 @@ use std::time::{Clock, Duration, Instant};
 #[derive(Drop)]
 pub struct Connection<'a, R: Clock + Drop> {
     rt: R,
-    stream: &'a TcpStream,
+    guest: &'a Guest,
     limit: Duration,
     begun: Instant,
     /// In milliseconds since it began: when its client's turn, or the server's, began.
     turned: AtomicU64,
     /// Whether the last call was a write.
     is_writing: AtomicBool,
-    /// Whether it gave way to another connection.
-    has_given_way: &'a AtomicBool,
 }
 
 impl<'a, R: Clock + Drop> Connection<'a, R> {
     /// Nothing was read or written yet.
-    pub(crate) fn new(
-        rt: R,
-        stream: &'a TcpStream,
-        limit: Duration,
-        has_given_way: &'a AtomicBool,
-    ) -> io::Result<Connection<'a, R>> {
+    pub(crate) fn new(rt: R, guest: &'a Guest, limit: Duration) -> io::Result<Connection<'a, R>> {
         let begun = Instant::now(&rt)?;
         Ok(Connection {
             rt,
-            stream,
+            guest,
             limit,
             begun,
             turned: AtomicU64::new(0),
             is_writing: AtomicBool::new(false),
-            has_given_way,
         })
     }
 
     /// Whether another connection has taken its place.
     pub fn has_given_way(&self) -> bool {
-        self.has_given_way.load(Ordering::SeqCst)
+        self.guest.gives_way.load(Ordering::SeqCst)
+    }
+
+    /// Who has it, for a thread that may have it give way.
+    pub fn guest(&self) -> io::Result<Guest> {
+        self.guest.again()
     }
 
     /// How much of the limit is left for this call. The time begins anew where the last call was of the other kind.
@@ -74,18 +71,16 @@ impl<R: Clock + Drop> Read for &Connection<'_, R> {
             return Ok(0);
         }
         let left = self.left(false)?;
-        self.stream.set_read_timeout(Some(left))?;
-        let mut stream = self.stream;
-        stream.read(buf)
+        self.guest.wire.limit_reads(left)?;
+        self.guest.wire.read(buf)
     }
 }
 
 impl<R: Clock + Drop> Write for &Connection<'_, R> {
     fn write(&mut self, buf: &[u8]) -> io::Result<usize> {
         let left = self.left(true)?;
-        self.stream.set_write_timeout(Some(left))?;
-        let mut stream = self.stream;
-        stream.write(buf)
+        self.guest.wire.limit_writes(left)?;
+        self.guest.wire.write(buf)
     }
 
     fn flush(&mut self) -> io::Result<()> {

@@ -10,6 +10,9 @@
 //! let sessions = open.close(); // none is served any more
 //! ```
 //!
+//! A door is a port, or a socket at a path that its owner alone can reach (`Door::at_path`). One that may not be to be had
+//! yet (`Door::wanted`, `Door::wanted_at_path`) is opened by `Listener::open_when_free`, which tries until it is.
+//!
 //! Proved: each call is safe, and returns but for the waits that its bound allows; what fails is a device or memory.
 //!
 //! By its code alone, and tested through what is served (`serve_rows`, `failing_rows` and `console_rows` of
@@ -23,8 +26,10 @@ mod door;
 mod listener;
 mod places;
 mod session;
+mod wire;
 
 pub use connection::Connection;
-pub use door::Door;
+pub use door::{Door, DoorRuntime};
 pub use listener::{Listener, OpenListener, WhenFull};
 pub use session::Session;
+pub use wire::Guest;

@@ -1,12 +1,12 @@
 //! The loop that gives connections their sessions.
 
 use crate::connection::Connection;
-use crate::door::Door;
+use crate::door::{Bound, Door, DoorRuntime};
 use crate::places::Places;
 use crate::session::Session;
+use crate::wire::{Guest, Wire};
 use plc_host::{Failed, Host, ServiceRuntime};
 use std::alloc::AllocError;
-use std::net::TcpStream;
 use std::sync::Arc;
 use std::thread;
 use std::thread::JoinHandle;
@@ -61,10 +61,10 @@ impl<R: ServiceRuntime, S: Session<R> + Send + Drop + 'static> Listener<R, S> {
     }
 
     /// A place for this connection, if one is free within so many pauses.
-    fn place_within(&self, stream: &TcpStream, pauses: u32) -> Option<usize> {
+    fn place_within(&self, guest: &Guest, pauses: u32) -> Option<usize> {
         let rt = &self.host.rt;
         for _ in 0..pauses {
-            let place = self.places.take(rt, stream);
+            let place = self.places.take(rt, guest);
             if place.is_some() {
                 return place;
             }
@@ -77,27 +77,28 @@ impl<R: ServiceRuntime, S: Session<R> + Send + Drop + 'static> Listener<R, S> {
     }
 
     /// A place for this connection, if one is free or soon will be, or another connection gives way.
-    fn place_for(&self, stream: &TcpStream) -> Option<usize> {
-        let place = self.place_within(stream, PATIENCE);
+    fn place_for(&self, guest: &Guest) -> Option<usize> {
+        let place = self.place_within(guest, PATIENCE);
         if place.is_some() || self.when_full == WhenFull::Closes {
             return place;
         }
         self.places.dismiss(&self.host.rt);
-        self.place_within(stream, PATIENCE_WITH_ONE)
+        self.place_within(guest, PATIENCE_WITH_ONE)
     }
 
-    /// A place for this connection, whose replies are sent at once.
-    fn admit(&self, stream: &TcpStream) -> Option<usize> {
-        stream.set_nodelay(true).ok()?;
-        self.place_for(stream)
+    /// Who has come by this connection, whose replies are sent at once, and a place for him.
+    fn admit(&self, wire: Wire) -> Option<(Guest, usize)> {
+        wire.hasten().ok()?;
+        let guest = Guest::new(self.host.alloc, wire).ok()?;
+        let place = self.place_for(&guest)?;
+        Some((guest, place))
     }
 
     /// Serves a connection to its end, whichever it is, and frees its place.
-    fn attend(&self, place: usize, stream: &TcpStream) {
+    fn attend(&self, place: usize, guest: &Guest) {
         let rt = &self.host.rt;
         if let Some(mut session) = self.places.lend(rt, place) {
-            let gives_way = self.places.gives_way(place);
-            if let Ok(connection) = Connection::new(*rt, stream, self.idle, gives_way) {
+            if let Ok(connection) = Connection::new(*rt, guest, self.idle) {
                 session.serve(&self.host, &connection);
             }
             self.places.give_back(rt, place, session);
@@ -107,15 +108,15 @@ impl<R: ServiceRuntime, S: Session<R> + Send + Drop + 'static> Listener<R, S> {
 
     /// Gives each connection a session, in a thread of its own, until the door is shut and each session ended. Where no
     /// place is free, or no thread is to be had, the connection is closed unanswered.
-    fn accept_all(&self) {
+    fn accept_all(&self, bound: &Bound) {
         let rt = &self.host.rt;
         thread::scope(thread::scope_env(), rt, |scope| {
             for _ in 0..u64::MAX {
-                let Some(stream) = self.door.next(rt) else {
+                let Some(wire) = self.door.next(rt, bound) else {
                     break;
                 };
-                if let Some(place) = self.admit(&stream) {
-                    let session = scope.spawn(move || self.attend(place, &stream));
+                if let Some((guest, place)) = self.admit(wire) {
+                    let session = scope.spawn(move || self.attend(place, &guest));
                     if session.is_err() {
                         self.places.leave(rt, place);
                     }
@@ -124,14 +125,76 @@ impl<R: ServiceRuntime, S: Session<R> + Send + Drop + 'static> Listener<R, S> {
         });
     }
 
-    /// Gives connections their sessions from now on, by a thread of its own.
-    pub fn open(self) -> Result<OpenListener<R, S>, Failed> {
+    /// The same at a door that was open from the start; at another one it's over at once.
+    fn accept_at_once(&self) {
+        if let Some(bound) = self.door.bound() {
+            self.accept_all(bound);
+        }
+    }
+
+    /// What is shared with the thread that takes connections, and what is known of it.
+    fn shared(self) -> Result<(Arc<Listener<R, S>>, Vec<S>, u16), Failed> {
         let port = self.door.port()?;
         let alloc = self.host.alloc;
         let room = Vec::with_capacity(alloc, self.places.count())?;
-        let listener = Arc::new(alloc, self)?;
+        Ok((Arc::new(alloc, self)?, room, port))
+    }
+
+    /// Gives connections their sessions from now on, by a thread of its own. The door is open from the start.
+    pub fn open(self) -> Result<OpenListener<R, S>, Failed> {
+        let (listener, room, port) = self.shared()?;
         let shared = Arc::try_clone(&listener)?;
-        match thread::spawn(&listener.host.rt, move || shared.accept_all()) {
+        match thread::spawn(&listener.host.rt, move || shared.accept_at_once()) {
+            Ok(acceptor) => Ok(OpenListener {
+                listener,
+                port,
+                acceptor,
+                room,
+            }),
+            Err(_) => Err(Failed::Thread),
+        }
+    }
+}
+
+impl<R: ServiceRuntime, S: Session<R> + Send + Drop + 'static> Listener<R, S> {
+    /// Tells the first place whether the door is had.
+    fn tell_of_door(&self, is_had: bool) {
+        let rt = &self.host.rt;
+        if let Some(mut session) = self.places.lend(rt, 0) {
+            session.hear_of_door(is_had);
+            self.places.give_back(rt, 0, session);
+        }
+    }
+}
+
+impl<R: DoorRuntime, S: Session<R> + Send + Drop + 'static> Listener<R, S> {
+    /// What the door wants, as soon as it's to be had, which the first place is told if it isn't at once: nothing once
+    /// the door is shut.
+    fn bound_when_free(&self) -> Option<Bound> {
+        let bound = self.door.bind(&self.host);
+        if bound.is_some() {
+            return bound;
+        }
+        self.tell_of_door(false);
+        let bound = self.door.bind_when_free(&self.host)?;
+        self.tell_of_door(true);
+        Some(bound)
+    }
+
+    /// Gives connections their sessions as soon as the door is had, until it's shut.
+    fn accept_when_free(&self) {
+        if let Some(bound) = self.door.bound() {
+            self.accept_all(bound);
+        } else if let Some(bound) = self.bound_when_free() {
+            self.accept_all(&bound);
+        }
+    }
+
+    /// The same as `open`, where the door may be one that isn't had yet: what it wants is tried until it's to be had.
+    pub fn open_when_free(self) -> Result<OpenListener<R, S>, Failed> {
+        let (listener, room, port) = self.shared()?;
+        let shared = Arc::try_clone(&listener)?;
+        match thread::spawn(&listener.host.rt, move || shared.accept_when_free()) {
             Ok(acceptor) => Ok(OpenListener {
                 listener,
                 port,
@@ -160,7 +223,7 @@ impl<R: ServiceRuntime, S: Drop> OpenListener<R, S> {
 
     /// Takes no connection any more, and ends the reads and writes of each session.
     pub fn shut(&self) {
-        self.listener.door.shut();
+        self.listener.door.shut(&self.listener.host.rt);
         self.listener.places.close(&self.listener.host.rt);
     }
 

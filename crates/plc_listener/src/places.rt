@@ -1,7 +1,7 @@
 //! The places for connections that are served.
 
+use crate::wire::Guest;
 use std::alloc::{AllocError, Global};
-use std::net::{Shutdown, TcpStream};
 use std::sync::atomic::{AtomicBool, Ordering};
 use std::sync::{Mutex, Wait};
 
@@ -10,7 +10,7 @@ use std::sync::{Mutex, Wait};
 struct Place<S: Drop> {
     /// What connections are served with here: taken along while one is.
     session: Option<S>,
-    stream: Option<TcpStream>,
+    guest: Option<Guest>,
 }
 
 /// The places, each with what serves its connections.
@@ -18,10 +18,6 @@ struct Place<S: Drop> {
 pub(crate) struct Places<S: Drop> {
     places: Vec<Mutex<Place<S>>>,
     are_closed: AtomicBool,
-    /// The connection of the first place gives way to another one.
-    gives_way: AtomicBool,
-    /// That of no other place ever does.
-    stays: AtomicBool,
 }
 
 impl<S: Drop> Places<S> {
@@ -31,27 +27,25 @@ impl<S: Drop> Places<S> {
         for session in sessions {
             places.push(Mutex::new(Place {
                 session: Some(session),
-                stream: None,
+                guest: None,
             }))?;
         }
         Ok(Places {
             places,
             are_closed: AtomicBool::new(false),
-            gives_way: AtomicBool::new(false),
-            stays: AtomicBool::new(false),
         })
     }
 
     /// Takes a free place for a connection, of which it keeps a handle: the number of the place. None where each is
     /// taken, they are closed, or no handle is to be had.
-    pub(crate) fn take<R: Wait>(&self, rt: &R, stream: &TcpStream) -> Option<usize> {
+    pub(crate) fn take<R: Wait>(&self, rt: &R, guest: &Guest) -> Option<usize> {
         for (number, place) in self.places.iter().enumerate() {
             let mut place = place.lock(rt);
             if self.are_closed.load(Ordering::SeqCst) {
                 return None;
             }
-            if place.stream.is_none() {
-                place.stream = Some(stream.try_clone().ok()?);
+            if place.guest.is_none() {
+                place.guest = Some(guest.again().ok()?);
                 return Some(number);
             }
         }
@@ -74,11 +68,7 @@ impl<S: Drop> Places<S> {
     /// The place is free again.
     pub(crate) fn leave<R: Wait>(&self, rt: &R, number: usize) {
         if let Some(place) = self.places.get(number) {
-            let mut place = place.lock(rt);
-            if number == 0 {
-                self.gives_way.store(false, Ordering::SeqCst);
-            }
-            place.stream = None;
+            place.lock(rt).guest = None;
         }
     }
 
@@ -87,21 +77,11 @@ impl<S: Drop> Places<S> {
         self.are_closed.load(Ordering::SeqCst)
     }
 
-    /// What tells whether the connection of a place gives way.
-    pub(crate) fn gives_way(&self, number: usize) -> &AtomicBool {
-        if number == 0 {
-            &self.gives_way
-        } else {
-            &self.stays
-        }
-    }
-
     /// Has the connection of the first place give way: its session reads what came by now, and then the end.
     pub(crate) fn dismiss<R: Wait>(&self, rt: &R) {
         if let Some(place) = self.places.first() {
-            if let Some(stream) = &place.lock(rt).stream {
-                self.gives_way.store(true, Ordering::SeqCst);
-                let _ = stream.shutdown(Shutdown::Read);
+            if let Some(guest) = &place.lock(rt).guest {
+                guest.dismiss();
             }
         }
     }
@@ -110,8 +90,8 @@ impl<S: Drop> Places<S> {
     pub(crate) fn close<R: Wait>(&self, rt: &R) {
         self.are_closed.store(true, Ordering::SeqCst);
         for place in &self.places {
-            if let Some(stream) = &place.lock(rt).stream {
-                let _ = stream.shutdown(Shutdown::Both);
+            if let Some(guest) = &place.lock(rt).guest {
+                guest.cut();
             }
         }
     }

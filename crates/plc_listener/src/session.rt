@@ -9,4 +9,8 @@ use std::time::Clock;
 pub trait Session<R: Wait + Clock + Copy + Drop> {
     /// Serves a connection to its end, whichever that is.
     fn serve(&mut self, host: &Host<R>, connection: &Connection<'_, R>);
+
+    /// Is told, at the first place, that the door isn't to be had yet (`false`), and then that it's had (`true`). Of a
+    /// door that is had at once nothing is told.
+    fn hear_of_door(&mut self, _is_had: bool) {}
 }

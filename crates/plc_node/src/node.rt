@@ -4,16 +4,16 @@ ghost use Rattle.std.specs.Prelude.{◌≡◌, IfOk, OnOk, Some, vec_len};
 ghost use Rattle.vr_model.specs.Groups.{group_size};
 ghost use Rattle.plc_status.specs.Notices.{IsAtMostServingTold, IsServingTold};
 
-use crate::opening::{Kept, Ready};
+use crate::opening::{Kept, Notes, Ready};
 use il_loader::Image;
 use io_image::{Naming, NewList};
 use io_model::CountedWrite;
 use plc_driver::{Directory, Driver, GroupLinks, Parts};
 use plc_host::{Failed, Host, ServiceRuntime};
+use plc_listener::DoorRuntime;
 use plc_page::Showing;
-use plc_settings::Settings;
+use plc_settings::{Operators, Settings};
 use plc_status::{Counts, Journals, StatusWriter};
-use std::net::{Net, TcpListener, TcpStream};
 use std::rt::Files;
 use std::time::Instant;
 use vr_ports::Relink;
@@ -31,6 +31,8 @@ pub struct Node<'a, S: Drop> {
     pub status: StatusWriter,
     /// What a page shows beside it, if one is wanted.
     pub showing: Option<Showing>,
+    /// How operators come to its console, if it has one.
+    pub operators: Operators,
     ghost one_each: { vec_len stores ≡ group_size settings.config.f },
 }
 
@@ -46,7 +48,7 @@ impl<S: Starts + Send + Drop + 'static> Node<'_, S> {
     ) -> Result<Counts, Failed>
     where
         J: Naming + Send + Sync + 'static,
-        R: ServiceRuntime + Net<Listener = TcpListener, Stream = TcpStream> + Files,
+        R: DoorRuntime + Files,
         requires list { list ≡ J.book }
         ensures scans { IfOk result (λ counts. self.entry.settings.scans ≡ Some counts.scans) }
         ensures told { OnOk result (IsServingTold E.CountedWrite err.old err.new) }
@@ -69,7 +71,7 @@ impl<S: Starts + Send + Drop + 'static> Node<'_, S> {
     ) -> Result<Counts, Failed>
     where
         J: Naming + Send + Sync + 'static,
-        R: ServiceRuntime + Net<Listener = TcpListener, Stream = TcpStream> + Files,
+        R: DoorRuntime + Files,
         L: Relink + Send + Drop + 'static,
         requires list { list ≡ J.book }
         ensures scans { IfOk result (λ counts. self.entry.settings.scans ≡ Some counts.scans) }
@@ -83,15 +85,19 @@ impl<S: Starts + Send + Drop + 'static> Node<'_, S> {
             settings,
             status,
             showing,
+            operators,
         } = self;
         let alloc = host.alloc;
         let Journals {
             driver: journal,
             console,
+            page,
             printer,
         } = Journals::new(alloc)?;
+        let notes = Notes { console, page };
         let begun = Instant::now(&host.rt)?;
-        let kept = Kept::of(alloc, &status, console, showing, begun)?;
+        let kept = Kept::of(alloc, &status, notes, showing, begun)?;
+        let kept = kept.with(operators);
         let (ready, writer) = Ready::<R, L, J>::new(
             host, list, &settings, &image, &mut links, kept,
         )?;

@@ -11,15 +11,15 @@ use io_image::{
 };
 use io_model::CountedWrite;
 use modbus_server::{OpenServer, Server, Shown};
-use plc_console::{Console, Desk, DeskClient, OpenConsole};
+use plc_console::{Console, Desk, DeskClient, Entrance, OpenConsole};
 use plc_driver::{Directory, Driver, Ended};
 use plc_host::{Failed, Host, ServiceRuntime, Traffic};
-use plc_listener::Door;
+use plc_listener::{Door, DoorRuntime};
 use plc_page::{OpenPage, Page, Showing};
-use plc_settings::Settings;
+use plc_settings::{ConsoleAt, Operators, Settings};
 use plc_status::{Counts, Journal, Printer, StatusReader, StatusWriter, tell_port};
 use std::alloc::{AllocError, Global};
-use std::net::{Net, TcpListener, TcpStream};
+use std::net::{Net, SocketAddr, TcpListener, TcpStream};
 use std::rt::Files;
 use std::sync::Arc;
 use std::sync::atomic::AtomicBool;
@@ -44,6 +44,14 @@ pub(crate) struct Kept {
     pub(crate) console: Journal,
     pub(crate) status: StatusReader,
     pub(crate) shown: ToShow,
+    pub(crate) operators: Operators,
+}
+
+/// Where it's noted what an operator does at the console, and what becomes of the page.
+#[derive(Drop)]
+pub(crate) struct Notes {
+    pub(crate) console: Journal,
+    pub(crate) page: Journal,
 }
 
 impl Kept {
@@ -51,14 +59,16 @@ impl Kept {
     pub(crate) fn of(
         alloc: Global,
         status: &StatusWriter,
-        console: Journal,
+        notes: Notes,
         showing: Option<Showing>,
         begun: Instant,
     ) -> Result<Kept, AllocError> {
+        let Notes { console, page } = notes;
         let shown = ToShow {
             status: status.reader()?,
             begun,
             has_changed: Arc::new(alloc, AtomicBool::new(false))?,
+            journal: page,
             showing,
         };
         Ok(Kept {
@@ -66,7 +76,13 @@ impl Kept {
             console,
             status: status.reader()?,
             shown,
+            operators: Operators::by_port(),
         })
+    }
+
+    /// The same, with operators who come so.
+    pub(crate) fn with(self, operators: Operators) -> Kept {
+        Kept { operators, ..self }
     }
 }
 
@@ -92,7 +108,7 @@ pub(crate) struct Open<R: ServiceRuntime, L: Relink + Drop, J: Naming> {
 
 impl<R, L, J> Ready<R, L, J>
 where
-    R: ServiceRuntime + Net<Listener = TcpListener, Stream = TcpStream> + Files,
+    R: DoorRuntime + Files,
     L: Relink + Send + Drop + 'static,
     J: Naming + Send + Sync + 'static,
 {
@@ -115,28 +131,16 @@ where
             console: journal,
             status,
             shown,
+            operators,
         } = kept;
         let idle = Duration::from_secs(u64::from(settings.idle));
-        let console = match settings.console {
-            Some(port) => {
-                let Some(link) = links.pop() else {
-                    return Err(Failed::Device);
-                };
-                let period = Duration::from_millis(u64::from(settings.period));
-                let changed = Arc::try_clone(&shown.has_changed)?;
-                let desk = Desk::new(
-                    host,
-                    settings.config,
-                    CONSOLE,
-                    link,
-                    period,
-                    journal,
-                ).telling_changes(changed);
-                let door = door_at(&rt, port)?;
-                Some(Console::new(host, door, desk, image, status, idle)?)
-            }
-            None => None,
+        let operator = Operator {
+            journal,
+            status,
+            changed: Arc::try_clone(&shown.has_changed)?,
+            operators,
         };
+        let console = operator.console(host, settings, image, links)?;
         let door = door_at(&rt, settings.port)?;
         let Ok((writer, mut readers)) = released::<J, R>(list, alloc, rt, SESSIONS + 1) else {
             return Err(Failed::Memory);
@@ -201,6 +205,75 @@ where
     }
 }
 
+/// What a console works with, beside its link to the group, and how operators come to it.
+#[derive(Drop)]
+struct Operator {
+    journal: Journal,
+    status: StatusReader,
+    /// Set once another program may be in force.
+    changed: Arc<AtomicBool>,
+    operators: Operators,
+}
+
+impl Operator {
+    /// The console, if one is asked for, which takes no connection yet. It takes the last of these links.
+    fn console<R, L>(
+        self,
+        host: Host<R>,
+        settings: &Settings,
+        image: &Image,
+        links: &mut Vec<L>,
+    ) -> Result<Option<Console<R, L>>, Failed>
+    where
+        R: DoorRuntime + Files,
+        L: Relink + Send + Drop + 'static,
+    {
+        let Operator {
+            journal,
+            status,
+            changed,
+            operators,
+        } = self;
+        let Some(at) = settings.console else {
+            return Ok(None);
+        };
+        let Some(link) = links.pop() else {
+            return Err(Failed::Device);
+        };
+        let entrance = entrance(host, at, operators, settings.idle)?;
+        let period = Duration::from_millis(u64::from(settings.period));
+        let desk = Desk::new(host, settings.config, CONSOLE, link, period, journal);
+        let desk = desk.telling_changes(changed);
+        Ok(Some(Console::new(host, entrance, desk, image, status)?))
+    }
+}
+
+/// How operators come in, of whom each is let go after so many seconds without a word. Where it isn't to be had now, it's
+/// had later.
+fn entrance<R: DoorRuntime>(
+    host: Host<R>,
+    at: ConsoleAt,
+    operators: Operators,
+    idle: u32,
+) -> Result<Entrance, Failed> {
+    let Operators { path, key } = operators;
+    let door = match (at, path) {
+        (ConsoleAt::Port(port), _) => Door::wanted(&host, own(port)),
+        (ConsoleAt::Socket, Some(path)) => Door::wanted_at_path(&host, path.as_str())?,
+        (ConsoleAt::Socket, None) => return Err(Failed::Socket),
+    };
+    Ok(Entrance {
+        door,
+        idle: Duration::from_secs(u64::from(idle)),
+        key,
+    })
+}
+
+/// A port of this machine.
+fn own(port: u16) -> SocketAddr {
+    SocketAddr::from(([127, 0, 0, 1], port))
+}
+
 /// The door at a port of this machine.
 fn door_at<R: Net<Listener = TcpListener, Stream = TcpStream>>(
     rt: &R,
@@ -215,7 +288,7 @@ fn door_at<R: Net<Listener = TcpListener, Stream = TcpStream>>(
 /// Opens the sessions. Beside them the inputs that they stage.
 fn opened<R, J>(server: Server<R, J>) -> Result<(OpenServer<R, J>, Arc<Stage>), Failed>
 where
-    R: ServiceRuntime + Net<Listener = TcpListener, Stream = TcpStream> + Files,
+    R: DoorRuntime + Files,
     J: Naming + Send + Sync + 'static,
 {
     let server = server.open()?;

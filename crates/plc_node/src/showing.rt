@@ -3,10 +3,10 @@
 use il_loader::Image;
 use io_image::{Naming, ReleasedReader};
 use plc_host::{Failed, Host, ServiceRuntime};
+use plc_listener::DoorRuntime;
 use plc_page::{OpenPage, Page, Published, Showing, Whose};
 use plc_settings::Settings;
-use plc_status::StatusReader;
-use std::net::{Net, TcpListener, TcpStream};
+use plc_status::{Journal, StatusReader};
 use std::sync::Arc;
 use std::sync::atomic::AtomicBool;
 use std::time::Instant;
@@ -19,6 +19,8 @@ pub(crate) struct ToShow {
     pub(crate) begun: Instant,
     /// Another program may be in force than the one that was served at first.
     pub(crate) has_changed: Arc<AtomicBool>,
+    /// Where what becomes of the page's port is noted.
+    pub(crate) journal: Journal,
     /// What is shown beside it. Without it there's no page.
     pub(crate) showing: Option<Showing>,
 }
@@ -33,13 +35,14 @@ impl ToShow {
         released: ReleasedReader<J>,
     ) -> Result<Option<Page<R, J>>, Failed>
     where
-        R: ServiceRuntime + Net<Listener = TcpListener, Stream = TcpStream>,
+        R: DoorRuntime,
         J: Naming + Send + Sync + 'static,
     {
         let ToShow {
             status,
             begun,
             has_changed,
+            journal,
             showing,
         } = self;
         let (Some(address), Some(showing)) = (settings.status, showing) else {
@@ -52,13 +55,14 @@ impl ToShow {
             released,
             begun,
             has_changed,
+            journal,
         };
         Ok(Some(Page::new(host, address, image, showing, published)?))
     }
 }
 
 /// Shows a page, if there is one.
-pub(crate) fn opened_page<R: ServiceRuntime, J: Naming + Send + Sync + 'static>(
+pub(crate) fn opened_page<R: DoorRuntime, J: Naming + Send + Sync + 'static>(
     page: Option<Page<R, J>>,
 ) -> Result<Option<OpenPage<R, J>>, Failed> {
     match page {

@@ -26,6 +26,7 @@ failed_line failures.Connection = codes "plc: device no connection\n"
 failed_line failures.Majority = codes "plc: device no majority\n"
 failed_line (failures.Port port) = numbered_line (codes "plc: device port ") port
 failed_line (failures.Store replica) = numbered_line (codes "plc: device store ") replica
+failed_line failures.Socket = codes "plc: device socket\n"
 failed_line failures.Report = codes "plc: device report\n"
 failed_line failures.Output = codes "plc: device output\n"
 failed_line failures.Memory = codes "plc: memory\n"

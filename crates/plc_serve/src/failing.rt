@@ -36,6 +36,7 @@ fn put_failed<E: CountedWrite>(failed: Failed, err: &mut E) -> Result<(), Device
         Failed::Majority => put(err, b"plc: device no majority\n"),
         Failed::Port(port) => put_line_of(err, b"plc: device port ", usize::from(port)),
         Failed::Store(replica) => put_line_of(err, b"plc: device store ", usize::from(replica)),
+        Failed::Socket => put(err, b"plc: device socket\n"),
         Failed::Report => put(err, b"plc: device report\n"),
         Failed::Output => put(err, b"plc: device output\n"),
         Failed::Memory => put(err, b"plc: memory\n"),

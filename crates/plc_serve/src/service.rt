@@ -9,7 +9,7 @@ use il_text::{Fault, image};
 use plc_driver::Directory;
 use plc_host::{Failed, Host};
 use plc_page::Showing;
-use plc_settings::Settings;
+use plc_settings::{Operators, Settings};
 use plc_status::StatusWriter;
 use std::alloc::{AllocError, Global};
 use std::fs;
@@ -28,6 +28,8 @@ pub struct Service<S: Drop> {
     pub status: StatusWriter,
     /// What a page shows beside it, if one is wanted.
     pub showing: Option<Showing>,
+    /// How operators come to its console, if it has one.
+    pub operators: Operators,
     ghost one_each: { vec_len stores ≡ group_size settings.config.f },
 }
 
@@ -56,7 +58,35 @@ impl<R: Files + Alloc<A = Global> + Copy + Drop> Service<FileStore<R>> {
             settings,
             status: StatusWriter::new(alloc)?,
             showing,
+            operators: Operators::by_port(),
         })
+    }
+}
+
+impl<S: Drop> Service<S> {
+    /// The same, with operators who come so.
+    pub fn with(self, operators: Operators) -> Service<S>
+        ensures settings { result.settings ≡ self.settings }
+        ensures source { result.source ≡ self.source }
+    {
+        let Service {
+            source,
+            directories,
+            stores,
+            settings,
+            status,
+            showing,
+            operators: _port,
+        } = self;
+        Service {
+            source,
+            directories,
+            stores,
+            settings,
+            status,
+            showing,
+            operators,
+        }
     }
 }
 
@@ -79,6 +109,7 @@ pub(crate) struct Loaded<S: Drop> {
     pub(crate) settings: Settings,
     pub(crate) status: StatusWriter,
     pub(crate) showing: Option<Showing>,
+    pub(crate) operators: Operators,
     ghost one_each: { vec_len stores ≡ group_size settings.config.f },
 }
 
@@ -98,6 +129,7 @@ impl<S: Drop> Loaded<S> {
             settings,
             status,
             showing,
+            operators,
         } = service;
         Ok(Loaded {
             image: image(alloc, source.as_slice())?,
@@ -107,6 +139,7 @@ impl<S: Drop> Loaded<S> {
             settings,
             status,
             showing,
+            operators,
         })
     }
 }

@@ -13,14 +13,14 @@ use il_text::Fault;
 use io_image::{Naming, NewList};
 use io_model::CountedWrite;
 use plc_driver::Directory;
-use plc_host::{Failed, Host, ServiceRuntime};
+use plc_host::{Failed, Host};
+use plc_listener::DoorRuntime;
 use plc_node::Node;
 use plc_status::{Counts, open_report, put_report};
 use std::alloc::Global;
 use std::fs::File;
 use std::io;
 use std::io::Write;
-use std::net::{Net, TcpListener, TcpStream};
 use std::rt::Files;
 use vr_threads::Starts;
 
@@ -39,7 +39,7 @@ pub fn serve<J, R, S, F: CountedWrite, W: Write, E: CountedWrite>(
 ) -> u8
 where
     J: Naming + Send + Sync + 'static,
-    R: ServiceRuntime + Net<Listener = TcpListener, Stream = TcpStream> + Files<File = File>,
+    R: DoorRuntime + Files<File = File>,
     S: Starts + Send + Drop + 'static,
     requires list { list ≡ J.book }
     ensures status { result ≤ 2 }
@@ -72,7 +72,7 @@ fn served<J, R, S, F: CountedWrite, W: Write, E: CountedWrite>(
 ) -> Result<(), Unserved>
 where
     J: Naming + Send + Sync + 'static,
-    R: ServiceRuntime + Net<Listener = TcpListener, Stream = TcpStream> + Files<File = File>,
+    R: DoorRuntime + Files<File = File>,
     S: Starts + Send + Drop + 'static,
     requires list { list ≡ J.book }
     ensures served { OnOk result (IsSomeAnd service.settings.scans
@@ -123,7 +123,7 @@ fn controlled<J, R, S, F: CountedWrite, E: CountedWrite>(
 ) -> Result<Option<u32>, Failed>
 where
     J: Naming + Send + Sync + 'static,
-    R: ServiceRuntime + Net<Listener = TcpListener, Stream = TcpStream> + Files<File = File>,
+    R: DoorRuntime + Files<File = File>,
     S: Starts + Send + Drop + 'static,
     requires list { list ≡ J.book }
     requires program { IsTypedProgramOfText loaded.source.items loaded.image }
@@ -140,6 +140,7 @@ where
         settings,
         status,
         showing,
+        operators,
         ..
     } = loaded;
     let directory = Directory {
@@ -156,6 +157,7 @@ where
         settings,
         status,
         showing,
+        operators,
     };
     let done = reported::<J, R, S, F, E>(host, list, node, report, err);
     taken.leave(&rt);
@@ -173,7 +175,7 @@ fn reported<J, R, S, F: CountedWrite, E: CountedWrite>(
 ) -> Result<u32, Failed>
 where
     J: Naming + Send + Sync + 'static,
-    R: ServiceRuntime + Net<Listener = TcpListener, Stream = TcpStream> + Files<File = File>,
+    R: DoorRuntime + Files<File = File>,
     S: Starts + Send + Drop + 'static,
     requires list { list ≡ J.book }
     ensures scans { IfOk result (λ scans. node.entry.settings.scans ≡ Some scans) }

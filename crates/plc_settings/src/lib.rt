@@ -39,6 +39,34 @@ pub enum Links {
     Channels,
 }
 
+/// Where an operator's console is served.
+#[derive(Clone, Copy, Debug, PartialEq, Eq)]
+pub enum ConsoleAt {
+    /// At this port of 127.0.0.1.
+    Port(u16),
+    /// At a socket whose path `Operators` has.
+    Socket,
+}
+
+/// How operators come to a console.
+#[derive(Drop)]
+pub struct Operators {
+    /// The path of a socket that its owner alone can reach, in place of a port.
+    pub path: Option<String>,
+    /// The word that an operator tells first, if one is asked for.
+    pub key: Option<Vec<u8>>,
+}
+
+impl Operators {
+    /// They come by a port, if by any, and no word is asked for.
+    pub fn by_port() -> Operators {
+        Operators {
+            path: None,
+            key: None,
+        }
+    }
+}
+
 /// How a controller is served.
 #[derive(Clone, Copy, PartialEq, Eq)]
 pub struct Settings {
@@ -59,8 +87,8 @@ pub struct Settings {
     pub crash: Option<u32>,
     /// In seconds: the group is lost after so long with fewer than f+1 replicas that are normal, and it ends.
     pub lost_after: u32,
-    /// Of 127.0.0.1: where an operator's console is served, if one is.
-    pub console: Option<u16>,
+    /// Where an operator's console is served, if one is.
+    pub console: Option<ConsoleAt>,
     /// In milliseconds, from 1: outputs aren't shown that were released longer ago, if that is asked for.
     pub stale: Option<u32>,
     /// Where what shows is served to browsers and to Prometheus, if it is.

@@ -1,7 +1,7 @@
 use Rattle.std.proofs.Common.{subst}
 use Rattle.il_model.specs.declared.command.Command.{Command}
 use Rattle.vr_client.specs.Client.{SubmitsCommand}
-use Rattle.plc_console.proofs.Waiting.{begins, hears, answers, asks_again, closes, on_err}
+use Rattle.plc_console.proofs.Waiting.{begins, hears, answers, asks_again, closes, gives_up, on_err}
 use Rattle.plc_console.proofs.asking.ask.Goals as goal
 
 pub loop-init : goal.loop-init
@@ -23,3 +23,6 @@ loop-preserved g c = record {
   finite = tt;
   waits = asks_again _ _ _ _ _ _ _ (hears _ _ _ _ _ _ _ _ c.loop.invariant.waits c.in_ok-answer.ensures.heard cc) c.ask_again.ensures.sent.1 c.ask_again.ensures.sent.2 c.ask_again.ensures.same;
 }
+
+pub returns-then-is_at_its_end-clause-unanswered : goal.returns-then-is_at_its_end-clause-unanswered
+returns-then-is_at_its_end-clause-unanswered g c = gives_up _ _ _ _ _ _ (hears _ _ _ _ _ _ _ _ c.loop.invariant.waits c.in_ok-answer.ensures.heard cc) c.give_up.ensures

@@ -1,0 +1,105 @@
+//! A session before it has the desk: whoever asks how the controller is needs none.
+
+use crate::line::{Intake, LINE_END, PIECE, Wish, stays};
+use crate::session::{SessionEnd, put_text, refuse};
+use il_loader::Image;
+use io_model::{CountedRead, CountedWrite};
+use plc_host::Host;
+use plc_json::Question;
+use std::alloc::AllocError;
+use std::sync::Wait;
+
+/// What tells how a controller is.
+pub(crate) trait TellsStatus {
+    /// The line that answers how it is, with its end.
+    fn status(&mut self) -> Result<Vec<u8>, AllocError>;
+}
+
+/// What a line is before its session has the desk.
+#[derive(Clone, Copy, PartialEq, Eq)]
+enum Before {
+    /// It was answered.
+    Answered,
+    /// The desk is wanted for it.
+    WantsDesk,
+}
+
+/// Answers a line that ends here, unless the desk is wanted for it. By the program of the image it's told what is a
+/// command; which one it is, is told once the session has the desk.
+fn answer<R: Wait + Copy, W: CountedWrite, T: TellsStatus>(
+    host: &Host<R>,
+    image: &Image,
+    intake: &mut Intake,
+    writer: &mut W,
+    teller: &mut T,
+) -> Result<Before, SessionEnd> {
+    let Ok(wish) = intake.line.wish(host.alloc, image) else {
+        return Err(SessionEnd::Memory);
+    };
+    if !stays(&wish, &mut intake.refused) {
+        return Err(SessionEnd::Dismissed);
+    }
+    match wish {
+        Wish::Tell(Question::Status) => match teller.status() {
+            Ok(line) => put_text(line.as_slice(), writer)?,
+            Err(_) => return Err(SessionEnd::Memory),
+        },
+        Wish::Refuse => refuse(writer)?,
+        Wish::Submit(_) | Wish::Tell(_) | Wish::Leave => return Ok(Before::WantsDesk),
+    }
+    intake.line.clear();
+    Ok(Before::Answered)
+}
+
+/// Answers the lines that end within a piece. What is left of it from the first one on for which the desk is wanted, that
+/// line's end first.
+fn answer_piece<'a, R: Wait + Copy, W: CountedWrite, T: TellsStatus>(
+    host: &Host<R>,
+    image: &Image,
+    piece: &'a [u8],
+    intake: &mut Intake,
+    writer: &mut W,
+    teller: &mut T,
+) -> Result<Option<&'a [u8]>, SessionEnd> {
+    for at in 0..piece.len() {
+        if piece[at] != LINE_END {
+            match intake.line.push(piece[at]) {
+                Ok(()) => {}
+                Err(_) => return Err(SessionEnd::Memory),
+            }
+        } else if let Before::WantsDesk = answer(host, image, intake, writer, teller)? {
+            return Ok(Some(&piece[at..]));
+        }
+    }
+    Ok(None)
+}
+
+/// Answers lines until one comes for which the desk is wanted: that line, and what was read behind it. How the session
+/// ended, where none came. Each line that asks how the controller is, is answered by that, and each that is no command
+/// and no question by `plc: commands`; a line of HTTP, or the third in a row that would be refused, ends the session.
+pub(crate) fn answer_without_desk<R: Wait + Copy, I: CountedRead, W: CountedWrite, T: TellsStatus>(
+    host: &Host<R>,
+    image: &Image,
+    reader: &mut I,
+    writer: &mut W,
+    teller: &mut T,
+) -> Result<Vec<u8>, SessionEnd> {
+    let mut intake = Intake::new(host.alloc);
+    let mut piece = [0; PIECE];
+    for _ in host.rt.forever() {
+        let Ok(count) = reader.read(&mut piece) else {
+            return Err(SessionEnd::Device);
+        };
+        if count == 0 {
+            return Err(SessionEnd::Closed);
+        }
+        let rest = answer_piece(host, image, &piece[..count], &mut intake, writer, teller)?;
+        if let Some(rest) = rest {
+            return match intake.line.followed_by(rest) {
+                Ok(bytes) => Ok(bytes),
+                Err(_) => Err(SessionEnd::Memory),
+            };
+        }
+    }
+    unreachable!()
+}
