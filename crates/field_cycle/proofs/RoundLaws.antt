@@ -1,9 +1,8 @@
 -- What a round gathers.
-use Rattle.std.proofs.Common.{◌≡◌, ℕ, suc, ◌+◌, ◌-◌, ◌^◌, ◌≤◌, ◌<◌, Bool, true, false, List, [], ◌∷◌, ◌++◌, refl, sym, ◌∙◌, ap, subst, arith, length, length-append, append_assoc}
-use Rattle.std.specs.Prelude.{min, nat_lt, if◌then◌else◌, Option, Some, None, is_some, slice_get, option_and_then}
+use Rattle.std.proofs.Common.{◌≡◌, ℕ, suc, ◌+◌, ◌-◌, ◌^◌, ◌<◌, Bool, true, false, List, [], ◌∷◌, ◌++◌, refl, sym, ◌∙◌, ap, arith, length, length-append, append_assoc}
+use Rattle.std.specs.Prelude.{nat_lt, if◌then◌else◌, Option, Some, None, is_some, slice_get, option_and_then}
 use Rattle.std.proofs.lemmas.Grind.{common_steps}
 use Rattle.std.proofs.lemmas.Bool.Decides.{nat_tests}
-use Rattle.il_model.specs.declared.cells.Cells.{Cells}
 use Rattle.io_image.specs.Book.{Change}
 use Rattle.modbus_wire.specs.declared.reply.Reply.{Reply}
 use Rattle.field_map.specs.declared.device.Device.{Device}

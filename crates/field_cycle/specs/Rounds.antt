@@ -3,6 +3,7 @@ use Rattle.std.specs.Prelude.{◌≡◌, ℕ, ◌+◌, ◌^◌, ◌<◌, ◌≤�
 use Rattle.il_model.specs.declared.cells.Cells.{Cells}
 use Rattle.il_model.specs.Locations.{clear_cells}
 use Rattle.modbus_wire.specs.declared.reply.Reply.{Reply}
+use Rattle.field_map.specs.declared.reading.Outputs.{Outputs}
 use Rattle.field_map.specs.declared.device.Device.{Device}
 use Rattle.field_map.specs.Asking.{after_some}
 use Rattle.field_map.specs.Carried.{gathered_of, AreShown}
@@ -11,29 +12,33 @@ use Rattle.modbus_wire.specs.declared.request.Request.{Request}
 use Rattle.field_cycle.specs.declared.round.Round.{Round}
 use Rattle.field_cycle.specs.Links.{later}
 
+-- none are known, and nothing is known of what was written
+abbrev pub no_outputs : Outputs
+no_outputs = record { known = None; written = None }
+
 -- nothing is written yet, and nothing read
-abbrev pub begun : Option Cells → Round
+abbrev pub begun : Outputs → Round
 begun outputs = record { outputs = outputs; step = 0; gathered = clear_cells }
 
 -- it begins with the readings, so nothing is written
 abbrev pub only_reading : Device → Round
-only_reading d = record { outputs = None; step = length d.writings.items; gathered = clear_cells }
+only_reading d = record { outputs = no_outputs; step = length d.writings.items; gathered = clear_cells }
 
 -- the request of a step, or of the step before and this one
-abbrev pub Asks : Device → Option Cells → ℕ → Request → Type 0
+abbrev pub Asks : Device → Outputs → ℕ → Request → Type 0
 Asks d outputs step request = (asked_at d step outputs ≡ Some request)
     ⊎ ((before : ℕ) × (before + 1 ≡ step) × (both_at d before outputs ≡ Some request))
 
 -- the same step, or the next one, where both are asked by one request
-abbrev pub Reaches : Device → Option Cells → ℕ → ℕ → Type 0
+abbrev pub Reaches : Device → Outputs → ℕ → ℕ → Type 0
 Reaches d outputs step to = (to ≡ step) ⊎ ((to ≡ step + 1) × IsSome (both_at d step outputs))
 
 -- the step is asked nothing, or is asked with the one behind it
-abbrev pub IsPassed : Device → Option Cells → ℕ → Type 0
+abbrev pub IsPassed : Device → Outputs → ℕ → Type 0
 IsPassed d outputs step = (asked_at d step outputs ≡ None) ⊎ IsSome (both_at d step outputs)
 
 -- none but such steps stand from one step on before another
-pub record ArePassed (d : Device) (outputs : Option Cells) (from to : ℕ) : Type 0 where
+pub record ArePassed (d : Device) (outputs : Outputs) (from to : ℕ) : Type 0 where
   pub passed : (k : ℕ) → from ≤ k → k < to → IsPassed d outputs k
 
 -- only such steps are passed over

@@ -8,7 +8,7 @@ use crate::link::Moment;
 /// What the controller answered last, as far as its freshness goes.
 #[derive(Clone, Copy)]
 pub struct Freshness {
-    /// When it answered last.
+    /// When its outputs were taken last.
     pub answered: Option<Moment>,
     /// The count of scans that it showed last.
     pub count: Option<i16>,
@@ -38,19 +38,21 @@ impl Freshness {
         }
     }
 
-    /// It answered now, and showed a count of scans, if a word counts them.
-    pub fn hear(&mut self, now: Moment, count: Option<i16>)
-        ensures { self.new ≡ heard_at self.old now count }
+    /// It showed its outputs now, and a count of scans, if a word counts them; they were taken, or not.
+    pub fn hear(&mut self, now: Moment, count: Option<i16>, is_taken: bool)
+        ensures { self.new ≡ heard_at self.old now count is_taken }
     {
         if is_other(self.count, count) {
             self.counted = Some(now);
         }
-        self.answered = Some(now);
+        if is_taken {
+            self.answered = Some(now);
+        }
         self.count = count;
     }
 
-    /// Whether it answered no longer ago than so long, and, where scans are counted, a count came since then that was
-    /// another than the one before.
+    /// Whether its outputs were taken no longer ago than so long, and, where scans are counted, a count came since then
+    /// that was another than the one before.
     pub fn is_fresh(&self, now: Moment, fresh: u64, counts: bool) -> bool
         ensures { result ≡ is_fresh self.now now fresh counts }
     {
@@ -59,7 +61,7 @@ impl Freshness {
 }
 
 /// Whether both are there, and differ.
-fn is_other(before: Option<i16>, count: Option<i16>) -> bool
+pub(crate) fn is_other(before: Option<i16>, count: Option<i16>) -> bool
     ensures { result ≡ is_other before count }
 {
     match (before, count) {

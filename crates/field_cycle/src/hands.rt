@@ -14,7 +14,7 @@ pub struct Hands {
 }
 
 impl Hands {
-    ghost use Rattle.field_cycle.specs.Stations.{nothing, answered, losing, left, next_of};
+    ghost use Rattle.field_cycle.specs.Stations.{nothing, is_nothing, answered, losing, ending, left, next_of};
 
     /// Nothing.
     pub fn none() -> Hands
@@ -47,6 +47,16 @@ impl Hands {
         }
     }
 
+    /// That nobody asks a device any more, and then that its inputs are FALSE and 0.
+    pub fn ending(device: &Device) -> Hands
+        ensures { result ≡ ending device.now }
+    {
+        Hands {
+            first: device.hand_alive(false),
+            second: device.hand_inputs(Some(&Cells::clear())),
+        }
+    }
+
     /// The next of them, which they have no more.
     pub fn take(&mut self) -> Option<Request>
         ensures next { result ≡ next_of self.old }
@@ -59,7 +69,9 @@ impl Hands {
     }
 
     /// Whether there is nothing.
-    pub fn is_empty(&self) -> bool {
+    pub fn is_empty(&self) -> bool
+        ensures { result ≡ is_nothing self.now }
+    {
         self.first.is_none() && self.second.is_none()
     }
 }

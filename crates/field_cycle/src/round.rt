@@ -1,12 +1,11 @@
 //! One round of a device: what is written there, and then what is read.
 
 ghost use Rattle.std.specs.Prelude.{◌≡◌, ◌<◌, ◌≤◌, true, None, IfNone, IfSome};
-ghost use Rattle.std.specs.Option.{option_copied};
 ghost use Rattle.modbus_wire.specs.Requests.{is_request};
 ghost use Rattle.field_map.specs.Rounds.{asked_at, steps_of, is_taken_at};
 ghost use Rattle.field_cycle.specs.Rounds.{begun, only_reading, taken, Advances, ArePassed, Asks, Reaches};
 
-use field_map::Device;
+use field_map::{Device, Outputs};
 use il_model::Cells;
 use modbus_wire::{Reply, Request};
 
@@ -18,12 +17,12 @@ struct Found {
 }
 
 /// What is asked at a step, by itself or with the one behind it.
-fn asked(device: &Device, step: usize, outputs: Option<&Cells>) -> Option<Found>
+fn asked(device: &Device, step: usize, outputs: &Outputs) -> Option<Found>
     requires { step < 1024 }
-    ensures asked { IfSome result (λ f. Asks device.now (option_copied outputs.entry) f.step f.request) }
+    ensures asked { IfSome result (λ f. Asks device.now outputs.now f.step f.request) }
     ensures lawful { IfSome result (λ f. is_request f.request ≡ true) }
-    ensures reached { IfSome result (λ f. Reaches device.now (option_copied outputs.entry) step f.step) }
-    ensures none { IfNone result (asked_at device.now step (option_copied outputs.entry) ≡ None) }
+    ensures reached { IfSome result (λ f. Reaches device.now outputs.now step f.step) }
+    ensures none { IfNone result (asked_at device.now step outputs.now ≡ None) }
 {
     if let Some(request) = device.ask_both(step, outputs) {
         return Some(Found {
@@ -37,11 +36,11 @@ fn asked(device: &Device, step: usize, outputs: Option<&Cells>) -> Option<Found>
 
 /// What is asked next, from a step on.
 #[tactic(auto, using(crate::proofs::Passing::passed_more, crate::proofs::Passing::passed_to))]
-fn ahead(device: &Device, from: usize, outputs: Option<&Cells>) -> Option<Found>
-    ensures asked { IfSome result (λ f. Asks device.now (option_copied outputs.entry) f.step f.request) }
+fn ahead(device: &Device, from: usize, outputs: &Outputs) -> Option<Found>
+    ensures asked { IfSome result (λ f. Asks device.now outputs.now f.step f.request) }
     ensures lawful { IfSome result (λ f. is_request f.request ≡ true) }
-    ensures passed { IfSome result (λ f. ArePassed device.now (option_copied outputs.entry) from f.step) }
-    ensures none { IfNone result (ArePassed device.now (option_copied outputs.entry) from (steps_of device.now)) }
+    ensures passed { IfSome result (λ f. ArePassed device.now outputs.now from f.step) }
+    ensures none { IfNone result (ArePassed device.now outputs.now from (steps_of device.now)) }
 {
     for step in from..device.steps() {
         if let Some(found) = asked(device, step, outputs) {
@@ -54,8 +53,8 @@ fn ahead(device: &Device, from: usize, outputs: Option<&Cells>) -> Option<Found>
 /// How far a round came.
 #[derive(Clone, Copy)]
 pub struct Round {
-    /// What is written. None: what the writings fall back to.
-    pub outputs: Option<Cells>,
+    /// What the device is to have, and has.
+    pub outputs: Outputs,
     /// The step whose reply comes next.
     pub step: usize,
     /// What was read so far, at its places.
@@ -64,11 +63,11 @@ pub struct Round {
 
 impl Round {
     /// Nothing is written yet, and nothing read.
-    pub fn new(outputs: Option<&Cells>) -> Round
-        ensures { result ≡ begun (option_copied outputs.entry) }
+    pub fn new(outputs: Outputs) -> Round
+        ensures { result ≡ begun outputs }
     {
         Round {
-            outputs: outputs.copied(),
+            outputs,
             step: 0,
             gathered: Cells::clear(),
         }
@@ -79,7 +78,10 @@ impl Round {
         ensures { result ≡ only_reading device.now }
     {
         Round {
-            outputs: None,
+            outputs: Outputs {
+                known: None,
+                written: None,
+            },
             step: device.writings.len(),
             gathered: Cells::clear(),
         }
@@ -93,7 +95,7 @@ impl Round {
         ensures whole { IfNone result (steps_of device.now ≤ self.new.step) }
         ensures skips { Advances device.now self.old self.new }
     {
-        match ahead(device, self.step, self.outputs.as_ref()) {
+        match ahead(device, self.step, &self.outputs) {
             Some(found) => {
                 self.step = found.step;
                 Some(found.request)

@@ -15,7 +15,7 @@ use Rattle.field_map.specs.Field.{filled_by, places_read, places_alive}
 use Rattle.field_map.specs.Filled.{is_read, are_all_apart}
 use Rattle.field_map.specs.Asking.{shown_by, after_some, all_cells}
 use Rattle.field_map.specs.Carried.{gathered_by, with_gathered, after_cycle, HasAnswered, IsEachCarried, gathered_of}
-use Rattle.field_map.specs.Carried.{value_shown, AreShown, Cell, cell_at, IsWhole, IsWholeIf, given_by, shown_at_place}
+use Rattle.field_map.specs.Carried.{value_read, AreShown, Cell, cell_at, IsWhole, IsWholeIf, given_by, shown_at_place}
 use Rattle.field_map.specs.Carried.{HasGiven}
 use Rattle.field_map.specs.Rounds.{handed_cells}
 use Rattle.field_map.proofs.ApartLaws.{and_first, and_second, and_both, list_all-append, apart_behind, in_front_alone, is_in_any-append, is_in_any-read}
@@ -139,7 +139,7 @@ carries_read : (c : Cells) (xs : List (Device × Option (List Reply))) (i : ℕ)
     (r : Reading) (reply : Reply) (kind : Kind) (n : ℕ) → IsWhole c → AllByRecursion (λ x. HasAnswered x.0 x.1) xs
     → are_all_apart (flat_map (λ x. filled_by x.0) xs) ≡ true → slice_get xs i ≡ Some (d, Some replies)
     → slice_get d.inputs.readings.items j ≡ Some r → slice_get replies j ≡ Some reply → is_in r.places kind n ≡ true
-    → cell_at (after_cycle c xs) kind n ≡ value_shown reply (n - r.places.from)
+    → cell_at (after_cycle c xs) kind n ≡ value_read r reply n
 carries_read c xs i d replies j r reply kind n w v e h k l f =
     let own : are_all_apart (filled_by d) ≡ true = own_apart xs i d (Some replies) e h in
     let mine : is_in_any (places_read d.inputs.readings.items) kind n ≡ true = in_read d.inputs.readings.items j r kind n k f in

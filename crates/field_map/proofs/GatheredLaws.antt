@@ -17,7 +17,8 @@ use Rattle.field_map.specs.Areas.{area_length, is_one_kind}
 use Rattle.field_map.specs.Asking.{shown_at, shown_by, after_some}
 use Rattle.field_map.specs.Filled.{is_in, is_in_any, are_all_apart, are_apart}
 use Rattle.field_map.specs.Field.{places_read}
-use Rattle.field_map.specs.Carried.{Cell, bit, word, cell_at, IsWhole, gathered_of, value_shown, AreShown}
+use Rattle.field_map.specs.Carried.{Cell, bit, word, cell_at, IsWhole, gathered_of, value_shown, value_read, AreShown}
+use Rattle.field_map.specs.Layouts.{arranged_reply}
 use Rattle.field_map.specs.Carried.{IsEachGathered}
 use Rattle.field_map.proofs.ApartLaws.{and_first, and_second, none_of_others}
 use Rattle.field_map.proofs.PlaceLaws.{laid_before, laid_within, laid_behind, if_ap}
@@ -110,11 +111,13 @@ shown_whole Words a m (replies.Failed number) c h w = w
 
 reading_shows : (r : Reading) (reply : Reply) (c : Cells) (kind : Kind) (n : ℕ) → IsWhole c
     → is_some (shown_by r reply) ≡ true → cell_at (after_some c (shown_by r reply)) kind n
-    ≡ (if is_in r.places kind n then value_shown reply (n - r.places.from) else cell_at c kind n)
-reading_shows r reply c kind n w e = shown_in r.places.kind r.places.from r.places.count reply c kind n r.places.inside w e
+    ≡ (if is_in r.places kind n then value_read r reply n else cell_at c kind n)
+reading_shows r reply c kind n w e =
+    shown_in r.places.kind r.places.from r.places.count (arranged_reply r.layout reply) c kind n r.places.inside w e
 
 pub reading_whole : (r : Reading) (reply : Reply) (c : Cells) → IsWhole c → IsWhole (after_some c (shown_by r reply))
-reading_whole r reply c w = shown_whole r.places.kind r.places.from r.places.count reply c r.places.inside w
+reading_whole r reply c w =
+    shown_whole r.places.kind r.places.from r.places.count (arranged_reply r.layout reply) c r.places.inside w
 
 or_first : (a b : Bool) → (a || b) ≡ false → a ≡ false
 or_first true b e = absurd cc
@@ -142,13 +145,13 @@ others_stay (r ∷ rs) (y ∷ ys) c kind n w s e =
     others_stay rs ys (after_some c (shown_by r y)) kind n (reading_whole r y c w) s.1
     (or_second (is_in r.places kind n) (is_in_any (places_read rs) kind n) e)
     ∙ (reading_shows r y c kind n w s.0
-    ∙ choose_false (is_in r.places kind n) (value_shown y (n - r.places.from)) (cell_at c kind n)
+    ∙ choose_false (is_in r.places kind n) (value_read r y n) (cell_at c kind n)
     (or_first (is_in r.places kind n) (is_in_any (places_read rs) kind n) e))
 
 gathered_each : (rs : List Reading) (ys : List Reply) (c : Cells) (i : ℕ) (r : Reading) (y : Reply) (kind : Kind) (n : ℕ)
     → IsWhole c → are_all_apart (places_read rs) ≡ true → AreShown rs ys → slice_get rs i ≡ Some r
     → slice_get ys i ≡ Some y → is_in r.places kind n ≡ true
-    → cell_at (gathered_of rs ys c) kind n ≡ value_shown y (n - r.places.from)
+    → cell_at (gathered_of rs ys c) kind n ≡ value_read r y n
 gathered_each [] [] c i r y kind n w a s e f h = absurd cc
 gathered_each [] (z ∷ ys) c i r y kind n w a s e f h = absurd s
 gathered_each (q ∷ rs) [] c i r y kind n w a s e f h = absurd s
@@ -160,9 +163,9 @@ gathered_each (q ∷ rs) (z ∷ ys) c zero r y kind n w a s e f h =
     (none_of_others q.places (places_read rs) kind n
     (and_first (list_all (are_apart q.places) (places_read rs)) (are_all_apart (places_read rs)) a) mine)
     ∙ (reading_shows q z c kind n w s.0
-    ∙ (choose_true (is_in q.places kind n) (value_shown z (n - q.places.from)) (cell_at c kind n) mine
-    ∙ (ap (λ (x : Reply). value_shown x (n - q.places.from)) its
-    ∙ ap (λ (x : Reading). value_shown y (n - x.places.from)) here)))
+    ∙ (choose_true (is_in q.places kind n) (value_read q z n) (cell_at c kind n) mine
+    ∙ (ap (λ (x : Reply). value_read q x n) its
+    ∙ ap (λ (x : Reading). value_read x y n) here)))
 gathered_each (q ∷ rs) (z ∷ ys) c (suc i) r y kind n w a s e f h =
     gathered_each rs ys (after_some c (shown_by q z)) i r y kind n (reading_whole q z c w)
     (and_second (list_all (are_apart q.places) (places_read rs)) (are_all_apart (places_read rs)) a) s.1 e f h

@@ -3,3 +3,4 @@ pub mod PlaceLaws
 pub mod GivenLaws
 pub mod GatheredLaws
 pub mod CarriedLaws
+pub mod SwapLaws

@@ -14,6 +14,7 @@ use Rattle.field_map.specs.declared.device.Device.{Device}
 use Rattle.field_map.specs.declared.reading.Reading.{Reading}
 use Rattle.field_map.specs.declared.places.Kind.TheVariants as kinds
 use Rattle.field_map.specs.Asking.{carried, all_cells, after_some, shown_by}
+use Rattle.field_map.specs.Layouts.{arranged_reply}
 use Rattle.field_map.specs.Filled.{is_in_some, is_in_any, is_read, are_all_apart, is_in}
 use Rattle.field_map.specs.Field.{filled_by, places_read}
 use Rattle.field_map.specs.Rounds.{handed_cells}
@@ -94,6 +95,10 @@ value_shown (Bits bits) k = bit (get_or bits.items k false)
 value_shown (Words words) k = word (get_or words.items k (pos 0))
 value_shown _ k = bit false
 
+-- the value that a reply to a reading shows for a place: of its words as the controller has them, in order
+abbrev pub value_read : Reading → Reply → ℕ → Cell
+value_read r reply n = value_shown (arranged_reply r.layout reply) (n - r.places.from)
+
 -- each reading has a reply, which shows its cells
 abbrev pub AreShown : List Reading → List Reply → Type 0
 AreShown [] [] = Unit {0}
@@ -104,7 +109,7 @@ AreShown _ _ = ⊥
 abbrev pub HasGathered : List Reading → List Reply → Cells → Type 0
 HasGathered rs replies c = (i : ℕ) (r : Reading) (reply : Reply) (kind : Kind) (n : ℕ) → slice_get rs i ≡ Some r
     → slice_get replies i ≡ Some reply → is_in r.places kind n ≡ true
-    → cell_at c kind n ≡ value_shown reply (n - r.places.from)
+    → cell_at c kind n ≡ value_read r reply n
 
 -- where no place is read twice, each has the value that was read for it
 abbrev pub IsEachGathered : Type 0
@@ -135,7 +140,7 @@ pub record HasCarried (xs : List (Device × Option (List Reply))) (before after 
   pub read : (i : ℕ) (d : Device) (replies : List Reply) (j : ℕ) (r : Reading) (reply : Reply) (kind : Kind) (n : ℕ)
       → slice_get xs i ≡ Some (d, Some replies) → slice_get d.inputs.readings.items j ≡ Some r
       → slice_get replies j ≡ Some reply → is_in r.places kind n ≡ true
-      → cell_at after kind n ≡ value_shown reply (n - r.places.from)
+      → cell_at after kind n ≡ value_read r reply n
   -- those of a lost device have what its fallback says
   pub lost : (i : ℕ) (d : Device) (kind : Kind) (n : ℕ) → slice_get xs i ≡ Some (d, None)
       → is_in_any (places_read d.inputs.readings.items) kind n ≡ true

@@ -10,6 +10,7 @@ use Rattle.modbus_wire.specs.declared.reply.Reply.TheVariants.{Done}
 use Rattle.field_map.specs.declared.places.Places.{Places}
 use Rattle.field_map.specs.declared.reading.Fallback.{Fallback}
 use Rattle.field_map.specs.declared.reading.Fallback.TheVariants.{Hold, Zero}
+use Rattle.field_map.specs.declared.reading.Outputs.{Outputs}
 use Rattle.field_map.specs.declared.device.Device.{Device}
 use Rattle.field_map.specs.Asking.{all_cells, joined, read_request, output_request, write_request, shown_by}
 
@@ -17,9 +18,8 @@ use Rattle.field_map.specs.Asking.{all_cells, joined, read_request, output_reque
 abbrev pub steps_of : Device → ℕ
 steps_of d = length d.writings.items + length d.inputs.readings.items
 
--- the request of a step of a round, where the outputs are known and where they aren't: first the writings, then the
--- readings
-abbrev pub asked_at : Device → ℕ → Option Cells → Option Request
+-- the request of a step of a round, for these outputs: first the writings, then the readings
+abbrev pub asked_at : Device → ℕ → Outputs → Option Request
 asked_at d step outputs =
     if nat_lt step (length d.writings.items)
     then option_and_then (λ w. output_request w outputs) (slice_get d.writings.items step)
@@ -30,7 +30,7 @@ joined_some (Some write) (Some read) = joined write read
 joined_some _ _ = None
 
 -- one request for the last writing and the first reading, where the device is asked so
-abbrev pub both_at : Device → ℕ → Option Cells → Option Request
+abbrev pub both_at : Device → ℕ → Outputs → Option Request
 both_at d step outputs =
     if d.exchange && (step + 1 == length d.writings.items)
     then joined_some (asked_at d step outputs) (asked_at d (step + 1) outputs)

@@ -4,12 +4,12 @@ ghost use Rattle.std.specs.Prelude.{◌≡◌, ◌≤◌, true, length, IfSome};
 ghost use Rattle.std.specs.Option.{option_copied};
 ghost use Rattle.modbus_wire.specs.Requests.{is_request};
 ghost use Rattle.field_map.specs.declared.device.TheConstants.{MOST_WRITINGS};
-ghost use Rattle.field_map.specs.Asking.{joined, after_some, all_cells};
+ghost use Rattle.field_map.specs.Asking.{joined, after_some};
 
 use crate::inputs::Inputs;
 use crate::places::Places;
-use crate::reading::{Fallback, Writing};
-use il_model::{BITS, Cells, WORDS};
+use crate::reading::{Fallback, Outputs, Writing};
+use il_model::Cells;
 use modbus_wire::{Reply, Request, Table};
 use std::net::SocketAddr;
 
@@ -28,27 +28,24 @@ pub struct Device {
     pub unit: u8,
     /// In milliseconds: a reply is late after so long.
     pub timeout: u32,
+    /// So often a request is asked again that has no reply.
+    pub retries: u8,
+    /// It has a round in every so many cycles, at least 1.
+    pub every: u32,
     /// One bit of `%I`, which is TRUE while the device answers.
     pub alive: Option<Places>,
     /// What its places of `%I` have while it doesn't answer.
     pub on_loss: Fallback,
     /// Whether it's asked to write and read registers in one request (function 23), where that saves one.
     pub exchange: bool,
+    /// In milliseconds: so long after all of its outputs were written they are all written again, also those that are
+    /// written on changes only. 0 where none is.
+    pub refresh: u32,
     /// What is read of it.
     pub inputs: Inputs,
     /// In the order of the text.
     pub writings: Vec<Writing>,
     ghost few: { length writings.items ≤ MOST_WRITINGS },
-}
-
-/// All bits of this value, and all words 0.
-fn all(value: bool) -> Cells
-    ensures { result ≡ all_cells value }
-{
-    Cells {
-        bits: [value; BITS],
-        words: [0; WORDS],
-    }
 }
 
 /// One request that writes and reads in place of two, if both are of registers that a client may write, and it can
@@ -99,8 +96,8 @@ impl Device {
 
     /// The request of a step: a write as the outputs are, or by its fallback where they aren't known, or a read. None
     /// where nothing is to be written.
-    pub fn ask(&self, step: usize, outputs: Option<&Cells>) -> Option<Request>
-        ensures is { result ≡ asked_at self.now step (option_copied outputs.entry) }
+    pub fn ask(&self, step: usize, outputs: &Outputs) -> Option<Request>
+        ensures is { result ≡ asked_at self.now step outputs.now }
         ensures lawful { IfSome result (λ r. is_request r ≡ true) }
     {
         let writings = self.writings.len();
@@ -112,8 +109,8 @@ impl Device {
 
     /// One request for this step and the next, where the device is asked so: the last write and the first read, if both
     /// are of holding registers. Its reply is that of the next step.
-    pub fn ask_both(&self, step: usize, outputs: Option<&Cells>) -> Option<Request>
-        ensures is { result ≡ both_at self.now step (option_copied outputs.entry) }
+    pub fn ask_both(&self, step: usize, outputs: &Outputs) -> Option<Request>
+        ensures is { result ≡ both_at self.now step outputs.now }
         ensures lawful { IfSome result (λ r. is_request r ≡ true) }
     {
         let writings = self.writings.len();
@@ -159,6 +156,6 @@ impl Device {
         ensures lawful { IfSome result (λ r. is_request r ≡ true) }
     {
         let places = self.alive?;
-        Some(places.write(places.from as u16, &all(answers)))
+        Some(places.write_bit(answers))
     }
 }

@@ -3,7 +3,7 @@
 ghost use Rattle.std.specs.Prelude.{◌≡◌};
 ghost use Rattle.field_map.specs.declared.fault.FieldFault.TheVariants.{Memory};
 
-use std::alloc::{AllocError, AllocFailed};
+use std::alloc::{AllocError, AllocFailed, Global};
 use std::fmt;
 use std::fmt::Write;
 use thiserror::Error;
@@ -56,6 +56,24 @@ pub enum Why {
     /// Neither hold nor zero.
     #[error("neither hold nor zero")]
     Fallback,
+    /// Bits have no words.
+    #[error("for registers only")]
+    Registers,
+    #[error("neither int nor dint")]
+    Form,
+    #[error("neither high_first nor low_first")]
+    WordOrder,
+    /// An order of words where registers are taken each by itself.
+    #[error("for dint only")]
+    Double,
+    /// A value of 32 bits would have one register.
+    #[error("an odd count of registers")]
+    Odd,
+    #[error("neither always nor changes")]
+    Sending,
+    /// Each write is sent in each round.
+    #[error("no write is sent on changes only")]
+    Refresh,
     /// No bit and no word of the area.
     #[error("no such place")]
     Place,
@@ -80,6 +98,24 @@ pub enum Why {
     /// The places don't follow those of the reading before.
     #[error("not next to the reading before")]
     Apart,
+    /// Another device has that name, or the controller.
+    #[error("a name that is taken")]
+    Name,
+    /// An earlier writing has one of the cells.
+    #[error("a cell that is written twice")]
+    Written,
+    /// Unit 0, which no device answers.
+    #[error("a broadcast")]
+    Broadcast,
+    /// Outputs would be known no longer than from one cycle to the next.
+    #[error("below two cycles")]
+    Fresh,
+    /// A late reply would be waited for past the next round.
+    #[error("above the cycle")]
+    Late,
+    /// No path of a socket.
+    #[error("no path that ends with .sock")]
+    Socket,
     /// No element is there.
     #[error("empty")]
     Empty,
@@ -96,6 +132,16 @@ pub enum FieldFault {
     Key { spot: Spot, key: String, why: Why },
     #[error("out of memory")]
     Memory,
+}
+
+impl FieldFault {
+    /// The fault of a key of this table.
+    pub(crate) fn of_key(alloc: Global, spot: Spot, key: &str, why: Why) -> FieldFault {
+        match String::from_str(alloc, key) {
+            Ok(key) => FieldFault::Key { spot, key, why },
+            Err(_) => FieldFault::Memory,
+        }
+    }
 }
 
 impl From<AllocError> for FieldFault {

@@ -24,14 +24,7 @@ pub(crate) const TIMES: u32 = 60_000;
 impl<'a> Section<'a> {
     /// The fault of a key.
     pub(crate) fn fault(&self, key: &str, why: Why) -> FieldFault {
-        match String::from_str(self.alloc, key) {
-            Ok(key) => FieldFault::Key {
-                spot: self.spot,
-                key,
-                why,
-            },
-            Err(_) => FieldFault::Memory,
-        }
+        FieldFault::of_key(self.alloc, self.spot, key, why)
     }
 
     /// Refuses each key that isn't one of these.
@@ -77,6 +70,25 @@ impl<'a> Section<'a> {
             return Err(self.fault(key, Why::Zero));
         }
         Ok(number)
+    }
+
+    /// A number from 0 to `most`; this one, where the key isn't there.
+    pub(crate) fn number_or(&self, key: &str, most: u32, other: u32) -> Result<u32, FieldFault>
+        requires { other ≤ most }
+        ensures { IfOk result (λ n. n ≤ most) }
+    {
+        if !self.has(key) {
+            return Ok(other);
+        }
+        self.number(key, most)
+    }
+
+    /// A number from 1 to `most`; this one, where the key isn't there.
+    pub(crate) fn some_or(&self, key: &str, most: u32, other: u32) -> Result<u32, FieldFault> {
+        if !self.has(key) {
+            return Ok(other);
+        }
+        self.some(key, most)
     }
 
     pub(crate) fn text(&self, key: &str) -> Result<&'a str, FieldFault> {

@@ -1,7 +1,8 @@
 //! A field as its text has it.
 
-ghost use Rattle.std.specs.Prelude.{◌≡◌, ◌+◌, ◌<◌, ◌≤◌, ◌++◌, ◌∷◌, [], length, IfOk, OnOk};
+ghost use Rattle.std.specs.Prelude.{◌≡◌, ◌+◌, ◌<◌, ◌≤◌, ◌++◌, ◌∷◌, [], length, true, IfOk, OnOk};
 ghost use Rattle.std.specs.List.{flat_map};
+ghost use Rattle.field_map.specs.Areas.{is_whole};
 ghost use Rattle.field_map.specs.Field.{filled_by, places_alive, places_read};
 
 use crate::device::{Device, MOST_WRITINGS};
@@ -9,6 +10,8 @@ use crate::fault::{FieldFault, Spot, Why};
 use crate::field::FieldMap;
 use crate::filled::Filled;
 use crate::inputs::Inputs;
+use crate::judging::judge_devices;
+use crate::layout::Layout;
 use crate::places::{Kind, Places};
 use crate::reading::{Reading, Writing};
 use crate::section::{Section, TIMES};
@@ -80,6 +83,7 @@ fn places(
     count: usize,
 ) -> Result<Places, FieldFault>
     requires { (0 < count) × (count ≤ 65536) }
+    ensures { IfOk result (λ places. (places.kind ≡ kind) × (places.count ≡ count)) }
 {
     let (found, from) = section.place(key, area)?;
     if !found.is(kind) {
@@ -91,27 +95,99 @@ fn places(
     Ok(Places { kind, from, count })
 }
 
+/// Whether two registers are one value of 32 bits.
+fn is_double(section: &Section) -> Result<bool, FieldFault> {
+    if !section.has("as") {
+        return Ok(false);
+    }
+    match section.text("as")? {
+        "int" => Ok(false),
+        "dint" => Ok(true),
+        _ => Err(section.fault("as", Why::Form)),
+    }
+}
+
+/// Which word of a value of 32 bits comes first.
+fn word_order(section: &Section) -> Result<Layout, FieldFault> {
+    match section.text("word_order")? {
+        "high_first" => Ok(Layout::HighFirst),
+        "low_first" => Ok(Layout::LowFirst),
+        _ => Err(section.fault("word_order", Why::WordOrder)),
+    }
+}
+
+/// How the cells are taken, so many of this kind.
+fn layout(section: &Section, kind: Kind, count: usize) -> Result<Layout, FieldFault>
+    ensures { IfOk result (λ layout. is_whole layout kind count ≡ true) }
+{
+    let is_double = is_double(section)?;
+    if kind.is(Kind::Bits) && section.has("as") {
+        return Err(section.fault("as", Why::Registers));
+    }
+    if !is_double {
+        return if section.has("word_order") {
+            Err(section.fault("word_order", Why::Double))
+        } else {
+            Ok(Layout::Single)
+        };
+    }
+    let layout = word_order(section)?;
+    if !layout.is_whole(kind, count) {
+        return Err(section.fault("count", Why::Odd));
+    }
+    Ok(layout)
+}
+
 fn reading(section: &Section) -> Result<Reading, FieldFault> {
-    section.know(&["table", "from", "count", "to"])?;
+    section.know(&["table", "from", "count", "as", "word_order", "to"])?;
     let (kind, table) = source(section)?;
     let (address, count) = cells(section, "from", kind, MOST_READ)?;
+    let layout = layout(section, kind, count)?;
     let places = places(section, "to", Area::Input, kind, count)?;
     Ok(Reading {
         table,
         address,
         places,
+        layout,
     })
 }
 
+/// Whether it's written on changes only.
+fn on_change(section: &Section) -> Result<bool, FieldFault> {
+    if !section.has("write") {
+        return Ok(false);
+    }
+    match section.text("write")? {
+        "always" => Ok(false),
+        "changes" => Ok(true),
+        _ => Err(section.fault("write", Why::Sending)),
+    }
+}
+
+const WRITING: [&str; 8] = [
+    "table",
+    "from",
+    "count",
+    "as",
+    "word_order",
+    "to",
+    "write",
+    "on_stop",
+];
+
 fn writing(section: &Section) -> Result<Writing, FieldFault> {
-    section.know(&["table", "from", "count", "to", "on_stop"])?;
+    section.know(&WRITING)?;
     let kind = target(section)?;
     let (address, count) = cells(section, "to", kind, MOST_WRITTEN)?;
+    let layout = layout(section, kind, count)?;
     let places = places(section, "from", Area::Output, kind, count)?;
+    let on_change = on_change(section)?;
     let on_stop = section.fallback("on_stop")?;
     Ok(Writing {
         address,
         places,
+        layout,
+        on_change,
         on_stop,
     })
 }
@@ -171,21 +247,56 @@ fn writings(section: &Section, device: usize) -> Result<Vec<Writing>, FieldFault
     Ok(writings)
 }
 
-/// The alive bit, if there is one.
-fn alive(section: &Section, filled: &mut Filled) -> Result<Option<Places>, FieldFault>
-    ensures { IfOk result (λ alive. filled.new.places.items ≡ filled.old.places.items ++ places_alive alive) }
+/// The place of `%I` at this key, if there is one.
+fn sign(
+    section: &Section,
+    key: &str,
+    kind: Kind,
+    filled: &mut Filled,
+) -> Result<Option<Places>, FieldFault>
+    ensures { IfOk result (λ place. filled.new.places.items ≡ filled.old.places.items ++ places_alive place) }
 {
-    if !section.has("alive") {
+    if !section.has(key) {
         return Ok(None);
     }
-    let bit = places(section, "alive", Area::Input, Kind::Bits, 1)?;
-    claim(section, "alive", bit, filled)?;
-    Ok(Some(bit))
+    let place = places(section, key, Area::Input, kind, 1)?;
+    claim(section, key, place, filled)?;
+    Ok(Some(place))
 }
 
-const DEVICE: [&str; 9] = [
-    "name", "address", "unit", "timeout", "alive", "on_loss", "exchange", "read", "write",
+const DEVICE: [&str; 12] = [
+    "name", "address", "unit", "timeout", "retries", "every", "alive", "on_loss", "exchange",
+    "refresh", "read", "write",
 ];
+
+/// A request is asked again so often, at most.
+const MOST_RETRIES: u32 = 10;
+
+/// A request is asked again so often, where nothing else is said.
+const RETRIES: u32 = 2;
+
+/// The unit, which isn't that of a broadcast (MODBUS over Serial Line V1.02, section 2.2): a device by itself is 255.
+fn unit(section: &Section) -> Result<u8, FieldFault> {
+    match section.number("unit", 255)? as u8 {
+        0 => Err(section.fault("unit", Why::Broadcast)),
+        unit => Ok(unit),
+    }
+}
+
+/// In seconds: what is written on changes only is written all the same so long after.
+const LONGEST_REFRESH: u32 = 3600;
+
+/// How long it takes until these are all written again, in milliseconds: 0 where each is in each round.
+fn refresh(section: &Section, writings: &[Writing]) -> Result<u32, FieldFault> {
+    let waits = writings.iter().any(|writing| writing.on_change);
+    if !waits && section.has("refresh") {
+        return Err(section.fault("refresh", Why::Refresh));
+    }
+    if !waits {
+        return Ok(0);
+    }
+    Ok(section.some("refresh", LONGEST_REFRESH)? * 1000)
+}
 
 /// The device with this number.
 fn device(section: &Section, number: usize, filled: &mut Filled) -> Result<Device, FieldFault>
@@ -194,22 +305,28 @@ fn device(section: &Section, number: usize, filled: &mut Filled) -> Result<Devic
     section.know(&DEVICE)?;
     let name = String::from_str(section.alloc, section.text("name")?)?;
     let address = section.address("address", section.text("address")?)?;
-    let unit = section.number("unit", 255)? as u8;
+    let unit = unit(section)?;
     let timeout = section.some("timeout", TIMES)?;
+    let retries = section.number_or("retries", MOST_RETRIES, RETRIES)? as u8;
+    let every = section.some_or("every", TIMES, 1)?;
     let on_loss = section.fallback("on_loss")?;
     let exchange = section.truth("exchange")?;
     let inputs = readings(section, number, filled)?;
-    let alive = alive(section, filled)?;
+    let alive = sign(section, "alive", Kind::Bits, filled)?;
+    let writings = writings(section, number)?;
     Ok(Device {
         name,
         address,
         unit,
         timeout,
+        retries,
+        every,
         alive,
         on_loss,
         exchange,
+        refresh: refresh(section, writings.as_slice())?,
         inputs,
-        writings: writings(section, number)?,
+        writings,
     })
 }
 
@@ -226,9 +343,18 @@ fn devices(section: &Section, filled: &mut Filled) -> Result<Vec<Device>, FieldF
             spot: Spot::Device(number),
             table: *table,
         };
-        devices.push(device(&section, number, filled)?)?;
+        let device = device(&section, number, filled)?;
+        if is_named(devices.as_slice(), device.name.as_str()) {
+            return Err(section.fault("name", Why::Name));
+        }
+        devices.push(device)?;
     }
     Ok(devices)
+}
+
+/// Whether one of these has this name, or the controller.
+fn is_named(devices: &[Device], name: &str) -> bool {
+    name == "controller" || devices.iter().any(|device| device.name.as_str() == name)
 }
 
 /// The controller's addresses: one text, or a list of them.
@@ -251,20 +377,66 @@ fn scan_count(section: &Section) -> Result<Option<Places>, FieldFault> {
     Ok(Some(places(section, "scan_count", Area::Output, Kind::Words, 1)?))
 }
 
+/// The path of the socket, if there is one. It ends so that no other file is taken for one that was left there.
+fn control(section: &Section) -> Result<Option<String>, FieldFault> {
+    if !section.has("control") {
+        return Ok(None);
+    }
+    let path = section.text("control")?;
+    if !path.ends_with(".sock") {
+        return Err(section.fault("control", Why::Socket));
+    }
+    Ok(Some(String::from_str(section.alloc, path)?))
+}
+
+const FIELD: [&str; 10] = [
+    "controller",
+    "cycle",
+    "fresh",
+    "controller_timeout",
+    "scan",
+    "scan_count",
+    "beat",
+    "ready",
+    "control",
+    "device",
+];
+
+/// The controller's answers are late after two cycles, where nothing else is said, but not before so long: a process
+/// that isn't scheduled for a while isn't lost.
+const LEAST_TIMEOUT: u32 = 40;
+
+/// A scan takes so long, where nothing else is said: the period of a controller of which nothing else is said.
+const SCAN: u32 = 100;
+
 /// The field of the table around all others.
 fn whole(section: &Section) -> Result<FieldMap, FieldFault> {
-    section.know(&["controller", "cycle", "fresh", "scan_count", "device"])?;
+    section.know(&FIELD)?;
     let controllers = controllers(section)?;
     let cycle = section.some("cycle", TIMES)?;
     let fresh = section.some("fresh", TIMES)?;
+    let late = (cycle * 2).max(LEAST_TIMEOUT);
+    let controller_timeout = section.some_or("controller_timeout", TIMES, late)?;
+    let scan = section.some_or("scan", TIMES, SCAN)?;
     let scan_count = scan_count(section)?;
     let mut filled = Filled::new(section.alloc);
+    let beat = sign(section, "beat", Kind::Words, &mut filled)?;
+    let ready = sign(section, "ready", Kind::Bits, &mut filled)?;
     let devices = devices(section, &mut filled)?;
+    if fresh < cycle * 2 {
+        return Err(section.fault("fresh", Why::Fresh));
+    }
+    judge_devices(section.alloc, devices.as_slice(), cycle)?;
     Ok(FieldMap {
         controllers,
         cycle,
         fresh,
+        controller_timeout,
+        scan,
         scan_count,
+        beat,
+        ready,
+        control: control(section)?,
         devices,
     })
 }

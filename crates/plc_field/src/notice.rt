@@ -3,6 +3,9 @@
 use field_cycle::{Change, Cycle, Who};
 use std::alloc::{AllocError, Global};
 
+/// The line that a field has ended as it was asked to.
+pub(crate) const STOPPED_LINE: &str = "stopped\n";
+
 /// The line of a change.
 pub(crate) fn notice_line(
     alloc: Global,

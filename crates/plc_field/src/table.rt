@@ -1,7 +1,7 @@
 //! What goes where, as a table, and what was read and written.
 
 use field_cycle::{Round, Standing, Station};
-use field_map::{Device, Fallback, FieldMap, Kind, Places, Reading, Writing};
+use field_map::{Device, Fallback, FieldMap, Kind, Layout, Outputs, Places, Reading, Writing};
 use il_model::Cells;
 use io_model::{CountedWrite, write_all};
 use modbus_wire::Table;
@@ -25,8 +25,22 @@ fn fallback_name(fallback: Fallback) -> &'static str {
     }
 }
 
+/// What is told of registers of which two are a value.
+fn layout_words(layout: Layout) -> &'static str {
+    match layout {
+        Layout::Single => "",
+        Layout::HighFirst => ", dint, high word first",
+        Layout::LowFirst => ", dint, low word first",
+    }
+}
+
 /// A place of an area, as a program has it.
-fn place(alloc: Global, area: char, kind: Kind, number: usize) -> Result<String, AllocError> {
+pub(crate) fn place(
+    alloc: Global,
+    area: char,
+    kind: Kind,
+    number: usize,
+) -> Result<String, AllocError> {
     match kind {
         Kind::Bits => {
             let byte = number / 8;
@@ -38,7 +52,7 @@ fn place(alloc: Global, area: char, kind: Kind, number: usize) -> Result<String,
 }
 
 /// Places of an area: the first, and the last, if there are more.
-fn range(alloc: Global, area: char, places: &Places) -> Result<String, AllocError> {
+pub(crate) fn range(alloc: Global, area: char, places: &Places) -> Result<String, AllocError> {
     let first = place(alloc, area, places.kind, places.from)?;
     if places.count == 1 {
         return Ok(first);
@@ -48,7 +62,7 @@ fn range(alloc: Global, area: char, places: &Places) -> Result<String, AllocErro
 }
 
 /// Cells of a device: the first, and the last, if there are more.
-fn cells(
+pub(crate) fn cells(
     alloc: Global,
     kind: Kind,
     table: Table,
@@ -73,7 +87,8 @@ fn reading_line(alloc: Global, name: &str, reading: &Reading) -> Result<String, 
         places.count,
     )?;
     let to = range(alloc, 'I', places)?;
-    format!(in alloc; "{name}: {from} -> {to}\n")
+    let layout = layout_words(reading.layout);
+    format!(in alloc; "{name}: {from} -> {to}{layout}\n")
 }
 
 fn writing_line(alloc: Global, name: &str, writing: &Writing) -> Result<String, AllocError> {
@@ -86,8 +101,14 @@ fn writing_line(alloc: Global, name: &str, writing: &Writing) -> Result<String, 
         writing.address,
         places.count,
     )?;
+    let layout = layout_words(writing.layout);
+    let sending = if writing.on_change {
+        ", on changes"
+    } else {
+        ""
+    };
     let on_stop = fallback_name(writing.on_stop);
-    format!(in alloc; "{name}: {from} -> {to}, on stop {on_stop}\n")
+    format!(in alloc; "{name}: {from} -> {to}{layout}{sending}, on stop {on_stop}\n")
 }
 
 fn put<W: CountedWrite>(out: &mut W, line: &String) -> Result<(), Failed> {
@@ -113,11 +134,39 @@ fn put_controller<W: CountedWrite>(
     let addresses = addresses(alloc, map)?;
     let line = format!(in alloc; "controller:{addresses}, cycle {cycle} ms, fresh {fresh} ms\n")?;
     put(out, &line)?;
+    let FieldMap {
+        controller_timeout,
+        scan,
+        ..
+    } = map;
+    let line = format!(in alloc;
+        "controller: an answer is late after {controller_timeout} ms, a scan takes {scan} ms\n"
+    )?;
+    put(out, &line)?;
     if let Some(word) = &map.scan_count {
         let word = range(alloc, 'Q', word)?;
         put(
             out,
             &format!(in alloc; "controller: {word} counts scans\n")?,
+        )?;
+    }
+    put_signs(alloc, map, out)
+}
+
+/// A line for each place by which the field says something of itself.
+fn put_signs<W: CountedWrite>(alloc: Global, map: &FieldMap, out: &mut W) -> Result<(), Failed> {
+    if let Some(word) = &map.beat {
+        let word = range(alloc, 'I', word)?;
+        put(
+            out,
+            &format!(in alloc; "controller: cycles are counted -> {word}\n")?,
+        )?;
+    }
+    if let Some(bit) = &map.ready {
+        let bit = range(alloc, 'I', bit)?;
+        put(
+            out,
+            &format!(in alloc; "controller: inputs are real -> {bit}\n")?,
         )?;
     }
     Ok(())
@@ -130,13 +179,22 @@ fn put_device<W: CountedWrite>(alloc: Global, device: &Device, out: &mut W) -> R
         address,
         unit,
         timeout,
+        retries,
+        every,
         ..
     } = device;
     let on_loss = fallback_name(device.on_loss);
     let line = format!(in alloc;
-        "{name}: {address} unit {unit}, timeout {timeout} ms, on loss {on_loss}\n"
+        "{name}: {address} unit {unit}, timeout {timeout} ms, retries {retries}, on loss {on_loss}\n"
     )?;
     put(out, &line)?;
+    if *every > 1 {
+        put(
+            out,
+            &format!(in alloc; "{name}: a round every {every} cycles\n")?,
+        )?;
+    }
+    put_requests(alloc, device, out)?;
     if let Some(alive) = &device.alive {
         let bit = range(alloc, 'I', alive)?;
         put(out, &format!(in alloc; "{name}: answers -> {bit}\n")?)?;
@@ -145,6 +203,25 @@ fn put_device<W: CountedWrite>(alloc: Global, device: &Device, out: &mut W) -> R
         put(out, &reading_line(alloc, name, reading)?)?;
     }
     put_writings(alloc, device, out)
+}
+
+/// A line for each way in which the device isn't asked as others are.
+fn put_requests<W: CountedWrite>(
+    alloc: Global,
+    device: &Device,
+    out: &mut W,
+) -> Result<(), Failed> {
+    let name = device.name.as_str();
+    if device.exchange {
+        let line = format!(in alloc; "{name}: registers are written and read by one request\n")?;
+        put(out, &line)?;
+    }
+    if device.refresh > 0 {
+        let seconds = device.refresh / 1000;
+        let line = format!(in alloc; "{name}: all is written again after {seconds} s\n")?;
+        put(out, &line)?;
+    }
+    Ok(())
 }
 
 fn put_writings<W: CountedWrite>(
@@ -187,12 +264,33 @@ fn words(alloc: Global, words: &[i16]) -> Result<String, AllocError> {
     Ok(text)
 }
 
+/// The value of 32 bits of a high word and a low one.
+fn double(high: i16, low: i16) -> i32 {
+    i32::from(high) * 65_536 + i32::from(low.cast_unsigned())
+}
+
+/// The values of which each has two words, the high one first.
+fn doubles(alloc: Global, words: &[i16]) -> Result<String, AllocError> {
+    let mut text = String::new(alloc);
+    for pair in 0..words.len() / 2 {
+        let value = double(words[2 * pair], words[2 * pair + 1]);
+        text.push_str(format!(in alloc; " {value}")?.as_str())?;
+    }
+    Ok(text)
+}
+
 /// The values of places, one after the other.
-fn values(alloc: Global, places: &Places, cells: &Cells) -> Result<String, AllocError> {
+fn values(
+    alloc: Global,
+    places: &Places,
+    layout: Layout,
+    cells: &Cells,
+) -> Result<String, AllocError> {
     let end = places.from + places.count;
-    match places.kind {
-        Kind::Bits => bits(alloc, &cells.bits[places.from..end]),
-        Kind::Words => words(alloc, &cells.words[places.from..end]),
+    match (places.kind, layout) {
+        (Kind::Bits, _) => bits(alloc, &cells.bits[places.from..end]),
+        (Kind::Words, Layout::Single) => words(alloc, &cells.words[places.from..end]),
+        (Kind::Words, _) => doubles(alloc, &cells.words[places.from..end]),
     }
 }
 
@@ -206,7 +304,7 @@ fn put_round<W: CountedWrite>(
     let name = device.name.as_str();
     for reading in device.inputs.readings.iter() {
         let places = range(alloc, 'I', &reading.places)?;
-        let values = values(alloc, &reading.places, &round.gathered)?;
+        let values = values(alloc, &reading.places, reading.layout, &round.gathered)?;
         put(out, &format!(in alloc; "{name}: {places} ={values}\n")?)?;
     }
     put_written(alloc, device, &round.outputs, out)
@@ -215,16 +313,16 @@ fn put_round<W: CountedWrite>(
 fn put_written<W: CountedWrite>(
     alloc: Global,
     device: &Device,
-    outputs: &Option<Cells>,
+    outputs: &Outputs,
     out: &mut W,
 ) -> Result<(), Failed> {
     let name = device.name.as_str();
-    let Some(outputs) = outputs else {
+    let Some(outputs) = &outputs.known else {
         return put(out, &format!(in alloc; "{name}: outputs aren't known\n")?);
     };
     for writing in device.writings.iter() {
         let places = range(alloc, 'Q', &writing.places)?;
-        let values = values(alloc, &writing.places, outputs)?;
+        let values = values(alloc, &writing.places, writing.layout, outputs)?;
         put(out, &format!(in alloc; "{name}: {places} ={values}\n")?)?;
     }
     Ok(())

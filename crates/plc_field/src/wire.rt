@@ -10,7 +10,7 @@ use std::io::{ErrorKind, Read, Write};
 use std::net::{Net, SocketAddr};
 
 /// So many bytes are read at once.
-const PIECE: usize = 4096;
+const PIECE: usize = 512;
 
 /// The most bytes of a unit behind its header (MODBUS Application Protocol V1.1b3, 4.1).
 const LONGEST: usize = 253;

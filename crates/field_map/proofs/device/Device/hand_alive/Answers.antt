@@ -1,14 +1,12 @@
 use Rattle.std.proofs.Common.{ap, sym, ◌∙◌}
 use Rattle.std.specs.Prelude.{Option, Some}
-use Rattle.il_model.specs.declared.cells.Cells.{Cells}
 use Rattle.modbus_wire.specs.declared.request.Request.{Request}
 use Rattle.field_map.specs.declared.places.Places.{Places}
-use Rattle.field_map.specs.Asking.{write_request, all_cells}
+use Rattle.field_map.specs.Asking.{all_cells}
 use Rattle.field_map.specs.Rounds.{handed_from}
 use Rattle.field_map.proofs.device.Device.hand_alive.Goals as goal
 
 pub returns-clause-is : goal.returns-clause-is
 returns-clause-is c =
-    let places = c.in_ok-places.places in
-    ap (λ (r : Request). Some r) (c.write.ensures.is ∙ ap (λ (cells : Cells). write_request places.from places cells) c.all.ensures)
+    ap (λ (r : Request). Some r) c.write_bit.ensures.is
     ∙ sym (ap (λ (o : Option Places). handed_from o (Some (all_cells c.args.answers))) c.in_ok-places.was)

@@ -1,0 +1,5 @@
+use Rattle.plc_figures.proofs.Chains.{then}
+use Rattle.field_page.proofs.metrics.put_figure.Goals as goal
+
+pub returns : goal.returns
+returns c = then c.in_ok-put_figure_family.ensures c.in_ok-put_figure_lines.ensures

@@ -1,0 +1,8 @@
+use Rattle.std.proofs.Common.{take}
+use Rattle.std.specs.List.{flat_map}
+use Rattle.field_page.specs.Metrics.{rounds_by}
+use Rattle.plc_figures.specs.Texts.{IsAdded}
+use Rattle.field_page.proofs.metrics.put_rounds_of_all.Given as goal
+
+abbrev pub invariant-loop-device : goal.invariant-loop-device
+invariant-loop-device l = IsAdded l.initial.out.items (flat_map rounds_by (take l.device-index l.devices)) l.out.items
