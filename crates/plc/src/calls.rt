@@ -1,6 +1,6 @@
 //! The calls that read files, print what comes of them on standard output, and end.
 
-use crate::files::{are_same, file, refuse, tell_misfit, tell_of, tell_unwritten};
+use crate::files::{are_same, file, put_path, refuse, tell_misfit, tell_of, tell_unwritten};
 use il_model::Budget;
 use il_text::{Fault, put, tell};
 use io_file::NewFile;
@@ -8,6 +8,7 @@ use io_model::{Counted, CountedWrite};
 use plc_host::Failed;
 use plc_json::Listed;
 use plc_serve::tell_failed;
+use plc_symbols::Which;
 use plc_tool::{Group, first_fault};
 use std::io::Write;
 
@@ -92,15 +93,24 @@ pub(crate) fn list<W: Write, E: CountedWrite>(
     out: &mut W,
     err: &mut E,
 ) -> u8 {
-    let image = match file(rt, path) {
-        Ok(image) => image,
-        Err(fault) => return tell_of(path, fault, err),
-    };
+    match file(rt, path) {
+        Ok(image) => list_image(rt, image.as_slice(), out, err),
+        Err(fault) => tell_of(path, fault, err),
+    }
+}
+
+/// Prints the listing of an image of these bytes: the status.
+pub(crate) fn list_image<W: Write, E: CountedWrite>(
+    rt: &HostRuntime,
+    image: &[u8],
+    out: &mut W,
+    err: &mut E,
+) -> u8 {
     let mut counted = Counted::new(&mut *out);
     let mut told = Vec::new(rt.alloc());
     let status = plc_tool::list(
         rt.alloc(),
-        image.as_slice(),
+        image,
         &mut counted,
         &mut Counted::new(&mut told),
     );
@@ -148,6 +158,11 @@ pub(crate) fn diff<W: Write, E: CountedWrite>(
         Err(fault) => return tell_of(new, fault, err),
     };
     let (before, after) = (before.as_slice(), after.as_slice());
+    match plc_symbols::first_fault(rt.alloc(), before, after) {
+        None | Some((_, Fault::Memory)) => {}
+        Some((Which::Old, _)) => put_path(b"in ", old, err),
+        Some((Which::New, _)) => put_path(b"in ", new, err),
+    }
     let mut counted = Counted::new(&mut *out);
     let mut told = Vec::new(rt.alloc());
     let mut telling = Counted::new(&mut told);

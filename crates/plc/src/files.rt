@@ -7,6 +7,9 @@ use std::fs;
 use std::io::Read;
 use std::os::unix::fs::MetadataExt;
 
+/// The bits of a mode by which others than owner and group may do something.
+const OTHERS: u32 = 0o007;
+
 /// The word for standard input, where a file's path may stand.
 const STANDARD_INPUT: &str = "-";
 
@@ -31,11 +34,16 @@ pub(crate) fn refuse<E: CountedWrite>(err: &mut E, line: &[u8]) -> u8 {
     Fault::Commands.status()
 }
 
-/// Tells a device that failed by its path, and answers the status.
-pub(crate) fn tell_path<E: CountedWrite>(text: &[u8], path: &str, err: &mut E) -> u8 {
+/// Tells a path behind a text.
+pub(crate) fn put_path<E: CountedWrite>(text: &[u8], path: &str, err: &mut E) {
     if put(err, text).is_ok() && put(err, path.as_bytes()).is_ok() {
         let _ = put(err, b"\n");
     }
+}
+
+/// Tells a device that failed by its path, and answers the status.
+pub(crate) fn tell_path<E: CountedWrite>(text: &[u8], path: &str, err: &mut E) -> u8 {
+    put_path(text, path, err);
     Fault::Device.status()
 }
 
@@ -102,11 +110,27 @@ pub(crate) fn are_same(rt: &HostRuntime, one: &str, other: &str) -> bool {
 }
 
 /// The directory in which a path lies.
-fn directory_of(path: &str) -> &str {
+pub(crate) fn directory_of(path: &str) -> &str {
     match path.rsplit_once('/') {
         Some(("", _)) => "/",
         Some((directory, _)) => directory,
         None => ".",
+    }
+}
+
+/// The last name of a path.
+pub(crate) fn name_of(path: &str) -> &str {
+    match path.rsplit_once('/') {
+        Some((_, name)) => name,
+        None => path,
+    }
+}
+
+/// Whether others than its owner and its group have any right to a file. Not where it can't be looked at.
+pub(crate) fn is_open_to_all(rt: &HostRuntime, path: &str) -> bool {
+    match fs::metadata(rt, path) {
+        Ok(there) => there.mode() & OTHERS != 0,
+        Err(_) => false,
     }
 }
 

@@ -4,6 +4,7 @@ ghost use Rattle.std.specs.Prelude.{◌≡◌, IfOk, string_bytes};
 
 use crate::showing::showing_of;
 use crate::stores::{group_at, tell_at, tell_exposed};
+use crate::tracing::judge_trace;
 use il_text::{Fault, tell};
 use io_model::CountedWrite;
 use plc_group::Group;
@@ -52,6 +53,9 @@ impl Machine {
     ) -> Result<Machine, u8>
         ensures { IfOk result (λ machine. string_bytes machine.directory ≡ directory.now) }
     {
+        if let Some(path) = trace {
+            judge_trace(rt, group, directory, path, err)?;
+        }
         let group = group_at(rt, group, err)?;
         let Ok(directory) = String::from_str(rt.alloc(), directory) else {
             return Err(tell(Fault::Memory, err));

@@ -4,8 +4,13 @@
 mod asking;
 mod calls;
 mod carrying;
+mod directories;
+mod epochs;
 mod files;
+mod groups;
 mod machines;
+mod operators;
+mod random;
 mod serving;
 mod showing;
 mod stores;
@@ -14,16 +19,19 @@ mod tracing;
 ghost use Rattle.std.specs.Prelude.{IfOk, IfSome};
 ghost use Rattle.plc.specs.Asked.{IsAsAsked, IsLostAfterAMinute};
 
-use crate::asking::{Asking, Console, ask};
-use crate::carrying::{Carrying, carried};
+use crate::asking::{Asking, ask};
+use crate::carrying::{Carrying, carried, mode_of};
+use crate::epochs::Entering;
 use crate::machines::{Machine, tell_unserved};
+use crate::operators::operators_of;
 use crate::serving::{Report, Serving, settled};
-use crate::showing::{another_showing, notices_of};
+use crate::showing::{another_showing, notices_at, notices_of};
 use crate::stores::Formatted;
 use crate::tracing::{Life, close, next_life};
 use il_text::{Fault, tell};
 use io_image::NewList;
 use io_model::{Counted, CountedWrite};
+use io_relay::{Lines, OpenRelay, relayed};
 use plc_field::run_field;
 use plc_host::Host;
 use plc_member::Member;
@@ -32,10 +40,13 @@ use plc_serve::serve;
 use plc_status::ReportFile;
 use plc_tool::Group;
 use plc_words::{Words, WordsError, read_words, tell_words};
+use std::alloc::Global;
 use std::io::{BufWriter, Write};
 use std::marker::Brand;
 use std::os::fd::{AsRawFd, IntoRawFd};
 use std::process::ExitCode;
+use std::sync::Wait;
+use std::thread::Threads;
 use std::{env, fs, io};
 
 /// Standard input, standard output and standard error are the descriptors below it.
@@ -71,14 +82,20 @@ fn main(rt: HostRuntime) -> ExitCode {
         Outcome::Done(status) => status,
         Outcome::Ask(asking) => ask(&host, &asking, &mut Counted::new(rt.stdout()), &mut err),
         Outcome::Serve(Serving { service, report }) => {
+            let (lines, relay) = match told_by(&rt, rt.alloc(), rt.stderr()) {
+                Ok(told) => told,
+                Err(error) => return ExitCode::from(tell(Fault::from(error), &mut err)),
+            };
             let path = report.as_ref().map(Report::written_at);
             let mut file = Counted::new(ReportFile::at(&rt, path));
             let list = NewList::new();
-            let mut err = Counted::new(Telling::new(rt, rt.stderr(), notices_of(&service.showing)));
+            let mut err = Counted::new(Telling::new(rt, lines, notices_of(&service.showing)));
             let status = serve::<Brand, _, _, _, _, _>(
                 host, list, service, &mut file, &mut out, &mut err,
             );
-            settled(&rt, status, &report, &mut err)
+            let status = settled(&rt, status, &report, &mut err);
+            relay.close(&rt);
+            status
         }
         Outcome::ServeMachine(
             Machine {
@@ -88,7 +105,11 @@ fn main(rt: HostRuntime) -> ExitCode {
                 trace,
             },
         ) => {
-            let mut err = Counted::new(Telling::new(rt, rt.stderr(), notices_of(&showing)));
+            let (lines, relay) = match told_by(&rt, rt.alloc(), rt.stderr()) {
+                Ok(told) => told,
+                Err(error) => return ExitCode::from(tell(Fault::from(error), &mut err)),
+            };
+            let mut err = Counted::new(Telling::new(rt, lines, notices_of(&showing)));
             let (mut unserved, mut ended) = (None, None);
             match Member::open(host, directory.as_str()) {
                 Ok(mut member) => {
@@ -112,12 +133,21 @@ fn main(rt: HostRuntime) -> ExitCode {
                 }
                 Err(refused) => unserved = Some(refused),
             }
-            tell_unserved(directory.as_str(), unserved, &mut err)
+            let status = tell_unserved(directory.as_str(), unserved, &mut err);
+            relay.close(&rt);
+            status
         }
-        Outcome::Carry(Carrying { text, mode }) => {
+        Outcome::Carry(Carrying { text, mode, page }) => {
+            let (lines, relay) = match told_by(&rt, rt.alloc(), rt.stderr()) {
+                Ok(told) => told,
+                Err(error) => return ExitCode::from(tell(Fault::from(error), &mut err)),
+            };
+            let mut err = Counted::new(Telling::new(rt, lines, notices_at(&page)));
             let mut counted = Counted::new(&mut out);
-            let done = run_field(host, text.as_str(), mode, &mut counted, &mut err);
-            carried(rt.alloc(), done, &mut out, &mut err)
+            let done = run_field(host, text.as_str(), mode, page, &mut counted, &mut err);
+            let status = carried(rt.alloc(), done, &mut out, &mut err);
+            relay.close(&rt);
+            status
         }
     };
     ExitCode::from(status)
@@ -128,6 +158,16 @@ fn host_of(rt: &HostRuntime) -> Host<HostRuntime> {
         rt: *rt,
         alloc: rt.alloc(),
     }
+}
+
+/// What is told of what goes on, so that nobody waits for who reads standard error; and what passes it on there.
+fn told_by<R, W>(rt: &R, alloc: Global, err: W) -> io::Result<(Lines, OpenRelay)>
+where
+    R: Threads + Wait + Copy + Send + 'static,
+    W: Write + Send + Drop + 'static,
+{
+    let (lines, relay) = relayed(alloc)?;
+    Ok((lines, relay.open(rt, err)?))
 }
 
 /// Opens what can only be read, and is empty, at each of descriptors 0 to 2 that is closed: so no file or socket is
@@ -204,6 +244,19 @@ fn done<W: Write, E: CountedWrite>(
             config,
             budget,
         } => calls::sim(rt, source, schedule, &Group { config, budget }, out, err),
+        _ => kept(rt, words, out, err),
+    }
+}
+
+/// Does what is done at once for words about the file of a group, or the store of a machine: the status; 0 where that
+/// is nothing.
+fn kept<W: Write, E: CountedWrite>(
+    rt: &HostRuntime,
+    words: &Words,
+    out: &mut W,
+    err: &mut E,
+) -> u8 {
+    match *words {
         Words::Format {
             source,
             group,
@@ -218,15 +271,40 @@ fn done<W: Write, E: CountedWrite>(
             };
             stores::format(rt, source, group, &asked, err)
         }
-        Words::NextEpoch { source, directory } => {
-            stores::enter_next(rt, source, directory, out, err)
-        }
+        Words::NewGroup { group } => groups::new_group(rt, group, err),
         Words::Show { directory } => stores::show(rt, directory, out, err),
-        Words::Field { .. }
-        | Words::Ask { .. }
-        | Words::Change { .. }
-        | Words::ServeMachine { .. }
-        | Words::Serve { .. } => 0,
+        Words::Listing {
+            is_changed,
+            directory,
+        } => stores::listing(rt, directory, is_changed, out, err),
+        _ => entered(rt, words, out, err),
+    }
+}
+
+/// Puts the store of a machine into another epoch where words ask for that: the status; 0 where they don't.
+fn entered<W: Write, E: CountedWrite>(
+    rt: &HostRuntime,
+    words: &Words,
+    out: &mut W,
+    err: &mut E,
+) -> u8 {
+    match *words {
+        Words::EnterEpoch {
+            group,
+            epoch: number,
+            program,
+            forgets,
+            directory,
+        } => {
+            let asked = Entering {
+                number,
+                program,
+                forgets,
+                directory,
+            };
+            epochs::enter_epoch(rt, group, &asked, out, err)
+        }
+        _ => 0,
     }
 }
 
@@ -240,19 +318,22 @@ fn prepared<E: CountedWrite>(
     ensures { IfOk result (λ outcome. IfSome outcome (IsAsAsked words.entry)) }
 {
     Ok(Some(match words {
-        Words::Field { field, check, once } => {
-            Outcome::Carry(Carrying::of(rt, field, check, once, err)?)
+        Words::Field {
+            field,
+            check,
+            once,
+            stop,
+            status,
+        } => {
+            let mode = mode_of(check, once, stop);
+            Outcome::Carry(Carrying::of(rt, field, mode, status, err)?)
         }
-        Words::Ask {
-            port,
-            commands,
-            timeout,
-        } => Outcome::Ask(Asking::of_commands(rt, Console { port, timeout }, commands, err)?),
-        Words::Change {
-            port,
-            source,
-            timeout,
-        } => Outcome::Ask(Asking::of_change(rt, Console { port, timeout }, source, err)?),
+        Words::Ask { console, commands } => {
+            Outcome::Ask(Asking::of_commands(rt, console, commands, err)?)
+        }
+        Words::Change { console, source } => {
+            Outcome::Ask(Asking::of_change(rt, console, source, err)?)
+        }
         Words::ServeMachine {
             group,
             directory,
@@ -263,7 +344,12 @@ fn prepared<E: CountedWrite>(
             stores,
             report,
             settings,
-        } => Outcome::Serve(Serving::of(rt, source, stores.as_slice(), report, settings, err)?),
+            operators,
+        } => {
+            let operators = operators_of(rt, operators, err)?;
+            let serving = Serving::of(rt, source, stores.as_slice(), report, settings, err)?;
+            Outcome::Serve(serving.with(operators))
+        }
         _ => return Ok(None),
     }))
 }

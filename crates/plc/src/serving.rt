@@ -2,12 +2,13 @@
 
 ghost use Rattle.std.specs.Prelude.{◌≡◌, IfOk};
 
+use crate::directories::refuse_unfit;
 use crate::files::{are_same, is_among, refuse, tell_unread};
 use crate::showing::showing_of;
 use io_model::CountedWrite;
 use plc_host::{Failed, Host};
 use plc_serve::{Service, tell_failed};
-use plc_settings::Settings;
+use plc_settings::{ConsoleAt, Operators, Settings};
 use std::alloc::AllocError;
 use std::fs;
 use std::net::{SocketAddr, TcpListener};
@@ -44,6 +45,7 @@ impl Serving {
                 b"plc: the report lies over the source, a store or the output\n",
             ));
         }
+        refuse_unfit(rt, stores, err)?;
         let serving = match opened(rt, source, stores, report, settings) {
             Ok(serving) => serving,
             Err(Failed::Device) => return Err(tell_unread(source, err)),
@@ -52,6 +54,18 @@ impl Serving {
         match taken_port(rt, &settings) {
             Some(port) => Err(tell_failed(Failed::Port(port), err)),
             None => Ok(serving),
+        }
+    }
+}
+
+impl Serving {
+    /// The same, with operators who come so.
+    pub(crate) fn with(self, operators: Operators) -> Serving
+        ensures { result.service.settings ≡ self.service.settings }
+    {
+        Serving {
+            service: self.service.with(operators),
+            report: self.report,
         }
     }
 }
@@ -90,27 +104,37 @@ fn own(port: u16) -> SocketAddr {
     SocketAddr::from(([127, 0, 0, 1], port))
 }
 
-/// This address, if one is asked for; its port where that isn't to be had.
-fn held(rt: &HostRuntime, address: Option<SocketAddr>) -> Result<Option<TcpListener>, u16> {
-    let Some(address) = address else {
-        return Ok(None);
-    };
-    match TcpListener::bind(rt, address) {
-        Ok(listener) => Ok(Some(listener)),
-        Err(_) => Err(address.port()),
+/// The port of the console, if it has one.
+fn console_port(settings: &Settings) -> Option<SocketAddr> {
+    match settings.console {
+        Some(ConsoleAt::Port(port)) => Some(own(port)),
+        Some(ConsoleAt::Socket) | None => None,
     }
 }
 
-/// The ports of a controller that is to be served, all at once; or the first one that isn't to be had.
-fn held_ports(rt: &HostRuntime, settings: &Settings) -> Result<[Option<TcpListener>; 3], u16> {
-    let clients = held(rt, Some(own(settings.port)))?;
-    let console = held(rt, settings.console.map(own))?;
-    Ok([clients, console, held(rt, settings.status)?])
+/// The port of a controller that is to be served which two of its doors are to have.
+fn shared_port(settings: &Settings) -> Option<u16> {
+    let clients = Some(own(settings.port));
+    let console = console_port(settings);
+    if console == clients || settings.status == clients {
+        return Some(settings.port);
+    }
+    match console {
+        Some(address) if settings.status == console => Some(address.port()),
+        _ => None,
+    }
 }
 
-/// The first port of a controller that is to be served which isn't to be had.
+/// A port of a controller that is to be served which two of its doors are to have, or else the one for Modbus if it
+/// isn't to be had. That the console's or the page's is taken hinders nothing: it's tried again.
 fn taken_port(rt: &HostRuntime, settings: &Settings) -> Option<u16> {
-    held_ports(rt, settings).err()
+    if let Some(port) = shared_port(settings) {
+        return Some(port);
+    }
+    match TcpListener::bind(rt, own(settings.port)) {
+        Ok(_listener) => None,
+        Err(_) => Some(settings.port),
+    }
 }
 
 /// Whether a report would be written over the source, among the stores, or over the file that is standard output.

@@ -1,10 +1,11 @@
-//! Stores of the machines of a group: made once, put into the next epoch by hand, and shown.
+//! Stores of the machines of a group: made once, and shown.
 
 ghost use Rattle.std.specs.Prelude.{IsTrue};
 ghost use Rattle.plc_store.specs.Judging.{is_unbegun};
 
-use crate::calls::flushed;
-use crate::files::{file, tell_of, tell_path};
+use crate::calls::{flushed, list_image};
+use crate::files::{file, is_open_to_all, refuse, tell_of};
+use crate::random::store_number;
 use il_text::{Fault, image_bytes, put, put_numbered, tell};
 use io_model::{Counted, CountedWrite};
 use plc_group::{Group, exposed_lines, read_group, tell_group_fault};
@@ -12,7 +13,7 @@ use plc_host::Failed;
 use plc_machine::{NotMade, new_store, waiting_store};
 use plc_serve::tell_failed;
 use plc_store::{
-    FileDirectory, Refusal, Store, enter_by_hand, epoch_line, show_directory, tell_refusal,
+    FileDirectory, Refusal, Store, cause_text, changed_in, show_directory, stored_in, tell_refusal,
 };
 use std::io::Write;
 
@@ -54,13 +55,16 @@ pub(crate) fn group_at<E: CountedWrite>(
         Err(fault) => return Err(tell_of(path, fault, err)),
     };
     match read_group(rt.alloc(), bytes.as_slice()) {
+        Ok(group) if group.console_key.is_some() && is_open_to_all(rt, path) => {
+            Err(refuse(err, b"plc: group console_key open to all\n"))
+        }
         Ok(group) => Ok(group),
         Err(fault) => Err(tell_group_fault(&fault, err)),
     }
 }
 
 /// The image of the program of a file.
-fn image_at(rt: &HostRuntime, source: &str) -> Result<Vec<u8>, Fault> {
+pub(crate) fn image_at(rt: &HostRuntime, source: &str) -> Result<Vec<u8>, Fault> {
     image_bytes(rt.alloc(), file(rt, source)?.as_slice())
 }
 
@@ -72,10 +76,14 @@ fn format_of<E: CountedWrite>(
     image: Vec<u8>,
     err: &mut E,
 ) -> u8 {
+    let number = match store_number(rt, err) {
+        Ok(number) => number,
+        Err(status) => return status,
+    };
     let made = if asked.waits {
-        waiting_store(group, asked.machine, image)
+        waiting_store(group, asked.machine, image, number)
     } else {
-        new_store(group, asked.machine, image)
+        new_store(group, asked.machine, image, number)
     };
     match made {
         Ok(store) => match format_in(rt, asked.directory, &store) {
@@ -93,35 +101,6 @@ fn format_in(rt: &HostRuntime, directory: &str, store: &Store) -> Result<(), Ref
 {
     let mut directory = FileDirectory::make(*rt, rt.alloc(), directory)?;
     plc_store::format(rt.alloc(), &mut directory, store)
-}
-
-/// Puts the store of a directory into the next epoch by hand, with the program of a file, or the one that it has, and
-/// prints the epoch: the status.
-pub(crate) fn enter_next<W: Write, E: CountedWrite>(
-    rt: &HostRuntime,
-    source: Option<&str>,
-    directory: &str,
-    out: &mut W,
-    err: &mut E,
-) -> u8 {
-    let Some(source) = source else {
-        return print_lines(entered_in(rt, directory, None), directory, out, err);
-    };
-    match image_at(rt, source) {
-        Ok(image) => print_lines(entered_in(rt, directory, Some(image)), directory, out, err),
-        Err(fault) => tell_of(source, fault, err),
-    }
-}
-
-/// Puts the store of a directory into the next epoch, with this image, or the one that it has: the line of that epoch.
-fn entered_in(
-    rt: &HostRuntime,
-    directory: &str,
-    image: Option<Vec<u8>>,
-) -> Result<String, Refusal> {
-    let mut directory = FileDirectory::take(*rt, rt.alloc(), directory)?;
-    let store = enter_by_hand(rt.alloc(), &mut directory, image)?;
-    Ok(epoch_line(rt.alloc(), &store.header.kept)?)
 }
 
 /// Tells that a group has no such machine, and answers the status.
@@ -153,8 +132,32 @@ pub(crate) fn show<W: Write, E: CountedWrite>(
     print_lines(shown(rt, directory), directory, out, err)
 }
 
+/// Prints the listing of the program of a directory's store, or of the one to which that was changed: the status.
+pub(crate) fn listing<W: Write, E: CountedWrite>(
+    rt: &HostRuntime,
+    directory: &str,
+    is_changed: bool,
+    out: &mut W,
+    err: &mut E,
+) -> u8 {
+    match image_in(rt, directory, is_changed) {
+        Ok(image) => list_image(rt, image.as_slice(), out, err),
+        Err(refusal) => tell_at(directory, refusal, err),
+    }
+}
+
+/// The image of a directory's store, or the one to which that was changed.
+fn image_in(rt: &HostRuntime, directory: &str, is_changed: bool) -> Result<Vec<u8>, Refusal> {
+    let directory = FileDirectory::look(*rt, rt.alloc(), directory)?;
+    if is_changed {
+        changed_in(rt.alloc(), &directory)
+    } else {
+        Ok(stored_in(rt.alloc(), &directory)?.image)
+    }
+}
+
 /// Prints what came of a store: the status.
-fn print_lines<W: Write, E: CountedWrite>(
+pub(crate) fn print_lines<W: Write, E: CountedWrite>(
     lines: Result<String, Refusal>,
     directory: &str,
     out: &mut W,
@@ -171,10 +174,17 @@ fn print_lines<W: Write, E: CountedWrite>(
     }
 }
 
-/// Tells why a store was refused, and answers the status. A device that failed is told by the path of the directory.
+/// Tells why a store was refused, and answers the status. A disk that failed is told by the path of the directory, and
+/// by why it did, where that's known.
 pub(crate) fn tell_at<E: CountedWrite>(directory: &str, refusal: Refusal, err: &mut E) -> u8 {
     match refusal {
-        Refusal::Device => tell_path(b"plc: device store ", directory, err),
+        Refusal::Device(fault) => {
+            if put(err, b"plc: device store ").is_ok() && put(err, directory.as_bytes()).is_ok() {
+                let _ = put(err, cause_text(fault).as_bytes());
+                let _ = put(err, b"\n");
+            }
+            Fault::Device.status()
+        }
         refusal => tell_refusal(refusal, err),
     }
 }

@@ -1,6 +1,7 @@
 -- What the driver of a machine does in a turn, and what the trace of the machine is told.
 use Rattle.std.specs.Prelude.{◌≡◌, ◌⊎◌, ◌++◌, ◌∷◌, [], List, Option, Some, None, ℕ, Bool, ◌==◌, ◌&&◌, ◌||◌, nat_lt}
 use Rattle.std.specs.Prelude.{nat_le, not, true, false, if◌then◌else◌}
+use Rattle.std.specs.Duration.{as_nanos}
 use Rattle.std.specs.declared.time.Duration.{Duration}
 use Rattle.il_model.specs.declared.command.Command.{Command}
 use Rattle.il_model.specs.declared.command.Answer.{Answer}
@@ -11,6 +12,7 @@ use Rattle.io_image.specs.declared.release.Release.{Release}
 use Rattle.io_image.specs.Book.{Book}
 use Rattle.plc_machine.specs.declared.driver.MachineDriver.{MachineDriver}
 use Rattle.plc_machine.specs.Driving.{Looks, SubmitsScan}
+use Rattle.plc_machine.specs.Leading.{later_by}
 use Rattle.plc_machine.specs.declared.leading.Course.{Course}
 use Rattle.plc_machine.specs.declared.leading.Course.TheVariants.{StandingBy, Leading}
 use Rattle.plc_machine.specs.declared.leading.LastScan.{LastScan}
@@ -37,6 +39,16 @@ pub record HasScanned (a b : MachineDriver) : Type 0 where
 -- or nothing was
 abbrev pub MayScan : MachineDriver → MachineDriver → Type 0
 MayScan a b = (b ≡ a) ⊎ HasScanned a b
+
+-- of a machine that leads one is due
+abbrev pub is_due_at : Course → Duration → Bool
+is_due_at StandingBy now = false
+is_due_at (Leading lead) now = nat_le (as_nanos lead.due) (as_nanos now)
+
+-- or was due a period ago, or longer
+abbrev pub is_late_at : Course → Duration → Duration → Bool
+is_late_at StandingBy period now = false
+is_late_at (Leading lead) period now = nat_le (later_by (as_nanos lead.due) (as_nanos period)) (as_nanos now)
 
 -- ---- a machine that begins to lead
 

@@ -1,5 +1,6 @@
 -- When a life of a machine ends for another epoch, and what is told of it.
-use Rattle.std.specs.Prelude.{ℕ, Bool, true, false, not, ◌&&◌, List, bytes_eq, replicate, Option, Some, None}
+use Rattle.std.specs.Prelude.{◌≡◌, ◌==◌, ℕ, ◌-◌, nat_le, Bool, true, false, not, ◌&&◌, List, bytes_eq, replicate}
+use Rattle.std.specs.Prelude.{take, Option, Some, None}
 use Rattle.std.specs.Prelude.{if◌then◌else◌}
 use Rattle.net_hello.specs.declared.hello.Epoch.{Epoch}
 use Rattle.plc_epochs.specs.declared.cold_start.Step.{Step}
@@ -12,6 +13,19 @@ use Rattle.plc_group.specs.declared.group.ColdStart.{ColdStart}
 use Rattle.plc_group.specs.declared.group.ColdStart.TheVariants as beginnings
 use Rattle.plc_status.specs.declared.notice.Notice.{Notice}
 use Rattle.plc_status.specs.declared.notice.Notice.TheVariants as notices
+use Rattle.plc_status.specs.declared.group.GroupNotice.TheVariants as groups
+use Rattle.plc_host.specs.declared.failed.Failed.TheVariants as failures
+use Rattle.plc_host.specs.declared.failed.Failed.{Failed}
+use Rattle.plc_member.specs.declared.drive.Parting.{Parting}
+use Rattle.plc_member.specs.declared.drive.Parting.TheVariants as partings
+use Rattle.plc_store.specs.declared.judging.Start.{Start}
+use Rattle.plc_store.specs.declared.judging.Start.TheVariants as judgements
+use Rattle.plc_member.specs.declared.opening.Way.{Way}
+use Rattle.plc_member.specs.declared.opening.Way.TheVariants as ways
+use Rattle.plc_member.specs.declared.storing.Entry.{Entry}
+use Rattle.plc_member.specs.declared.storing.Entry.TheVariants as entries
+use Rattle.net_peers.specs.declared.machine.Machine.{Machine}
+use Rattle.plc_store.specs.declared.header.Header.{Header}
 use Rattle.plc_member.specs.declared.keeper.Heard.{Heard}
 use Rattle.plc_member.specs.declared.keeper.Leaving.{Leaving}
 
@@ -27,6 +41,46 @@ leaving_by (steps.Hears epoch) kept heard =
 leaving_by (steps.WaitsAbove epoch) kept heard = leaving_with kept None
 leaving_by step kept heard = None
 
+-- the first eight bytes of the sum of its image
+abbrev pub program_of : Epoch → List ℕ
+program_of epoch = take 8 epoch.image
+
+-- a machine that stays where it is tells why: it goes on with its group, or following the other takes a person
+abbrev pub staying_by : Step → ℕ → Option Notice
+staying_by (steps.Refuses epoch) from =
+    Some (notices.Group (groups.EpochRefused epoch.number from (program_of epoch)))
+staying_by (steps.FarAbove epoch) from = Some (notices.Group (groups.EpochFarAbove epoch.number from))
+staying_by (steps.OtherProgram epoch) from = Some (notices.OtherProgram epoch.number)
+staying_by step from = None
+
+-- a machine leaves its epoch only behind its replica's end; where that doesn't come its store has failed
+abbrev pub leaves_behind : Kept → Bool → ℕ → Parting
+leaves_behind kept true number = partings.Leaves kept
+leaves_behind kept false number = partings.Failed (failures.Store number)
+
+-- A life whose epoch was begun has its replica started as new exactly where that was judged to be its first start; one
+-- whose epoch wasn't waits until it may be.
+abbrev pub way_of : Kept → Start → Way
+way_of (keeps.Begun epoch) judgements.First = ways.StartsAsNew
+way_of (keeps.Begun epoch) judgements.Again = ways.StartsAgain
+way_of (keeps.Begun epoch) judgements.Waits = ways.StartsAgain
+way_of keeps.Nothing start = ways.Waits
+way_of (keeps.Above epoch) start = ways.Waits
+way_of (keeps.Entered epoch) start = ways.Waits
+
+-- what a store is to say: what the life before left behind, or that an epoch is begun
+abbrev pub kept_by : Entry → Kept
+kept_by (entries.Left left) = left.kept
+kept_by (entries.Begins epoch) = keeps.Begun epoch
+
+-- A machine can't go on whose replica's store has failed, or that couldn't keep what it has to; nor one whose replica's
+-- thread is at its end.
+abbrev pub fault_of : Bool → Bool → Bool → ℕ → Option Failed
+fault_of true is_dead is_over number = Some (failures.Store number)
+fault_of false true is_over number = Some (failures.Store number)
+fault_of false false true number = Some failures.Thread
+fault_of false false false number = None
+
 -- what a machine that has begun no epoch waits for, where that may take a person: for an epoch above one that others
 -- are in, and for a store with the program of its epoch
 abbrev pub waited_for : Kept → List ℕ → ℕ → Option Notice
@@ -34,6 +88,11 @@ waited_for (keeps.Above epoch) program number = Some (notices.WaitsAfter number 
 waited_for (keeps.Entered epoch) program number =
     if bytes_eq epoch.image program then None else Some (notices.OtherProgram epoch.number)
 waited_for kept program number = None
+
+-- who waits for others tells that behind three seconds, by milliseconds, and then each minute
+abbrev pub is_wait_told : Option ℕ → ℕ → Bool
+is_wait_told None now = nat_le 3000 now
+is_wait_told (Some last) now = nat_le 60000 (now - last)
 
 abbrev pub is_auto : ColdStart → Bool
 is_auto beginnings.Auto = true
@@ -48,3 +107,14 @@ begins_by_itself cold_start is_marked = is_auto cold_start && not is_marked
 abbrev pub hello_of : Greeting → Epoch
 hello_of (greetings.Hello epoch) = epoch
 hello_of greeting = record { number = 0; image = replicate 32 0 }
+
+-- What a machine says of itself is what its store says: its group, its number, its store and those that it saw; it says
+-- it in this epoch, with so many starts there.
+abbrev pub IsToldBy : Header → Epoch → ℕ → Machine → Type 0
+IsToldBy header epoch starts machine = (machine.identity ≡ header.identity) × (machine.number ≡ header.machine)
+    × (machine.store ≡ header.store) × (machine.seen ≡ header.seen)
+    × (machine.epoch ≡ epoch) × (machine.starts ≡ starts)
+
+-- no epoch has number 0: who says it has lost its disk
+abbrev pub is_epoch : Epoch → Bool
+is_epoch epoch = not (epoch.number == 0)

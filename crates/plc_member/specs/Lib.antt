@@ -1,4 +1,10 @@
 pub mod Driving
 pub mod Watching
+pub mod Hearing
+pub mod Trying
 pub mod Holding
 pub mod Keeping
+pub mod Probing
+pub mod Marking
+pub mod Shelf
+pub mod Receiving

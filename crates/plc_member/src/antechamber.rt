@@ -1,24 +1,26 @@
 //! A machine that has begun no epoch: its links are up, and it has no replica.
 
-ghost use Rattle.std.specs.Prelude.{◌≡◌};
-ghost use Rattle.plc_member.specs.Keeping.{waited_for};
+ghost use Rattle.std.specs.Prelude.{◌≡◌, is_some, nat_lt};
+ghost use Rattle.plc_member.specs.Keeping.{is_wait_told, waited_for};
 
 use crate::keeper::{Keeper, Leaving, Waited};
 use crate::life::Life;
 use crate::serving::MachineRuntime;
 use crate::stop::Stop;
-use crate::watch::note;
+use crate::watch::{note, told_of};
 use io_model::CountedWrite;
 use net_hello::Epoch;
-use plc_epochs::Kept;
-use plc_host::Failed;
-use plc_status::{Journal, Journals, Notice, Printer};
+use plc_epochs::{Kept, Moment, OthersHeard};
+use plc_host::{Failed, Host};
+use plc_status::{GroupNotice, Journal, Journals, Notice, Printer};
 use std::alloc::{AllocError, Global};
-use std::time::{Duration, Instant};
 use vr_ports::{Input, Link};
 
-/// In seconds: for so long it waits for others before that is told.
-const LONG: u64 = 3;
+/// In milliseconds: for so long it waits for others before that is told.
+const LONG: Moment = 3_000;
+
+/// In milliseconds: so often it's told again.
+const AGAIN: Moment = 60_000;
 
 /// What becomes of a machine that waits to begin an epoch.
 #[derive(Clone, Copy)]
@@ -38,8 +40,8 @@ struct Antechamber {
     journal: Journal,
     /// What ends it.
     stop: Stop,
-    /// It was told that it waits for others.
-    is_told_long: bool,
+    /// When it was told last that it waits for others.
+    told: Option<Moment>,
 }
 
 /// What the machine of this number waits for that may take a person, by what its store keeps and the sum of its image.
@@ -60,15 +62,29 @@ fn waited_for(kept: Kept, program: &[u8; 32], number: u8) -> Option<Notice>
     }
 }
 
-/// Whether a machine has waited for long since its life began.
-fn waits_long<R: MachineRuntime>(keeper: &Keeper<R>) -> bool {
-    match Instant::now(&keeper.host.rt) {
-        Ok(now) => {
-            let waited = now.saturating_duration_since(keeper.begun);
-            waited.as_nanos() >= Duration::from_secs(LONG).as_nanos()
-        }
-        Err(_) => false,
+/// Whether it's told now that a machine waits for others, since its life began, where that was told then, if it was.
+fn is_wait_told(told: Option<Moment>, now: Moment) -> bool
+    ensures { result ≡ is_wait_told told now }
+{
+    match told {
+        Some(then) => now.saturating_sub(then) >= AGAIN,
+        None => now >= LONG,
     }
+}
+
+/// What is told of a machine that waits for others, of which there are so many: nothing where it heard all that it
+/// wants.
+fn notice_of_wait(waits: OthersHeard, others: u8) -> Option<Notice>
+    ensures { is_some result ≡ nat_lt waits.heard waits.wanted }
+{
+    if waits.heard >= waits.wanted {
+        return None;
+    }
+    Some(Notice::Group(GroupNotice::Waits {
+        heard: u8::try_from(waits.heard).unwrap_or(u8::MAX),
+        machines: others,
+        wanted: u8::try_from(waits.wanted).unwrap_or(u8::MAX),
+    }))
 }
 
 /// Waits until a life comes to its epoch's begin, or ends before that: what becomes of its machine, which `stop` ends.
@@ -82,12 +98,13 @@ pub(crate) fn waited<R: MachineRuntime, E: CountedWrite>(
     let Journals {
         driver: journal,
         console: _console,
+        page: _page,
         mut printer,
     } = Journals::new(alloc)?;
     let mut antechamber = Antechamber {
         journal,
         stop,
-        is_told_long: false,
+        told: None,
     };
     antechamber.note_origin(life);
     let gone = antechamber.go_on(life, &mut printer, err);
@@ -114,13 +131,26 @@ impl Antechamber {
             if let Input::Closed = life.linked.replica.recv() {
                 return Gone::Failed(Failed::Connection);
             }
-            match life.keeper.wait() {
+            let waited = life.keeper.wait();
+            self.note_changes(life);
+            match waited {
                 Some(Waited::Begins(epoch)) => return Gone::Begins(epoch),
                 Some(Waited::Leaves(leaving)) => return self.leave(leaving),
                 None => self.note_long(&life.keeper),
             }
         }
         unreachable!()
+    }
+
+    /// Notes what changed of the connections, and what its keeper tells.
+    fn note_changes<R: MachineRuntime>(&mut self, life: &mut Life<R>) {
+        let Host { rt, alloc } = life.keeper.host;
+        for notice in life.linked.exchange.notices(&rt, alloc) {
+            note(told_of(notice), &mut self.journal);
+        }
+        for notice in life.keeper.take_untold() {
+            self.journal.put(notice);
+        }
     }
 
     /// The life ends so.
@@ -138,14 +168,25 @@ impl Antechamber {
         note(waited_for(kept, &program, number), &mut self.journal);
     }
 
-    /// Notes once that its machine waits for others, where it has done so for long.
+    /// Notes that its machine waits for others, where it has done so for long, and then each minute.
     fn note_long<R: MachineRuntime>(&mut self, keeper: &Keeper<R>) {
-        if self.is_told_long || !waits_long(keeper) {
+        let now = keeper.now();
+        if !is_wait_told(self.told, now) {
             return;
         }
-        self.is_told_long = true;
-        if let Kept::Entered(epoch) = keeper.cold_start.kept() {
+        let is_first = self.told.is_none();
+        self.told = Some(now);
+        let Some(waits) = keeper.cold_start.waits_for() else {
+            return;
+        };
+        let notice = notice_of_wait(waits, keeper.terms.f.saturating_mul(2));
+        if let (true, Some(_), Kept::Entered(epoch)) = (
+            is_first,
+            notice,
+            keeper.cold_start.kept(),
+        ) {
             self.journal.put(Notice::WaitsForOthers(epoch.number));
         }
+        note(notice, &mut self.journal);
     }
 }

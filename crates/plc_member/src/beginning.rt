@@ -2,7 +2,7 @@
 //! start there.
 
 use net_hello::Epoch;
-use plc_store::NotWritten;
+use plc_store::DiskFault;
 use std::alloc::{AllocError, Global};
 use std::fs::{File, OpenFile};
 use std::io::{ErrorKind, Write};
@@ -67,16 +67,15 @@ impl<R: Files<File = File> + Drop> Beginning<R> {
     }
 
     /// It begins this epoch: the file is on disk before it's answered.
-    pub(crate) fn put(&self, epoch: &Epoch) -> Result<(), NotWritten> {
-        self.write(epoch).map_err(|_| NotWritten)
+    pub(crate) fn put(&self, epoch: &Epoch) -> Result<(), DiskFault> {
+        self.write(epoch).map_err(DiskFault::from)
     }
 
     /// Its replica has counted a start: the file is away before it's answered.
-    pub(crate) fn end(&self) -> Result<(), NotWritten> {
-        match remove(&self.rt, self.path.as_str()) {
-            Ok(()) => self.flush().map_err(|_| NotWritten),
-            Err(_) => Err(NotWritten),
-        }
+    pub(crate) fn end(&self) -> Result<(), DiskFault> {
+        remove(&self.rt, self.path.as_str())?;
+        self.flush()?;
+        Ok(())
     }
 }
 

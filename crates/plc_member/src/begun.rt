@@ -8,6 +8,7 @@ use net_hello::Epoch;
 use net_peers::{Exchange, PeerLink};
 use plc_trace::{Started, Trace};
 use std::sync::Arc;
+use vr_threads::Saves;
 
 /// A machine that has begun its epoch, as its store says, and is to be served in it: its links are up, and its replica
 /// is not started.
@@ -43,6 +44,8 @@ pub(crate) struct ReplicaFiles<S: Drop, M: Drop> {
     /// Of its view.
     pub(crate) store: S,
     pub(crate) marks: M,
+    /// How what it keeps there goes.
+    pub(crate) saves: Arc<Saves>,
 }
 
 impl<R: MachineRuntime> Surroundings<R> {
@@ -57,6 +60,25 @@ impl<R: MachineRuntime, S: Drop, M: Drop> Begun<R, S, M> {
     pub fn traced(mut self, trace: Trace) -> Begun<R, S, M> {
         self.around.trace = Some(trace);
         self
+    }
+
+    /// The same, whose replica has these keep what its directory keeps else.
+    pub fn marked_by<N: Drop>(self, marks: N) -> Begun<R, S, N> {
+        let Begun {
+            around,
+            link,
+            files,
+        } = self;
+        let ReplicaFiles { store, saves, .. } = files;
+        Begun {
+            around,
+            link,
+            files: ReplicaFiles {
+                store,
+                marks,
+                saves,
+            },
+        }
     }
 
     /// Which machine it is, and how often it was started in its epoch, with this time.

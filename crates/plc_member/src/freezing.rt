@@ -1,5 +1,8 @@
 //! How a machine whose replica recovers freezes, answers and thaws.
 
+ghost use Rattle.std.specs.Prelude.{◌≡◌};
+ghost use Rattle.plc_member.specs.Holding.{link_order, may_freeze, stays_held};
+
 use crate::held_link::HeldLink;
 use crate::keeper::{Keeper, Leaving, Thaw};
 use net_hello::Epoch;
@@ -14,6 +17,42 @@ use vr_threads::Solo;
 
 /// In milliseconds: so long it waits for the thread of its replica to come to its next receive.
 const TAKING_UP: u32 = 100;
+
+/// What is done with the link of a replica that recovers, behind a look at the protocol.
+#[derive(Clone, Copy, Debug, PartialEq, Eq)]
+pub(crate) enum LinkOrder {
+    /// The replica is to crash and to recover under another nonce; meanwhile it stays held.
+    Thaw,
+    /// It's let go: the machine isn't frozen.
+    LetGo,
+    /// It stays held: the machine is frozen.
+    Stay,
+}
+
+/// What is done with the link by this step of the protocol, where answers may be taken, or not.
+fn link_order(step: Step, takes_answers: bool) -> LinkOrder
+    ensures { result ≡ link_order step takes_answers }
+{
+    match step {
+        Step::Thaws(_) => LinkOrder::Thaw,
+        _ if takes_answers => LinkOrder::LetGo,
+        _ => LinkOrder::Stay,
+    }
+}
+
+/// Whether a machine may freeze by what it's told next: words came, or it begins anew by itself and f others recover.
+fn may_freeze(has_words: bool, is_automatic: bool, others_recover: bool) -> bool
+    ensures { result ≡ may_freeze has_words is_automatic others_recover }
+{
+    has_words || (is_automatic && others_recover)
+}
+
+/// Whether a link that was held stays so: no answer is under way in its replica any more, and that recovers still.
+fn stays_held(is_taken_up: bool, recovers: bool) -> bool
+    ensures { result ≡ stays_held is_taken_up recovers }
+{
+    is_taken_up && recovers
+}
 
 /// Whether a replica recovers.
 fn is_recovering(shown: Shown) -> bool {
@@ -32,7 +71,12 @@ where
     /// Looks at what came, of a machine that has begun its epoch. How its life is to end, if it is.
     pub(crate) fn attend(&mut self, solo: &mut Solo<HeldLink<R>>) -> Option<Leaving> {
         let now = self.due()?;
+        self.probe(now);
         let words = self.words();
+        let epoch = self.cold_start.speaks_in()?;
+        // Before the hellos: they say whether its group goes on.
+        self.note_recoveries(&epoch, now);
+        self.note_signs(&epoch, now);
         if let Some(leaving) = self.hear_hellos(now) {
             return Some(leaving);
         }
@@ -40,8 +84,6 @@ where
         if !self.cold_start.recovers() {
             return None;
         }
-        let epoch = self.cold_start.speaks_in()?;
-        self.note_recoveries(&epoch, now);
         if !self.has_thawed(solo) {
             return None;
         }
@@ -85,11 +127,11 @@ where
         if let Some(leaving) = self.hear_words(words, now) {
             return Some(leaving);
         }
-        if let Step::Thaws(_) = self.cold_start.look(now) {
-            self.thaw = Thaw::Wanted;
-        } else if self.cold_start.takes_answers() {
-            // It isn't frozen.
-            self.terms.hold.let_go();
+        let step = self.cold_start.look(now);
+        match link_order(step, self.cold_start.takes_answers()) {
+            LinkOrder::Thaw => self.thaw = Thaw::Wanted,
+            LinkOrder::LetGo => self.terms.hold.let_go(),
+            LinkOrder::Stay => {}
         }
         self.ask(epoch, now);
         None
@@ -102,11 +144,14 @@ where
             self.cold_start.recovered();
             return false;
         }
-        if !self.terms.is_automatic || words.is_empty() && !self.others_recover(now) {
+        let others_recover = self.others_recover(now);
+        if !may_freeze(!words.is_empty(), self.terms.is_automatic, others_recover) {
             return false;
         }
         self.terms.hold.hold();
-        if self.is_taken_up() && is_recovering(solo.look()) {
+        // The replica is looked at behind its next receive: what an answer before that made of it shows then.
+        let is_taken_up = self.is_taken_up();
+        if stays_held(is_taken_up, is_recovering(solo.look())) {
             return true;
         }
         self.terms.hold.let_go();
@@ -132,12 +177,13 @@ where
                 .cold_start
                 .hear_word(visit.from, &visit.epoch, &visit.word, now)
             {
-                Step::Freezes(word) | Step::Confirms(word) => {
+                Step::Freezes(word) | Step::Confirms(word) | Step::Declines(word) => {
                     let connected = self.terms.exchange.reached();
                     self.speaker.say(connected, visit.from, visit.epoch, word);
                 }
                 // What it asks now is said at once.
                 Step::AsksAgain => self.asked = None,
+                Step::HearsMarked => self.hear_marked(&visit.epoch),
                 step => {
                     if let Some(leaving) = self.leaving(step, heard) {
                         return Some(leaving);

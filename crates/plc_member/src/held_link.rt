@@ -22,9 +22,15 @@ pub(crate) struct Hold {
     seen: AtomicU64,
     /// Whose RECOVERY came since that was asked last, by bits.
     recoveries: AtomicU64,
+    /// So many receives the replica's thread has begun.
+    receives: AtomicU64,
     /// Nothing is given nor sent any more.
     is_dead: AtomicBool,
 }
+
+/// That the link of a replica gives and sends nothing any more. Only its end gives this.
+#[derive(Clone, Copy, Debug)]
+pub(crate) struct DeadLink(());
 
 /// Whether a message is an answer to a RECOVERY.
 fn is_answer(message: &Message) -> bool
@@ -62,6 +68,7 @@ impl Hold {
             asked: AtomicU64::new(0),
             seen: AtomicU64::new(0),
             recoveries: AtomicU64::new(0),
+            receives: AtomicU64::new(0),
             is_dead: AtomicBool::new(false),
         }
     }
@@ -85,8 +92,9 @@ impl Hold {
     }
 
     /// From now on the link gives and sends nothing: what its machine has to keep couldn't be written.
-    pub(crate) fn end(&self) {
+    pub(crate) fn end(&self) -> DeadLink {
         self.is_dead.store(true, Ordering::SeqCst);
+        DeadLink(())
     }
 
     /// Whether that is so.
@@ -99,8 +107,14 @@ impl Hold {
         self.recoveries.swap(0, Ordering::SeqCst)
     }
 
+    /// So many receives the replica's thread has begun.
+    pub(crate) fn receives(&self) -> u64 {
+        self.receives.load(Ordering::SeqCst)
+    }
+
     /// The replica begins a receive.
     fn take_up(&self) {
+        let _ = self.receives.fetch_add(1, Ordering::SeqCst);
         self.seen
             .store(self.asked.load(Ordering::SeqCst), Ordering::SeqCst);
     }

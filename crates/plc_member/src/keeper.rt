@@ -1,20 +1,21 @@
 //! What a machine does about the epochs of its group, as its life goes on: it's told what came and when, says what is
 //! to be said, and tells when its life is to end.
 
-ghost use Rattle.std.specs.Prelude.{◌≡◌};
-ghost use Rattle.plc_member.specs.Keeping.{leaving_by};
+ghost use Rattle.std.specs.Prelude.{◌≡◌, IfSome, IsTrue, bytes_eq};
+ghost use Rattle.plc_member.specs.Keeping.{is_epoch, leaving_by, program_of, staying_by};
 
 use crate::held_link::Hold;
+use crate::prober::Prober;
 use crate::speaker::Speaker;
 use net_hello::Epoch;
 use net_peers::{Exchange, Machine};
 use plc_epochs::{ColdStart, Kept, Moment, RECENT, Step, Told, Visit};
 use plc_host::{Host, ServiceRuntime};
-use plc_status::Notice;
-use std::io;
-use std::net::{Net, TcpListener, TcpStream};
+use plc_status::{GroupNotice, Notice};
+use std::net::{Net, SocketAddr, TcpListener, TcpStream};
 use std::sync::Arc;
 use std::time::Instant;
+use std::{io, mem};
 use vr_model::MOST_REPLICAS;
 
 /// In milliseconds: so often it looks at what came.
@@ -67,6 +68,13 @@ where
     pub(crate) looked: Option<Moment>,
     /// When it said last what it asks.
     pub(crate) asked: Option<Moment>,
+    pub(crate) prober: Prober,
+    /// What is to be told, the earliest first.
+    pub(crate) untold: Vec<Notice>,
+    /// What was told last of each other machine that is in another epoch.
+    stayed: [Option<Notice>; MOST_REPLICAS],
+    /// It was told that a machine which it asked is marked.
+    has_heard_marked: bool,
 }
 
 /// What a machine keeps to, and what it hears by.
@@ -105,6 +113,62 @@ fn leaving_by(step: Step, kept: Kept, heard: Heard) -> Option<Leaving>
         _ => return None,
     };
     Some(Leaving { kept, notice })
+}
+
+/// The first bytes of the sum of an epoch's image.
+fn program_of(epoch: &Epoch) -> [u8; 8]
+    ensures { result ≡ program_of epoch.now }
+{
+    let mut program = [0; 8];
+    program.copy_from_slice(&epoch.image[..8]);
+    program
+}
+
+/// What is told of a step by which a machine stays where it is, though this one is in another epoch.
+fn staying_by(step: Step, from: u8) -> Option<Notice>
+    ensures { result ≡ staying_by step from }
+{
+    match step {
+        Step::Refuses(epoch) => Some(Notice::Group(GroupNotice::EpochRefused {
+            epoch: epoch.number,
+            machine: from,
+            program: program_of(&epoch),
+        })),
+        Step::FarAbove(epoch) => Some(Notice::Group(GroupNotice::EpochFarAbove {
+            epoch: epoch.number,
+            machine: from,
+        })),
+        Step::OtherProgram(epoch) => Some(Notice::OtherProgram(epoch.number)),
+        _ => None,
+    }
+}
+
+/// Whether an epoch may be one: none has number 0.
+fn is_epoch(epoch: &Epoch) -> bool
+    ensures { result ≡ is_epoch epoch.now }
+{
+    epoch.number != 0
+}
+
+/// What was said to a machine of the group of this identity, if these bytes are that.
+fn visit_in(frame: &[u8], identity: &[u8; 32]) -> Option<Visit>
+    ensures { IfSome result (λ visit. IsTrue (bytes_eq visit.identity identity.now)) }
+{
+    let visit = Visit::read(frame)?;
+    let said = visit.identity;
+    if &said == identity { Some(visit) } else { None }
+}
+
+/// Whether a machine is among these, by bits.
+pub(crate) fn is_among(machines: u8, machine: u8) -> bool {
+    machine < 8 && machines >> machine & 1 == 1
+}
+
+/// What is told of a machine that isn't at its address, if one is missed there.
+fn notice_of_missed(missed: Option<u8>, addresses: &[SocketAddr]) -> Option<Notice> {
+    let machine = missed?;
+    let address = *addresses.get(usize::from(machine))?;
+    Some(Notice::Group(GroupNotice::NotAt(machine, address)))
 }
 
 /// What a notice of a step names beside it.
@@ -152,11 +216,15 @@ where
             thaw: Thaw::No,
             looked: None,
             asked: None,
+            prober: Prober::new(),
+            untold: Vec::new(host.alloc),
+            stayed: [None; MOST_REPLICAS],
+            has_heard_marked: false,
         })
     }
 
     /// In milliseconds since its life began. A clock that fails stands at 0: then nothing is due.
-    fn now(&self) -> Moment {
+    pub(crate) fn now(&self) -> Moment {
         let now = Instant::now(&self.host.rt).unwrap_or(self.begun);
         let since = now.saturating_duration_since(self.begun);
         u64::try_from(since.as_millis()).unwrap_or(u64::MAX)
@@ -197,8 +265,8 @@ where
     /// Hears the hellos that came, until one ends its life.
     pub(crate) fn hear_hellos(&mut self, now: Moment) -> Option<Leaving> {
         for (from, epoch) in self.terms.exchange.hellos(&self.host.rt, self.host.alloc) {
-            // No epoch has this number: who says it has lost its disk, and counts for nothing.
-            if epoch.number == 0 {
+            // Who has lost its disk counts for nothing.
+            if !is_epoch(&epoch) {
                 continue;
             }
             let heard = self.heard_from(from);
@@ -206,14 +274,55 @@ where
             if let Some(leaving) = self.leaving(step, heard) {
                 return Some(leaving);
             }
+            self.stay(step, from);
         }
         None
+    }
+
+    /// Tells why it stays where it is by this step, if that wasn't told of this machine last: hellos come several times
+    /// a second.
+    fn stay(&mut self, step: Step, from: u8) {
+        let Some(told) = self.stayed.get_mut(usize::from(from)) else {
+            return;
+        };
+        let notice = staying_by(step, from);
+        if notice.is_some() && *told != notice {
+            *told = notice;
+            self.tell(notice);
+        }
+    }
+
+    /// This is to be told, if anything is. What there is no memory for is lost.
+    fn tell(&mut self, notice: Option<Notice>) {
+        if let Some(notice) = notice {
+            let _ = self.untold.push(notice);
+        }
+    }
+
+    /// What is to be told, the earliest first. It's told then.
+    pub(crate) fn take_untold(&mut self) -> Vec<Notice> {
+        mem::replace(&mut self.untold, Vec::new(self.host.alloc))
+    }
+
+    /// Tries whether other machines are at their addresses.
+    pub(crate) fn probe(&mut self, now: Moment) {
+        let connected = self.terms.exchange.reached();
+        let Keeper {
+            host,
+            speaker,
+            prober,
+            ..
+        } = self;
+        let missed = prober.look(&host.rt, speaker.addresses.as_slice(), connected, now);
+        let notice = notice_of_missed(missed, self.speaker.addresses.as_slice());
+        self.tell(notice);
     }
 
     /// Looks at what came, of a machine that has begun no epoch: it says nothing but hello, and what is said to it is
     /// lost.
     pub(crate) fn wait(&mut self) -> Option<Waited> {
         let now = self.due()?;
+        self.probe(now);
         let _ = self.words();
         if let Some(leaving) = self.hear_hellos(now) {
             return Some(Waited::Leaves(leaving));
@@ -228,13 +337,29 @@ where
     pub(crate) fn words(&self) -> Vec<Visit> {
         let mut words = Vec::new(self.host.alloc);
         for frame in self.terms.exchange.visits(&self.host.rt, self.host.alloc) {
-            if let Some(visit) = Visit::read(frame.as_slice())
-                && visit.identity == self.speaker.identity
-            {
+            if let Some(visit) = visit_in(frame.as_slice(), &self.speaker.identity) {
                 let _ = words.push(visit);
             }
         }
         words
+    }
+
+    /// Notes which machines are near, over connections of this epoch.
+    pub(crate) fn note_signs(&mut self, epoch: &Epoch, now: Moment) {
+        let near = self.terms.exchange.near();
+        for number in 0..MOST_REPLICAS as u8 {
+            if is_among(near, number) {
+                let _ = self.cold_start.hear_sign(number, epoch, now);
+            }
+        }
+    }
+
+    /// Tells once that a machine which it asked is marked: a cold start takes a person.
+    pub(crate) fn hear_marked(&mut self, epoch: &Epoch) {
+        if !self.has_heard_marked {
+            self.has_heard_marked = true;
+            self.tell(Some(Notice::ProgramChanged(epoch.number)));
+        }
     }
 
     /// Notes whose RECOVERY came.

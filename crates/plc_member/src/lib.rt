@@ -20,50 +20,68 @@
 //! with it has, if it has a ghost history (`fill`), and a machine whose stage is still to be filled, since it began to
 //! lead, only looks and shows nothing (`turn`). Of an answer to a RECOVERY on a held link nothing is made
 //! (`let_through`); a life ends for another epoch by the steps that say so alone (`leaving_by`); no machine begins anew
-//! by itself whose program was changed (`is_automatic`).
+//! by itself whose program was changed (`is_automatic`). A replica is started as new exactly where that was judged to be
+//! its first start (`way_of`, `files`). Nothing that its directory is to keep is taken for kept which isn't, if the
+//! directory tells what it keeps: else the replica's link is dead (`Marking::keep`). A frozen machine's link stays held
+//! (`link_order`). A machine can't go on whose store failed or whose replica's thread ended (`fault_of`); it gives up the
+//! view that it leads where its port was refused so often (`Tries`), and shows that it drives exactly while that port is
+//! open (`tend`). That no majority is heard, that an operator is wanted and that a replica hangs are told exactly where
+//! that turned (`Majority`, `by_hand_notice`, `hang_notice`). By its type: a store gets a later epoch only from the end of
+//! a life (`Left`).
 //!
 //! By its code alone, and tested (`tests_machines`, `tools/try-machines`): how threads, locks, sockets and times are
 //! joined, so that the time of a clause is the present one and the inputs of a scan are one sample of the stage; that a
 //! held link asks `let_through`; that a machine which stopped while it began an epoch starts there as new, and had said
 //! nothing; that the port is open only while outputs are shown; that what a stage is filled with are the inputs of the
 //! last scan that its replica's log kept, behind a closed port; that no answer is under way in the replica of a machine
-//! that freezes; that the store has an epoch as begun before its replica says a word; that nothing is said in a later
-//! epoch before port, sessions and links of the earlier one are closed; that a store is marked before a message tells
-//! of a change of the program.
+//! that freezes; that the store has an epoch as begun before its replica says a word; that port, sessions and links are
+//! closed by the end of a life; that a disk which hangs over a later epoch isn't waited for; that a step is looked at
+//! before its messages are sent, and that a dead link sends none; that the replica of a machine that gives its view up
+//! times out (`GivingTimer`), and that what is shown behind a held scan is as old as that.
 #![tactic(auto)]
 
 mod antechamber;
 mod beginning;
 mod begun;
+mod by_hand;
 mod drive;
+mod ended;
 mod filling;
 mod freezing;
+mod giving_up;
 mod held_link;
 mod keeper;
 mod life;
 mod links;
 mod looked;
+mod majority;
 mod neighbours;
 mod opening;
 mod port;
+mod prober;
 mod program;
 mod publisher;
+mod receiving;
 mod requester;
 mod scans;
 mod services;
 mod serving;
+mod sights;
+mod signals;
 mod speaker;
 mod starting;
 mod stop;
+mod storing;
 mod teller;
 mod tracer;
+mod tries;
 mod unserved;
 mod watch;
 
 pub use beginning::Beginning;
 pub use begun::Begun;
-pub use drive::Ended;
-pub use opening::Member;
+pub use ended::{Ended, Left};
+pub use opening::{MachineStore, Member};
 pub use program::{Marker, Marks};
 pub use serving::MachineRuntime;
 pub use stop::Stop;

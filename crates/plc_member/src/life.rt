@@ -1,6 +1,8 @@
 //! A life of a machine: what it begins with, as the machine's store has it, and the links that are up in it.
 
-ghost use Rattle.std.specs.Prelude.{◌≡◌};
+ghost use Rattle.std.specs.Prelude.{◌≡◌, ◌-◌, ◌^◌, min};
+ghost use Rattle.plc_epochs.specs.Recovering.{first_nonce};
+ghost use Rattle.plc_epochs.specs.Table.{StartsAs};
 ghost use Rattle.plc_member.specs.Keeping.{begins_by_itself};
 
 use crate::begun::{Begun, ReplicaFiles, Surroundings};
@@ -70,14 +72,29 @@ fn is_automatic(group: &Group, is_marked: bool) -> bool
     matches!(group.cold_start, Manner::Auto) && !is_marked
 }
 
-/// What a machine is to the protocol of its group, as it starts from its store.
-fn cold_start_of(group: &Group, origin: &Origin) -> ColdStart {
+/// So many starts, as the protocol counts them.
+fn starts_told(starts: u64) -> u32
+    ensures { result ≡ min starts (2 ^ 32 - 1) }
+{
+    if starts < u64::from(u32::MAX) {
+        starts as u32
+    } else {
+        u32::MAX
+    }
+}
+
+/// What a machine is to the protocol of its group, as it starts from its store: what it says has nonces of this start.
+fn cold_start_of(group: &Group, origin: &Origin) -> ColdStart
+    ensures { StartsAs result.place origin.now.header.kept origin.now.header.program
+        (first_nonce (min origin.now.starts (2 ^ 32 - 1))) 0 result }
+{
     let place = Place {
         config: group.config,
         number: origin.header.machine,
-        is_automatic: is_automatic(group, origin.is_marked),
+        is_automatic: matches!(group.cold_start, Manner::Auto),
+        is_marked: origin.is_marked,
     };
-    let starts = u32::try_from(origin.starts).unwrap_or(u32::MAX);
+    let starts = starts_told(origin.starts);
     ColdStart::new(place, &origin.header.kept, origin.header.program, starts, 0)
 }
 

@@ -1,7 +1,7 @@
 //! The links of a machine's own parties in one epoch.
 
-ghost use Rattle.std.specs.Prelude.{◌≡◌};
-ghost use Rattle.plc_member.specs.Keeping.{hello_of};
+ghost use Rattle.std.specs.Prelude.{◌≡◌, IfOk};
+ghost use Rattle.plc_member.specs.Keeping.{IsToldBy, hello_of};
 
 use crate::requester::LONGEST_WAIT;
 use net_hello::Epoch;
@@ -41,6 +41,11 @@ pub(crate) fn console_of(group: &Group, number: u8) -> Option<SocketAddr> {
     group.machines.get(usize::from(number))?.console
 }
 
+/// Whether a machine has an operator's console, at a port or a socket of its own.
+fn has_console(group: &Group, number: u8) -> bool {
+    group.console_sockets.is_some() || console_of(group, number).is_some()
+}
+
 /// The epoch in which a machine says hello. No epoch has number 0: so nobody accepts who waits for one, and each tells
 /// its own.
 pub(crate) fn hello_of(greeting: Greeting) -> Epoch
@@ -62,14 +67,19 @@ pub(crate) fn machine_of(
     header: &Header,
     epoch: Epoch,
     starts: u64,
-) -> Result<Machine, AllocError> {
+) -> Result<Machine, AllocError>
+    ensures { IfOk result (IsToldBy header.now epoch starts) }
+{
     Ok(Machine {
         identity: header.identity,
         epoch,
         starts,
+        fresh: group.times.fresh,
+        store: header.store,
+        seen: header.seen,
         number: header.machine,
         replicas: addresses(alloc, group.machines.as_slice())?,
-        has_console: console_of(group, header.machine).is_some(),
+        has_console: has_console(group, header.machine),
         pulse: Pulse::of(group.times.patience, group.times.resend),
     })
 }

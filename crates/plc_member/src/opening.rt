@@ -1,13 +1,18 @@
 //! A machine as its directory has it, and how each life of it begins and ends there.
 
+ghost use Rattle.std.specs.Prelude.{◌≡◌, IfOk};
+ghost use Rattle.plc_member.specs.Keeping.{way_of};
+
 use crate::antechamber::{Gone, waited};
 use crate::beginning::Beginning;
 use crate::begun::{Begun, ReplicaFiles};
-use crate::drive::Ended;
+use crate::ended::{Ended, Left};
 use crate::life::{Life, Origin, life_of};
 use crate::program::Marker;
 use crate::serving::MachineRuntime;
+use crate::sights::Sights;
 use crate::stop::Stop;
+use crate::storing::{Entry, Written, put};
 use crate::unserved::Unserved;
 use il_loader::load;
 use io_model::CountedWrite;
@@ -16,15 +21,21 @@ use plc_epochs::Kept;
 use plc_group::Group;
 use plc_host::{Failed, Host};
 use plc_machine::wanted;
+use plc_status::{Journals, Notice};
 use plc_store::{
-    ChangeMark, FileDirectory, Opened, Refusal, Start, Store, StoreDirectory, is_changed, keep,
-    open, stored_in,
+    ChangeMark, FileDirectory, Opened, Refusal, Start, Store, StoreDirectory, is_changed, open,
+    stored_in,
 };
 use std::alloc::{AllocError, Global};
 use std::fs::File;
 use std::rt::Files;
+use std::sync::Arc;
 use vr_replica::ViewStore;
-use vr_threads::{FileStore, JudgedStarts};
+use vr_threads::{FileStore, JudgedStarts, NumberedStarts, PatientStore, Saves};
+
+/// The store of a machine's replica: its saves are tried again, each start behind the first one of a life is counted in
+/// memory, and its next start was judged before.
+pub type MachineStore<R> = JudgedStarts<NumberedStarts<PatientStore<FileStore<R>, R>>>;
 
 /// A machine of a group that is to be served, from the directory of its store, which no other process has.
 #[derive(Drop)]
@@ -44,6 +55,43 @@ enum Entered<R: MachineRuntime, S: Drop, M: Drop> {
     Left,
     /// It was asked to stop.
     Stopped,
+}
+
+/// How a life goes on whose links are up.
+#[derive(Clone, Copy, Debug, PartialEq, Eq)]
+pub(crate) enum Way {
+    /// Its replica is started as one that has said nothing in its epoch.
+    StartsAsNew,
+    /// Its replica is started, and has said something in its epoch, so that it recovers.
+    StartsAgain,
+    /// It waits until its epoch may be begun.
+    Waits,
+}
+
+/// How a life goes on whose store keeps this of epochs, and was judged to start so.
+fn way_of(kept: Kept, start: Start) -> Way
+    ensures { result ≡ way_of kept start }
+{
+    match kept {
+        Kept::Begun(_) => match start {
+            Start::First => Way::StartsAsNew,
+            Start::Again | Start::Waits => Way::StartsAgain,
+        },
+        Kept::Nothing | Kept::Above(_) | Kept::Entered(_) => Way::Waits,
+    }
+}
+
+/// Tells that the replica of this number hangs.
+fn tell_hanging<E: CountedWrite>(alloc: Global, number: u8, err: &mut E) -> Result<(), AllocError> {
+    let Journals {
+        mut driver,
+        console: _console,
+        page: _page,
+        mut printer,
+    } = Journals::new(alloc)?;
+    driver.put(Notice::Hangs(number));
+    printer.print(err);
+    Ok(())
 }
 
 /// How many starts there are with this one, by the store of a replica's view.
@@ -70,7 +118,12 @@ impl<R: MachineRuntime + Files<File = File> + Alloc<A = Global>> Member<R> {
     pub fn stop(&self) -> Result<Stop, AllocError> {
         self.stop.another()
     }
+}
 
+impl<R: MachineRuntime + Files<File = File> + Alloc<A = Global>> Member<R>
+where
+    R::Dir: Send + Sync + 'static,
+{
     /// The next life of the machine, behind one that ended so, if there was one: once it has begun an epoch, in which
     /// it's to be served. From its store on it goes on with its epoch, or waits for others until that may be begun.
     /// None where it was asked to stop. `err` has a line for each change meanwhile. A store that is refused stays as
@@ -81,8 +134,8 @@ impl<R: MachineRuntime + Files<File = File> + Alloc<A = Global>> Member<R> {
         group: &Group,
         ended: Option<Ended>,
         err: &mut E,
-    ) -> Result<Option<Begun<R, JudgedStarts<FileStore<R>>, Marker<R>>>, Unserved> {
-        if !self.goes_on(host, ended)? {
+    ) -> Result<Option<Begun<R, MachineStore<R>, Marker<R>>>, Unserved> {
+        if !self.goes_on(host, ended, err)? {
             return Ok(None);
         }
         let rt = host.rt;
@@ -97,22 +150,39 @@ impl<R: MachineRuntime + Files<File = File> + Alloc<A = Global>> Member<R> {
     }
 
     /// Whether another life begins behind one that ended so, if there was one. Its store has what it's to have by then.
-    fn goes_on(&mut self, host: Host<R>, ended: Option<Ended>) -> Result<bool, Unserved> {
+    fn goes_on<E: CountedWrite>(
+        &self,
+        host: Host<R>,
+        ended: Option<Ended>,
+        err: &mut E,
+    ) -> Result<bool, Unserved> {
         match ended {
             None => Ok(true),
             Some(Ended::Stopped) => Ok(false),
             Some(Ended::Failed(failed)) => Err(Unserved::Failed(failed)),
-            Some(Ended::Leaves(kept)) => {
-                self.keep(host, &kept)?;
+            Some(Ended::Leaves(left)) => {
+                self.keep(host, Entry::Left(left), err)?;
                 Ok(true)
             }
         }
     }
 
-    /// Has its store say this of epochs.
-    fn keep(&mut self, host: Host<R>, kept: &Kept) -> Result<(), Unserved> {
-        let _ = keep(host.alloc, &mut self.directory, kept)?;
-        Ok(())
+    /// Has its store have this of epochs. A disk that hangs is told, and isn't waited for. It's looked at once more before
+    /// the next life.
+    fn keep<E: CountedWrite>(
+        &self,
+        host: Host<R>,
+        entry: Entry,
+        err: &mut E,
+    ) -> Result<(), Unserved> {
+        let number = stored_in(host.alloc, &self.directory)?.header.machine;
+        match put(host, self.path.as_str(), entry)? {
+            Written::Done => Ok(()),
+            Written::Hangs => {
+                tell_hanging(host.alloc, number, err)?;
+                Err(Unserved::Failed(Failed::Store(number)))
+            }
+        }
     }
 
     /// Begins a life of the machine.
@@ -121,16 +191,17 @@ impl<R: MachineRuntime + Files<File = File> + Alloc<A = Global>> Member<R> {
         host: Host<R>,
         group: &Group,
         err: &mut E,
-    ) -> Result<Entered<R, JudgedStarts<FileStore<R>>, Marker<R>>, Unserved> {
+    ) -> Result<Entered<R, MachineStore<R>, Marker<R>>, Unserved> {
         let origin = self.origin(host, group)?;
         let Some(place) = group.machines.get(usize::from(origin.header.machine)) else {
             return Err(Unserved::Refused(Refusal::OtherMachine));
         };
-        let (start, kept) = (origin.start, origin.header.kept);
+        let way = way_of(origin.header.kept, origin.start);
         let life = life_of(host, group, origin, place.replica)?;
-        match kept {
-            Kept::Begun(_) => self.go_on(host, life, start == Start::First),
-            _ => self.wait(host, life, err),
+        match way {
+            Way::StartsAsNew => self.go_on(host, life, true),
+            Way::StartsAgain => self.go_on(host, life, false),
+            Way::Waits => self.wait(host, life, err),
         }
     }
 
@@ -176,46 +247,41 @@ impl<R: MachineRuntime + Files<File = File> + Alloc<A = Global>> Member<R> {
     /// Waits until its epoch may be begun, and begins it; or ends before that. `err` has a line for each change
     /// meanwhile.
     fn wait<E: CountedWrite>(
-        &mut self,
+        &self,
         host: Host<R>,
         mut life: Life<R>,
         err: &mut E,
-    ) -> Result<Entered<R, JudgedStarts<FileStore<R>>, Marker<R>>, Unserved> {
+    ) -> Result<Entered<R, MachineStore<R>, Marker<R>>, Unserved> {
         let stop = self.stop.another()?;
         match waited(host.alloc, &mut life, stop, err)? {
             Gone::Stopped => Ok(Entered::Stopped),
             Gone::Failed(failed) => Err(Unserved::Failed(failed)),
-            Gone::Leaves(kept) => self.leave(host, life, &kept),
-            Gone::Begins(epoch) => self.begin(host, life, &epoch),
+            Gone::Leaves(kept) => self.leave(host, Left::unbegun(life, kept), err),
+            Gone::Begins(epoch) => self.begin(host, life, epoch, err),
         }
     }
 
-    /// Ends a life before its epoch was begun, and has the store say this of epochs. Nothing of the life is left before
-    /// another one begins.
-    fn leave(
-        &mut self,
+    /// Has the store have what a life left behind that ended before its epoch was begun.
+    fn leave<E: CountedWrite>(
+        &self,
         host: Host<R>,
-        life: Life<R>,
-        kept: &Kept,
-    ) -> Result<Entered<R, JudgedStarts<FileStore<R>>, Marker<R>>, Unserved> {
-        drop(life);
-        self.keep(host, kept)?;
+        left: Left,
+        err: &mut E,
+    ) -> Result<Entered<R, MachineStore<R>, Marker<R>>, Unserved> {
+        self.keep(host, Entry::Left(left), err)?;
         Ok(Entered::Left)
     }
 
     /// Begins an epoch: its store has that before its replica says a word.
-    fn begin(
-        &mut self,
+    fn begin<E: CountedWrite>(
+        &self,
         host: Host<R>,
         mut life: Life<R>,
-        epoch: &Epoch,
-    ) -> Result<Entered<R, JudgedStarts<FileStore<R>>, Marker<R>>, Unserved> {
-        let kept = Kept::Begun(*epoch);
-        // Before the views go: so a machine that stops between that and its replica's first start can be told from one
-        // that has lost its view.
-        self.beginning.put(epoch).map_err(Refusal::from)?;
-        self.keep(host, &kept)?;
-        let _ = life.keeper.cold_start.stored(&kept);
+        epoch: Epoch,
+        err: &mut E,
+    ) -> Result<Entered<R, MachineStore<R>, Marker<R>>, Unserved> {
+        self.keep(host, Entry::Begins(epoch), err)?;
+        let _ = life.keeper.cold_start.stored(&Kept::Begun(epoch));
         self.go_on(host, life, true)
     }
 
@@ -225,7 +291,7 @@ impl<R: MachineRuntime + Files<File = File> + Alloc<A = Global>> Member<R> {
         host: Host<R>,
         life: Life<R>,
         is_first: bool,
-    ) -> Result<Entered<R, JudgedStarts<FileStore<R>>, Marker<R>>, Unserved> {
+    ) -> Result<Entered<R, MachineStore<R>, Marker<R>>, Unserved> {
         let number = life.origin.header.machine;
         let Some(epoch) = life.keeper.cold_start.speaks_in() else {
             return Err(Unserved::Failed(Failed::Store(number)));
@@ -235,19 +301,24 @@ impl<R: MachineRuntime + Files<File = File> + Alloc<A = Global>> Member<R> {
         Ok(Entered::Begun(life.begun(epoch, files, stop)))
     }
 
-    /// The files of its replica of this number, which starts in this epoch for the first time, or not.
+    /// The files of its replica of this number, which starts in this epoch for the first time, or not, as that was
+    /// judged: whatever its directory has by now.
     fn files(
         &self,
         host: Host<R>,
         number: u8,
         epoch: &Epoch,
         is_first: bool,
-    ) -> Result<ReplicaFiles<JudgedStarts<FileStore<R>>, Marker<R>>, AllocError> {
-        let store = FileStore::new(host.rt, host.alloc, self.path.as_str(), number)?;
-        let marks = self.marker(host, epoch)?;
+    ) -> Result<ReplicaFiles<MachineStore<R>, Marker<R>>, AllocError>
+        ensures judged { IfOk result (λ files. files.store.is_first ≡ is_first) }
+    {
+        let saves = Arc::new(host.alloc, Saves::new())?;
+        let file = FileStore::new(host.rt, host.alloc, self.path.as_str(), number)?;
+        let store = PatientStore::new(host.rt, file, Arc::try_clone(&saves)?);
         Ok(ReplicaFiles {
-            store: JudgedStarts::new(store, is_first),
-            marks,
+            store: JudgedStarts::new(NumberedStarts::new(store), is_first),
+            marks: self.marker(host, epoch)?,
+            saves,
         })
     }
 
@@ -256,6 +327,11 @@ impl<R: MachineRuntime + Files<File = File> + Alloc<A = Global>> Member<R> {
         let path = self.path.as_str();
         let change = ChangeMark::new(host.rt, host.alloc, path, epoch)?;
         let beginning = Beginning::new(host.rt, host.alloc, path)?;
-        Ok(Marker { change, beginning })
+        let sights = Sights::new(host.rt, host.alloc, path)?;
+        Ok(Marker {
+            change,
+            beginning,
+            sights,
+        })
     }
 }

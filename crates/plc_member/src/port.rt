@@ -48,6 +48,16 @@ where
         }
     }
 
+    /// Whether clients are let in.
+    pub(crate) fn is_open(&self) -> bool
+        ensures { result ≡ is_open self.now.serving }
+    {
+        match &self.serving {
+            Serving::Open(_) => true,
+            Serving::Closed(_) => false,
+        }
+    }
+
     /// Opens it, or closes it with each of its sessions, by whether it's to be open. Where it fails it's closed.
     pub(crate) fn tended(self, is_wanted: bool) -> Result<(Port<R, J>, Turn), Failed>
         ensures closed { IfOk result (λ r. is_wanted ≡ false → is_open r.0.serving ≡ false) }

@@ -27,4 +27,9 @@ impl<R: ServiceRuntime, J: Naming, P: Pen<J> + Drop> Publisher<R, J, P> {
         self.stamp.mark_from(then);
         Ok(())
     }
+
+    /// What was published last stays: it's as old as the submission of a scan that is held, which was then.
+    pub(crate) fn renew(&self, then: Instant) {
+        self.stamp.mark_from(then);
+    }
 }

@@ -1,6 +1,7 @@
 //! The client of a group that has it scan: what it sends, and when it sends it again.
 
 ghost use Rattle.std.specs.Prelude.{◌≡◌};
+ghost use Rattle.plc_member.specs.Driving.{is_due_at, is_late_at};
 
 use net_peers::PeerLink;
 use plc_host::{Failed, ServiceRuntime};
@@ -49,6 +50,26 @@ fn shorter(one: Duration, other: Duration) -> Duration {
     }
 }
 
+/// Whether a scan is due of a machine that leads, or doesn't.
+fn is_due_at(course: Course, now: Duration) -> bool
+    ensures { result ≡ is_due_at course now }
+{
+    match course {
+        Course::Leading(lead) => lead.due.as_nanos() <= now.as_nanos(),
+        Course::StandingBy => false,
+    }
+}
+
+/// Whether a scan was due a period ago, or longer, of a machine that leads, or doesn't.
+fn is_late_at(course: Course, period: Duration, now: Duration) -> bool
+    ensures { result ≡ is_late_at course period now }
+{
+    match course {
+        Course::Leading(lead) => lead.due.saturating_add(period).as_nanos() <= now.as_nanos(),
+        Course::StandingBy => false,
+    }
+}
+
 impl<R> Requester<R>
 where
     R: ServiceRuntime + Net<Listener = TcpListener, Stream = TcpStream>,
@@ -86,22 +107,18 @@ where
         }
     }
 
-    /// Whether the machine leads, and a scan was due so long ago.
-    fn is_due_since(&self, pause: Duration, now: Duration) -> bool {
-        match self.driver.course() {
-            Course::Leading(lead) => { lead.due.saturating_add(pause).as_nanos() <= now.as_nanos() }
-            Course::StandingBy => false,
-        }
-    }
-
     /// Whether a scan is due.
-    pub(crate) fn is_due(&self, now: Duration) -> bool {
-        self.is_due_since(Duration::from_millis(0), now)
+    pub(crate) fn is_due(&self, now: Duration) -> bool
+        ensures { result ≡ is_due_at self.now.driver.course now }
+    {
+        is_due_at(self.driver.course(), now)
     }
 
     /// Whether a scan that is submitted now comes a period late or more.
-    pub(crate) fn is_late(&self, now: Duration) -> bool {
-        self.is_due_since(self.period, now)
+    pub(crate) fn is_late(&self, now: Duration) -> bool
+        ensures { result ≡ is_late_at self.now.driver.course self.now.period now }
+    {
+        is_late_at(self.driver.course(), self.period, now)
     }
 
     /// For so long a receive waits: until the next scan is due, and not for long.

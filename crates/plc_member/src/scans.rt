@@ -129,7 +129,9 @@ impl<R: Wait + Clock + Copy + Drop, M: Marks + Drop> ScanGate<R, M> {
         board: Arc<ScanBoard>,
         snapshots: Arc<SnapshotBoard>,
         program: ProgramWatch<M>,
-    ) -> ScanGate<R, M> {
+    ) -> ScanGate<R, M>
+        ensures { result.begun ≡ begun }
+    {
         ScanGate {
             host,
             begun,
@@ -240,7 +242,7 @@ impl<R: Wait + Clock + Copy + Drop, M: Marks + Drop> Observer for ScanGate<R, M>
     fn observe(&mut self, replica: &Replica) {
         self.see_last(replica);
         self.note_looked(replica);
-        self.program.look(self.host.alloc, replica);
+        self.program.look(&self.host, replica);
         self.leave_snapshot(replica);
     }
 }

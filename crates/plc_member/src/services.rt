@@ -5,21 +5,33 @@ use crate::serving::{MachineRuntime, millis};
 use crate::starting::Running;
 use io_image::{Naming, ReleasedReader};
 use net_peers::{FIRST_CONSOLE, PeerLink};
-use plc_console::{Console, Desk, DeskClient, OpenConsole, Others};
+use plc_console::{Console, Desk, DeskClient, Entrance, OpenConsole, Others};
 use plc_group::Group;
 use plc_host::{Failed, Host, ServiceRuntime};
-use plc_listener::Door;
+use plc_listener::{Door, DoorRuntime};
 use plc_machine::client_starts;
 use plc_page::{OpenPage, Page, Published, Showing, Whose};
 use plc_status::{Journal, StatusReader, StatusWriter};
+use std::alloc::{AllocError, Global};
 use std::net::{Net, SocketAddr, TcpListener, TcpStream};
 use std::sync::Arc;
 use std::time::Duration;
 use vr_model::ClientNumber;
 
+/// What a console tells and notes.
+#[derive(Drop)]
+struct ToServe {
+    /// Where what an operator does is noted.
+    journal: Journal,
+    /// What shows of the machine.
+    status: StatusReader,
+}
+
 /// What a page shows of a machine: what is published of it, and what is shown beside, if a page is wanted.
 #[derive(Drop)]
 struct ToShow<J: Naming> {
+    /// Where it's noted what becomes of the page.
+    journal: Journal,
     status: StatusReader,
     released: ReleasedReader<J>,
     showing: Option<Showing>,
@@ -29,7 +41,9 @@ struct ToShow<J: Naming> {
 #[derive(Drop)]
 pub(crate) struct Beside<J: Naming> {
     /// Where what an operator does at the console is noted.
-    pub(crate) journal: Journal,
+    pub(crate) console: Journal,
+    /// Where it's noted what becomes of the page.
+    pub(crate) page: Journal,
     /// The outputs, for the page.
     pub(crate) released: ReleasedReader<J>,
     /// What the page shows beside what is published, if one is wanted.
@@ -62,6 +76,39 @@ fn status_of(group: &Group, number: u8) -> Option<SocketAddr> {
     group.machines.get(usize::from(number))?.status
 }
 
+/// What the console of a group's machine asks for first, if anything.
+fn key_of(alloc: Global, group: &Group) -> Result<Option<Vec<u8>>, AllocError> {
+    match &group.console_key {
+        Some(key) => Ok(Some(Vec::from_slice(alloc, key.as_bytes())?)),
+        None => Ok(None),
+    }
+}
+
+/// The door at the socket of a machine's console in this directory.
+fn socket_in<R: DoorRuntime>(
+    host: Host<R>,
+    directory: &str,
+    number: u8,
+) -> Result<Door, AllocError> {
+    let path = format!(in host.alloc; "{directory}/console-{number}")?;
+    Door::wanted_at_path(&host, path.as_str())
+}
+
+/// The door of a machine's console, if it has one: a socket, or an address. Where it isn't to be had now, it's had later.
+fn console_door<R: DoorRuntime>(
+    host: Host<R>,
+    group: &Group,
+    number: u8,
+) -> Result<Option<Door>, AllocError> {
+    if let Some(directory) = &group.console_sockets {
+        return Ok(Some(socket_in(host, directory.as_str(), number)?));
+    }
+    match console_of(group, number) {
+        Some(address) => Ok(Some(Door::wanted(&host, address))),
+        None => Ok(None),
+    }
+}
+
 /// The client that the console of a machine is, which was started so often.
 fn desk_client(number: u8, starts: u64) -> Result<DeskClient, Failed> {
     match (
@@ -90,9 +137,28 @@ impl<R: MachineRuntime> Running<R> {
             replica: number,
         };
         let has_changed = Arc::try_clone(&self.boards.has_changed)?;
+        let has_no_majority = Arc::try_clone(&self.boards.signals.has_no_majority)?;
         let period = millis(group.period);
         let desk = Desk::new(host, group.config, client, link, period, journal);
-        Ok(desk.among(others).telling_changes(has_changed))
+        let desk = desk.among(others).telling_changes(has_changed);
+        Ok(desk.minding(has_no_majority))
+    }
+
+    /// The operator's console behind this door, which takes no connection yet.
+    fn console_behind(
+        &self,
+        host: Host<R>,
+        group: &Group,
+        door: Door,
+        link: PeerLink<R>,
+        beside: ToServe,
+    ) -> Result<Console<R, PeerLink<R>>, Failed> {
+        let ToServe { journal, status } = beside;
+        let key = key_of(host.alloc, group)?;
+        let desk = self.desk(host, group, link, journal)?;
+        let idle = Duration::from_secs(u64::from(group.times.idle));
+        let entrance = Entrance { door, idle, key };
+        Console::new(host, entrance, desk, &self.around.origin.image, status)
     }
 
     /// The operator's console, if the machine has one, which takes no connection yet.
@@ -100,21 +166,15 @@ impl<R: MachineRuntime> Running<R> {
         &mut self,
         host: Host<R>,
         group: &Group,
-        journal: Journal,
-        status: StatusReader,
+        beside: ToServe,
     ) -> Result<Option<Console<R, PeerLink<R>>>, Failed> {
-        let number = self.around.number();
-        let (Some(address), Some(link)) = (console_of(group, number), self.around.console.take())
-        else {
+        let Some(link) = self.around.console.take() else {
             return Ok(None);
         };
-        let Ok(door) = Door::at(&host.rt, address) else {
-            return Err(Failed::Port(address.port()));
+        let Some(door) = console_door(host, group, self.around.number())? else {
+            return Ok(None);
         };
-        let desk = self.desk(host, group, link, journal)?;
-        let idle = Duration::from_secs(u64::from(group.times.idle));
-        let image = &self.around.origin.image;
-        Ok(Some(Console::new(host, door, desk, image, status, idle)?))
+        Ok(Some(self.console_behind(host, group, door, link, beside)?))
     }
 
     /// The page that shows the machine, if it has one, which nobody is shown yet.
@@ -125,6 +185,7 @@ impl<R: MachineRuntime> Running<R> {
         shown: ToShow<J>,
     ) -> Result<Option<Page<R, J>>, Failed> {
         let ToShow {
+            journal,
             status,
             released,
             showing,
@@ -140,6 +201,7 @@ impl<R: MachineRuntime> Running<R> {
             released,
             begun: self.around.keeper.begun,
             has_changed: Arc::try_clone(&self.boards.has_changed)?,
+            journal,
         };
         let image = &self.around.origin.image;
         Ok(Some(Page::new(host, address, image, showing, published)?))
@@ -154,12 +216,18 @@ impl<R: MachineRuntime> Running<R> {
         beside: Beside<J>,
     ) -> Result<Services<R, J>, Failed> {
         let Beside {
-            journal,
+            console,
+            page,
             released,
             showing,
         } = beside;
-        let console = self.console(host, group, journal, status.reader()?)?;
+        let to_serve = ToServe {
+            journal: console,
+            status: status.reader()?,
+        };
+        let console = self.console(host, group, to_serve)?;
         let shown = ToShow {
+            journal: page,
             status: status.reader()?,
             released,
             showing,
@@ -170,9 +238,11 @@ impl<R: MachineRuntime> Running<R> {
 }
 
 /// Shows a page, if there is one.
-fn opened_page<R: ServiceRuntime, J: Naming + Send + Sync + 'static>(
-    page: Option<Page<R, J>>,
-) -> Result<Option<OpenPage<R, J>>, Failed> {
+fn opened_page<R, J>(page: Option<Page<R, J>>) -> Result<Option<OpenPage<R, J>>, Failed>
+where
+    R: DoorRuntime,
+    J: Naming + Send + Sync + 'static,
+{
     match page {
         Some(page) => Ok(Some(page.open()?)),
         None => Ok(None),
@@ -191,10 +261,11 @@ where
 
 impl<R, J> Services<R, J>
 where
-    R: ServiceRuntime + Net<Listener = TcpListener, Stream = TcpStream>,
+    R: MachineRuntime,
     J: Naming + Send + Sync + 'static,
 {
-    /// Takes connections at both. The console is opened first, and closed where the page can't be shown.
+    /// Takes connections at both, as soon as their doors are to be had. The console is opened first, and closed where the
+    /// page can't be shown.
     pub(crate) fn open(self) -> Result<OpenServices<R, J>, Failed> {
         let Services { console, page } = self;
         let console = match console {

@@ -3,27 +3,32 @@
 ghost use Rattle.std.specs.Prelude.{◌≡◌};
 
 use crate::begun::{Begun, Surroundings};
-use crate::drive::{Drive, Ended};
+use crate::drive::{Drive, Parting};
+use crate::ended::{Ended, Left};
 use crate::keeper::Keeper;
 use crate::port::Port;
 use crate::program::Marks;
 use crate::publisher::Publisher;
+use crate::receiving::Receives;
 use crate::requester::Requester;
 use crate::services::Beside;
 use crate::starting::{Running, started};
 use crate::stop::Stop;
-use crate::teller::{Submitted, Teller};
+use crate::teller::{Submitted, Teller, ToTell};
 use crate::tracer::Tracer;
+use crate::tries::Tries;
 use io_image::{Naming, NewList, Pen, ReleasedReader, SharedPen, Stage, Stamp, released};
 use io_model::CountedWrite;
 use modbus_server::{Seats, Shown};
 use plc_group::Group;
-use plc_host::{Failed, Host, ServiceRuntime};
+use plc_host::{Failed, Host};
+use plc_listener::DoorRuntime;
 use plc_machine::{MachineDriver, Pace, client_starts};
 use plc_page::Showing;
 use plc_status::{Journal, Journals, Notice, Printer, StatusWriter};
 use std::alloc::Global;
-use std::net::{Net, SocketAddr, TcpListener, TcpStream};
+use std::net::SocketAddr;
+use std::rt::Files;
 use std::sync::Arc;
 use std::thread;
 use std::time::Duration;
@@ -34,9 +39,9 @@ use vr_threads::{SoloThread, Starts};
 const SESSIONS: usize = 16;
 
 /// A runtime that the process of a machine runs on.
-pub trait MachineRuntime: ServiceRuntime + Net<Listener = TcpListener, Stream = TcpStream> {}
+pub trait MachineRuntime: DoorRuntime + Files {}
 
-impl<R: ServiceRuntime + Net<Listener = TcpListener, Stream = TcpStream>> MachineRuntime for R {}
+impl<R: DoorRuntime + Files> MachineRuntime for R {}
 
 /// A time of so many milliseconds.
 pub(crate) fn millis(time: u32) -> Duration {
@@ -165,11 +170,13 @@ where
         let Journals {
             driver: journal,
             console,
+            page,
             mut printer,
         } = Journals::new(host.alloc)?;
         let (served, released) = self.served::<J>(host, list, group, journal)?;
         let beside = Beside {
-            journal: console,
+            console,
+            page,
             released,
             showing,
         };
@@ -247,6 +254,12 @@ impl<R: MachineRuntime> Surroundings<R> {
             trace,
             ..
         } = self;
+        let told = ToTell {
+            number,
+            epoch,
+            others: keeper.terms.f.saturating_mul(2),
+            exchange,
+        };
         Hands {
             requester: Requester {
                 alloc,
@@ -256,7 +269,7 @@ impl<R: MachineRuntime> Surroundings<R> {
                 link,
                 sent: millis(0),
             },
-            teller: Teller::new(number, epoch, exchange, journal, status),
+            teller: Teller::new(told, journal, status),
             tracer: Tracer {
                 number,
                 epoch,
@@ -269,14 +282,17 @@ impl<R: MachineRuntime> Surroundings<R> {
 }
 
 impl<R: MachineRuntime, J: Naming, P: Pen<J> + Drop> Parts<R, J, P> {
-    /// The driver, which stands by and samples this stage, and the thread of the replica.
+    /// The driver, which stands by and samples this stage, and the thread of the replica. Its times have the beginning
+    /// that all times of the machine's life have.
     fn into_drive(
         self,
         host: Host<R>,
         period: Duration,
         driver: MachineDriver,
         stage: Arc<Stage>,
-    ) -> (Drive<R, J, P>, SoloThread) {
+    ) -> (Drive<R, J, P>, SoloThread)
+        ensures { result.0.begun ≡ self.running.around.keeper.begun }
+    {
         let Parts {
             running,
             publisher,
@@ -298,12 +314,16 @@ impl<R: MachineRuntime, J: Naming, P: Pen<J> + Drop> Parts<R, J, P> {
             solo,
             keeper: hands.keeper,
             board: boards.scans,
+            saves: boards.saves,
             stage,
             publisher,
             teller: hands.teller,
             tracer: hands.tracer,
             submitted: Submitted::at_the_start(begun),
             inherited: None,
+            tries: Tries::none(),
+            receives: Receives::new(),
+            signals: boards.signals,
             stop: hands.stop,
         };
         (drive, thread)
@@ -343,13 +363,14 @@ impl<R: MachineRuntime, J: Naming, P: Pen<J> + Drop> Served<R, J, P> {
     }
 }
 
-/// How a machine ended whose replica has this thread. Whoever leaves an epoch says nothing in a later one before its
-/// replica, its links and its listener are gone.
-fn joined<R: MachineRuntime>(rt: &R, ended: Ended, thread: SoloThread) -> Ended {
-    if let Ended::Leaves(_) = ended {
-        thread.join(rt);
+/// How a machine ended the work of whose driver ended so, and whose replica has this thread. Whoever leaves an epoch says
+/// nothing in a later one before its replica, its links and its listener are gone.
+fn ended_by<R: MachineRuntime>(rt: &R, parting: Parting, thread: SoloThread) -> Ended {
+    match parting {
+        Parting::Stopped => Ended::Stopped,
+        Parting::Failed(failed) => Ended::Failed(failed),
+        Parting::Leaves(kept) => Ended::Leaves(Left::begun(rt, thread, kept)),
     }
-    ended
 }
 
 impl<R, J, P> Served<R, J, P>
@@ -371,9 +392,9 @@ where
         let services = parts.running.services(host, group, &parts.status, beside)?;
         let (work, thread) = self.into_work(host, group)?;
         let services = services.open()?;
-        let ended = work.done(host.rt, printer, err);
+        let parting = work.done(host.rt, printer, err);
         services.close();
-        Ok(joined(&host.rt, ended?, thread))
+        Ok(ended_by(&host.rt, parting?, thread))
     }
 }
 
@@ -397,7 +418,7 @@ where
         rt: R,
         printer: &mut Printer,
         err: &mut E,
-    ) -> Result<Ended, Failed> {
+    ) -> Result<Parting, Failed> {
         let Work {
             drive,
             address,

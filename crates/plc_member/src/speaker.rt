@@ -1,5 +1,10 @@
 //! How a machine says words to other machines of its group.
 
+ghost use Rattle.std.specs.Prelude.{◌≡◌};
+ghost use Rattle.std.specs.Duration.{as_nanos};
+ghost use Rattle.plc_member.specs.Probing.{reaching};
+
+use crate::keeper::is_among;
 use net_hello::Epoch;
 use net_peers::visit;
 use plc_epochs::{Visit, Word};
@@ -15,14 +20,15 @@ const REACHING: u64 = 20;
 /// The same of a machine that there is a connection with, which may be far away.
 const REACHING_CONNECTED: u64 = 400;
 
-/// For so long it's tried to reach a machine, where there are connections with these, by bits.
-fn reaching(connected: u8, to: u8) -> Duration {
-    let is_connected = to < 8 && connected >> to & 1 == 1;
-    Duration::from_millis(if is_connected {
-        REACHING_CONNECTED
+/// For so long it's tried to reach a machine, by whether there is a connection with it.
+fn reaching(is_connected: bool) -> Duration
+    ensures { as_nanos result ≡ reaching is_connected }
+{
+    if is_connected {
+        Duration::from_millis(REACHING_CONNECTED)
     } else {
-        REACHING
-    })
+        Duration::from_millis(REACHING)
+    }
 }
 
 /// What a machine says words by: one that recovers, since nobody else says any.
@@ -55,12 +61,8 @@ where
             word,
         };
         if let Ok(frame) = said.spell(self.alloc) {
-            let _ = visit(
-                &self.rt,
-                *address,
-                frame.as_slice(),
-                reaching(connected, to),
-            );
+            let longest = reaching(is_among(connected, to));
+            let _ = visit(&self.rt, *address, frame.as_slice(), longest);
         }
     }
 

@@ -1,12 +1,17 @@
 //! How the replica of a machine that has begun its epoch is started, in a thread of its own.
 
+ghost use Rattle.std.specs.Prelude.{◌≡◌, IfOk};
+ghost use Rattle.plc_member.specs.Marking.{found_mark};
+
 use crate::begun::{Begun, ReplicaFiles, Surroundings};
+use crate::giving_up::GivingTimer;
 use crate::held_link::HeldLink;
 use crate::life::Origin;
 use crate::neighbours::Machines;
-use crate::program::{Marking, Marks, ProgramWatch};
+use crate::program::{Mark, Marking, Marks, ProgramWatch};
 use crate::scans::{ScanBoard, ScanGate};
 use crate::serving::{MachineRuntime, millis};
+use crate::signals::Signals;
 use net_peers::PeerLink;
 use plc_console::SnapshotBoard;
 use plc_group::Group;
@@ -14,7 +19,7 @@ use plc_host::{Failed, Host};
 use std::alloc::{AllocError, Global};
 use std::sync::Arc;
 use std::sync::atomic::AtomicBool;
-use vr_threads::{ClusterConfig, ClusterError, GroupTimer, Seat, Solo, SoloThread, Starts};
+use vr_threads::{ClusterConfig, ClusterError, GroupTimer, Saves, Seat, Solo, SoloThread, Starts};
 
 /// Where the thread of a replica leaves what the others of its machine look at.
 #[derive(Drop)]
@@ -25,41 +30,60 @@ pub(crate) struct Boards {
     pub(crate) snapshots: Arc<SnapshotBoard>,
     /// That another program may be in force than the one with which the epoch began.
     pub(crate) has_changed: Arc<AtomicBool>,
+    /// What its driver shows the others.
+    pub(crate) signals: Signals,
+    /// How what it keeps in its directory goes.
+    pub(crate) saves: Arc<Saves>,
+}
+
+/// What the mark of a store says as a life of its machine begins: a change that it tells may have been refused since.
+fn found(is_marked: bool) -> Mark
+    ensures { result ≡ found_mark is_marked }
+{
+    if is_marked { Mark::Seen } else { Mark::Absent }
 }
 
 impl Boards {
-    /// Nothing was left there.
-    fn new(alloc: Global) -> Result<Boards, AllocError> {
+    /// Nothing was left there by a replica that keeps things so.
+    fn new(alloc: Global, saves: &Arc<Saves>) -> Result<Boards, AllocError> {
         Ok(Boards {
             scans: Arc::new(alloc, ScanBoard::new())?,
             snapshots: Arc::new(alloc, SnapshotBoard::new())?,
             has_changed: Arc::new(alloc, AtomicBool::new(false))?,
+            signals: Signals::new(alloc)?,
+            saves: Arc::try_clone(saves)?,
         })
     }
 
-    /// What keeps a change of the program, by what marks the store: with these surroundings, whose keeper ends the
-    /// replica's link where it can't be marked.
+    /// What keeps a change of the program, by what marks the store, with these surroundings.
     fn marking<R: MachineRuntime, M: Marks + Drop>(
         &self,
+        host: Host<R>,
         around: &Surroundings<R>,
         marks: M,
     ) -> Result<Marking<M>, AllocError> {
         Ok(Marking {
             has_changed: Arc::try_clone(&self.has_changed)?,
             marks,
-            is_marked: around.origin.is_marked,
+            mark: found(around.origin.is_marked),
+            image: Vec::new(host.alloc),
             hold: Arc::try_clone(&around.keeper.terms.hold)?,
+            saves: Arc::try_clone(&self.saves)?,
+            exchange: Arc::try_clone(&around.exchange)?,
         })
     }
 
-    /// What leaves there what a replica comes to that was not started, with these surroundings.
+    /// What leaves there what a replica comes to that was not started, with these surroundings. Its times have the
+    /// beginning that all times of the machine's life have.
     fn gate<R: MachineRuntime, M: Marks + Drop>(
         &self,
         host: Host<R>,
         around: &Surroundings<R>,
         marks: M,
-    ) -> Result<ScanGate<R, M>, AllocError> {
-        let marking = self.marking(around, marks)?;
+    ) -> Result<ScanGate<R, M>, AllocError>
+        ensures { IfOk result (λ gate. gate.begun ≡ around.now.keeper.begun) }
+    {
+        let marking = self.marking(host, around, marks)?;
         let program = ProgramWatch::new(host.alloc, &around.origin.image, marking)?;
         let scans = Arc::try_clone(&self.scans)?;
         let snapshots = Arc::try_clone(&self.snapshots)?;
@@ -85,18 +109,23 @@ fn failed_by(error: ClusterError) -> Failed {
     }
 }
 
-/// What says when a replica with these surroundings is late.
+/// What says when the replica of a machine is late.
+type MachineTimer<R> = GivingTimer<GroupTimer<R, Machines>>;
+
+/// What says when a replica with these surroundings is late, or is to give its view up.
 fn timer_of<R: MachineRuntime>(
     rt: R,
     group: &Group,
     around: &Surroundings<R>,
-) -> Result<GroupTimer<R, Machines>, AllocError> {
+    signals: &Signals,
+) -> Result<MachineTimer<R>, AllocError> {
     let machines = Machines {
         exchange: Arc::try_clone(&around.exchange)?,
     };
     let (patience, resend) = (millis(group.times.patience), millis(group.times.resend));
     let number = around.number();
-    Ok(GroupTimer::new(rt, group.config, number, patience, resend, machines))
+    let timer = GroupTimer::new(rt, group.config, number, patience, resend, machines);
+    Ok(GivingTimer::new(timer, Arc::try_clone(&signals.given_up)?))
 }
 
 /// How the replicas of a group run.
@@ -109,7 +138,7 @@ fn config_of(group: &Group) -> ClusterConfig {
 }
 
 /// What the replica of a machine works with.
-type MachineSeat<R, S, M> = Seat<HeldLink<R>, S, GroupTimer<R, Machines>, ScanGate<R, M>>;
+type MachineSeat<R, S, M> = Seat<HeldLink<R>, S, MachineTimer<R>, ScanGate<R, M>>;
 
 /// What a replica with these surroundings works with, by its link, which can be held, its files, and the boards.
 fn seat_of<R, S, M>(
@@ -125,9 +154,9 @@ where
     S: Starts + Drop,
     M: Marks + Drop,
 {
-    let ReplicaFiles { store, marks } = files;
+    let ReplicaFiles { store, marks, .. } = files;
     let hold = Arc::try_clone(&around.keeper.terms.hold)?;
-    let timer = timer_of(host.rt, group, around)?;
+    let timer = timer_of(host.rt, group, around, &boards.signals)?;
     let gate = boards.gate(host, around, marks)?;
     Ok(Seat {
         link: HeldLink { link, hold },
@@ -173,7 +202,7 @@ where
         link,
         files,
     } = begun;
-    let boards = Boards::new(host.alloc)?;
+    let boards = Boards::new(host.alloc, &files.saves)?;
     let seat = seat_of(host, group, &around, &boards, link, files)?;
     let (solo, thread) = solo_of(host, group, &around.origin, seat)?;
     Ok(Running {

@@ -1,9 +1,12 @@
 //! What a machine tells its operator: what its journal notes, and what its status shows.
 
-ghost use Rattle.std.specs.Prelude.{◌≡◌};
+ghost use Rattle.std.specs.Prelude.{◌≡◌, not};
 ghost use Rattle.plc_member.specs.Watching.{IsNoted, notice_of_port};
+ghost use Rattle.plc_member.specs.Hearing.{by_hand_notice, is_missing, lacking_after, majority_notice};
 ghost use Rattle.plc_status.specs.Scans.{IsHaltNoted};
 
+use crate::by_hand::by_hand_notice;
+use crate::majority::Majority;
 use crate::port::Turn;
 use crate::watch::{Watch, note, told_of};
 use net_peers::Exchange;
@@ -34,6 +37,19 @@ impl Submitted {
     }
 }
 
+/// Whom a teller tells of.
+#[derive(Drop)]
+pub(crate) struct ToTell {
+    /// Of its machine.
+    pub(crate) number: u8,
+    /// In which that takes part.
+    pub(crate) epoch: u64,
+    /// So many other machines its group has.
+    pub(crate) others: u8,
+    /// What the links of the machine's own parties tell.
+    pub(crate) exchange: Arc<Exchange>,
+}
+
 /// What a machine tells its operator.
 #[derive(Drop)]
 pub(crate) struct Teller {
@@ -42,6 +58,7 @@ pub(crate) struct Teller {
     /// What the links of the machine's own parties tell.
     exchange: Arc<Exchange>,
     watch: Watch,
+    majority: Majority,
     journal: Journal,
     status: StatusWriter,
     /// What shows of the machine.
@@ -52,11 +69,18 @@ pub(crate) struct Teller {
     refused_in: Option<u64>,
     /// It was told that the trace can't be written.
     is_untraced: bool,
+    /// It was told that the machine waits for its operator.
+    is_told_by_hand: bool,
 }
 
 /// A time in whole microseconds.
 fn microseconds(time: Duration) -> u64 {
     u64::try_from(time.as_micros()).unwrap_or(u64::MAX)
+}
+
+/// How many replicas these bits stand for.
+fn count_of(replicas: u8) -> u8 {
+    u8::try_from(replicas.count_ones()).unwrap_or(u8::MAX)
 }
 
 /// What is told of a port that took this turn in this view, where it was told before that it isn't to be had in that
@@ -74,29 +98,34 @@ fn notice_of_port(turn: Turn, view: u64, refused_in: Option<u64>) -> Option<Noti
 }
 
 impl Teller {
-    /// Of this machine, which takes part in this epoch and stands by. Nothing was told.
-    pub(crate) fn new(
-        number: u8,
-        epoch: u64,
-        exchange: Arc<Exchange>,
-        journal: Journal,
-        mut status: StatusWriter,
-    ) -> Teller {
+    /// Of this machine, which stands by. Nothing was told.
+    pub(crate) fn new(told: ToTell, journal: Journal, mut status: StatusWriter) -> Teller {
+        let ToTell {
+            number,
+            epoch,
+            others,
+            exchange,
+        } = told;
         let machine = MachineStatus {
             epoch,
             is_driving: false,
+            heard: 0,
+            others,
+            has_majority: true,
         };
         status.set_machine(machine);
         Teller {
             number,
             exchange,
             watch: Watch::new(),
+            majority: Majority::new(),
             journal,
             status,
             machine,
             halt: None,
             refused_in: None,
             is_untraced: false,
+            is_told_by_hand: false,
         }
     }
 
@@ -108,6 +137,51 @@ impl Teller {
         if shown.has_failed {
             self.journal.put(Notice::Store(self.number));
         }
+        let heard = count_of(self.exchange.near());
+        self.look_around(heard, now);
+    }
+
+    /// So many other machines are heard now: notes whether a majority is, where that changed, and shows it.
+    fn look_around(&mut self, heard: u8, now: Duration)
+        ensures missing { self.new.majority.is_missing
+            ≡ is_missing (lacking_after self.old.majority.lacking heard self.old.machine.others now) now }
+        ensures told { IsNoted (majority_notice self.old.majority.is_missing self.new.majority.is_missing heard
+            self.old.machine.others) self.old.journal self.new.journal }
+    {
+        let notice = self.majority.look(heard, self.machine.others, now);
+        note(notice, &mut self.journal);
+        self.show_hearing(heard);
+    }
+
+    /// Whether the machine hears no majority for a while.
+    pub(crate) fn has_no_majority(&self) -> bool
+        ensures { result ≡ self.now.majority.is_missing }
+    {
+        self.majority.is_missing()
+    }
+
+    /// Shows that so many other machines are heard, and whether a majority is.
+    fn show_hearing(&mut self, heard: u8)
+        ensures shown { (self.new.machine.heard ≡ heard)
+            × (self.new.machine.has_majority ≡ not self.old.majority.is_missing) }
+        ensures same { (self.new.journal ≡ self.old.journal) × (self.new.majority ≡ self.old.majority) }
+    {
+        let has_majority = !self.majority.is_missing();
+        if self.machine.heard != heard || self.machine.has_majority != has_majority {
+            self.machine.heard = heard;
+            self.machine.has_majority = has_majority;
+            self.status.set_machine(self.machine);
+        }
+    }
+
+    /// Notes once that the machine waits for its operator, where that is so.
+    pub(crate) fn note_by_hand(&mut self, waits: bool)
+        ensures { IsNoted (by_hand_notice self.old.is_told_by_hand waits self.old.machine.others)
+            self.old.journal self.new.journal }
+    {
+        let notice = by_hand_notice(self.is_told_by_hand, waits, self.machine.others);
+        note(notice, &mut self.journal);
+        self.is_told_by_hand = self.is_told_by_hand || waits;
     }
 
     /// Shows whether the machine drives.

@@ -103,6 +103,11 @@ fn why_of(refusal: Refusal) -> Why {
         Refusal::OwnParty => Why::OwnParty,
         Refusal::NoMember => Why::NoMember,
         Refusal::FewerStarts => Why::FewerStarts,
+        Refusal::OtherFresh => Why::OtherFresh,
+        Refusal::OtherStore => Why::OtherStore,
+        Refusal::OwnStore => Why::OwnStore,
+        Refusal::MoreStarts => Why::MoreStarts,
+        Refusal::OwnStarts => Why::OwnStarts,
     }
 }
 

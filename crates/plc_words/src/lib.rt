@@ -15,10 +15,17 @@
 //! `tests_tool`). Neither: the texts of help, which say by hand what `docs/FAULTS.md` says.
 #![tactic(auto)]
 
+mod commands;
+mod console;
 mod error;
 mod forms;
+mod help;
+mod operators;
+mod options;
 mod telling;
 
+pub use console::{AskedConsole, Place};
 pub use error::WordsError;
-pub use forms::{VERSION, Words, read_words};
+pub use forms::{EpochProgram, VERSION, Words, read_words};
+pub use operators::OperatorsAt;
 pub use telling::tell_words;

@@ -1,0 +1,32 @@
+//! Random bytes, by which groups and stores are told apart.
+
+use il_text::{Fault, put};
+use io_model::CountedWrite;
+use std::random::RandomSource;
+
+/// Tells that no random bytes are to be had, and answers the status.
+fn tell_no_random<E: CountedWrite>(err: &mut E) -> u8 {
+    let _ = put(err, b"plc: device random\n");
+    Fault::Device.status()
+}
+
+/// What tells a group from others; or the status where it isn't to be had, which is told.
+pub(crate) fn group_identity<E: CountedWrite>(
+    rt: &HostRuntime,
+    err: &mut E,
+) -> Result<[u8; 16], u8> {
+    let mut identity = [0u8; 16];
+    match rt.fill_bytes(&mut identity) {
+        Ok(()) => Ok(identity),
+        Err(_) => Err(tell_no_random(err)),
+    }
+}
+
+/// What tells a store from others, never 0; or the status where it isn't to be had, which is told.
+pub(crate) fn store_number<E: CountedWrite>(rt: &HostRuntime, err: &mut E) -> Result<u64, u8> {
+    let mut bytes = [0u8; 8];
+    match rt.fill_bytes(&mut bytes) {
+        Ok(()) => Ok(u64::from_be_bytes(bytes).max(1)),
+        Err(_) => Err(tell_no_random(err)),
+    }
+}
