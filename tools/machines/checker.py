@@ -12,7 +12,7 @@ from program import GREATEST, TEXTS, TOLD, Outputs, mark_after
 
 DENSE = 0.03            # seconds from read to read at one machine, at most, where nothing is missed between two of them
 CALM = 1.0              # seconds behind a fault until all is as before
-LOST = 0.5              # seconds before the end of a machine in which it may release what it doesn't trace any more
+LOST = 1.0              # seconds before the end of a machine in which it may release what it doesn't trace any more
 OPEN = 8.0              # seconds in which a command that wasn't answered may be done still
 MOST_WAYS = 20000       # that scans which nobody read may have gone
 
@@ -53,6 +53,7 @@ class History(NamedTuple):
     faults: list = ()       # times in which there was any, as (begun, ended)
     releases: list = ()     # of each machine in the order of its trace (traces.py)
     ends: dict = {}         # when each machine was killed, by its number
+    holds: list = ()        # times in which a scan may have been held, as (begun, ended)
 
     def in_time(self):
         return sorted(self.reads, key=lambda it: it.ended)
@@ -207,14 +208,21 @@ def by_session(history):
     return found
 
 
+def under_way(history, write):
+    """How many scans behind the one that was read last may have begun without a write: the next one; and where that was
+    held, so that nobody reads it, the one behind it."""
+    held = any(begun <= write.ended and write.begun <= ended + history.period for begun, ended in history.holds)
+    return 2 if held else 1
+
+
 def loses_an_input(history):
-    """An input that was acknowledged, and isn't in the scan after the next one, though its connection still stands.
-    (The next one may have been under way. Those after it are held to it by inputs_go_back.)"""
+    """An input that was acknowledged, and isn't in the first scan that wasn't under way, though its connection still
+    stands. (Those after it are held to it by inputs_go_back.)"""
     reads = by_session(history)
     for write in history.writes:
-        own = reads.get(write.session, [])
+        own, more = reads.get(write.session, []), under_way(history, write) + 1
         later = own[bisect.bisect_left(own, write.ended, key=lambda it: it.begun):]
-        read = next((it for it in later if it.outputs.count >= later[0].outputs.count + 2), None)
+        read = next((it for it in later if it.outputs.count >= later[0].outputs.count + more), None)
         if read and is_before(read.outputs.word, write.value):
             return f'machine {read.machine} had {write.value} at {write.ended:.3f}, and shows {read.outputs}'
     return None
@@ -372,20 +380,32 @@ def shows_what_it_did_not_release(history):
     if not history.releases:
         return None
     own = {(it.machine, it.outputs()) for it in history.releases}
+    gaps = {machine: between_starts(history, machine) for machine in history.ends}
     for read in history.in_time():
-        if (read.machine, read.outputs) not in own and not ends_soon(history, read):
+        if (read.machine, read.outputs) not in own and not is_cut_off(history, read, gaps):
             return f'machine {read.machine} shows {read.outputs} at {read.ended:.3f}'
     return None
 
 
-def ends_soon(history, read):
-    """Whether a machine was killed soon behind a read."""
-    return any(read.begun - history.period <= it <= read.ended + LOST for it in history.ends.get(read.machine, ()))
+def is_cut_off(history, read, gaps):
+    """Whether a read may be of a release whose line was lost as its machine was killed: soon behind it, and the trace
+    has no later release of that start."""
+    ends_soon = any(read.begun - history.period <= it <= read.ended + LOST for it in history.ends.get(read.machine, ()))
+    return ends_soon and any(last < read.outputs.count < first for last, first in gaps[read.machine])
+
+
+def between_starts(history, machine):
+    """The counts between the last release of a start in a machine's trace and the first of the next one, for each."""
+    own = [it for it in history.releases if it.machine == machine]
+    starts = [list(its) for _, its in itertools.groupby(own, key=lambda it: (it.epoch, it.start))]
+    firsts = [its[0].outputs().count for its in starts] + [math.inf]
+    lasts = [0] + [its[-1].outputs().count for its in starts]
+    return list(zip(lasts, firsts))
 
 
 def releases_without_an_input(history):
-    """An input that was acknowledged, and isn't in the release after the next one of its machine, though its connection
-    stood until then. (The next one's scan may have been under way.)"""
+    """An input that was acknowledged, and isn't in the first release of its machine whose scan wasn't under way, though
+    its connection stood until then."""
     reads, own = by_session(history), {}
     for it in history.releases:
         own.setdefault(it.machine, []).append(it.outputs())
@@ -394,7 +414,8 @@ def releases_without_an_input(history):
         first = bisect.bisect_left(session, write.ended, key=lambda it: it.begun)
         if first == len(session):
             continue
-        place = bisect.bisect_left(shown, session[first].outputs.count + 2, key=lambda it: it.count)
+        least = session[first].outputs.count + under_way(history, write) + 1
+        place = bisect.bisect_left(shown, least, key=lambda it: it.count)
         if place < len(shown) and shown[place].count <= session[-1].outputs.count:
             if is_before(shown[place].word, write.value):
                 return f'machine {write.machine} had {write.value} at {write.ended:.3f}, and released {shown[place]}'

@@ -3,7 +3,6 @@ once, or wait for a person, and how long it takes."""
 import random
 import shutil
 import signal
-import subprocess
 import time
 
 import checker
@@ -13,6 +12,7 @@ from group import Group, now
 
 LONGEST = 4.0           # seconds from the last machine's start to a port that answers
 FAR = 15                # milliseconds that messages need where machines are far apart
+STAYS = 'this group goes on', 'an operator is needed'   # ends of lines of who hears of an epoch and doesn't go there
 
 
 def cut(machines):
@@ -33,10 +33,11 @@ def started(machines, gaps):
 
 
 def begun(group, epoch):
-    """Which machines told that this epoch begins, or that they heard of it."""
+    """Which machines told that this epoch begins, or that they heard of it and leave theirs for it."""
     lines = [(machine.number, line) for machine in group.machines for line in machine.since(0)]
-    return sorted({number for number, line in lines
-                   if line.endswith(f'cold start, epoch {epoch}') or line.startswith(f'epoch {epoch} heard')})
+    heard = f'epoch {epoch} heard from machine '
+    return sorted({number for number, line in lines if line.endswith(f'cold start, epoch {epoch}')
+                   or line.startswith(heard) and not line.endswith(STAYS)})
 
 
 def is_normal_again(machines, since):
@@ -45,12 +46,9 @@ def is_normal_again(machines, since):
 
 
 def epochs(group):
-    """What the stores of the machines say of epochs."""
-    told = []
-    for machine in range(group.size):
-        shown = subprocess.run([group.plc, 'show', '--store', group.store(machine)], capture_output=True, text=True)
-        told.append(tuple(line for line in shown.stdout.split('\n') if line.startswith('epoch')))
-    return told
+    """The epoch of each machine's store, and the program with which that began."""
+    lines = [group.shown(machine) for machine in range(group.size)]
+    return [(told['epoch'], told['begins with']) for told in lines]
 
 
 def has_one_list_each(group):
@@ -152,7 +150,8 @@ def by_hand_alone(options):
         time.sleep(8)
         right = begun(group, 2) == [] and group.driving(0.5) is None and right
         group.machines[1].kill()
-        status, line = group.run('format', '--next-epoch', '--store', group.store(1))
+        own = ('--group', group.file(1), '--store', group.store(1))
+        status, line = group.run('format', '--next-epoch', *own)
         group.machines[1].start()
         right = status == 0 and is_normal_again(group.machines, last) and group.driving(20) is not None and right
         if not right:
@@ -203,7 +202,8 @@ def one_is_dead_for_good(options):
 def by_hand_with(group, machine, *words):
     """Puts a machine into the next epoch by hand: whether that's done."""
     machine.kill()
-    status, line = group.run('format', '--next-epoch', *words, '--store', group.store(machine.number))
+    own = ('--group', group.file(machine.number), '--store', group.store(machine.number))
+    status, line = group.run('format', '--next-epoch', *words, *own)
     machine.start()
     if status:
         print(f'  {line}')
@@ -216,7 +216,7 @@ def a_changed_program_waits_for_a_person(options):
     with Group(options) as group:
         right, operator = group.begin(), console.Operator(group, random.Random(1))
         with console.Console(group.network.console(0)) as session:
-            right = session.ask({'change': operator.images[1]}) == 'done' and right
+            right = session.ask({'change': operator.images[2]}) == 'done' and right
         time.sleep(0.5)
         group.is_over = True
         cut(group.machines)
@@ -248,6 +248,7 @@ def a_lost_disk_waits(options):
         right = lost.told(f'machine {lost.number} waits for an epoch after 1', lost.started, 5) is not None and right
         time.sleep(3)
         right = group.driving(1) is not None and begun(group, 2) == [] and right
+        # Once one of the two that take part is stopped none drives: so nobody has to say that memory is given up.
         right = by_hand_with(group, group.machines[0]) and right
         last = group.machines[0].started
         right = is_normal_again(group.machines, last) and group.driving(20) is not None and right

@@ -21,6 +21,7 @@ LIMIT = 0.4             # seconds that a client waits for anything
 PIECE = 0.004           # seconds from read to read
 WRITES = 0.03           # and from write to write
 WRITTEN = 0.5           # seconds until what was read is in a trace
+ENDS = signal.SIGKILL, signal.SIGTERM
 
 
 def now():
@@ -49,11 +50,12 @@ class Machine:
 
     def send(self, what):
         self.noise.append((now(), now()))
+        if what in ENDS:
+            self.ends.append(now())
         self.process.send_signal(what)
 
     def kill(self, what=signal.SIGKILL):
         """Ends it: its status."""
-        self.ends.append(now())
         self.send(what)
         status = self.process.wait(10)
         self.reader.join(10)
@@ -75,6 +77,13 @@ class Machine:
             time.sleep(0.01)
         return None
 
+    def lines_with(self, words, since, seconds):
+        """The lines with these words, once there's one or so long went by."""
+        end = now() + seconds
+        while now() < end and not any(words in it for it in self.since(since)):
+            time.sleep(0.01)
+        return [it for it in self.since(since) if words in it]
+
     def is_normal(self, seconds):
         """Whether it's normal since its start, within so long."""
         return self.told('replica normal', self.started, seconds) is not None
@@ -91,14 +100,16 @@ class Machine:
 class Group:
     """The machines of a group, what they are made of, and what clients read and wrote."""
 
-    def __init__(self, options, size=None, over=None, has_disks=False, folder=None, has_traces=True, **keys):
+    def __init__(self, options, size=None, over=None, has_disks=False, folder=None, has_traces=True, has_pages=False,
+                 **keys):
         self.plc, self.period, self.size = options.plc, options.period / 1000, size or options.machines
         self.fresh, self.work = self.period + 0.04, tempfile.mkdtemp(prefix='machines-', dir=folder)
-        self.disks, self.network, self.has_traces = [], None, has_traces
+        self.disks, self.network, self.has_traces, self.has_pages = [], None, has_traces, has_pages
         self.reads, self.writes, self.commands, self.faults, self.holds = [], [], [], [], []
         self.is_over, self.threads, self.sessions = False, [], itertools.count()
         try:
-            keys = {'name': '"tried"', 'period': options.period, **keys}
+            keys = {'name': '"tried"', 'identity': f'"{os.urandom(16).hex()}"', 'period': options.period, **keys}
+            self.keys = keys
             self.make(over or network.Loopback(self.size), has_disks, keys)
         except BaseException:
             self.close()
@@ -158,6 +169,8 @@ class Group:
             places = {'replica': self.network.replica(machine, reader),
                       'modbus': network.told(*self.network.modbus(machine)),
                       'console': network.told(*self.network.console(machine))}
+            if self.has_pages:
+                places['status'] = network.told(*self.network.page(machine))
             tables.append('\n[[machine]]\n' + ''.join(f'{key} = "{place}"\n' for key, place in places.items()))
         with open(path, 'w') as file:
             file.write(''.join(tables))
@@ -169,6 +182,11 @@ class Group:
         """A call of the program: its status, and the last line on its standard error."""
         ended = subprocess.run([self.plc, *words], stdin=subprocess.DEVNULL, capture_output=True, text=True, timeout=30)
         return ended.returncode, (ended.stderr.rstrip('\n').split('\n'))[-1]
+
+    def shown(self, machine):
+        """What `plc show` prints of a machine's store, by the words ahead of each value."""
+        call = subprocess.run([self.plc, 'show', self.store(machine)], capture_output=True, text=True, check=True)
+        return dict(line.rsplit(' ', 1) for line in call.stdout.splitlines())
 
     def begin(self):
         """Starts each machine, and a client at each port that reads on and on. Whether all are well within half a
@@ -271,7 +289,7 @@ class Group:
         faults = self.faults + self.holds + [it for machine in self.machines for it in machine.noise]
         releases = [it for machine in range(self.size) for it in traces.read(self.trace(machine))]
         ends = {machine.number: list(machine.ends) for machine in self.machines}
-        return History(self.period, self.fresh, reads, writes, commands, faults, releases, ends)
+        return History(self.period, self.fresh, reads, writes, commands, faults, releases, ends, list(self.holds))
 
     def longest(self, since, until):
         return checker.longest(History(self.period, self.fresh, list(self.reads)), since, until)

@@ -100,6 +100,18 @@ def history(found=None, **changed):
     return made._replace(**changed)
 
 
+def a_machine_is_killed(without):
+    """The first machine is killed as it shows its last scan, and its trace lacks the lines of these scans."""
+    made = history()
+    kept = [it for it in made.releases if it.outputs().count not in without]
+    return made._replace(releases=kept, ends={0: [moment(TAKEOVER - 1) + FRESH]})
+
+
+def good():
+    """Histories in which nothing is wrong; in one the last lines are lost of a machine that was killed."""
+    return {'nothing is wrong': history(), 'last lines of a trace are lost': a_machine_is_killed({78, 79})}
+
+
 # ---- what is wrong, each with the check that has to see it
 
 def one_output_changed():
@@ -250,6 +262,11 @@ def a_release_left_out_of_a_trace():
     return 'shows what it did not release', with_releases(lambda found: found[:50] + found[51:])
 
 
+def a_release_left_out_soon_before_an_end():
+    """The trace of a machine that is killed has later ones of the same start."""
+    return 'shows what it did not release', a_machine_is_killed({77})
+
+
 def a_scan_that_nobody_asked_for():
     """Its request's number is the next one's, too."""
     def change(found):
@@ -306,16 +323,18 @@ WRONG = [one_output_changed, one_scan_changed, another_mark_from_there_on, a_rel
          two_histories, a_read_that_goes_back,
          two_that_show_at_a_time, an_input_that_is_lost, an_input_that_goes_back, empty_inputs, a_command_that_is_lost,
          scans_in_a_hurry, one_output_changed_in_a_trace, one_output_changed_that_nobody_read,
-         a_release_left_out_of_a_trace, a_scan_that_nobody_asked_for, one_place_released_twice,
-         one_place_with_two_outputs, two_lists, a_moment_that_goes_back, two_releases_in_turn,
+         a_release_left_out_of_a_trace, a_release_left_out_soon_before_an_end, a_scan_that_nobody_asked_for,
+         one_place_released_twice, one_place_with_two_outputs, two_lists, a_moment_that_goes_back, two_releases_in_turn,
          an_input_that_is_lost_in_a_release]
 
 
 def tried():
     """Whether the checker finds nothing in what is good, and what is wrong in all others; each is printed."""
-    found = faults_of(history())
-    print(f'nothing is wrong: {found or "yes"}')
-    right = not found
+    right = True
+    for name, made in good().items():
+        found = faults_of(made)
+        print(f'{name}: {found or "yes"}')
+        right = right and not found
     for wrong in WRONG:
         name, made = wrong()
         found = faults_of(made)

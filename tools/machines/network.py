@@ -9,7 +9,7 @@ import sys
 from modbus import connection
 
 HERE = os.path.dirname(os.path.abspath(__file__))
-REPLICA, MODBUS, CONSOLE = 7600, 7650, 7680     # where a machine has an address of its own
+REPLICA, MODBUS, CONSOLE, PAGE = 7600, 7650, 7680, 7690     # where a machine has an address of its own
 TAGS = 250              # so many runs of the tool may be under way at once
 
 
@@ -54,7 +54,7 @@ class Loopback:
     pause = 0.004       # seconds from one try of a client to connect to the next
 
     def __init__(self, size):
-        self.size, self.ports = size, free_ports(3 * size)
+        self.size, self.ports = size, free_ports(4 * size)
 
     def ahead(self, _machine):
         """The words ahead of a call of the program."""
@@ -69,6 +69,9 @@ class Loopback:
 
     def console(self, machine):
         return '127.0.0.1', self.ports[2 * self.size + machine]
+
+    def page(self, machine):
+        return '127.0.0.1', self.ports[3 * self.size + machine]
 
     def connect(self, machine, limit):
         """A client's connection with a machine."""
@@ -196,6 +199,9 @@ class Namespaces(Failing):
 
     def console(self, machine):
         return f'{self.plant}.{machine + 1}', CONSOLE
+
+    def page(self, machine):
+        return f'{self.plant}.{machine + 1}', PAGE
 
     def connect(self, machine, limit):
         return connection(self.modbus(machine), limit)

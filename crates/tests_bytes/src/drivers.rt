@@ -59,8 +59,8 @@ fn starts(cell: &str) -> Option<Option<u64>> {
     }
 }
 
-/// The events of a driver, as `50 look view=1 moment=1000 came=20`, `50 look`, `120 submit`, `140 reply`, `160 shows`,
-/// `250 retry`, each with what comes of it behind a colon.
+/// The events of a driver, as `50 look view=1 moment=1000 came=20`, `50 look`, `120 submit`, `140 reply`, `140 held`,
+/// `160 shows`, `250 retry`, each with what comes of it behind a colon.
 pub fn run(alloc: Global, pace: &str, body: &str) -> io::Result<String> {
     tell_all(alloc, &mut begun(alloc, pace).ok_or(unreadable())?, body)
 }
@@ -110,7 +110,8 @@ fn comes_at(
 ) -> Result<String, AllocError> {
     match words {
         "submit" => submit(alloc, run, now),
-        "reply" => optional(alloc, reply(run)),
+        "reply" => optional(alloc, reply(run, released())),
+        "held" => optional(alloc, reply(run, Answer::Held(3))),
         "shows" => optional(alloc, Some(u64::from(run.driver.shows(now)))),
         "retry" => retry(alloc, run),
         _ => look(alloc, run, words, now),
@@ -180,18 +181,24 @@ fn scan_of(alloc: Global, request: &Request) -> Result<String, AllocError> {
     }
 }
 
-/// The number of what the REPLY to the scan that was submitted last releases, if it releases anything.
-fn reply(run: &mut Driven) -> Option<u64> {
+/// The answer to a scan that is done.
+fn released() -> Answer {
+    Answer::Outputs {
+        count: 1,
+        image: OutImage::safe(),
+    }
+}
+
+/// The number of what the REPLY to the scan that was submitted last, with this answer, releases, if it releases
+/// anything.
+fn reply(run: &mut Driven, answer: Answer) -> Option<u64> {
     let message = Message {
         from: Party::Replica(0),
         to: Party::Client(CLIENT),
         body: Body::Reply {
             view: 0,
             number: run.number,
-            answer: Answer::Outputs {
-                count: 1,
-                image: OutImage::safe(),
-            },
+            answer,
         },
     };
     Some(run.driver.on_reply(&message)?.number)

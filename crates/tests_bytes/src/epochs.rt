@@ -75,7 +75,7 @@ fn asked_of(text: &str) -> Option<Told> {
     Some(asked)
 }
 
-/// A word, as `FREEZE 1.0`, `FROZEN 1.0 3.1`, `CONFIRM 1.0 R2=3.1`, `STILL 1.0 3.1`.
+/// A word, as `FREEZE 1.0`, `FROZEN 1.0 3.1`, `CONFIRM 1.0 R2=3.1`, `STILL 1.0 3.1`, `MARKED 1.0`.
 fn word_of(verb: &str, rest: &str) -> Option<Word> {
     match verb {
         "FREEZE" => Some(Word::Freeze {
@@ -87,6 +87,9 @@ fn word_of(verb: &str, rest: &str) -> Option<Word> {
             asked: asked_of(rest)?,
         }),
         "STILL" => Some(Word::StillFrozen(answer_of(rest)?)),
+        "MARKED" => Some(Word::Marked {
+            question: nonce_of(rest)?,
+        }),
         _ => None,
     }
 }
@@ -136,6 +139,10 @@ fn tell_word(alloc: Global, word: Option<Word>) -> Result<String, AllocError> {
             format!(in alloc; " CONFIRM {question}{asked}")
         }
         Some(Word::StillFrozen(answer)) => tell_answer(alloc, " STILL", &answer),
+        Some(Word::Marked { question }) => {
+            let question = tell_nonce(alloc, question)?;
+            format!(in alloc; " MARKED {question}")
+        }
     }
 }
 
@@ -154,6 +161,8 @@ fn tell_step(alloc: Global, machine: &ColdStart, step: Step) -> Result<String, A
         Step::AsksAgain => tell_saying(alloc, "asks again", machine.question()),
         Step::Freezes(word) => tell_saying(alloc, "freezes", Some(word)),
         Step::Confirms(word) => tell_saying(alloc, "confirms", Some(word)),
+        Step::Declines(word) => tell_saying(alloc, "declines", Some(word)),
+        Step::HearsMarked => String::from_str(alloc, "hears that it's marked"),
         Step::Thaws(nonce) => {
             let nonce = tell_nonce(alloc, nonce)?;
             format!(in alloc; "thaws {nonce}")
@@ -170,6 +179,17 @@ fn tell_epoch_step(alloc: Global, step: Step) -> Result<String, AllocError> {
         Step::Enters(epoch) => tell_epoch(alloc, "enters", &epoch),
         Step::Begins(epoch) => tell_epoch(alloc, "begins", &epoch),
         Step::Starts(epoch) => tell_epoch(alloc, "starts", &epoch),
+        step => tell_staying(alloc, step),
+    }
+}
+
+/// Why a machine stays in its epoch.
+fn tell_staying(alloc: Global, step: Step) -> Result<String, AllocError> {
+    match step {
+        Step::Refuses(epoch) => tell_epoch(alloc, "goes on, refuses", &epoch),
+        Step::FarAbove(epoch) => tell_epoch(alloc, "stays, far above is", &epoch),
+        Step::OtherProgram(epoch) => tell_epoch(alloc, "stays, another program has", &epoch),
+        Step::Before(epoch) => tell_epoch(alloc, "waits on, before it is", &epoch),
         _ => String::from_str(alloc, "other"),
     }
 }
@@ -255,12 +275,13 @@ struct Machines {
     all: Vec<ColdStart>,
 }
 
-/// A group of 2f+1 machines, as `f=1 image=11` and maybe `by=hand`, which all begin with the first epoch begun.
+/// A group of 2f+1 machines, as `f=1` and maybe `by=hand` or `marked`, which all begin with the first epoch begun.
 fn group(text: &str) -> Option<(Place, [u8; 32])> {
     let place = Place {
         config: Config::new(u8::try_from(number_of(text, "f=")?).ok()?, 0)?,
         number: 0,
         is_automatic: !text.contains("by=hand"),
+        is_marked: text.contains("marked"),
     };
     Some((place, image_of("11")?))
 }
@@ -333,10 +354,22 @@ fn comes(alloc: Global, machine: &mut ColdStart, words: &str, now: Moment) -> io
         "kept" => Ok(tell_kept(alloc, &machine.kept())?),
         "says" => Ok(tell_greeting(alloc, machine)?),
         "recovers" => recovers(alloc, machine),
+        "waits for" => tell_waiting(alloc, machine),
         _ => {
             let step = step_of(machine, words, now).ok_or(unreadable())?;
             Ok(tell_step(alloc, machine, step)?)
         }
+    }
+}
+
+/// How many others it waits for, and how many it has heard.
+fn tell_waiting(alloc: Global, machine: &ColdStart) -> io::Result<String> {
+    match machine.waits_for() {
+        Some(others) => {
+            let (heard, wanted) = (others.heard, others.wanted);
+            Ok(format!(in alloc; "{heard} heard, {wanted} wanted")?)
+        }
+        None => told(alloc, "none"),
     }
 }
 
@@ -362,13 +395,14 @@ fn step_of(machine: &mut ColdStart, words: &str, now: Moment) -> Option<Step> {
     }
 }
 
-/// What comes of a word of another machine, as `HELLO 2.11`, `RECOVERY 1.11`, `FREEZE 1.0` in the first epoch, or `in
-/// 2.11 FREEZE 1.0`.
+/// What comes of a word of another machine, as `HELLO 2.11`, `RECOVERY 1.11`, `SIGN 1.11` where it's near in that epoch,
+/// `FREEZE 1.0` in the first epoch, or `in 2.11 FREEZE 1.0`.
 fn hears(machine: &mut ColdStart, from: u8, words: &str, now: Moment) -> Option<Step> {
     let (verb, rest) = front(words, " ");
     match verb {
         "HELLO" => Some(machine.hear(from, &epoch_of(rest)?, now)),
         "RECOVERY" => Some(machine.hear_recovery(from, &epoch_of(rest)?, now)),
+        "SIGN" => Some(machine.hear_sign(from, &epoch_of(rest)?, now)),
         "in" => hears_in(machine, from, rest, now),
         _ => Some(machine.hear_word(from, &epoch_of("1.11")?, &word_of(verb, rest)?, now)),
     }

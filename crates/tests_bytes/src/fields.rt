@@ -126,10 +126,14 @@ fn came(
     Ok("")
 }
 
-/// Tells a cycle what happened: `opened WHO`, `came WHO BYTES` or `closed WHO`; or nothing. What is put where a
-/// connection is to be closed.
+/// Tells a cycle what happened: `opened WHO`, `came WHO BYTES` or `closed WHO`; `stop`; or nothing. What is put where
+/// a connection is to be closed.
 fn happens(alloc: Global, cycle: &mut Cycle, event: &str, now: Moment) -> io::Result<&'static str> {
     if event.is_empty() {
+        return Ok("");
+    }
+    if event == "stop" {
+        cycle.stop();
         return Ok("");
     }
     let (verb, rest) = front(event, " ");

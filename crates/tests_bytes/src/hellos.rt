@@ -4,7 +4,7 @@ ghost use Rattle.std.specs.Prelude.{◌≤◌, length};
 
 use crate::notation::{bytes_of, otherwise, told, told_bytes, unreadable};
 use net_ends::{NonBlocking, NonBlockingRead, Stop};
-use net_hello::{Epoch, Hello, HelloFault, Refusal, judge};
+use net_hello::{Epoch, Hello, HelloFault, Known, Refusal, judge};
 use net_records::Records;
 use std::alloc::{AllocError, Global};
 use std::io;
@@ -16,6 +16,7 @@ pub fn table(alloc: Global, title: &str, cell: &str) -> io::Result<String> {
     match title {
         "hello" => hello(alloc, cell),
         "hello to replica 0" => judged(alloc, cell),
+        "hello that replica 0 answers" => answered(alloc, cell),
         "stream of records" => records(alloc, cell),
         _ => Err(unreadable()),
     }
@@ -35,8 +36,12 @@ fn told_whole(alloc: Global, hello: &Hello) -> Result<String, AllocError> {
         Party::Replica(number) => ("replica", number),
         Party::Client(client) => ("client", client.number),
     };
-    let (epoch, starts) = (hello.epoch.number, hello.starts);
-    format!(in alloc; "{kind} {number} epoch {epoch} starts {starts}")
+    let (epoch, starts, fresh) = (hello.epoch.number, hello.starts, hello.fresh);
+    let (store, known) = (hello.store, hello.known);
+    let known = format!(in alloc; "knows store {} starts {}", known.store, known.starts)?;
+    format!(in alloc;
+        "{kind} {number} epoch {epoch} starts {starts} fresh {fresh} store {store}, {known}"
+    )
 }
 
 /// Whether each front of these bytes waits for more, or has the fault of all of them.
@@ -90,10 +95,10 @@ fn told_judgement(alloc: Global, judgement: Result<(), Refusal>) -> io::Result<S
     }
 }
 
-/// How replica 0 of the group `01..` in epoch 7, which began with the image `02..`, judges a hello. It has seen replica
-/// 1 with 3 starts, and replica 2 with none.
-fn judge_as_replica(hello: &Hello) -> Result<(), Refusal> {
-    let own = Hello {
+/// What replica 0 says, of the group `01..` in epoch 7, which began with the image `02..`: it's in its third start, and
+/// its store has the number 16.
+fn own_hello() -> Hello {
+    Hello {
         identity: [1; 32],
         epoch: Epoch {
             number: 7,
@@ -101,13 +106,40 @@ fn judge_as_replica(hello: &Hello) -> Result<(), Refusal> {
         },
         party: Party::Replica(0),
         starts: 3,
-    };
-    let seen = match hello.party {
-        Party::Replica(1) => Some(3),
-        Party::Replica(2) => Some(0),
+        fresh: 140,
+        store: 16,
+        known: Known::nothing(),
+    }
+}
+
+/// What it knows of a party: of replica 1 its store 17 and 3 starts, of replica 2 nothing.
+fn known_of(party: Party) -> Option<Known> {
+    match party {
+        Party::Replica(1) => Some(Known {
+            store: 17,
+            starts: 3,
+        }),
+        Party::Replica(2) => Some(Known::nothing()),
         _ => None,
-    };
-    judge(&own, seen, hello)
+    }
+}
+
+/// How it judges a hello.
+fn judge_as_replica(hello: &Hello) -> Result<(), Refusal> {
+    judge(&own_hello(), known_of(hello.party), hello)
+}
+
+/// What it answers to a hello, in bytes.
+fn answered(alloc: Global, text: &str) -> io::Result<String> {
+    let bytes = bytes_of(alloc, text)?;
+    match Hello::read(bytes.as_slice()) {
+        Ok(Some(hello)) => {
+            let known = known_of(hello.party).unwrap_or(Known::nothing());
+            let answer = own_hello().answer_to(&hello, known).spell(alloc)?;
+            told_bytes(alloc, answer.as_slice())
+        }
+        _ => Err(otherwise()),
+    }
 }
 
 /// What is given of a stream of records that comes in two pieces, in pieces of at most five bytes.

@@ -10,9 +10,9 @@ use io_model::Counted;
 use net_hello::Epoch;
 use plc_epochs::Kept;
 use plc_store::{
-    Header, NotWritten, Refusal, Start, Store, StoreDirectory, StoreFault, Wanted, enter_by_hand,
-    format, is_unbegun, keep, open, read_store, show, show_directory, spell, stored_in,
-    tell_refusal,
+    ByHand, DiskFault, Header, Refusal, Seen, Start, Store, StoreDirectory, StoreFault, Wanted,
+    changed_in, enter_by_hand, format, is_unbegun, keep, open, read_store, see, show,
+    show_directory, spell, stored_in, tell_refusal,
 };
 use sha2::{Digest, Sha256};
 use std::alloc::{AllocError, Global};
@@ -20,6 +20,9 @@ use std::io;
 
 /// The image that an operator gives.
 const GIVEN: [u8; 3] = *b"PLI";
+
+/// The image to which a program was changed.
+const CHANGED: [u8; 3] = *b"IPL";
 
 /// What a group of three asks of its stores.
 const WANTED: Wanted = Wanted {
@@ -63,22 +66,22 @@ impl StoreDirectory for MemoryDirectory {
         }
     }
 
-    fn put(&mut self, bytes: Vec<u8>) -> Result<(), NotWritten> {
+    fn put(&mut self, bytes: Vec<u8>) -> Result<(), DiskFault> {
         if self.steps == 0 {
-            return Err(NotWritten);
+            return Err(DiskFault::Other);
         }
         self.steps -= 1;
         self.group = Some(bytes);
         Ok(())
     }
 
-    fn forget_views(&mut self) -> Result<(), NotWritten> {
+    fn forget_views(&mut self) -> Result<(), DiskFault> {
         if self.steps == 0 {
-            return Err(NotWritten);
+            return Err(DiskFault::Other);
         }
         self.views.clear();
         if self.steps == 1 {
-            return Err(NotWritten);
+            return Err(DiskFault::Other);
         }
         self.steps -= 2;
         self.mark = None;
@@ -104,20 +107,40 @@ fn of_directory(alloc: Global, title: &str, cell: &str) -> io::Result<String> {
         "format" => formatted(alloc, cell),
         "keep" => keeps(alloc, cell),
         "next epoch by hand of a store" => by_hand(alloc, cell),
+        "seen store" => sees(alloc, cell),
+        "changed program" => changed_to(alloc, cell),
         "shown directory" => shown(alloc, cell),
         _ => Err(unreadable()),
     }
 }
 
 /// The header of these words, as `identity=11 entered=1.16 program=22 machine=0`, in which one byte stands for each of
-/// the 32 of a sum.
+/// the 32 of a sum. The store is 9 where no `store=` says another number.
 fn header_of(words: &str) -> Option<Header> {
     Some(Header {
         identity: [byte(words, "identity=")?; 32],
         kept: kept_of(words)?,
         program: [byte(words, "program=")?; 32],
         machine: byte(words, "machine=")?,
+        store: number_of(words, "store=").unwrap_or(9),
+        seen: seen_in(words)?,
     })
+}
+
+/// Which stores were seen, of one machine at most: `saw=1.7`.
+fn seen_in(words: &str) -> Option<Seen> {
+    let mut seen = [0u64; 7];
+    if let Some(one) = behind(words, "saw=") {
+        let (machine, store) = numbered(one)?;
+        *seen.get_mut(usize::from(machine))? = store;
+    }
+    Some(seen)
+}
+
+/// A machine and its store, as `1.7`.
+fn numbered(text: &str) -> Option<(u8, u64)> {
+    let (machine, store) = text.split_once('.')?;
+    Some((machine.parse::<u8>().ok()?, store.parse::<u64>().ok()?))
 }
 
 /// What a store has of epochs by these words: nothing where there are none of an epoch.
@@ -248,29 +271,49 @@ fn changed(alloc: Global, words: &str) -> io::Result<String> {
 }
 
 /// A directory that holds this: `nothing`, or `bytes` and those, or a store's words; behind `view=` the number of a
-/// replica, if one kept a view there, and behind `marked=` the epoch of a mark. Behind `stops=` stands how many steps of
-/// a write go well.
+/// replica, if one kept a view there, behind `marked=` the epoch of a mark, behind `unknown=` that of one without an image,
+/// and behind `torn=` that of one which is cut. Behind `stops=` stands how many steps of a write go well.
 fn directory_of(alloc: Global, words: &str) -> io::Result<MemoryDirectory> {
     let mut views = Vec::new(alloc);
     if let Some(view) = byte(words, "view=") {
         views.push(view)?;
     }
-    let mark = match behind(words, "marked=") {
-        Some(epoch) => Some(mark_of(alloc, &named_epoch(epoch).ok_or(unreadable())?)?),
-        None => None,
-    };
     Ok(MemoryDirectory {
         group: group_of(alloc, words)?,
         views,
-        mark,
+        mark: mark_in(alloc, words)?,
         steps: number_of(words, "stops=").unwrap_or(u64::MAX),
     })
 }
 
-/// The bytes of a mark of this epoch.
-fn mark_of(alloc: Global, epoch: &Epoch) -> Result<Vec<u8>, AllocError> {
+/// The bytes of the mark of a directory.
+fn mark_in(alloc: Global, words: &str) -> io::Result<Option<Vec<u8>>> {
+    if let Some(epoch) = behind(words, "marked=") {
+        let front = mark_front(alloc, &named_epoch(epoch).ok_or(unreadable())?)?;
+        return Ok(Some(whole_mark(front, CHANGED.as_slice())?));
+    }
+    if let Some(epoch) = behind(words, "unknown=") {
+        let front = mark_front(alloc, &named_epoch(epoch).ok_or(unreadable())?)?;
+        return Ok(Some(whole_mark(front, [].as_slice())?));
+    }
+    match behind(words, "torn=") {
+        Some(epoch) => Ok(Some(mark_front(alloc, &named_epoch(epoch).ok_or(unreadable())?)?)),
+        None => Ok(None),
+    }
+}
+
+/// The first bytes of a mark of this epoch.
+fn mark_front(alloc: Global, epoch: &Epoch) -> Result<Vec<u8>, AllocError> {
     let mut bytes = Vec::from_slice(alloc, epoch.number.to_be_bytes().as_slice())?;
     bytes.extend_from_slice(epoch.image.as_slice())?;
+    Ok(bytes)
+}
+
+/// A mark with these first bytes: behind them the image, and the sum of both.
+fn whole_mark(mut bytes: Vec<u8>, image: &[u8]) -> Result<Vec<u8>, AllocError> {
+    bytes.extend_from_slice(image)?;
+    let sum = Sha256::digest(bytes.as_slice());
+    bytes.extend_from_slice(sum.as_slice())?;
     Ok(bytes)
 }
 
@@ -301,13 +344,48 @@ fn starts(alloc: Global, directory: &MemoryDirectory) -> &'static str {
     }
 }
 
-/// What came of a store: what a directory has of epochs then, and how its machine starts from it.
+/// What came of a store: what a directory has of epochs then, how its machine starts from it, and which stores it has
+/// seen.
 fn left(alloc: Global, came: &str, directory: &MemoryDirectory) -> io::Result<String> {
-    let kept = match stored_in(alloc, directory) {
-        Ok(store) => tell_kept(alloc, &store.header.kept)?,
-        Err(refusal) => String::from_str(alloc, refusal_of(refusal))?,
+    let (kept, seen) = match stored_in(alloc, directory) {
+        Ok(store) => (tell_kept(alloc, &store.header.kept)?, store.header.seen),
+        Err(refusal) => (String::from_str(alloc, refusal_of(refusal))?, [0; 7]),
     };
-    Ok(format!(in alloc; "{came}, {kept}, {}", starts(alloc, directory))?)
+    let start = starts(alloc, directory);
+    let seen = told_seen(alloc, &seen)?;
+    Ok(format!(in alloc; "{came}, {kept}, {start}{seen}")?)
+}
+
+/// The stores that were seen, as `, saw 1.7`.
+fn told_seen(alloc: Global, seen: &Seen) -> Result<String, AllocError> {
+    let mut told = String::new(alloc);
+    for (machine, store) in seen.iter().enumerate() {
+        if *store != 0 {
+            told.push_str(format!(in alloc; ", saw {machine}.{store}")?.as_str())?;
+        }
+    }
+    Ok(told)
+}
+
+/// A directory whose store sees what stands behind ` saw `: what is answered, and what there is then.
+fn sees(alloc: Global, words: &str) -> io::Result<String> {
+    let (words, seen) = cut(words, " saw ")?;
+    let (machine, store) = numbered(seen).ok_or(unreadable())?;
+    let mut directory = directory_of(alloc, words)?;
+    let came = match see(alloc, &mut directory, machine, store) {
+        Ok(_) => "kept",
+        Err(refusal) => refusal_of(refusal),
+    };
+    left(alloc, came, &directory)
+}
+
+/// The image to which the program of a directory's store was changed, or why there's none.
+fn changed_to(alloc: Global, words: &str) -> io::Result<String> {
+    match changed_in(alloc, &directory_of(alloc, words)?) {
+        Ok(image) if image.as_slice() == CHANGED.as_slice() => told(alloc, "IPL"),
+        Ok(_) => told(alloc, "another image"),
+        Err(refusal) => told(alloc, refusal_of(refusal)),
+    }
 }
 
 /// A directory whose store is to say of epochs what stands behind `to`: what is answered, and what there is then.
@@ -322,8 +400,8 @@ fn keeps(alloc: Global, words: &str) -> io::Result<String> {
     left(alloc, came, &directory)
 }
 
-/// A directory whose store is put into the next epoch by hand, with an image where `given` stands: what is answered, and
-/// what there is then.
+/// A directory whose store is put by hand into the next epoch, or into the one behind `into=`, with an image where `given`
+/// stands: what is answered, and what there is then.
 fn by_hand(alloc: Global, words: &str) -> io::Result<String> {
     let mut directory = directory_of(alloc, words)?;
     let image = if words.ends_with(" given") {
@@ -331,7 +409,11 @@ fn by_hand(alloc: Global, words: &str) -> io::Result<String> {
     } else {
         None
     };
-    let came = match enter_by_hand(alloc, &mut directory, image) {
+    let into = match number_of(words, "into=") {
+        Some(number) => ByHand::Numbered(number),
+        None => ByHand::Next,
+    };
+    let came = match enter_by_hand(alloc, &mut directory, into, image) {
         Ok(store) => image_of(&store),
         Err(refusal) => refusal_of(refusal),
     };
@@ -429,7 +511,7 @@ fn line_of(alloc: Global, refusal: Refusal) -> io::Result<String> {
 }
 
 /// The refusals, with the names that rows give them.
-const REFUSALS: [(Refusal, &str); 17] = [
+const REFUSALS: [(Refusal, &str); 23] = [
     (Refusal::NoStore, "no store"),
     (Refusal::OtherFormat, "other format"),
     (Refusal::Torn, "torn"),
@@ -440,11 +522,17 @@ const REFUSALS: [(Refusal, &str); 17] = [
     (Refusal::Backward, "backward"),
     (Refusal::Waits, "waits for its group"),
     (Refusal::LastEpoch, "last epoch"),
+    (Refusal::NotAbove, "not above"),
     (Refusal::Changed, "changed"),
+    (Refusal::NotChanged, "not changed"),
+    (Refusal::NoImage, "no image"),
     (Refusal::Used, "used"),
     (Refusal::TooLong, "too long"),
     (Refusal::Taken, "taken"),
     (Refusal::Open, "open"),
-    (Refusal::Device, "device"),
+    (Refusal::Device(DiskFault::Rights), "no rights"),
+    (Refusal::Device(DiskFault::Space), "no space"),
+    (Refusal::Device(DiskFault::Missing), "file gone"),
+    (Refusal::Device(DiskFault::Other), "device"),
     (Refusal::Memory, "memory"),
 ];

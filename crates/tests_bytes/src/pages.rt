@@ -116,12 +116,15 @@ fn exceptions(text: &str) -> [u64; EXCEPTIONS] {
     ]
 }
 
-/// The machine as `machine=2 epoch=3 driving=1` say, if it's of one.
+/// The machine as `machine=2 epoch=3 driving=1 heard=1 others=2 majority=1` say, if it's of one.
 fn machine(text: &str) -> Option<Machine> {
     Some(Machine {
         number: small(number_of(text, "machine=")?),
         epoch: number(text, "epoch="),
         is_driving: number(text, "driving=") == 1,
+        heard: small(number(text, "heard=")),
+        others: small(number(text, "others=")),
+        has_majority: number(text, "majority=") == 1,
     })
 }
 

@@ -1,5 +1,6 @@
 //! Three machines of a group in one process, each with its store, its addresses and its threads.
 
+use crate::operator::Operator;
 use crate::traces::{add_counts, are_whole};
 use il_text::image_bytes;
 use io_image::NewList;
@@ -9,7 +10,7 @@ use plc_group::{Group, read_group};
 use plc_host::{Failed, Host};
 use plc_machine::new_store;
 use plc_member::{Begun, Ended, MachineRuntime, Marks, Member, Stop};
-use plc_store::{FileDirectory, Store, enter_by_hand, format, is_unbegun, stored_in};
+use plc_store::{ByHand, FileDirectory, Store, enter_by_hand, format, is_unbegun, stored_in};
 use plc_trace::{OpenTraceWriter, Started, Trace};
 use std::alloc::Global;
 use std::fs::File;
@@ -63,11 +64,23 @@ OUT: LD COUNT
     ST COUNT
 ";
 
+/// Another program, which counts in `%QW63` alone.
+const NEXT_PROGRAM: &[u8] = b"VAR
+    COUNT AT %QW63 : INT;
+END_VAR
+    LD COUNT
+    ADD 1
+    ST COUNT
+";
+
 /// In milliseconds: from one scan to the next.
 pub const PERIOD: i64 = 25;
 
 /// In milliseconds: outputs are shown for so long.
 pub const FRESH: i64 = 500;
+
+/// That of the group.
+const IDENTITY: &str = "5a0f3b1c77d2e4968810aabbccddeeff";
 
 /// A runtime that machines run on in a test.
 pub trait Runtime: MachineRuntime + Files<File = File> + Alloc<A = Global> {}
@@ -103,6 +116,11 @@ impl Home {
     /// Where clients of a machine are let in.
     pub fn clients(&self, number: u8) -> SocketAddr {
         self.at(5020 + u16::from(number))
+    }
+
+    /// Where operators are let in, if they are.
+    fn console(&self) -> SocketAddr {
+        self.at(6000)
     }
 
     /// Where a way begins from one machine to the replica of another.
@@ -246,7 +264,7 @@ impl Served {
 }
 
 /// Whether this comes to be so.
-fn comes_to_be<R: Clock>(rt: &R, flag: &AtomicBool, wanted: bool) -> bool {
+pub fn comes_to_be<R: Clock>(rt: &R, flag: &AtomicBool, wanted: bool) -> bool {
     for _ in 0..20_000u32 {
         if flag.load(Ordering::SeqCst) == wanted {
             return true;
@@ -266,6 +284,8 @@ pub struct Machines<R: Runtime> {
     has_ways: bool,
     /// Their group begins anew by hand alone.
     is_by_hand: bool,
+    /// The first has an operator's console.
+    has_console: bool,
     pub home: Home,
     running: [Option<Served>; 3],
 }
@@ -278,6 +298,7 @@ impl<R: Runtime> Machines<R> {
             name,
             has_ways,
             is_by_hand: false,
+            has_console: false,
             home: Home::new(&rt)?,
             running: [None, None, None],
         };
@@ -297,6 +318,30 @@ impl<R: Runtime> Machines<R> {
     fn trace(&self, number: u8) -> Result<String, Fail> {
         let (alloc, name) = (self.rt.alloc(), self.name);
         Ok(format!(in alloc; "{name}-{number}/trace")?)
+    }
+
+    /// The file of the view of a machine's replica.
+    fn view(&self, number: u8) -> Result<String, Fail> {
+        let (alloc, name) = (self.rt.alloc(), self.name);
+        Ok(format!(in alloc; "{name}-{number}/replica-{number}")?)
+    }
+
+    /// Where that file is while it's lost.
+    fn lost(&self, number: u8) -> Result<String, Fail> {
+        let (alloc, name) = (self.rt.alloc(), self.name);
+        Ok(format!(in alloc; "{name}-{number}/lost")?)
+    }
+
+    /// A machine that has ended loses the view of its replica: whether there was one.
+    pub fn lose_view(&self, number: u8) -> Result<bool, Fail> {
+        let (view, lost) = (self.view(number)?, self.lost(number)?);
+        Ok(fs::rename(&self.rt, view.as_str(), lost.as_str()).is_ok())
+    }
+
+    /// The view that a machine lost is there again: whether it was lost.
+    pub fn find_view(&self, number: u8) -> Result<bool, Fail> {
+        let (view, lost) = (self.view(number)?, self.lost(number)?);
+        Ok(fs::rename(&self.rt, lost.as_str(), view.as_str()).is_ok())
     }
 
     /// The counts of scans that machines released.
@@ -325,7 +370,7 @@ impl<R: Runtime> Machines<R> {
     /// What the store of a machine has at first.
     fn first_store(&self, number: u8) -> Result<Store, Fail> {
         let image = image_bytes(self.rt.alloc(), PROGRAM)?;
-        Ok(new_store(&self.group(number)?, number, image)?)
+        Ok(new_store(&self.group(number)?, number, image, 1 + u64::from(number))?)
     }
 
     /// Where this machine finds the replica of another, or is found itself.
@@ -342,8 +387,10 @@ impl<R: Runtime> Machines<R> {
         let alloc = self.rt.alloc();
         let manner = if self.is_by_hand { "by hand" } else { "auto" };
         let mut text = format!(in alloc;
-            "name = \"trial\"\nperiod = {PERIOD}\npatience = 1000\nfresh = {FRESH}\ncold_start = \"{manner}\"\n"
+            "name = \"trial\"\nidentity = \"{IDENTITY}\"\ncold_start = \"{manner}\"\n"
         )?;
+        let times = format!(in alloc; "period = {PERIOD}\npatience = 1000\nfresh = {FRESH}\n")?;
+        text.push_str(times.as_str())?;
         for number in 0..3u8 {
             let replica = self.replica(own, number);
             let clients = self.home.clients(number);
@@ -351,6 +398,10 @@ impl<R: Runtime> Machines<R> {
                 "[[machine]]\nreplica = \"{replica}\"\nmodbus = \"{clients}\"\n"
             )?;
             text.push_str(machine.as_str())?;
+            if self.has_console && number == 0 {
+                let console = self.home.console();
+                text.push_str(format!(in alloc; "console = \"{console}\"\n")?.as_str())?;
+            }
         }
         Ok(read_group(alloc, text.as_bytes())?)
     }
@@ -420,12 +471,39 @@ impl<R: Runtime> Machines<R> {
         }
     }
 
+    /// Whether the replica of a machine isn't normal, and doesn't come to be so for so many milliseconds.
+    pub fn stays_away(&self, number: u8, millis: u32) -> bool {
+        let Some(Some(machine)) = self.running.as_slice().get(usize::from(number)) else {
+            return false;
+        };
+        for _ in 0..millis {
+            if machine.told.is_normal.load(Ordering::SeqCst) {
+                return false;
+            }
+            thread::sleep(&self.rt, Duration::from_millis(1));
+        }
+        true
+    }
+
     /// Whether a machine comes to stand by.
     pub fn stands_by(&self, number: u8) -> bool {
         match self.running.as_slice().get(usize::from(number)) {
             Some(Some(machine)) => comes_to_be(&self.rt, &machine.told.is_driving, false),
             _ => false,
         }
+    }
+
+    /// The first has an operator's console where it starts from now on.
+    pub fn give_console(&mut self) {
+        self.has_console = true;
+    }
+
+    /// An operator at that console, who has asked to go on with another program.
+    pub fn changed(&self) -> Result<Operator, Fail> {
+        let mut operator = Operator::new(&self.rt, self.home.console())?;
+        let image = image_bytes(self.rt.alloc(), NEXT_PROGRAM)?;
+        operator.change(&self.rt, image.as_slice())?;
+        Ok(operator)
     }
 
     /// Those that start from now on begin anew by hand alone.
@@ -440,7 +518,7 @@ impl<R: Runtime> Machines<R> {
         let Ok(mut directory) = FileDirectory::take(rt, alloc, path.as_str()) else {
             return Ok(false);
         };
-        Ok(enter_by_hand(alloc, &mut directory, None).is_ok())
+        Ok(enter_by_hand(alloc, &mut directory, ByHand::Next, None).is_ok())
     }
 
     /// The number of the epoch that a machine has begun, by its store.

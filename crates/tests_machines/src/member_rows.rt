@@ -13,9 +13,9 @@ use std::thread;
 const CRASHES: u8 = 4;
 
 /// The machine that drives crashes, behind twenty scans of it each time, and comes back: another one goes on with what
-/// it did. No scan is shown by two machines or comes before there is time for it, and no count goes back; an input is
-/// held in each scan, and the timer over it ends in its scan. Each scan is released once, but for those that were under
-/// way at a crash, and no other epoch is begun.
+/// it did, also one that had waited two seconds for the others at its start. No scan is shown by two machines or comes
+/// before there is time for it, and no count goes back; an input is held in each scan, and the timer over it ends in
+/// its scan. Each scan is released once, but for those that were under way at a crash, and no other epoch is begun.
 #[test]
 fn a_crash_is_not_noticed(rt: HostRuntime) -> Result<(), Fail> {
     let alloc = rt.alloc();

@@ -4,6 +4,8 @@ use crate::machines::{FRESH, Machines, Runtime};
 use crate::reader::Reader;
 use crate::ways::Ways;
 use std::test::Fail;
+use std::thread;
+use std::time::Duration;
 
 /// In milliseconds, as `PT` of the program.
 const TIMER: i64 = 2_000;
@@ -20,6 +22,12 @@ const MOST_LOST: usize = 8;
 
 /// In milliseconds: so much later than outputs are fresh a port may close, where other threads have the processors.
 const LATE: i64 = 1_000;
+
+/// In milliseconds: so long before the others one machine starts, as long as the timer runs.
+const AHEAD: u64 = 2_000;
+
+/// In milliseconds: so long it's watched whether one takes part that isn't to.
+const AWAY: u32 = 1_500;
 
 /// Three machines, and a client that reads what they show.
 #[derive(Drop)]
@@ -41,8 +49,18 @@ impl<R: Runtime> Trial<R> {
         })
     }
 
+    /// Whether the others go on while one of them takes no part.
+    pub fn goes_on_without(&mut self, number: u8) -> Result<bool, Fail> {
+        for other in 0..3u8 {
+            if other != number && !self.machines.is_normal(other) {
+                return Ok(false);
+            }
+        }
+        Ok(self.reader.sees_more(BETWEEN)? && self.machines.stays_away(number, AWAY))
+    }
+
     /// Whether all are well, and so many scans come to be read.
-    fn goes_on(&mut self) -> Result<bool, Fail> {
+    pub fn goes_on(&mut self) -> Result<bool, Fail> {
         Ok(self.machines.are_normal() && self.reader.sees_more(BETWEEN)?)
     }
 
@@ -69,10 +87,16 @@ impl<R: Runtime> Trial<R> {
         Ok(crashed)
     }
 
-    /// The machine that starts in this turn: each at first, and then the one that crashes.
+    /// The machine that starts in this turn: each at first, of which the one that goes on where the first that drives
+    /// crashes waits long for the others; and then the one that crashes.
     pub fn next(&mut self, turn: u8) -> Result<u8, Fail> {
         match turn {
-            0..=2 => return Ok(turn),
+            0 => return Ok(1),
+            1 => {
+                thread::sleep(&self.rt, Duration::from_millis(AHEAD));
+                return Ok(0);
+            }
+            2 => return Ok(2),
             3 => self.hold()?,
             _ => {}
         }

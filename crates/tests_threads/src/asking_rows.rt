@@ -2,7 +2,8 @@
 
 use crate::shelf::group_of_three;
 use il_model::{Answer, Command};
-use plc_console::ask;
+use plc_console::{Patience, ask};
+use plc_host::Host;
 use std::process::Abort;
 use std::test::Fail;
 use std::time::Duration;
@@ -64,7 +65,15 @@ fn a_request_is_sent_again_after_each_period(rt: HostRuntime) -> Result<(), Fail
         let (config, _) = group_of_three()?;
         let mut client = GroupClient::new(&config, OPERATOR, 0);
         let mut link = QuietLink { quiet, sent: 0 };
-        let answer = ask(&rt, alloc, period, &mut client, &mut link, &Command::ReadCr);
+        let mut patience = Patience::new(period);
+        let host = Host { rt, alloc };
+        let answer = ask(
+            &host,
+            &mut patience,
+            &mut client,
+            &mut link,
+            &Command::ReadCr,
+        );
         assert_eq!(rt; (answer, link.sent), (Ok(Answer::Done), sent), "{quiet}");
     }
     Ok(())

@@ -15,7 +15,7 @@ use std::time::Duration;
 use std::{thread, time};
 use vr_model::{Body, ClientNumber, Config, Message, Party, Request, Standing, Status, Stored};
 use vr_ports::{Gate, Input, Link, OpenGate, Relink, Tick, Timer};
-use vr_replica::{StoreFault, ViewStore};
+use vr_replica::{Replica, StoreFault, ViewStore};
 use vr_shown::Shown;
 use vr_threads::{
     ChannelLink, Cluster, ClusterConfig, ClusterThreads, MachineTimer, Observer, Seat, Starts,
@@ -94,7 +94,9 @@ struct MeetingGate<R: time::Clock + Drop> {
     met: Arc<AtomicU64>,
 }
 
-impl<R: time::Clock + Drop> Observer for MeetingGate<R> {}
+impl<R: time::Clock + Drop> Observer for MeetingGate<R> {
+    fn observe(&mut self, _replica: &Replica) {}
+}
 
 impl<R: time::Clock + Drop> Gate for MeetingGate<R> {
     fn before(&mut self, call: u64) {
@@ -238,7 +240,9 @@ struct HoldingGate<R: time::Clock + Drop> {
     goes: Arc<AtomicBool>,
 }
 
-impl<R: time::Clock + Drop> Observer for HoldingGate<R> {}
+impl<R: time::Clock + Drop> Observer for HoldingGate<R> {
+    fn observe(&mut self, _replica: &Replica) {}
+}
 
 impl<R: time::Clock + Drop> Gate for HoldingGate<R> {
     fn before(&mut self, _call: u64) {

@@ -1,7 +1,7 @@
 //! What is heard of other epochs over connections of this machine, and visits, as before a cold start.
 
 use crate::peer_rows::{EPOCH, Runtime, Seat, alone, dialling, hello_of, listening, seat_of};
-use net_hello::{Epoch, Hello};
+use net_hello::{Epoch, Hello, Known};
 use net_peers::{FIRST_CONSOLE, VISIT, visit};
 use std::io::{Read, Write};
 use std::process::Abort;
@@ -23,7 +23,7 @@ const NONE: Epoch = Epoch {
 /// A visit that is filled up with this byte.
 fn frame_of(byte: u8) -> [u8; VISIT] {
     let mut frame = [byte; VISIT];
-    frame[..8].copy_from_slice(b"PLC-CS\0\x01");
+    frame[..8].copy_from_slice(b"PLC-CS\0\x02");
     frame
 }
 
@@ -64,7 +64,7 @@ fn no_other_visit_comes(rt: HostRuntime) -> Result<(), Fail> {
     let frame = frame_of(1);
     let (front, _) = frame.as_slice().split_at(VISIT - 1);
     drop(seat.meet(front, 1)?);
-    let _other = seat.meet(b"PLC-CS\0\x02", 20)?;
+    let _other = seat.meet(b"PLC-CS\0\x01", 20)?;
     assert!(rt; seat.visits().is_empty());
     let (listener, nobody) = listening(&rt)?;
     drop(listener);
@@ -80,8 +80,9 @@ fn said_in(machine: u8, epoch: Epoch) -> Hello {
     }
 }
 
-/// Hellos that come to replica 0, of which three are of other machines' replicas in this group.
-fn all_hellos() -> Result<[Hello; 7], Fail> {
+/// Hellos that come to replica 0, of which three are of other machines' replicas in this group that haven't seen another
+/// store of machine 0.
+fn all_hellos() -> Result<[Hello; 8], Fail> {
     let console = ClientNumber::new(FIRST_CONSOLE + 1).ok_or("no client")?;
     Ok([
         said_in(1, LATER),
@@ -93,6 +94,13 @@ fn all_hellos() -> Result<[Hello; 7], Fail> {
         said_in(0, LATER),
         said_in(3, LATER),
         hello_of(Party::Client(console), 3),
+        Hello {
+            known: Known {
+                store: 99,
+                starts: 1,
+            },
+            ..said_in(2, EPOCH)
+        },
         said_in(1, EPOCH),
     ])
 }

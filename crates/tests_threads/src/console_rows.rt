@@ -8,7 +8,7 @@ use io_model::Counted;
 use plc_console::send_commands;
 use plc_host::Host;
 use plc_json::command_texts;
-use plc_settings::{Links, Settings};
+use plc_settings::{ConsoleAt, Links, Settings};
 use plc_tool::change_to;
 use std::alloc::Global;
 use std::io;
@@ -110,11 +110,30 @@ const ROWS: [Row; 7] = [
 ];
 
 /// Lines that are no command of a console: no JSON, no command, a scan, bytes that aren't UTF-8, an empty line.
+/// Behind two of them comes a command each time: three in a row would end the session.
 const BAD_LINES: &[u8] =
-    b"{\n\"stop\"\n{\"scan\":{\"ix\":[],\"iw\":[],\"moment\":0}}\n\"\xff\"\n\n\"cr\"\n";
+    b"{\n\"stop\"\n\"cr\"\n{\"scan\":{\"ix\":[],\"iw\":[],\"moment\":0}}\n\"\xff\"\n\"cr\"\n\n\"cr\"\n";
 
 const BAD_ANSWERS: &[u8] =
-    b"plc: commands\nplc: commands\nplc: commands\nplc: commands\nplc: commands\nrefused 1\n";
+    b"plc: commands\nplc: commands\nrefused 1\nplc: commands\nplc: commands\nrefused 1\nplc: commands\nrefused 1\n";
+
+/// What ends a session, and what the client is told then: a browser's request with a command behind its head, as `fetch`
+/// and a form send it; a field of a head alone, behind a command; three lines in a row that are no command.
+const ENDS: [(&[u8], &[u8]); 4] = [
+    (
+        b"POST / HTTP/1.1\r\nHost: 127.0.0.1:7680\r\n\r\n{\"force\":[\"%IW0\",1]}\n\"reset\"\n",
+        b"plc: session ends\n",
+    ),
+    (b"GET /state HTTP/1.0\n\"reset\"\n", b"plc: session ends\n"),
+    (
+        b"\"breaks\"\nContent-Type: text/plain\n\"reset\"\n",
+        b"breaks\nplc: session ends\n",
+    ),
+    (
+        b"\"cr\"\n=\n=\n=\n\"reset\"\n",
+        b"refused 1\nplc: commands\nplc: commands\nplc: session ends\n",
+    ),
+];
 
 /// A line may have so many bytes.
 const LONGEST: usize = 131_072;
@@ -171,8 +190,13 @@ const PATIENCE: u64 = 20;
 /// What an operator is told whose place another one takes.
 const TAKEN_OVER: &[u8] = b"plc: taken over\n";
 
-/// A client that never reads sends so many empty lines, of which each is refused: more than all buffers hold.
-const FLOOD: usize = 1 << 22;
+/// A client that never reads sends this line so often: more than all buffers hold.
+const FLOOD: usize = 1 << 10;
+
+const FLOODED: &[u8] = b"\"breaks\"\n";
+
+/// So many of them are sent at once.
+const WAVE: usize = 1 << 10;
 
 /// What takes the lines on standard error of a controller, and has an operator at its console.
 #[derive(Drop)]
@@ -294,11 +318,18 @@ fn refuses(alloc: Global, stream: &mut TcpStream) -> io::Result<bool> {
     Ok(are_answered)
 }
 
-/// Sends empty lines until none is taken any more, and reads nothing.
+/// Sends questions until none is taken any more, and reads nothing.
 fn flood(alloc: Global, stream: &mut TcpStream) -> io::Result<()> {
-    let lines = Vec::from_elem(alloc, b'\n', FLOOD)?;
+    let mut wave = Vec::new(alloc);
+    for _ in 0..WAVE {
+        wave.extend_from_slice(FLOODED)?;
+    }
     stream.set_write_timeout(Some(Duration::from_millis(100)))?;
-    let _ = stream.write_all(lines.as_slice());
+    for _ in 0..FLOOD {
+        if stream.write_all(wave.as_slice()).is_err() {
+            break;
+        }
+    }
     Ok(())
 }
 
@@ -320,6 +351,22 @@ impl<R: Net<Listener = TcpListener, Stream = TcpStream> + Wait + Copy + Drop> Op
         Ok(is_over(&mut self.connection()?))
     }
 
+    /// Whether these lines end a session, behind what is told then, and nothing is answered behind them.
+    fn ends(&self, lines: &[u8], told: &[u8]) -> io::Result<bool> {
+        let mut stream = self.connection()?;
+        Ok(is_answered(self.alloc, &mut stream, lines, told)? && is_over(&mut stream))
+    }
+
+    /// Whether each of those ends one.
+    fn are_ended(&self) -> io::Result<bool> {
+        for (lines, told) in ENDS {
+            if !self.ends(lines, told)? {
+                return Ok(false);
+            }
+        }
+        Ok(true)
+    }
+
     /// A connection to the console by which bad lines are seen to be refused: none where they aren't.
     fn tried_connection(&self) -> io::Result<Option<TcpStream>> {
         let mut stream = self.connection()?;
@@ -332,9 +379,11 @@ impl<R: Net<Listener = TcpListener, Stream = TcpStream> + Wait + Copy + Drop> Op
 
     /// Takes the console over from another operator, who is told: none where that one isn't told.
     fn take_over(&self, mut other: TcpStream) -> io::Result<Option<TcpStream>> {
-        let stream = self.connection()?;
+        let mut stream = self.connection()?;
+        stream.write_all(b"\"breaks\"\n")?;
         let is_told = is_answered(self.alloc, &mut other, b"", TAKEN_OVER)?;
-        if is_told && is_over(&mut other) {
+        let is_served = is_answered(self.alloc, &mut stream, b"", b"breaks\n")?;
+        if is_told && is_served && is_over(&mut other) {
             Ok(Some(stream))
         } else {
             Ok(None)
@@ -347,7 +396,7 @@ impl<R: Net<Listener = TcpListener, Stream = TcpStream> + Wait + Copy + Drop> Op
         if !self.has_others {
             return self.tried_connection();
         }
-        if !self.is_closed()? {
+        if !self.is_closed()? || !self.are_ended()? {
             return Ok(None);
         }
         match self.tried_connection()? {
@@ -455,7 +504,7 @@ fn settings(console: u16, links: Links, crash: Option<u32>) -> Option<Settings> 
         links,
         crash,
         lost_after: 60,
-        console: Some(console),
+        console: Some(ConsoleAt::Port(console)),
         stale: None,
         status: None,
     })

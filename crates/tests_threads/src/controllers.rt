@@ -4,7 +4,7 @@ use io_image::NewList;
 use io_model::Counted;
 use plc_host::{Host, ServiceRuntime};
 use plc_serve::{Service, serve};
-use plc_settings::Settings;
+use plc_settings::{Operators, Settings};
 use plc_status::StatusWriter;
 use std::alloc::Global;
 use std::fs::File;
@@ -49,6 +49,7 @@ pub fn service_of<S: Drop>(
         settings,
         status: StatusWriter::new(alloc)?,
         showing: None,
+        operators: Operators::by_port(),
     })
 }
 

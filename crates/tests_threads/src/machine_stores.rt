@@ -6,11 +6,13 @@ ghost use Rattle.plc_store.specs.Judging.{is_unbegun};
 use net_hello::Epoch;
 use plc_epochs::Kept;
 use plc_store::{
-    ChangeMark, FileDirectory, Header, Refusal, Start, Store, StoreDirectory, Wanted,
-    enter_by_hand, format, keep, open, show_directory,
+    ByHand, ChangeMark, FileDirectory, Header, Refusal, Start, Store, StoreDirectory, Wanted,
+    changed_in, enter_by_hand, format, keep, open, see, show_directory,
 };
 use std::alloc::Global;
 use std::fs;
+use std::fs::Permissions;
+use std::os::unix::fs::{MetadataExt, PermissionsExt};
 use std::process::Abort;
 use std::test::Fail;
 use vr_threads::{FileStore, Starts};
@@ -36,6 +38,8 @@ fn new_store(alloc: Global) -> Result<Store, Fail>
         kept: Kept::Entered(FIRST),
         program: [22; 32],
         machine: 1,
+        store: 258,
+        seen: [0; 7],
     };
     let image = Vec::from_slice(alloc, b"LIP".as_slice())?;
     match Store::new(header, image) {
@@ -93,7 +97,13 @@ fn begun(rt: HostRuntime, path: &str) -> Result<(), Fail> {
     formatted(rt, path)?;
     let _ = kept(rt, path, Kept::Begun(FIRST))?;
     let _ = FileStore::new(rt, rt.alloc(), path, 1)?.begin()?;
-    ChangeMark::new(rt, rt.alloc(), path, &FIRST)?.mark()?;
+    let mark = ChangeMark::new(rt, rt.alloc(), path, &FIRST)?;
+    mark.mark(b"IPL".as_slice())?;
+    mark.unmark()?;
+    if fs::exists(&rt, "machine-4/changed")? {
+        return Err(Fail::from("the mark is still there"));
+    }
+    mark.mark(b"PLI".as_slice())?;
     Ok(())
 }
 
@@ -101,9 +111,12 @@ fn begun(rt: HostRuntime, path: &str) -> Result<(), Fail> {
 /// epochs behind the other.
 fn entered(rt: HostRuntime, path: &str) -> Result<(Option<Refusal>, Kept), Fail> {
     let mut directory = FileDirectory::take(rt, rt.alloc(), path)?;
-    let unnamed = enter_by_hand(rt.alloc(), &mut directory, None).err();
-    let image = Vec::from_slice(rt.alloc(), b"PLI".as_slice())?;
-    let store = enter_by_hand(rt.alloc(), &mut directory, Some(image))?;
+    let unnamed = enter_by_hand(rt.alloc(), &mut directory, ByHand::Next, None).err();
+    let image = changed_in(rt.alloc(), &directory)?;
+    if image.as_slice() != b"PLI".as_slice() {
+        return Err(Fail::from("the mark has another image"));
+    }
+    let store = enter_by_hand(rt.alloc(), &mut directory, ByHand::Next, Some(image))?;
     Ok((unnamed, store.header.kept))
 }
 
@@ -142,7 +155,7 @@ fn a_store_is_made_once(rt: HostRuntime) -> Result<(), Fail> {
     assert!(rt;
         lines
             .as_str()
-            .starts_with("format 2\nmachine 1\nidentity 0b0b")
+            .starts_with("format 3\nmachine 1\nidentity 0b0b")
     );
     fs::remove_dir_all(&rt, path)?;
     Ok(())
@@ -158,6 +171,33 @@ fn one_start_at_a_time_has_a_store(rt: HostRuntime) -> Result<(), Fail> {
     assert!(rt; FileDirectory::look(rt, rt.alloc(), path)?.group().is_some());
     drop(first);
     assert_eq!(rt; started(rt, path), Ok(Start::First));
+    fs::remove_dir_all(&rt, path)?;
+    Ok(())
+}
+
+/// The mode of a file that others may not read.
+const OWN: u32 = 0o640;
+
+/// The bits of a mode that say who may do what.
+const RIGHTS: u32 = 0o777;
+
+#[test]
+fn a_store_keeps_its_rights_and_what_it_has_seen(rt: HostRuntime) -> Result<(), Fail> {
+    let path = "machine-5";
+    formatted(rt, path)?;
+    fs::set_permissions(&rt, "machine-5/group", Permissions::from_mode(OWN))?;
+    let mut directory = FileDirectory::take(rt, rt.alloc(), path)?;
+    let _ = see(rt.alloc(), &mut directory, 2, 7)?;
+    drop(directory);
+    let rights = fs::metadata(&rt, "machine-5/group")?.mode() & RIGHTS;
+    assert_eq!(rt; rights, OWN);
+    let directory = FileDirectory::look(rt, rt.alloc(), path)?;
+    let lines = show_directory(rt.alloc(), &directory)?;
+    assert!(rt;
+        lines
+            .as_str()
+            .contains("\nmachine 2 has store 0000000000000007\n")
+    );
     fs::remove_dir_all(&rt, path)?;
     Ok(())
 }

@@ -5,7 +5,7 @@ ghost use Rattle.std.specs.Prelude.{◌≤◌, length};
 use crate::shelf::CLIENT;
 use il_model::{Command, ImageBytes, InImage};
 use net_ends::{Inbox, NonBlocking, Outbox};
-use net_hello::{Epoch, HELLO, Hello, Refusal};
+use net_hello::{Epoch, HELLO, Hello, Known, Refusal, said_to_strangers};
 use net_peers::{
     Exchange, FIRST_CONSOLE, LinkNotice, Machine, PeerLink, Pulse, VISIT, machine_links,
 };
@@ -17,7 +17,7 @@ use std::process::Abort;
 use std::sync::{Arc, Wait};
 use std::test::Fail;
 use std::time::{Clock, Duration, Instant};
-use vr_model::{Body, ClientNumber, Message, Party, Request};
+use vr_model::{Body, ClientNumber, MOST_REPLICAS, Message, Party, Request};
 use vr_ports::{Cutter, Input, Link, Relink};
 
 pub(crate) const EPOCH: Epoch = Epoch {
@@ -52,14 +52,26 @@ pub(crate) struct Seat<R: Runtime> {
     link: PeerLink<R>,
 }
 
-/// What a party of the group says.
+/// What a party of the group says, whose machine's store has a number of its own. It knows nothing of the other end.
 pub(crate) fn hello_of(party: Party, starts: u64) -> Hello {
+    let machine = match party {
+        Party::Replica(number) => number,
+        Party::Client(client) => client.number % 8,
+    };
     Hello {
         identity: [1; 32],
         epoch: EPOCH,
         party,
         starts,
+        fresh: 140,
+        store: store_of(machine),
+        known: Known::nothing(),
     }
+}
+
+/// The number of a machine's store.
+fn store_of(machine: u8) -> u64 {
+    u64::from(machine) + 16
 }
 
 /// A listener at a port of this machine, and its address.
@@ -78,6 +90,9 @@ pub(crate) fn machine_of(alloc: Global, number: u8, at: &[SocketAddr]) -> Result
         identity: [1; 32],
         epoch: EPOCH,
         starts: 3,
+        fresh: 140,
+        store: store_of(number),
+        seen: [0; MOST_REPLICAS],
         number,
         replicas: Vec::from_slice(alloc, at)?,
         has_console: false,
@@ -199,10 +214,10 @@ impl<R: Runtime> Seat<R> {
         self.exchange.notices(&self.rt, self.rt.alloc())
     }
 
-    /// Someone connects and sends these bytes: what it noticed. He has to be answered.
-    fn notices_of(&mut self, bytes: &[u8]) -> Result<Vec<LinkNotice>, Fail> {
+    /// Someone connects and sends these bytes: what it noticed. He has to be answered so.
+    fn notices_of(&mut self, bytes: &[u8], answer: &Hello) -> Result<Vec<LinkNotice>, Fail> {
         let mut stream = self.meet(bytes, 20)?;
-        if is_answered(self.rt.alloc(), &mut stream)? {
+        if is_answered(&mut stream, answer)? {
             Ok(self.notices())
         } else {
             Err(Fail::new("no answer"))
@@ -211,8 +226,9 @@ impl<R: Runtime> Seat<R> {
 
     /// Whether of someone who comes twice, and is answered each time, this is noticed once.
     fn is_noticed_once(&mut self, bytes: &[u8], notice: LinkNotice) -> Result<bool, Fail> {
-        let first = self.notices_of(bytes)?;
-        let second = self.notices_of(bytes)?;
+        let answer = answer_by(notice);
+        let first = self.notices_of(bytes, &answer)?;
+        let second = self.notices_of(bytes, &answer)?;
         Ok(first.as_slice() == [notice].as_slice() && second.is_empty())
     }
 }
@@ -238,16 +254,42 @@ fn is_over(stream: &mut TcpStream) -> bool {
     false
 }
 
-/// Whether it answers with the hello of replica 0, and closes.
-fn is_answered(alloc: Global, stream: &mut TcpStream) -> Result<bool, Fail> {
-    let mut bytes = [0u8; HELLO];
-    stream.read_exact(&mut bytes)?;
-    let own = hello_of(Party::Replica(0), 3).spell(alloc)?;
-    Ok(bytes.as_slice() == own.as_slice() && is_over(stream))
+/// What replica 0 answers to one that it refuses so, but for what it knows of that one: who isn't of its group, or speaks
+/// in another version, is told nothing.
+fn answer_by(notice: LinkNotice) -> Hello {
+    let replica = Party::Replica(0);
+    match notice {
+        LinkNotice::Refused(_, Refusal::OtherGroup | Refusal::OtherVersion) => {
+            said_to_strangers(replica)
+        }
+        _ => hello_of(replica, 3),
+    }
 }
 
-/// Hellos that replica 0 refuses, and why.
-fn refused() -> [(Hello, Refusal); 6] {
+/// Whether it answers with this hello, whatever it knows of the other end, and closes.
+fn is_answered(stream: &mut TcpStream, answer: &Hello) -> Result<bool, Fail> {
+    let mut bytes = [0u8; HELLO];
+    stream.read_exact(&mut bytes)?;
+    match Hello::read(&bytes) {
+        Ok(Some(hello)) => {
+            let told = Hello {
+                known: Known::nothing(),
+                ..hello
+            };
+            Ok(told == *answer && is_over(stream))
+        }
+        _ => Ok(false),
+    }
+}
+
+/// What is known of a machine with this store, which was started so often.
+fn known(store: u64, starts: u64) -> Known {
+    Known { store, starts }
+}
+
+/// Hellos that replica 0 refuses, and why: another store of machine 1 than the one that it saw, and one that saw another
+/// store of machine 0, or a later start of it.
+fn refused() -> [(Hello, Refusal); 10] {
     let from = hello_of(Party::Replica(1), 3);
     let later = Epoch {
         number: 8,
@@ -279,6 +321,23 @@ fn refused() -> [(Hello, Refusal); 6] {
             },
             Refusal::OtherProgram,
         ),
+        (Hello { fresh: 141, ..from }, Refusal::OtherFresh),
+        (Hello { store: 99, ..from }, Refusal::OtherStore),
+        (
+            Hello {
+                known: known(99, 3),
+                ..from
+            },
+            Refusal::OwnStore,
+        ),
+        (
+            Hello {
+                starts: 5,
+                known: known(store_of(0), 4),
+                ..from
+            },
+            Refusal::OwnStarts,
+        ),
         (hello_of(Party::Replica(0), 3), Refusal::OwnParty),
         (hello_of(Party::Replica(3), 3), Refusal::NoMember),
         (hello_of(Party::Replica(1), 4), Refusal::FewerStarts),
@@ -303,7 +362,7 @@ fn each_refusal_is_answered_and_noticed_once(rt: HostRuntime) -> Result<(), Fail
 #[test]
 fn another_version_is_answered_and_noticed_once(rt: HostRuntime) -> Result<(), Fail> {
     let notice = LinkNotice::Refused(None, Refusal::OtherVersion);
-    assert!(rt; alone(rt)?.is_noticed_once(b"PLC-VR\0\x02", notice)?);
+    assert!(rt; alone(rt)?.is_noticed_once(b"PLC-VR\0\x01", notice)?);
     Ok(())
 }
 
@@ -319,7 +378,8 @@ fn replaced<R: Runtime>(
     let _second = seat.meet(newer, 20)?;
     let behind_newer = seat.exchange.reached();
     let mut third = seat.meet(older, 20)?;
-    let is_refused = is_over(&mut first) && is_answered(seat.rt.alloc(), &mut third)?;
+    let answer = hello_of(Party::Replica(0), 3);
+    let is_refused = is_over(&mut first) && is_answered(&mut third, &answer)?;
     Ok(((behind_older, behind_newer), is_refused))
 }
 
@@ -332,6 +392,19 @@ fn a_higher_start_replaces_and_an_old_one_is_refused(rt: HostRuntime) -> Result<
     newer.extend_from_slice(b"\0\0")?;
     let seen = replaced(&mut seat, older.as_slice(), newer.as_slice())?;
     assert_eq!(rt; seen, ((0, 2), true));
+    Ok(())
+}
+
+/// The store of a machine is told once, when it was seen for the first time.
+#[test]
+fn a_store_is_told_once(rt: HostRuntime) -> Result<(), Fail> {
+    let mut seat = alone(rt)?;
+    let hello = hello_of(Party::Replica(1), 3).spell(rt.alloc())?;
+    for _ in 0..2u32 {
+        drop(seat.meet(hello.as_slice(), 20)?);
+    }
+    let seen = seat.exchange.stores(&rt, rt.alloc());
+    assert!(rt; seen.as_slice() == [(1u8, store_of(1))].as_slice());
     Ok(())
 }
 
@@ -539,7 +612,7 @@ fn a_message_comes_however_hello_and_record_are_cut(rt: HostRuntime) -> Result<(
 fn strangers_are_let_go(rt: HostRuntime) -> Result<(), Fail> {
     let mut seat = alone(rt)?;
     let mut silent = seat.meet(b"", 1)?;
-    let mut half = seat.meet(b"PLC-VR\0\x01half a hello", 1)?;
+    let mut half = seat.meet(b"PLC-VR\0\x02half a hello", 1)?;
     let mut garbage = seat.meet(b"GET / HTTP/1.1\r\n\r\n", 20)?;
     assert!(rt; is_over(&mut garbage));
     let mut bytes = hello_of(Party::Replica(1), 3).spell(rt.alloc())?;

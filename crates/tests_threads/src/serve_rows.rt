@@ -5,7 +5,7 @@ use crate::controllers::{Lines, served};
 use crate::falling::{Falling, with_falling};
 use plc_host::{Host, ServiceRuntime};
 use plc_serve::Service;
-use plc_settings::Settings;
+use plc_settings::{ConsoleAt, Settings};
 use plc_status::ReportFile;
 use plc_words::{Words, read_words};
 use std::alloc::{AllocError, Global};
@@ -434,6 +434,7 @@ fn asked<R: Files + Alloc<A = Global> + Copy + Drop>(
             stores,
             report: None,
             settings,
+            operators: _operators,
         },
     ) = read_words(rt.alloc(), row.words)
     else {
@@ -442,7 +443,7 @@ fn asked<R: Files + Alloc<A = Global> + Copy + Drop>(
     let settings = Settings {
         port,
         lost_after: row.lost_after,
-        console,
+        console: console.map(|port| ConsoleAt::Port(port)),
         ..settings
     };
     let host = Host {
@@ -465,6 +466,7 @@ fn falling<S: Drop>(
         settings,
         status,
         showing,
+        operators,
     } = service;
     let stores = with_falling(alloc, stores, row.falls, row.starts)?;
     Ok(Service {
@@ -474,6 +476,7 @@ fn falling<S: Drop>(
         settings,
         status,
         showing,
+        operators,
     })
 }
 

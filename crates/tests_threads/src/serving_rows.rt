@@ -130,7 +130,9 @@ impl CountingGate {
     }
 }
 
-impl Observer for CountingGate {}
+impl Observer for CountingGate {
+    fn observe(&mut self, _replica: &Replica) {}
+}
 
 impl Gate for CountingGate {
     fn before(&mut self, call: u64) {

@@ -7,7 +7,7 @@ use std::test::Fail;
 use std::{fs, io};
 use vr_model::Stored;
 use vr_replica::{StoreFault, ViewStore};
-use vr_threads::{FileStore, Starts};
+use vr_threads::{FileStore, NumberedStarts, Starts};
 
 fn put<R: Files>(rt: &R, path: &str, bytes: &[u8]) -> io::Result<()> {
     let mut file = fs::create(rt, path)?;
@@ -29,7 +29,7 @@ enum Call {
 /// What a store answers: what it keeps, and to a save nothing.
 type Answer = Result<Option<Stored>, StoreFault>;
 
-fn answer_to<R: Files + Drop>(store: &mut FileStore<R>, call: Call) -> Answer {
+fn answer_to<S: Starts>(store: &mut S, call: Call) -> Answer {
     match call {
         Call::Load => Ok(Some(store.load()?)),
         Call::Begin => Ok(Some(store.begin()?)),
@@ -41,10 +41,7 @@ fn answer_to<R: Files + Drop>(store: &mut FileStore<R>, call: Call) -> Answer {
 }
 
 /// The first of these calls, one behind another, that has another answer, if one has.
-fn otherwise_answered<R: Files + Drop>(
-    store: &mut FileStore<R>,
-    rows: &[(Call, Answer)],
-) -> Option<Call> {
+fn otherwise_answered<S: Starts>(store: &mut S, rows: &[(Call, Answer)]) -> Option<Call> {
     for (call, answer) in rows {
         if answer_to(store, *call) != *answer {
             return Some(*call);
@@ -122,8 +119,40 @@ fn a_value_that_the_store_did_not_leave_is_a_fault(rt: HostRuntime) -> Result<()
     )?;
     assert_eq!(rt; store.load(), Err(StoreFault));
     fs::remove_file(&rt, "replica-202")?;
-    assert_eq!(rt; store.load(), Err(StoreFault));
     Ok(())
+}
+
+/// A file that goes while its store lives, and its directory with it: once there's a directory again the next load or
+/// start puts it back, with what was written last. Before the first start there's nothing to put back.
+#[test]
+fn a_file_that_was_taken_away_is_put_back(rt: HostRuntime) -> Result<(), Fail> {
+    let alloc = rt.alloc();
+    let _ = fs::remove_dir_all(&rt, "replaced");
+    let mut store = FileStore::new(rt, alloc, "replaced", 1)?;
+    let rows: [(Call, Answer); 2] = [
+        (Call::Begin, Err(StoreFault)),
+        (Call::Load, Ok(Some(stored(0, 0)))),
+    ];
+    assert_eq!(rt; otherwise_answered(&mut store, &rows), None);
+    fs::create_dir_all(&rt, "replaced")?;
+    let rows: [(Call, Answer); 2] = [
+        (Call::Begin, Ok(Some(stored(0, 1)))),
+        (Call::Save(4), Ok(None)),
+    ];
+    assert_eq!(rt; otherwise_answered(&mut store, &rows), None);
+    fs::remove_dir_all(&rt, "replaced")?;
+    let rows: [(Call, Answer); 2] = [
+        (Call::Save(5), Err(StoreFault)),
+        (Call::Load, Err(StoreFault)),
+    ];
+    assert_eq!(rt; otherwise_answered(&mut store, &rows), None);
+    fs::create_dir_all(&rt, "replaced")?;
+    assert_eq!(rt; store.load(), Ok(stored(5, 1)));
+    fs::remove_file(&rt, store.path())?;
+    assert_eq!(rt; store.begin(), Ok(stored(5, 2)));
+    let mut again = FileStore::new(rt, alloc, "replaced", 1)?;
+    assert_eq!(rt; again.load(), Ok(stored(5, 2)));
+    Ok(fs::remove_dir_all(&rt, "replaced")?)
 }
 
 #[test]
@@ -151,5 +180,32 @@ fn what_cannot_be_read_is_no_first_start(rt: HostRuntime) -> Result<(), Fail> {
     }
     fs::remove_dir_all(&rt, "replica-203")?;
     fs::remove_file(&rt, "no-directory")?;
+    Ok(())
+}
+
+/// A process counts one start, and each start has a number that's higher than those before it, in this process and in
+/// others.
+#[test]
+fn starts_of_a_process_are_numbered(rt: HostRuntime) -> Result<(), Fail> {
+    const EACH: u64 = 1 << 32;
+    let alloc = rt.alloc();
+    let _ = fs::remove_file(&rt, FileStore::new(rt, alloc, ".", 204)?.path());
+    let mut first = NumberedStarts::new(FileStore::new(rt, alloc, ".", 204)?);
+    let rows: [(Call, Answer); 5] = [
+        (Call::Begin, Ok(Some(stored(0, 1)))),
+        (Call::Begin, Ok(Some(stored(0, EACH + 1)))),
+        (Call::Save(7), Ok(None)),
+        (Call::Begin, Ok(Some(stored(7, EACH + 2)))),
+        (Call::Load, Ok(Some(stored(7, 1)))),
+    ];
+    assert_eq!(rt; otherwise_answered(&mut first, &rows), None);
+    let mut second = NumberedStarts::new(FileStore::new(rt, alloc, ".", 204)?);
+    let rows: [(Call, Answer); 3] = [
+        (Call::Begin, Ok(Some(stored(7, 2 * EACH)))),
+        (Call::Begin, Ok(Some(stored(7, 2 * EACH + 1)))),
+        (Call::Load, Ok(Some(stored(7, 2)))),
+    ];
+    assert_eq!(rt; otherwise_answered(&mut second, &rows), None);
+    fs::remove_file(&rt, "replica-204")?;
     Ok(())
 }

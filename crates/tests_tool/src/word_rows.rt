@@ -2,8 +2,10 @@
 
 use il_model::Budget;
 use io_model::Counted;
-use plc_settings::{Links, Settings};
-use plc_words::{Words, WordsError, read_words, tell_words};
+use plc_settings::{ConsoleAt, Links, Settings};
+use plc_words::{
+    AskedConsole, EpochProgram, OperatorsAt, Place, Words, WordsError, read_words, tell_words,
+};
 use std::alloc::{AllocError, Global};
 use std::io;
 use std::net::SocketAddr;
@@ -89,6 +91,25 @@ fn serve(
         stores,
         report,
         settings,
+        operators: OperatorsAt::by_port(),
+    })
+}
+
+/// Its console is at a socket, and asks for a key.
+fn at_a_socket(alloc: Global) -> Result<Words<'static>, Fail> {
+    let settings = Settings {
+        console: Some(ConsoleAt::Socket),
+        ..settings()?
+    };
+    Ok(Words::Serve {
+        source: "a.il",
+        stores: vec![in alloc; "d"]?,
+        report: None,
+        settings,
+        operators: OperatorsAt {
+            socket: Some("/s"),
+            key: Some("k"),
+        },
     })
 }
 
@@ -101,7 +122,7 @@ fn greatest() -> Result<Settings, Fail> {
         scans: Some(4_294_967_295),
         idle: 4_294_967_295,
         crash: Some(4_294_967_295),
-        console: Some(65_535),
+        console: Some(ConsoleAt::Port(65_535)),
         stale: Some(4_294_967_295),
         status: Some(SocketAddr::from(([127, 0, 0, 1], 65_535))),
         ..settings()?
@@ -117,7 +138,7 @@ fn least() -> Result<Settings, Fail> {
         idle: 1,
         links: Links::Channels,
         crash: Some(1),
-        console: Some(1),
+        console: Some(ConsoleAt::Port(1)),
         stale: Some(1),
         status: Some(SocketAddr::from(([10, 0, 0, 5], 1))),
         ..settings()?
@@ -136,8 +157,12 @@ fn words_ask_to_serve(rt: HostRuntime) -> Result<(), Fail> {
     let alloc = rt.alloc();
     let each = ["d", "e", "f", "g", "h", "i", "j"];
     let first = serve(alloc, &["d"], None, settings()?)?;
-    let rows: [(&str, Words); 3] = [
+    let rows: [(&str, Words); 4] = [
         ("plc serve a.il --store d", first),
+        (
+            "plc serve a.il --console-socket /s --store d --console-key k",
+            at_a_socket(alloc)?,
+        ),
         (middle, serve(alloc, &["d"], Some("r"), least()?)?),
         (last, serve(alloc, &each, Some("r"), greatest()?)?),
     ];
@@ -162,28 +187,60 @@ fn words_ask_for_a_run(rt: HostRuntime) -> Result<(), Fail> {
     Ok(ask_for(&rt, rt.alloc(), &rows)?)
 }
 
+/// A console at this port, of 127.0.0.1 or of another address.
+fn console(address: [u8; 4], port: u16, timeout: u32) -> AskedConsole<'static> {
+    AskedConsole {
+        place: Place::Address(SocketAddr::from((address, port))),
+        timeout,
+        key: None,
+    }
+}
+
 fn ask(commands: &str, timeout: u32) -> Words {
     Words::Ask {
-        port: 5021,
+        console: console([127, 0, 0, 1], 5021, timeout),
         commands,
-        timeout,
     }
 }
 
 /// To change to `a.il` what is served.
 fn change(timeout: u32) -> Words<'static> {
     Words::Change {
-        port: 5021,
+        console: console([127, 0, 0, 1], 5021, timeout),
         source: "a.il",
-        timeout,
     }
 }
 
-fn field(check: bool, once: bool) -> Words<'static> {
+/// To ask the console at a socket of this path.
+fn ask_socket(path: &str) -> Words {
+    Words::Ask {
+        console: AskedConsole {
+            place: Place::Socket(path),
+            timeout: 60,
+            key: Some("k"),
+        },
+        commands: "b.json",
+    }
+}
+
+fn field(check: bool, once: bool, stop: bool) -> Words<'static> {
     Words::Field {
         field: "f.toml",
         check,
         once,
+        stop,
+        status: None,
+    }
+}
+
+/// A field is carried, and what shows is served at a port of this machine.
+fn shown_field(port: u16) -> Words<'static> {
+    Words::Field {
+        field: "f.toml",
+        check: false,
+        once: false,
+        stop: false,
+        status: Some(SocketAddr::from(([127, 0, 0, 1], port))),
     }
 }
 
@@ -194,7 +251,11 @@ fn words_ask_for_a_form(rt: HostRuntime) -> Result<(), Fail> {
         image: "a.image",
     };
     let list = Words::List { image: "a.image" };
-    let rows: [(&str, Words); 9] = [
+    let remote = Words::Ask {
+        console: console([10, 0, 0, 3], 7681, 60),
+        commands: "b.json",
+    };
+    let rows: [(&str, Words); 14] = [
         ("plc asm a.il a.image", asm),
         ("plc list a.image", list),
         ("plc ask 5021 b.json", ask("b.json", 60)),
@@ -204,9 +265,20 @@ fn words_ask_for_a_form(rt: HostRuntime) -> Result<(), Fail> {
             "plc ask 5021 --change=a.il --timeout=4294967295",
             change(4_294_967_295),
         ),
-        ("plc field f.toml", field(false, false)),
-        ("plc field --check f.toml", field(true, false)),
-        ("plc field f.toml --once", field(false, true)),
+        ("plc ask 10.0.0.3:7681 b.json", remote),
+        (
+            "plc ask ./console b.json --console-key k",
+            ask_socket("./console"),
+        ),
+        (
+            "plc ask --console-key=k /run/plc/tank b.json",
+            ask_socket("/run/plc/tank"),
+        ),
+        ("plc field f.toml", field(false, false, false)),
+        ("plc field --check f.toml", field(true, false, false)),
+        ("plc field f.toml --once", field(false, true, false)),
+        ("plc field --stop f.toml", field(false, false, true)),
+        ("plc field --status 5080 f.toml", shown_field(5080)),
     ];
     Ok(ask_for(&rt, rt.alloc(), &rows)?)
 }
@@ -286,9 +358,14 @@ fn help_and_version_are_shown(rt: HostRuntime) -> Result<(), Fail> {
 
 #[test]
 fn other_words_are_bad(rt: HostRuntime) -> Result<(), Fail> {
-    let rows: [Row; 13] = [
-        ("ask 0 b", "error: invalid value '0' for '<PORT>'"),
-        ("ask 65536 b", "error: invalid value '65536' for '<PORT>'"),
+    let no_console =
+        "error: CONSOLE is a port, 1 to 65535, an address with one, or a path with a '/'\n";
+    let rows: [Row; 16] = [
+        ("ask 0 b", no_console),
+        ("ask 65536 b", no_console),
+        ("ask localhost:5021 b", no_console),
+        ("ask 10.0.0.3 b", no_console),
+        ("ask 10.0.0.3:0 b", no_console),
         (
             "ask 5021 b --timeout 0",
             "error: invalid value '0' for '--timeout <S>'",
@@ -449,47 +526,105 @@ fn format_of(machine: u8, waits: bool) -> Words<'static> {
 }
 
 #[test]
-fn words_ask_for_the_next_epoch(rt: HostRuntime) -> Result<(), Fail> {
-    let rows: [(&str, Words); 2] = [
-        ("plc format --next-epoch --store d", next_epoch(None)),
+fn words_ask_for_another_epoch(rt: HostRuntime) -> Result<(), Fail> {
+    let rows: [(&str, Words); 5] = [
         (
-            "plc format --next-epoch a.il --store d",
-            next_epoch(Some("a.il")),
+            "plc format --next-epoch --group g --store d",
+            epoch(None, EpochProgram::Kept, false),
+        ),
+        (
+            "plc format --next-epoch a.il --group g --store d",
+            epoch(None, EpochProgram::Given("a.il"), false),
+        ),
+        (
+            "plc format --next-epoch --changed --group g --store d --forget",
+            epoch(None, EpochProgram::Changed, true),
+        ),
+        (
+            "plc format --epoch 4294967295 --group g --store d --forget a.il",
+            epoch(Some(4_294_967_295), EpochProgram::Given("a.il"), true),
+        ),
+        (
+            "plc format --group g --store d --epoch=1",
+            epoch(Some(1), EpochProgram::Kept, false),
         ),
     ];
     ask_for(&rt, rt.alloc(), &rows)?;
-    let rows: [Row; 4] = [
+    let rows: [Row; 6] = [
         (
             "",
             "error: the following required arguments were not provided:",
         ),
         (
-            "--store d --group g",
-            "error: the argument '--next-epoch' cannot be used with '--group <GROUP>'",
+            "--group g",
+            "error: the following required arguments were not provided:",
         ),
         (
-            "--store d --machine 1",
+            "--group g --store d --machine 1",
             "error: the argument '--next-epoch' cannot be used with '--machine <I>'",
         ),
         (
-            "--store d --wait",
+            "--group g --store d --wait",
             "error: the argument '--next-epoch' cannot be used with '--wait'",
+        ),
+        (
+            "--group g --store d --epoch 3",
+            "error: the argument '--next-epoch' cannot be used with '--epoch <N>'",
+        ),
+        (
+            "--group g --store d --changed a.il",
+            "error: the argument '--changed' cannot be used with '[SOURCE]'",
         ),
     ];
     are_bad(&rt, rt.alloc(), "plc format --next-epoch", &rows)
 }
 
-/// What puts the store of a machine into the next epoch.
-fn next_epoch<'a>(source: Option<&'a str>) -> Words<'a> {
-    Words::NextEpoch {
-        source,
+#[test]
+fn words_ask_for_a_new_group(rt: HostRuntime) -> Result<(), Fail> {
+    let rows: [(&str, Words); 1] = [(
+        "plc format --new-group --group g",
+        Words::NewGroup { group: "g" },
+    )];
+    ask_for(&rt, rt.alloc(), &rows)?;
+    let rows: [Row; 3] = [
+        (
+            "",
+            "error: the following required arguments were not provided:",
+        ),
+        (
+            "--group g --store d",
+            "error: the argument '--new-group' cannot be used with '--store <DIR>'",
+        ),
+        (
+            "--group g --next-epoch",
+            "error: the argument '--new-group' cannot be used with '--next-epoch'",
+        ),
+    ];
+    are_bad(&rt, rt.alloc(), "plc format --new-group", &rows)
+}
+
+/// What puts the store of a machine into another epoch.
+fn epoch<'a>(epoch: Option<u32>, program: EpochProgram<'a>, forgets: bool) -> Words<'a> {
+    Words::EnterEpoch {
+        group: "g",
+        epoch,
+        program,
+        forgets,
+        directory: "d",
+    }
+}
+
+/// What prints the listing of the program of a store.
+fn listing(is_changed: bool) -> Words<'static> {
+    Words::Listing {
+        is_changed,
         directory: "d",
     }
 }
 
 #[test]
 fn words_ask_for_the_store_of_a_machine(rt: HostRuntime) -> Result<(), Fail> {
-    let rows: [(&str, Words); 3] = [
+    let rows: [(&str, Words); 5] = [
         (
             "plc format a.il --group g --machine 6 --store d",
             format_of(6, false),
@@ -499,12 +634,18 @@ fn words_ask_for_the_store_of_a_machine(rt: HostRuntime) -> Result<(), Fail> {
             format_of(0, true),
         ),
         ("plc show d", Words::Show { directory: "d" }),
+        ("plc show d --listing", listing(false)),
+        ("plc show --listing --changed d", listing(true)),
     ];
     ask_for(&rt, rt.alloc(), &rows)?;
-    let rows: [Row; 3] = [
+    let rows: [Row; 4] = [
         (
             "--group g --store d",
             "error: the following required arguments were not provided:",
+        ),
+        (
+            "--group g --store d --machine 1 --forget",
+            "error: the argument '--machine <I>' cannot be used with '--forget'",
         ),
         (
             "--group g --store d --machine 7",
