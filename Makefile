@@ -8,7 +8,7 @@
 # make failover [TO=build/failover.svg]        a tank and its pump on three replicas that crash in turn, played by examples/failover.py: half a minute, and its picture (with build/plc)
 # make failover-machines [TO=..]              the same tank on three machines, each a process, of which the one that drives is killed again and again: half a minute, and its picture (with build/plc)
 # make field [TO=build/field.svg]             the motor at a Modbus coupler that is stopped and comes back, carried by plc field: ten seconds, and its picture (with build/plc)
-# make plc                                    proves the program and builds it: build/plc
+# make plc [JOBS=2]                           proves the program and builds it: build/plc; so many crates at once, or as many as there are processors and memory for
 # make install [PREFIX=/usr/local] [DESTDIR=]  puts the proved program, its man page, the documents, number-lines, the examples and systemd units there
 # make uninstall [PREFIX=..] [DESTDIR=..]       takes away what install puts there
 # make test                                   the whole gate: that the rows of the examples are those of examples/, the table of crates is that of crates.txt, AUDIT names what is there and the pictures are those of examples/, and then rt ci
@@ -100,7 +100,7 @@ field:
 	@python3 examples/field/play.py build/plc $(TO) && echo "-- the same as a picture: $(TO)"
 
 plc:
-	tools/make-libraries plc
+	tools/make-libraries $(if $(JOBS),--jobs $(JOBS)) plc
 	cd crates/plc && rt run -- --version
 	mkdir -p build && cp crates/plc/out/plc build/plc
 	@$(STAMP) > build/plc.stamp
@@ -124,11 +124,11 @@ install:
 	install -m 644 examples/console/*.* $(SHARE)/plc/examples/console
 	install -m 644 examples/field/*.* $(SHARE)/plc/examples/field
 	install -m 644 examples/machines/*.* $(SHARE)/plc/examples/machines
-	for unit in plc.service plc@.service; do sed 's#/usr/local#$(PREFIX)#g' examples/$$unit > $(UNITS)/$$unit && chmod 644 $(UNITS)/$$unit || exit 1; done
+	for unit in plc.service plc@.service plc-field@.service; do sed 's#/usr/local#$(PREFIX)#g' examples/$$unit > $(UNITS)/$$unit && chmod 644 $(UNITS)/$$unit || exit 1; done
 	install -m 644 examples/plc.sysusers $(USERS)/plc.conf
 
 uninstall:
-	rm -f $(BIN)/plc $(SHARE)/man/man1/plc.1 $(UNITS)/plc.service $(UNITS)/plc@.service $(USERS)/plc.conf
+	rm -f $(BIN)/plc $(SHARE)/man/man1/plc.1 $(UNITS)/plc.service $(UNITS)/plc@.service $(UNITS)/plc-field@.service $(USERS)/plc.conf
 	rm -rf $(SHARE)/plc
 
 test:
@@ -137,4 +137,5 @@ test:
 	tools/audit-lines --check
 	tools/timeline --check
 	tools/sequence --check
+	-@tools/gate-times --difference
 	rt ci

@@ -32,6 +32,7 @@ class Group:
             file.write(f'name = "failover"\nperiod = {PERIOD}\n')
             for port in self.modbus:
                 file.write(f'[[machine]]\nreplica = "127.0.0.1:{free_port()}"\nmodbus = "127.0.0.1:{port}"\n')
+        subprocess.run([plc, 'format', '--new-group', '--group', self.file], check=True)
         for machine in range(MACHINES):
             subprocess.run([plc, 'format', os.path.join(HERE, '..', 'failover.il'), '--group', self.file, '--machine', str(machine),
                             '--store', self.store(machine)], check=True)
