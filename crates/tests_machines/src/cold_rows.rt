@@ -1,12 +1,15 @@
 //! A group whose machines lose their memory, one alone or together, and begin anew.
 
-use crate::machines::{Machines, Runtime, serving};
+use crate::machines::{Machines, serving};
 use crate::trial::Trial;
 use io_model::Counted;
 use plc_host::Host;
-use plc_member::Unserved;
+use plc_member::{MachineRuntime, Unserved};
 use plc_store::Refusal;
+use std::alloc::Global;
+use std::fs::File;
 use std::process::Abort;
+use std::rt::Files;
 use std::test::Fail;
 use std::thread;
 use std::time::Duration;
@@ -150,7 +153,11 @@ const STEPS: [Step; 101] = [
 ];
 
 /// Does what a step says but for a start: whether it goes well.
-fn is_done<R: Runtime>(rt: &R, machines: &mut Machines<R>, step: Step) -> Result<bool, Fail> {
+fn is_done<R: MachineRuntime + Files<File = File> + Alloc<A = Global>>(
+    rt: &R,
+    machines: &mut Machines<R>,
+    step: Step,
+) -> Result<bool, Fail> {
     match step {
         Step::Start(_) | Step::StartToBegin(_) | Step::StartWithoutView(_) => Ok(true),
         Step::LoseView(number) => machines.lose_view(number),

@@ -82,11 +82,6 @@ pub const FRESH: i64 = 500;
 /// That of the group.
 const IDENTITY: &str = "5a0f3b1c77d2e4968810aabbccddeeff";
 
-/// A runtime that machines run on in a test.
-pub trait Runtime: MachineRuntime + Files<File = File> + Alloc<A = Global> {}
-
-impl<R: MachineRuntime + Files<File = File> + Alloc<A = Global>> Runtime for R {}
-
 /// An address of this computer that no other test has meanwhile: two bytes of it are a port that is taken.
 #[derive(Drop)]
 pub struct Home {
@@ -95,7 +90,7 @@ pub struct Home {
 }
 
 impl Home {
-    fn new<R: Runtime>(rt: &R) -> io::Result<Home> {
+    fn new<R: MachineRuntime + Files<File = File> + Alloc<A = Global>>(rt: &R) -> io::Result<Home> {
         let taken = TcpListener::bind(rt, ("127.0.0.1", 0))?;
         let [high, low] = taken.local_addr()?.port().to_be_bytes();
         Ok(Home {
@@ -196,7 +191,7 @@ pub fn serving<R, S, M, E>(
     err: &mut E,
 ) -> Ended
 where
-    R: Runtime,
+    R: MachineRuntime + Files<File = File> + Alloc<A = Global>,
     S: Starts + Send + Drop + 'static,
     M: Marks + Send + Drop + 'static,
     E: CountedWrite,
@@ -221,7 +216,7 @@ pub fn is_stopped<R, S, M, E>(
     err: &mut E,
 ) -> bool
 where
-    R: Runtime,
+    R: MachineRuntime + Files<File = File> + Alloc<A = Global>,
     S: Starts + Send + Drop + 'static,
     M: Marks + Send + Drop + 'static,
     E: CountedWrite,
@@ -230,7 +225,7 @@ where
 }
 
 /// What takes what a machine releases since this start, and what adds it to the trace at this path.
-fn trace_at<R: Runtime>(
+fn trace_at<R: MachineRuntime + Files<File = File> + Alloc<A = Global>>(
     host: Host<R>,
     started: Started,
     path: &str,
@@ -276,7 +271,7 @@ pub fn comes_to_be<R: Clock>(rt: &R, flag: &AtomicBool, wanted: bool) -> bool {
 
 /// Three machines, of which those run that were opened and aren't ended.
 #[derive(Drop)]
-pub struct Machines<R: Runtime> {
+pub struct Machines<R: MachineRuntime + Files<File = File> + Alloc<A = Global>> {
     rt: R,
     /// The first part of their directories' names.
     name: &'static str,
@@ -290,7 +285,7 @@ pub struct Machines<R: Runtime> {
     running: [Option<Served>; 3],
 }
 
-impl<R: Runtime> Machines<R> {
+impl<R: MachineRuntime + Files<File = File> + Alloc<A = Global>> Machines<R> {
     /// Makes a store for each, in a directory that isn't there, or is left by an earlier run.
     pub fn new(rt: R, name: &'static str, has_ways: bool) -> Result<Machines<R>, Fail> {
         let machines = Machines {

@@ -1,8 +1,11 @@
 //! An operator at the console of a machine, who changes the program.
 
-use crate::machines::Runtime;
+use plc_member::MachineRuntime;
+use std::alloc::Global;
+use std::fs::File;
 use std::io::{ErrorKind, Read, Write};
 use std::net::{SocketAddr, TcpStream};
+use std::rt::Files;
 use std::test::Fail;
 use std::time::Duration;
 use std::{io, thread};
@@ -15,7 +18,10 @@ pub struct Operator {
 
 impl Operator {
     /// At the console that comes to be there.
-    pub fn new<R: Runtime>(rt: &R, address: SocketAddr) -> Result<Operator, Fail> {
+    pub fn new<R: MachineRuntime + Files<File = File> + Alloc<A = Global>>(
+        rt: &R,
+        address: SocketAddr,
+    ) -> Result<Operator, Fail> {
         for _ in 0..200u32 {
             if let Ok(stream) = TcpStream::connect(rt, address) {
                 return Ok(Operator { stream });
@@ -26,7 +32,11 @@ impl Operator {
     }
 
     /// Asks to go on with the program of this image.
-    pub fn change<R: Runtime>(&mut self, rt: &R, image: &[u8]) -> Result<(), Fail> {
+    pub fn change<R: MachineRuntime + Files<File = File> + Alloc<A = Global>>(
+        &mut self,
+        rt: &R,
+        image: &[u8],
+    ) -> Result<(), Fail> {
         let alloc = rt.alloc();
         let digits = hex::encode(alloc, image)?;
         let line = format!(in alloc; "{{\"change\":\"{digits}\"}}\n")?;

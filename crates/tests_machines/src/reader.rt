@@ -1,8 +1,12 @@
 //! A client of the group, which asks whichever machine answers, and judges what it reads.
 
-use crate::machines::{Home, PERIOD, Runtime};
+use crate::machines::{Home, PERIOD};
+use plc_member::MachineRuntime;
+use std::alloc::Global;
+use std::fs::File;
 use std::io::{Read, Write};
 use std::net::{SocketAddr, TcpStream};
+use std::rt::Files;
 use std::test::Fail;
 use std::time::{Duration, Instant};
 use std::{io, thread};
@@ -81,7 +85,10 @@ fn put(stream: &mut TcpStream, input: Input) -> io::Result<()> {
 }
 
 /// A connection to this machine.
-fn connected<R: Runtime>(rt: &R, address: SocketAddr) -> io::Result<TcpStream> {
+fn connected<R: MachineRuntime + Files<File = File> + Alloc<A = Global>>(
+    rt: &R,
+    address: SocketAddr,
+) -> io::Result<TcpStream> {
     let stream = TcpStream::connect(rt, address)?;
     stream.set_read_timeout(Some(Duration::from_secs(1)))?;
     Ok(stream)
@@ -138,7 +145,7 @@ impl Story {
 
 /// A client of three machines.
 #[derive(Drop)]
-pub struct Reader<R: Runtime> {
+pub struct Reader<R: MachineRuntime + Files<File = File> + Alloc<A = Global>> {
     rt: R,
     machines: [SocketAddr; 3],
     begun: Instant,
@@ -149,7 +156,7 @@ pub struct Reader<R: Runtime> {
     held: i64,
 }
 
-impl<R: Runtime> Reader<R> {
+impl<R: MachineRuntime + Files<File = File> + Alloc<A = Global>> Reader<R> {
     /// Of the machines there, none of which has answered.
     pub fn new(rt: R, home: &Home) -> Result<Reader<R>, Fail> {
         Ok(Reader {

@@ -1,11 +1,18 @@
 //! What machines released, by their traces.
 
-use crate::machines::Runtime;
+use plc_member::MachineRuntime;
+use std::alloc::Global;
+use std::fs::File;
+use std::rt::Files;
 use std::test::Fail;
 use std::{fs, str};
 
 /// Adds the counts of scans that a trace shows, `%QW63` of each release.
-pub fn add_counts<R: Runtime>(rt: &R, path: &str, counts: &mut Vec<u16>) -> Result<(), Fail> {
+pub fn add_counts<R: MachineRuntime + Files<File = File> + Alloc<A = Global>>(
+    rt: &R,
+    path: &str,
+    counts: &mut Vec<u16>,
+) -> Result<(), Fail> {
     let bytes = fs::read(rt, path)?;
     let Ok(text) = str::from_utf8(bytes.as_slice()) else {
         return Err("no text")?;

@@ -1,8 +1,12 @@
 //! A trial of three machines, by what a client reads of them.
 
-use crate::machines::{FRESH, Machines, Runtime};
+use crate::machines::{FRESH, Machines};
 use crate::reader::Reader;
 use crate::ways::Ways;
+use plc_member::MachineRuntime;
+use std::alloc::Global;
+use std::fs::File;
+use std::rt::Files;
 use std::test::Fail;
 use std::thread;
 use std::time::Duration;
@@ -31,13 +35,13 @@ const AWAY: u32 = 1_500;
 
 /// Three machines, and a client that reads what they show.
 #[derive(Drop)]
-pub struct Trial<R: Runtime> {
+pub struct Trial<R: MachineRuntime + Files<File = File> + Alloc<A = Global>> {
     rt: R,
     pub machines: Machines<R>,
     reader: Reader<R>,
 }
 
-impl<R: Runtime> Trial<R> {
+impl<R: MachineRuntime + Files<File = File> + Alloc<A = Global>> Trial<R> {
     /// Of machines none of which was started.
     pub fn new(rt: R, name: &'static str, has_ways: bool) -> Result<Trial<R>, Fail> {
         let machines = Machines::new(rt, name, has_ways)?;
