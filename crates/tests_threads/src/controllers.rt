@@ -2,7 +2,8 @@
 
 use io_image::NewList;
 use io_model::Counted;
-use plc_host::{Host, ServiceRuntime};
+use plc_host::Host;
+use plc_listener::DoorRuntime;
 use plc_serve::{Service, serve};
 use plc_settings::{Operators, Settings};
 use plc_status::StatusWriter;
@@ -62,7 +63,7 @@ pub fn served<R, S, F: Write, E: Write>(
     err: &mut E,
 ) -> u8
 where
-    R: ServiceRuntime + Net<Listener = TcpListener, Stream = TcpStream> + Files<File = File>,
+    R: DoorRuntime + Files<File = File>,
     S: Starts + Send + Drop + 'static,
 {
     serve::<Brand, _, _, _, _, _>(
@@ -86,7 +87,7 @@ pub struct Outcome {
 /// Serves a controller whose lines on standard error this one takes.
 pub fn ended<R, S, E: Write>(host: Host<R>, service: Service<S>, err: &mut E) -> Outcome
 where
-    R: ServiceRuntime + Net<Listener = TcpListener, Stream = TcpStream> + Files<File = File>,
+    R: DoorRuntime + Files<File = File>,
     S: Starts + Send + Drop + 'static,
 {
     let (mut report, mut out) = (Vec::new(host.alloc), Vec::new(host.alloc));

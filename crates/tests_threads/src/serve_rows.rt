@@ -3,7 +3,8 @@
 use crate::clients::{ALL, Step, Visit, free_port, visit_once_told};
 use crate::controllers::{Lines, served};
 use crate::falling::{Falling, with_falling};
-use plc_host::{Host, ServiceRuntime};
+use plc_host::Host;
+use plc_listener::DoorRuntime;
 use plc_serve::Service;
 use plc_settings::{ConsoleAt, Settings};
 use plc_status::ReportFile;
@@ -654,7 +655,7 @@ fn serve_told<R, S, F: Write>(
     told: Arc<AtomicU64>,
 ) -> Written
 where
-    R: ServiceRuntime + Net<Listener = TcpListener, Stream = TcpStream> + Files<File = File>,
+    R: DoorRuntime + Files<File = File>,
     S: Starts + Send + Drop + 'static,
 {
     let mut out = Vec::new(host.alloc);
@@ -676,7 +677,7 @@ fn serve_clients<R, S, F: Write>(
     visit: Visit,
 ) -> Result<Ended, Fail>
 where
-    R: ServiceRuntime + Net<Listener = TcpListener, Stream = TcpStream> + Files<File = File>,
+    R: DoorRuntime + Files<File = File>,
     S: Starts + Send + Drop + 'static,
 {
     let told = Arc::new(host.alloc, AtomicU64::new(0))?;
