@@ -1,0 +1,5 @@
+pub mod Numbers
+pub mod Reals
+pub mod Literals
+pub mod Decimals
+pub mod Texts
