@@ -1,7 +1,7 @@
 -- The bytes told by a program and the literals of its typed program are the typed program's spelling.
 use Rattle.std.proofs.Common.{◌≡◌, ℕ, List, [], ◌∷◌, ◌++◌, length, Option, Some, None, Ok, refl, sym, ap, ◌∙◌}
-use Rattle.std.specs.Prelude.{Bool, ◌||◌, if◌then◌else◌, map}
-use Rattle.std.specs.List.{flat_map, list_any}
+use Rattle.std.specs.Prelude.{Bool, ◌&&◌, if◌then◌else◌, map}
+use Rattle.std.specs.List.{flat_map, list_all}
 use Rattle.std.specs.Option.{option_map, option_and_then}
 use Rattle.std.proofs.lemmas.List.{map-append}
 use Rattle.il_model.specs.declared.value.Ty.{Ty}
@@ -21,14 +21,14 @@ use Rattle.il_model.specs.Resolved.{target_of, instance_in, kind_in, called_kind
 use Rattle.il_model.specs.Marks.{Mark, marks_from, words_in, address_of}
 use Rattle.il_model.specs.Constants.{same_value, operand_literal, joined_constants, constants_from, operands_in, operands_of}
 use Rattle.il_model.specs.CodedOperands.{code_of}
-use Rattle.il_model.specs.Image.{number_or_unused, coded_operand, operand_code, coded_word, op_code, modifier_code, side_code, field_number_code, word_bytes, argument_bytes, instruction_bytes, is_long_variable, is_long_value, version_with, header_bytes, variable_bytes, instance_bytes, mark_bytes, constant_bytes, spelling}
+use Rattle.il_model.specs.Image.{number_or_unused, coded_operand, operand_code, coded_word, op_code, modifier_code, side_code, field_number_code, word_bytes, argument_bytes, instruction_bytes, may_declare, may_keep, may_write, version_with, header_bytes, variable_bytes, instance_bytes, mark_bytes, constant_bytes, spelling}
 use Rattle.il_model.specs.Settled.{settled_argument, settled_line, typed_program_of}
 use Rattle.il_model.proofs.ArgumentFaults.{settled_argument_none}
 use Rattle.il_model.proofs.SettledPrograms.{Alike, literal_is, settled_none, called_settled, is_settling, settling_alike, target_alike, typed_program}
 use Rattle.il_assembler.specs.Walk.{literals_of, constants_in, literals_in, all_literals, settled_code}
 use Rattle.il_assembler.specs.Walk.{settled_passing_word, settled_instruction, settled_words, settled_bytes}
 use Rattle.il_assembler.proofs.Gathered.{passing_literals}
-use Rattle.il_assembler.proofs.SettledLines.{AreSettledLines, settled_lines, same_words, same_address, same_marks, same_long}
+use Rattle.il_assembler.proofs.SettledLines.{AreSettledLines, settled_lines, same_words, same_address, same_marks, same_writes}
 
 -- ---- constants
 
@@ -130,11 +130,17 @@ parts version variables instances marks constants count words =
     header_bytes version (length variables) (length instances) (length marks) (length constants) count
     ++ (flat_map (variable_bytes version) variables ++ (flat_map instance_bytes instances ++ (flat_map mark_bytes marks ++ (flat_map (constant_bytes version) constants ++ words))))
 
+-- the first version that suffices, where the first two may have the instructions or not
+abbrev first_sufficing : List Variable → List Value → Bool → Bool → Version
+first_sufficing vs cs one two = if list_all (may_declare versions.One) vs && (list_all (may_keep versions.One) cs && one) then versions.One
+    else (if list_all (may_declare versions.Two) vs && (list_all (may_keep versions.Two) cs && two) then versions.Two else versions.Three)
+
 -- a program and its typed program have one version
 version_alike : (P Q : Program) (constants : List Value) → Alike P Q → AreSettledLines P.code Q.code → version_with P.variables constants P.code ≡ version_with Q.variables constants Q.code
 version_alike P Q constants a are =
     ap (λ (vs : List Variable). version_with vs constants P.code) (sym a.variables)
-    ∙ ap (λ (b : Bool). if list_any is_long_variable Q.variables || (list_any is_long_value constants || b) then versions.Two else versions.One) (same_long P.code Q.code are)
+    ∙ ap (λ (b : Bool). first_sufficing Q.variables constants b (list_all (may_write versions.Two) P.code)) (same_writes versions.One P.code Q.code are)
+    ∙ ap (λ (b : Bool). first_sufficing Q.variables constants (list_all (may_write versions.One) Q.code) b) (same_writes versions.Two P.code Q.code are)
 
 spelled : (P Q : Program) → Alike P Q → AreSettledLines P.code Q.code → settled_bytes P (constants_in [] (all_literals P.code (literals_of Q.code))) (literals_of Q.code) ≡ spelling Q
 spelled P Q a are =

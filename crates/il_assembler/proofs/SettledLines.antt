@@ -1,7 +1,7 @@
 -- The instructions of a program and of its typed program, side by side.
 use Rattle.std.proofs.Common.{◌≡◌, ℕ, zero, suc, ◌+◌, ◌≤◌, List, [], ◌∷◌, length, Option, Some, Ok, refl, sym, ap, ◌∙◌, arith}
-use Rattle.std.specs.Prelude.{slice_get, Bool, ◌||◌}
-use Rattle.std.specs.List.{AllByRecursion, list_any}
+use Rattle.std.specs.Prelude.{slice_get, Bool, ◌&&◌}
+use Rattle.std.specs.List.{AllByRecursion, list_all}
 use Rattle.std.specs.Option.{option_map}
 use Rattle.std.proofs.lemmas.List.{length-map}
 use Rattle.std.proofs.lemmas.Option.{slice_get_within}
@@ -10,7 +10,8 @@ use Rattle.il_model.specs.declared.program.Instr.{Instr}
 use Rattle.il_model.specs.Program.{Program}
 use Rattle.il_model.specs.Checking.{shape_at, typing_end}
 use Rattle.il_model.specs.Marks.{with_mark, marks_from, word_count, words_in, address_of}
-use Rattle.il_model.specs.Image.{is_long_line}
+use Rattle.il_model.specs.declared.codes.Version.{Version}
+use Rattle.il_model.specs.Image.{may_write}
 use Rattle.il_model.specs.Settled.{settled_argument, settled_line, typed_program_of, IsTypedProgramOf}
 use Rattle.il_model.proofs.SettledPrograms.{some_is, typed_program}
 use Rattle.il_model.proofs.TypedLines.{bind_ok, ok_before}
@@ -74,12 +75,12 @@ same_marks n (p ∷ ps) (q ∷ qs) are =
 
 -- ---- the same operators
 
-pub same_long : (ps qs : List Instr) → AreSettledLines ps qs → list_any is_long_line ps ≡ list_any is_long_line qs
-same_long [] [] are = refl
-same_long [] (q ∷ qs) are = absurd are
-same_long (p ∷ ps) [] are = absurd are
-same_long (p ∷ ps) (q ∷ qs) are =
-    ap (λ (b : Bool). b || list_any is_long_line ps) (sym (ap is_long_line are.0.1)) ∙ ap (λ (b : Bool). is_long_line q || b) (same_long ps qs are.1)
+pub same_writes : (version : Version) (ps qs : List Instr) → AreSettledLines ps qs → list_all (may_write version) ps ≡ list_all (may_write version) qs
+same_writes version [] [] are = refl
+same_writes version [] (q ∷ qs) are = absurd are
+same_writes version (p ∷ ps) [] are = absurd are
+same_writes version (p ∷ ps) (q ∷ qs) are =
+    ap (λ (b : Bool). b && list_all (may_write version) ps) (sym (ap (may_write version) are.0.1)) ∙ ap (λ (b : Bool). may_write version q && b) (same_writes version ps qs are.1)
 
 -- ---- few arguments
 

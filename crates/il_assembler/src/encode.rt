@@ -6,14 +6,14 @@ ghost use Rattle.il_assembler.specs.Walk.{constants_in, all_literals, settled_co
 ghost use Rattle.il_assembler.specs.Walk.{settled_instruction, settled_words, settled_bytes, HasFewArguments};
 ghost use Rattle.il_assembler.specs.Walk.{addresses_from};
 ghost use Rattle.std.specs.Int.{w8, w16, w32, w64, to_be_bytes, cast_unsigned};
-ghost use Rattle.std.specs.List.{AllByRecursion, flat_map, list_any};
+ghost use Rattle.std.specs.List.{AllByRecursion, flat_map, list_all};
 ghost use Rattle.il_model.specs.Values.{number_of};
-ghost use Rattle.il_model.specs.Codes.{may_have};
 ghost use Rattle.il_model.specs.Kinds.{field_number};
 ghost use Rattle.il_model.specs.Marks.{with_mark, marks_from, words_in};
 ghost use Rattle.il_model.specs.declared.coded_operand.CodedOperand.TheVariants as coded;
 ghost use Rattle.il_model.specs.CodedOperands.{code_of};
-ghost use Rattle.il_model.specs.Image.{name_bytes, number_bytes, is_long_value, is_long_variable, variable_bytes};
+ghost use Rattle.il_model.specs.declared.codes.Version.TheVariants as versions;
+ghost use Rattle.il_model.specs.Image.{name_bytes, number_bytes, may_declare, may_keep, variable_bytes};
 ghost use Rattle.il_model.specs.Image.{instance_bytes, mark_bytes, constant_bytes, numbered, coded_literal};
 ghost use Rattle.il_model.specs.Image.{coded_field, number_or_unused, field_number_code, operand_code, coded_word};
 ghost use Rattle.il_model.specs.Image.{counts_bytes};
@@ -63,9 +63,9 @@ fn put_name(out: &mut Vec<u8>, name: &Name) -> Result<(), AllocError>
     Ok(())
 }
 
-/// The 32 bits of a value that isn't LINT.
+/// The 32 bits of a value that images of the first version have.
 fn short_bits(v: Value) -> u32
-    requires { is_long_value v ≡ false }
+    requires { may_keep versions.One v ≡ true }
     ensures { result ≡ cast_unsigned w32 (number_of v) }
 {
     match v {
@@ -73,23 +73,23 @@ fn short_bits(v: Value) -> u32
         Value::Int(z) => i32::from(z).cast_unsigned(),
         Value::Dint(z) => z.cast_unsigned(),
         Value::Time(z) => z.cast_unsigned(),
-        Value::Lint(_) => unreachable!(),
+        Value::Lint(_) | Value::Real(_) => unreachable!(),
     }
 }
 
-/// The number of a value as an image of this version has it; the first version has no LINT.
+/// The number of a value as an image of this version has it.
 fn put_number(out: &mut Vec<u8>, version: Version, v: Value) -> Result<(), AllocError>
-    requires { may_have version (is_long_value v) ≡ true }
+    requires { may_keep version v ≡ true }
     ensures { OnOk result (out.new.items ≡ out.old.items ++ number_bytes version (number_of v)) }
 {
     match version {
         Version::One => put_u32(out, short_bits(v)),
-        Version::Two => put_u64(out, v.number().cast_unsigned()),
+        Version::Two | Version::Three => put_u64(out, v.number().cast_unsigned()),
     }
 }
 
 fn put_variable(out: &mut Vec<u8>, version: Version, v: &Variable) -> Result<(), AllocError>
-    requires { may_have version (is_long_variable v.now) ≡ true }
+    requires { may_declare version v.now ≡ true }
     ensures { OnOk result (out.new.items ≡ out.old.items ++ variable_bytes version v.now) }
 {
     put_name(out, &v.name)?;
@@ -99,7 +99,7 @@ fn put_variable(out: &mut Vec<u8>, version: Version, v: &Variable) -> Result<(),
 }
 
 fn put_constant(out: &mut Vec<u8>, version: Version, v: Value) -> Result<(), AllocError>
-    requires { may_have version (is_long_value v) ≡ true }
+    requires { may_keep version v ≡ true }
     ensures { OnOk result (out.new.items ≡ out.old.items ++ constant_bytes version v) }
 {
     put_u8(out, type_code(v.ty()))?;
@@ -283,7 +283,7 @@ fn put_counts(
 }
 
 fn put_variables(out: &mut Vec<u8>, version: Version, vs: &[Variable]) -> Result<(), AllocError>
-    requires { may_have version (list_any is_long_variable vs.now) ≡ true }
+    requires { list_all (may_declare version) vs.now ≡ true }
     ensures { OnOk result (out.new.items ≡ out.old.items ++ flat_map (variable_bytes version) vs.now) }
 {
     for v in vs {
@@ -359,7 +359,7 @@ fn label_count(code: &[Instr]) -> usize
 }
 
 fn put_constants(out: &mut Vec<u8>, version: Version, constants: &[Value]) -> Result<(), AllocError>
-    requires { may_have version (list_any is_long_value constants.now) ≡ true }
+    requires { list_all (may_keep version) constants.now ≡ true }
     ensures { OnOk result (out.new.items ≡ out.old.items ++ flat_map (constant_bytes version) constants.now) }
 {
     for v in constants {

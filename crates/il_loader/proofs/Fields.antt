@@ -109,6 +109,7 @@ wide64 = record { len = λ n. refl; back = λ bytes len fits. be_bytes_8 bytes _
 wide : (version : Version) → IsWide (number_width version) (number_limit version)
 wide versions.One = wide32
 wide versions.Two = wide64
+wide versions.Three = wide64
 
 pub number_takes : (w : Width) (limit : ℕ) (wide : IsWide w limit) (bytes : List ℕ) (n : ℕ) (rest : List ℕ) → IsBytes bytes → number_at w bytes ≡ Ok (n, rest) → Takes bytes (to_be_bytes w n) rest × (n < limit)
 number_takes w limit wide bytes n rest fits e =
@@ -130,6 +131,7 @@ number_again w limit wide n rest lt =
 unsigned_again : (version : Version) (n : ℕ) → n < number_limit version → cast_unsigned (number_width version) (cast_signed (number_width version) n) ≡ n
 unsigned_again versions.One n lt = of_z-to_z w32 n lt
 unsigned_again versions.Two n lt = of_z-to_z w64 n lt
+unsigned_again versions.Three n lt = of_z-to_z w64 n lt
 
 pub signed_takes : (version : Version) (bytes : List ℕ) (z : ℤ) (rest : List ℕ) → IsBytes bytes → signed_at version bytes ≡ Ok (z, rest) → Takes bytes (number_bytes version z) rest
 signed_takes version bytes z rest fits e =
@@ -163,7 +165,8 @@ type_is (suc zero) t e = let is : types.Int ≡ t = cc in sym (ap type_code is)
 type_is (suc (suc zero)) t e = let is : types.Dint ≡ t = cc in sym (ap type_code is)
 type_is (suc (suc (suc zero))) t e = let is : types.Time ≡ t = cc in sym (ap type_code is)
 type_is (suc (suc (suc (suc zero)))) t e = let is : types.Lint ≡ t = cc in sym (ap type_code is)
-type_is (suc (suc (suc (suc (suc n))))) t e = absurd cc
+type_is (suc (suc (suc (suc (suc zero))))) t e = let is : types.Real ≡ t = cc in sym (ap type_code is)
+type_is (suc (suc (suc (suc (suc (suc n)))))) t e = absurd cc
 
 pub type_small : (t : Ty) → type_code t < 2 ^ 8
 type_small types.Bool = omega arith
@@ -171,6 +174,7 @@ type_small types.Int = omega arith
 type_small types.Dint = omega arith
 type_small types.Time = omega arith
 type_small types.Lint = omega arith
+type_small types.Real = omega arith
 
 free_is : (seen : List Variable) (t : Ty) (x : CodedOperand) (loc : Option Loc) → free_loc seen t x ≡ Some loc → location_code loc ≡ code_of x
 free_is seen t (coded.Location l) loc e = let y = some_yes (is_free seen t l) (Some l) loc e in sym (ap location_code y.1)

@@ -1,7 +1,7 @@
 -- The two laws: what is read is the spelling of a typed program, and that spelling is read.
 use Rattle.std.proofs.Common.{◌≡◌, ℕ, ◌+◌, ◌≤◌, Bool, true, false, cond, ltb, List, [], ◌∷◌, length, Option, Some, None, Result, Ok, Err, refl, sym, ap, subst, ◌∙◌, arith}
-use Rattle.std.specs.Prelude.{nat_eq, nat_le, ◌||◌, IfOk}
-use Rattle.std.specs.List.{flat_map, list_any, position, AllByRecursion}
+use Rattle.std.specs.Prelude.{nat_eq, nat_le, ◌&&◌, ◌||◌, IfOk}
+use Rattle.std.specs.List.{flat_map, list_all, position, AllByRecursion}
 use Rattle.std.proofs.lemmas.Bool.{ltb-false, le-ltb, eqb-true, eq-eqb}
 use Rattle.std.proofs.lemmas.List.{take_all}
 use Rattle.il_model.specs.declared.value.Value.{Value}
@@ -14,8 +14,7 @@ use Rattle.il_model.specs.Typing.{IsTyped}
 use Rattle.il_model.specs.Checking.{judgement_of}
 use Rattle.il_model.specs.Marks.{Mark, marks_from, words_in, AreRising, AreStarts}
 use Rattle.il_model.specs.Constants.{same_value, operands_of, constants_from, constants_of}
-use Rattle.il_model.specs.Image.{version_number, is_long_line, version_with, version_of, instruction_bytes, spelling}
-use Rattle.il_model.specs.Codes.{may_have}
+use Rattle.il_model.specs.Image.{version_number, may_write, version_with, version_of, instruction_bytes, spelling}
 use Rattle.il_model.specs.Fits.{IsMark, IsConstant, AreItems, IsProgram, IsImage}
 use Rattle.il_model.proofs.Marks.{table_again, table_rises, table_starts, table_labels}
 use Rattle.il_model.proofs.ConstantLists.{are_apart}
@@ -30,9 +29,9 @@ use Rattle.il_loader.specs.declared.fault.LoadFault.TheVariants.{BadVersion, Bad
 use Rattle.il_loader.specs.declared.fault.LoadError.{LoadError}
 use Rattle.il_loader.specs.Tables.{Tables, declared_in, with_line, lines_of}
 use Rattle.il_loader.specs.Reading.{◌>>=◌, Gives, agrees, tables_at}
-use Rattle.il_loader.specs.Judging.{constant_place, risen, used_from, earlier, sooner, stray_from, misspelled, at_word, words_fine, all_used, is_same, small, judged_tables, image_of}
+use Rattle.il_loader.specs.Judging.{constant_place, risen, used_from, earlier, sooner, stray_from, misspelled, at_word, words_fine, all_used, is_own_version, small, judged_tables, image_of}
 use Rattle.il_loader.proofs.Fields.{IsBytes, bind_ok, agrees_ok, ok_is}
-use Rattle.il_loader.proofs.Records.{is_long_content, is_long_word, read_word_bytes}
+use Rattle.il_loader.proofs.Records.{may_say, may_read, read_word_bytes}
 use Rattle.il_loader.proofs.Spelled.{tables_bytes, AreTables, AreShort, tables_take, tables_again}
 use Rattle.il_loader.proofs.Groups.{front, words_are, none_front, operands_are, word_operands, labels_read, risen_takes, risen_again}
 use Rattle.il_loader.proofs.Words.{AreKnown}
@@ -108,12 +107,12 @@ record IsJudged (t : Tables) : Type 0 where
   typed : IsTyped (program_in t)
   version : t.version ≡ version_in t
 
--- the version is that of the program
-abbrev is_own_version : Tables → Program → Bool
-is_own_version t Q = is_same t.version (version_with t.variables t.constants Q.code)
+abbrev is_own : Tables → Program → Bool
+is_own t Q = is_own_version t.version t.constants Q
 
 judged_join : (total : ℕ) (t : Tables) (Q : Program) (x y z u : Unit {0}) → program_of t.variables t.instances (lines_of t.instances t.words) ≡ Some Q → risen (constant_place t.version total (length t.words) (length t.constants) 0) 0 t.words t.labels ≡ Ok x
-    → words_fine total (length t.words) (misspelled t.words (used_from 0 0 t.words)) (at_word Q (judgement_of Q)) ≡ Ok y → all_used t.version total (length t.words) (length t.constants) (used_from 0 0 t.words) ≡ Ok z → agrees BadVersion (is_own_version t Q) ≡ Ok u → IsJudged t × (program_in t ≡ Q)
+    → words_fine total (length t.words) (misspelled t.words (used_from 0 0 t.words)) (at_word Q (judgement_of Q)) ≡ Ok y → all_used t.version total (length t.words) (length t.constants) (used_from 0 0 t.words) ≡ Ok z → agrees BadVersion (is_own t Q) ≡ Ok u → IsJudged t × (program_in t ≡ Q)
+unfolding is_own_version
 judged_join total t Q x y z u small-is risen-is fine-is used-is version-is =
     let p = program_by (ltb 512 (length t.variables)) (ltb 128 (length t.instances)) (ltb 4096 (length (lines_of t.instances t.words))) (program_in t) Q small-is in
     let fine = fine_takes total (length t.words) (misspelled t.words (used_from 0 0 t.words)) (at_word Q (judgement_of Q)) y fine-is in
@@ -129,7 +128,7 @@ judged_join total t Q x y z u small-is risen-is fine-is used-is version-is =
         loud = both.0;
         stray = both.1;
         typed = subst IsTyped (sym p.1) (is_typed Q (word_ok Q (judgement_of Q) fine.typed));
-        version = same_version t.version (version_in t) (ap (is_own_version t) p.1 ∙ agrees_ok BadVersion (is_own_version t Q) u version-is);
+        version = same_version t.version (version_in t) (ap (is_own t) p.1 ∙ agrees_ok BadVersion (is_own t Q) u version-is);
       },
       p.1,
     )
@@ -140,12 +139,12 @@ judged_takes total t Q e =
     let end = constant_place t.version total (length t.words) (length t.constants) 0 in
     let used = used_from 0 0 t.words in
     let wrong = misspelled t.words used in
-    let a = bind_ok (small (program_of t.variables t.instances (lines_of t.instances t.words))) (λ Q. risen end 0 t.words t.labels >>= λ rising. words_fine total (length t.words) wrong (at_word Q (judgement_of Q)) >>= λ fine. all_used t.version total (length t.words) (length t.constants) used >>= λ used. agrees BadVersion (is_own_version t Q) >>= λ own. Ok Q) Q e in
+    let a = bind_ok (small (program_of t.variables t.instances (lines_of t.instances t.words))) (λ Q. risen end 0 t.words t.labels >>= λ rising. words_fine total (length t.words) wrong (at_word Q (judgement_of Q)) >>= λ fine. all_used t.version total (length t.words) (length t.constants) used >>= λ used. agrees BadVersion (is_own t Q) >>= λ own. Ok Q) Q e in
     let P = a.0 in
-    let b = bind_ok (risen end 0 t.words t.labels) (λ rising. words_fine total (length t.words) wrong (at_word P (judgement_of P)) >>= λ fine. all_used t.version total (length t.words) (length t.constants) used >>= λ used. agrees BadVersion (is_own_version t P) >>= λ own. Ok P) Q a.2 in
-    let c = bind_ok (words_fine total (length t.words) wrong (at_word P (judgement_of P))) (λ fine. all_used t.version total (length t.words) (length t.constants) used >>= λ used. agrees BadVersion (is_own_version t P) >>= λ own. Ok P) Q b.2 in
-    let d = bind_ok (all_used t.version total (length t.words) (length t.constants) used) (λ used. agrees BadVersion (is_own_version t P) >>= λ own. Ok P) Q c.2 in
-    let v = bind_ok (agrees BadVersion (is_own_version t P)) (λ own. Ok P) Q d.2 in
+    let b = bind_ok (risen end 0 t.words t.labels) (λ rising. words_fine total (length t.words) wrong (at_word P (judgement_of P)) >>= λ fine. all_used t.version total (length t.words) (length t.constants) used >>= λ used. agrees BadVersion (is_own t P) >>= λ own. Ok P) Q a.2 in
+    let c = bind_ok (words_fine total (length t.words) wrong (at_word P (judgement_of P))) (λ fine. all_used t.version total (length t.words) (length t.constants) used >>= λ used. agrees BadVersion (is_own t P) >>= λ own. Ok P) Q b.2 in
+    let d = bind_ok (all_used t.version total (length t.words) (length t.constants) used) (λ used. agrees BadVersion (is_own t P) >>= λ own. Ok P) Q c.2 in
+    let v = bind_ok (agrees BadVersion (is_own t P)) (λ own. Ok P) Q d.2 in
     let j = judged_join total t P b.0 c.0 d.0 v.0 (small_ok (program_of t.variables t.instances (lines_of t.instances t.words)) P a.1) b.1 c.1 d.1 v.1 in
     (j.0, j.1 ∙ ok_is P Q v.2)
 
@@ -218,24 +217,24 @@ tables_fit Q is =
       few = record { variables = text.variables_few; instances = text.instances_few; labels = text.labels_few; constants = text.constants_few; words = subst (λ (k : ℕ). k ≤ 36864) (sym (words_long Q (constants_of Q) Q.code)) text.words_few };
     }
 
-long_word : (xs : List Instance) (content : Content) (ws : List Word) → list_any is_long_word ws ≡ list_any is_long_line (lines_of xs ws) → (is_long_content content || list_any is_long_word ws) ≡ list_any is_long_line (with_line xs content ws (lines_of xs ws))
-long_word xs (contents.Instruction line) ws e = ap (λ b. is_long_line line || b) e
-long_word xs (contents.Argument side number operand) ws e = e
+may_word : (version : Version) (xs : List Instance) (content : Content) (ws : List Word) → list_all (may_read version) ws ≡ list_all (may_write version) (lines_of xs ws) → (may_say version content && list_all (may_read version) ws) ≡ list_all (may_write version) (with_line xs content ws (lines_of xs ws))
+may_word version xs (contents.Instruction line) ws e = ap (λ b. may_write version line && b) e
+may_word version xs (contents.Argument side number operand) ws e = e
 
--- an instruction's word is long where the instruction is
-long_words : (xs : List Instance) (ws : List Word) → list_any is_long_word ws ≡ list_any is_long_line (lines_of xs ws)
-long_words xs [] = refl
-long_words xs (w ∷ ws) = long_word xs w.content ws (long_words xs ws)
+-- an instruction's word is one that a version may have where the instruction is
+may_words : (version : Version) (xs : List Instance) (ws : List Word) → list_all (may_read version) ws ≡ list_all (may_write version) (lines_of xs ws)
+may_words version xs [] = refl
+may_words version xs (w ∷ ws) = may_word version xs w.content ws (may_words version xs ws)
 
 tables_short : (Q : Program) → IsImage Q → AreShort (tables_of Q)
 tables_short Q is =
     let cs = constants_of Q in
     let may = version_may Q.variables cs Q.code in
-    let same : list_any is_long_word (all_words Q) ≡ list_any is_long_line Q.code = long_words Q.instances (all_words Q) ∙ ap (list_any is_long_line) (lines_again Q cs [] Q.code is.text.words) in
-    record { variables = may.0; constants = may.1; words = ap (may_have (version_of Q)) same ∙ may.2 }
+    let same : list_all (may_read (version_of Q)) (all_words Q) ≡ list_all (may_write (version_of Q)) Q.code = may_words (version_of Q) Q.instances (all_words Q) ∙ ap (list_all (may_write (version_of Q))) (lines_again Q cs [] Q.code is.text.words) in
+    record { variables = may.0; constants = may.1; words = same ∙ may.2 }
 
 tables_judged : (total : ℕ) (Q : Program) → IsImage Q → judged_tables total (tables_of Q) ≡ Ok Q
-unfolding judged_tables
+unfolding judged_tables is_own_version
 tables_judged total Q is =
     let vs-le : length Q.variables ≤ 512 = is.text.variables_few in
     let xs-le : length Q.instances ≤ 128 = is.text.instances_few in

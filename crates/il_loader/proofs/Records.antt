@@ -1,5 +1,5 @@
 -- What is read is spelled so, and what is spelled so is read: records and tables.
-use Rattle.std.proofs.Common.{◌≡◌, ℕ, zero, suc, ◌-◌, ◌^◌, ◌<◌, ◌≤◌, Bool, true, false, cond, ltb, eqb, List, [], ◌∷◌, ◌++◌, length, take, drop, Option, Some, None, Result, Ok, Err, refl, sym, ap, subst, ◌∙◌, append_assoc, arith}
+use Rattle.std.proofs.Common.{◌≡◌, ℕ, zero, suc, ◌+◌, ◌-◌, ◌^◌, ◌<◌, ◌≤◌, Bool, true, false, cond, ltb, eqb, List, [], ◌∷◌, ◌++◌, length, take, drop, Option, Some, None, Result, Ok, Err, refl, sym, ap, subst, ◌∙◌, append_assoc, arith}
 use Rattle.std.specs.Prelude.{ℤ, slice_get, nat_eq, find}
 use Rattle.std.specs.List.{flat_map}
 use Rattle.std.specs.Int.{w8, w16, to_be_bytes}
@@ -10,6 +10,7 @@ use Rattle.il_model.specs.declared.value.Ty.{Ty}
 use Rattle.il_model.specs.declared.value.Value.{Value}
 use Rattle.il_model.specs.declared.op.Op.{Op}
 use Rattle.il_model.specs.declared.op.Op.TheVariants as ops
+use Rattle.il_model.specs.declared.function.Function.TheVariants as functions
 use Rattle.il_model.specs.declared.op.Modifier.{Modifier}
 use Rattle.il_model.specs.declared.codes.Version.{Version}
 use Rattle.il_model.specs.declared.kind.BlockKind.{BlockKind}
@@ -25,11 +26,13 @@ use Rattle.il_model.specs.Values.{ty_of, number_of}
 use Rattle.il_model.specs.Kinds.{block_kinds, kind_code, kind_of_code}
 use Rattle.il_model.specs.Program.{Declarations}
 use Rattle.il_model.specs.Marks.{Mark}
-use Rattle.il_model.specs.Image.{type_code, location_code, name_bytes, is_long_type, is_long_value, is_long_variable, is_long_line, number_bytes, variable_bytes, instance_bytes, mark_bytes, constant_bytes, op_code, modifier_code, side_code, coded_word}
-use Rattle.il_model.specs.Codes.{is_new_name, is_new_instance, is_new_label, length_of, may_have, type_of, type_in, coded_location, initial_of, constant_of, usage_of, allowed_by, op_list, op_of, op_in, modifier_of, letters_of, label_there, word_operand, side_of, argument_number, argument_operand}
+use Rattle.il_model.specs.Image.{type_code, location_code, name_bytes, type_version, value_version, may_have, may_declare, may_keep, may_write, number_bytes, variable_bytes, instance_bytes, mark_bytes, constant_bytes, op_code, modifier_code, side_code, coded_word}
+use Rattle.il_model.specs.Codes.{is_new_name, is_new_instance, is_new_label, length_of, type_of, type_in, coded_location, initial_of, constant_of, usage_of, allowed_by, op_of, op_in, modifier_of, letters_of, label_there, word_operand, side_of, argument_number, argument_operand}
 use Rattle.il_model.specs.Fits.{IsVariable, IsInstance, IsMark, IsConstant, IsCoded, AreItems}
 use Rattle.il_model.proofs.BlockKinds.{kind_of_code-kind_code}
-use Rattle.il_model.proofs.Versions.{IsKept, or_may, variable_kept, constant_kept, type_in_again, type_in_is, op_in_again, op_in_is}
+use Rattle.il_model.proofs.OpCodes.{op_is}
+use Rattle.il_model.proofs.RowTypes.{and_yes}
+use Rattle.il_model.proofs.Versions.{IsKept, variable_kept, constant_kept, type_in_again, type_in_is, op_in_again, op_in_is}
 use Rattle.il_loader.specs.declared.word.Word.{Word}
 use Rattle.il_loader.specs.declared.word.Content.{Content}
 use Rattle.il_loader.specs.declared.word.Content.TheVariants as contents
@@ -167,14 +170,14 @@ regrouped_4 a b c d rest = append_assoc a (b ++ (c ++ d)) rest ∙ ap (λ (x : L
 regrouped_3 : (a b c rest : List ℕ) → (a ++ (b ++ c)) ++ rest ≡ a ++ (b ++ (c ++ rest))
 regrouped_3 a b c rest = append_assoc a (b ++ c) rest ∙ ap (λ (x : List ℕ). a ++ x) (append_assoc b c rest)
 
-pub variable_again : (version : Version) (total : ℕ) (seen : List Variable) (v : Variable) (rest : List ℕ) → IsVariable seen v → may_have version (is_long_variable v) ≡ true → variable_at version total seen (variable_bytes version v ++ rest) ≡ Ok (v, rest)
+pub variable_again : (version : Version) (total : ℕ) (seen : List Variable) (v : Variable) (rest : List ℕ) → IsVariable seen v → may_declare version v ≡ true → variable_at version total seen (variable_bytes version v ++ rest) ≡ Ok (v, rest)
 unfolding variable_at
 variable_again version total seen v rest is may =
     let p = total - length (variable_bytes version v ++ rest) in
     let b1 = to_be_bytes w8 (type_code v.ty) in
     let b2 = to_be_bytes w16 (location_code v.location) in
     let b3 = number_bytes version (number_of v.initial) in
-    let type = type_in_again version v.ty (or_may version (is_long_type v.ty) (is_long_value v.initial) may).0 in
+    let type = type_in_again version v.ty (and_yes (may_have version (type_version v.ty)) (may_have version (value_version v.initial)) may).0 in
     let h0 : name_at p (is_new_name seen) (variable_bytes version v ++ rest) ≡ Ok (v.name, b1 ++ (b2 ++ (b3 ++ rest))) = ap (name_at p (is_new_name seen)) (regrouped_4 (name_bytes v.name) b1 b2 b3 rest) ∙ name_again p (is_new_name seen) v.name (b1 ++ (b2 ++ (b3 ++ rest))) is.length is.name in
     rw (h0, number_again w8 (2 ^ 8) wide8 (type_code v.ty) (b2 ++ (b3 ++ rest)) (type_small v.ty), type, number_again w16 (2 ^ 16) wide16 (location_code v.location) (b3 ++ rest) is.location_small, is.location, first_value_again version p v.ty v.location v.initial rest is.initial (variable_kept version seen v is may)) refl
 
@@ -290,51 +293,13 @@ constant_takes version total seen bytes x fits e =
     let value-ok = lawful_ok p (constant_of seen b_type.0 b_number.0.0) b_value.0 b_value.1 in
     subst (λ (y : Value × List ℕ). Takes bytes (constant_bytes version y.0) y.1 × IsConstant seen y.0) (ok_is (b_value.0, b_number.0.1) x b_value.2) (constant_joins version seen bytes b_code.0.1 b_number.0.1 b_value.0 b_code.0.0 b_number.0.0 b_type.0 t0.0 t1 ty-in value-ok)
 
-pub constant_again : (version : Version) (total : ℕ) (seen : List Value) (v : Value) (rest : List ℕ) → IsConstant seen v → may_have version (is_long_value v) ≡ true → constant_at version total seen (constant_bytes version v ++ rest) ≡ Ok (v, rest)
+pub constant_again : (version : Version) (total : ℕ) (seen : List Value) (v : Value) (rest : List ℕ) → IsConstant seen v → may_keep version v ≡ true → constant_at version total seen (constant_bytes version v ++ rest) ≡ Ok (v, rest)
 unfolding constant_at
 constant_again version total seen v rest is may =
     let b1 = number_bytes version (number_of v) in
     ap (constant_at version total seen) (append_assoc (to_be_bytes w8 (type_code (ty_of v))) b1 rest) ∙ rw (number_again w8 (2 ^ 8) wide8 (type_code (ty_of v)) (b1 ++ rest) (type_small (ty_of v)), type_in_again version (ty_of v) may, signed_again version (number_of v) rest (constant_kept version seen v is may), is.value) refl
 
 -- ---- words
-
-listed_is : (n : ℕ) (op : Op) → slice_get op_list n ≡ Some op → op_code op ≡ n
-listed_is zero op e = let is : ops.Empty ≡ op = cc in sym (ap op_code is)
-listed_is (suc zero) op e = let is : ops.Ld ≡ op = cc in sym (ap op_code is)
-listed_is (suc (suc zero)) op e = let is : ops.St ≡ op = cc in sym (ap op_code is)
-listed_is (suc (suc (suc zero))) op e = let is : ops.S ≡ op = cc in sym (ap op_code is)
-listed_is (suc (suc (suc (suc zero)))) op e = let is : ops.R ≡ op = cc in sym (ap op_code is)
-listed_is (suc (suc (suc (suc (suc zero))))) op e = let is : ops.And ≡ op = cc in sym (ap op_code is)
-listed_is (suc (suc (suc (suc (suc (suc zero)))))) op e = let is : ops.Or ≡ op = cc in sym (ap op_code is)
-listed_is (suc (suc (suc (suc (suc (suc (suc zero))))))) op e = let is : ops.Xor ≡ op = cc in sym (ap op_code is)
-listed_is (suc (suc (suc (suc (suc (suc (suc (suc zero)))))))) op e = let is : ops.Not ≡ op = cc in sym (ap op_code is)
-listed_is (suc (suc (suc (suc (suc (suc (suc (suc (suc zero))))))))) op e = let is : ops.Add ≡ op = cc in sym (ap op_code is)
-listed_is (suc (suc (suc (suc (suc (suc (suc (suc (suc (suc zero)))))))))) op e = let is : ops.Sub ≡ op = cc in sym (ap op_code is)
-listed_is (suc (suc (suc (suc (suc (suc (suc (suc (suc (suc (suc zero))))))))))) op e = let is : ops.Mul ≡ op = cc in sym (ap op_code is)
-listed_is (suc (suc (suc (suc (suc (suc (suc (suc (suc (suc (suc (suc zero)))))))))))) op e = let is : ops.Div ≡ op = cc in sym (ap op_code is)
-listed_is (suc (suc (suc (suc (suc (suc (suc (suc (suc (suc (suc (suc (suc zero))))))))))))) op e = let is : ops.Mod ≡ op = cc in sym (ap op_code is)
-listed_is (suc (suc (suc (suc (suc (suc (suc (suc (suc (suc (suc (suc (suc (suc zero)))))))))))))) op e = let is : ops.Gt ≡ op = cc in sym (ap op_code is)
-listed_is (suc (suc (suc (suc (suc (suc (suc (suc (suc (suc (suc (suc (suc (suc (suc zero))))))))))))))) op e = let is : ops.Ge ≡ op = cc in sym (ap op_code is)
-listed_is (suc (suc (suc (suc (suc (suc (suc (suc (suc (suc (suc (suc (suc (suc (suc (suc zero)))))))))))))))) op e = let is : ops.Eq ≡ op = cc in sym (ap op_code is)
-listed_is (suc (suc (suc (suc (suc (suc (suc (suc (suc (suc (suc (suc (suc (suc (suc (suc (suc zero))))))))))))))))) op e = let is : ops.Ne ≡ op = cc in sym (ap op_code is)
-listed_is (suc (suc (suc (suc (suc (suc (suc (suc (suc (suc (suc (suc (suc (suc (suc (suc (suc (suc zero)))))))))))))))))) op e = let is : ops.Le ≡ op = cc in sym (ap op_code is)
-listed_is (suc (suc (suc (suc (suc (suc (suc (suc (suc (suc (suc (suc (suc (suc (suc (suc (suc (suc (suc zero))))))))))))))))))) op e = let is : ops.Lt ≡ op = cc in sym (ap op_code is)
-listed_is (suc (suc (suc (suc (suc (suc (suc (suc (suc (suc (suc (suc (suc (suc (suc (suc (suc (suc (suc (suc zero)))))))))))))))))))) op e = let is : ops.Jmp ≡ op = cc in sym (ap op_code is)
-listed_is (suc (suc (suc (suc (suc (suc (suc (suc (suc (suc (suc (suc (suc (suc (suc (suc (suc (suc (suc (suc (suc zero))))))))))))))))))))) op e = let is : ops.Cal ≡ op = cc in sym (ap op_code is)
-listed_is (suc (suc (suc (suc (suc (suc (suc (suc (suc (suc (suc (suc (suc (suc (suc (suc (suc (suc (suc (suc (suc (suc zero)))))))))))))))))))))) op e = let is : ops.Ret ≡ op = cc in sym (ap op_code is)
-listed_is (suc (suc (suc (suc (suc (suc (suc (suc (suc (suc (suc (suc (suc (suc (suc (suc (suc (suc (suc (suc (suc (suc (suc zero))))))))))))))))))))))) op e = let is : ops.Close ≡ op = cc in sym (ap op_code is)
-listed_is (suc (suc (suc (suc (suc (suc (suc (suc (suc (suc (suc (suc (suc (suc (suc (suc (suc (suc (suc (suc (suc (suc (suc (suc zero)))))))))))))))))))))))) op e = let is : ops.IntToDint ≡ op = cc in sym (ap op_code is)
-listed_is (suc (suc (suc (suc (suc (suc (suc (suc (suc (suc (suc (suc (suc (suc (suc (suc (suc (suc (suc (suc (suc (suc (suc (suc (suc zero))))))))))))))))))))))))) op e = let is : ops.DintToInt ≡ op = cc in sym (ap op_code is)
-listed_is (suc (suc (suc (suc (suc (suc (suc (suc (suc (suc (suc (suc (suc (suc (suc (suc (suc (suc (suc (suc (suc (suc (suc (suc (suc (suc n)))))))))))))))))))))))))) op e = absurd cc
-
--- the two codes behind those of arguments come first
-op_by : (a b : Bool) (n : ℕ) (op : Op) → eqb n 28 ≡ a → eqb n 29 ≡ b → cond a (Some ops.DintToLint) (cond b (Some ops.LintToDint) (slice_get op_list n)) ≡ Some op → op_code op ≡ n
-op_by true b n op e f h = let is : ops.DintToLint ≡ op = cc in sym (ap op_code is) ∙ sym (eqb-true n 28 e)
-op_by false true n op e f h = let is : ops.LintToDint ≡ op = cc in sym (ap op_code is) ∙ sym (eqb-true n 29 f)
-op_by false false n op e f h = listed_is n op h
-
-op_is : (n : ℕ) (op : Op) → op_of n ≡ Some op → op_code op ≡ n
-op_is n op e = op_by (eqb n 28) (eqb n 29) n op refl refl e
 
 modifier_is : (n : ℕ) (m : Modifier) → modifier_of n ≡ Some m → modifier_code m ≡ n
 modifier_is zero m e = let is : (let r : Modifier = record { negated = false; conditional = false; opens = false } in r) ≡ m = cc in sym (ap modifier_code is)
@@ -378,6 +343,22 @@ no_side ops.IntToDint = refl
 no_side ops.DintToInt = refl
 no_side ops.DintToLint = refl
 no_side ops.LintToDint = refl
+no_side ops.Min = refl
+no_side ops.Max = refl
+no_side (ops.Apply functions.IntToReal) = refl
+no_side (ops.Apply functions.DintToReal) = refl
+no_side (ops.Apply functions.LintToReal) = refl
+no_side (ops.Apply functions.TimeToReal) = refl
+no_side (ops.Apply functions.RealToInt) = refl
+no_side (ops.Apply functions.RealToDint) = refl
+no_side (ops.Apply functions.RealToLint) = refl
+no_side (ops.Apply functions.RealToTime) = refl
+no_side (ops.Apply functions.Trunc) = refl
+no_side (ops.Apply functions.Abs) = refl
+no_side (ops.Apply functions.Sqrt) = refl
+no_side (ops.Apply functions.TimeToDint) = refl
+no_side (ops.Apply functions.DintToTime) = refl
+no_side (ops.Apply functions.Move) = refl
 
 side_by : (a b : Bool) (n : ℕ) (side : Side) → eqb n 26 ≡ a → eqb n 27 ≡ b → cond a (Some sides.Input) (cond b (Some sides.Output) None) ≡ Some side → side_code side ≡ n
 side_by true b n side e f h = let is : sides.Input ≡ side = cc in sym (ap side_code is) ∙ sym (eqb-true n 26 e)
@@ -445,12 +426,13 @@ instruction_joins ds marks constants n bytes r0 r1 rest a b op m operand code t0
     )
 
 -- an operator that converts to LINT or from it
-abbrev pub is_long_content : Content → Bool
-is_long_content (contents.Instruction line) = is_long_line line
-is_long_content (contents.Argument side number operand) = false
+-- an image of a version may have such a word
+abbrev pub may_say : Version → Content → Bool
+may_say version (contents.Instruction line) = may_write version line
+may_say version (contents.Argument side number operand) = true
 
-abbrev pub is_long_word : Word → Bool
-is_long_word w = is_long_content w.content
+abbrev pub may_read : Version → Word → Bool
+may_read version w = may_say version w.content
 
 -- a word that was read, and what follows it
 abbrev Reads : Declarations → List Mark → List Value → ℕ → List ℕ → Word × List ℕ → Type 0
@@ -514,7 +496,7 @@ word_takes version p ds marks constants n bytes x fits e =
     let t0 = number_takes w8 (2 ^ 8) wide8 bytes b_code.0.0 b_code.0.1 fits b_code.1 in
     word_takes_by version p ds marks constants n b_code.0.0 (side_of b_code.0.0) bytes b_code.0.1 x refl t0.0 t0.1 b_code.2
 
-instruction_again : (version : Version) (p : ℕ) (ds : Declarations) (marks : List Mark) (constants : List Value) (n code : ℕ) (line : Instr) (rest : List ℕ) → IsInstructionRead ds marks constants n code line → may_have version (is_long_line line) ≡ true
+instruction_again : (version : Version) (p : ℕ) (ds : Declarations) (marks : List Mark) (constants : List Value) (n code : ℕ) (line : Instr) (rest : List ℕ) → IsInstructionRead ds marks constants n code line → may_write version line ≡ true
     → instruction_at version p ds marks constants n (op_code line.op) (to_be_bytes w8 (modifier_code line.modifier) ++ (to_be_bytes w16 code ++ rest)) ≡ Ok (record { content = contents.Instruction line; code = code }, rest)
 unfolding instruction_at
 instruction_again version p ds marks constants n code line rest is may =
@@ -529,7 +511,7 @@ argument_again p ds constants code side number operand rest is =
     let below : ltb number 8 ≡ true = lt-ltb number 8 lt in
     rw (number_again w8 (2 ^ 8) wide8 number (to_be_bytes w16 code ++ rest) (omega arith), below, number_again w16 (2 ^ 16) wide16 code rest is.operand_small, is.operand_read) refl
 
-content_again : (version : Version) (p : ℕ) (ds : Declarations) (marks : List Mark) (constants : List Value) (n code : ℕ) (content : Content) (rest : List ℕ) → IsRead ds marks constants n code content → may_have version (is_long_content content) ≡ true
+content_again : (version : Version) (p : ℕ) (ds : Declarations) (marks : List Mark) (constants : List Value) (n code : ℕ) (content : Content) (rest : List ℕ) → IsRead ds marks constants n code content → may_say version content ≡ true
     → word_at version p ds marks constants n (content_bytes code content ++ rest) ≡ Ok (record { content = content; code = code }, rest)
 unfolding word_at
 content_again version p ds marks constants n code (contents.Instruction line) rest is may =
@@ -541,7 +523,7 @@ content_again version p ds marks constants n code (contents.Argument side number
     let b2 = to_be_bytes w16 code in
     ap (word_at version p ds marks constants n) (regrouped_3 (to_be_bytes w8 (side_code side)) b1 b2 rest) ∙ rw (number_again w8 (2 ^ 8) wide8 (side_code side) (b1 ++ (b2 ++ rest)) (side_small side), side_again side) (argument_again p ds constants code side number operand rest is)
 
-pub word_again : (version : Version) (p : ℕ) (ds : Declarations) (marks : List Mark) (constants : List Value) (n : ℕ) (w : Word) (rest : List ℕ) → IsRead ds marks constants n w.code w.content → may_have version (is_long_word w) ≡ true → word_at version p ds marks constants n (read_word_bytes w ++ rest) ≡ Ok (w, rest)
+pub word_again : (version : Version) (p : ℕ) (ds : Declarations) (marks : List Mark) (constants : List Value) (n : ℕ) (w : Word) (rest : List ℕ) → IsRead ds marks constants n w.code w.content → may_read version w ≡ true → word_at version p ds marks constants n (read_word_bytes w ++ rest) ≡ Ok (w, rest)
 word_again version p ds marks constants n w rest is may = content_again version p ds marks constants n w.code w.content rest is may
 
 -- ---- tables of records

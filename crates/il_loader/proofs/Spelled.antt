@@ -1,15 +1,15 @@
 -- Tables that are read are spelled so, and tables that are spelled so are read.
 use Rattle.std.proofs.Common.{◌≡◌, ℕ, ◌-◌, ◌^◌, ◌<◌, ◌≤◌, true, Bool, Option, Some, None, List, [], ◌++◌, length, Ok, refl, sym, ap, subst, ◌∙◌, append_assoc, arith}
 use Rattle.std.specs.Prelude.{nat_eq, nat_le}
-use Rattle.std.specs.List.{flat_map, list_any}
+use Rattle.std.specs.List.{flat_map, list_all}
 use Rattle.std.specs.Int.{w16, w32, from_be_bytes, to_be_bytes}
 use Rattle.std.proofs.lemmas.Bool.{eqb-true, leb-true, le-leb}
 use Rattle.std.proofs.lemmas.List.{append-nil, nil_from_length}
 use Rattle.il_model.specs.declared.codes.Version.{Version}
 use Rattle.il_model.specs.declared.codes.Version.TheVariants as versions
 use Rattle.il_model.specs.Program.{Declarations}
-use Rattle.il_model.specs.Image.{magic, version_number, is_long_variable, is_long_value, variable_bytes, instance_bytes, mark_bytes, constant_bytes, counts_bytes, header_bytes}
-use Rattle.il_model.specs.Codes.{may_have, version_numbered}
+use Rattle.il_model.specs.Image.{magic, version_number, may_declare, may_keep, variable_bytes, instance_bytes, mark_bytes, constant_bytes, counts_bytes, header_bytes}
+use Rattle.il_model.specs.Codes.{version_numbered}
 use Rattle.il_model.specs.Fits.{IsVariable, IsInstance, IsMark, IsConstant, AreItems}
 use Rattle.il_model.proofs.Versions.{items_may, version_again, version_is}
 use Rattle.il_loader.specs.declared.counts.Counts.{Counts}
@@ -18,7 +18,7 @@ use Rattle.il_loader.specs.declared.fault.LoadFault.TheVariants.{BadMagic, BadVe
 use Rattle.il_loader.specs.Tables.{Tables, declared_in}
 use Rattle.il_loader.specs.Reading.{◌>>=◌, number_at, agrees, items_from, count_at, counts_at, lawful_version, header_at, variable_at, instance_at, mark_at, constant_at, next_word, ended, bodies_at, tables_at}
 use Rattle.il_loader.proofs.Fields.{IsBytes, bind_ok, agrees_ok, ok_is, Takes, Takes-then, wide16, wide32, number_takes, number_again}
-use Rattle.il_loader.proofs.Records.{variable_takes, variable_again, instance_takes, instance_again, mark_takes, mark_again, constant_takes, constant_again, is_long_word, IsNext, read_word_bytes, word_takes, word_again, HasItems, items_take, items_again}
+use Rattle.il_loader.proofs.Records.{variable_takes, variable_again, instance_takes, instance_again, mark_takes, mark_again, constant_takes, constant_again, may_read, IsNext, read_word_bytes, word_takes, word_again, HasItems, items_take, items_again}
 
 -- ---- the header
 
@@ -99,6 +99,7 @@ lawful_version_ok None version e = absurd cc
 version_small : (version : Version) → version_number version < 2 ^ 16
 version_small versions.One = omega arith
 version_small versions.Two = omega arith
+version_small versions.Three = omega arith
 
 -- what stands in front of the tables
 abbrev Head : Type 0
@@ -165,9 +166,9 @@ pub record AreTables (t : Tables) : Type 0 where
 
 -- what is long in them is of their version
 pub record AreShort (t : Tables) : Type 0 where
-  pub variables : may_have t.version (list_any is_long_variable t.variables) ≡ true
-  pub constants : may_have t.version (list_any is_long_value t.constants) ≡ true
-  pub words : may_have t.version (list_any is_long_word t.words) ≡ true
+  pub variables : list_all (may_declare t.version) t.variables ≡ true
+  pub constants : list_all (may_keep t.version) t.constants ≡ true
+  pub words : list_all (may_read t.version) t.words ≡ true
 
 record AreBodies (version : Version) (c : Counts) (bytes : List ℕ) (t : Tables) : Type 0 where
   own : t.version ≡ version
@@ -246,9 +247,9 @@ tables_take bytes t fits e =
     let t0 = header_takes bytes b_head.0 fits b_head.1 in
     tables_join bytes b_head.0.2 b_head.0.0 b_head.0.1 t t0.0 t0.1 (bodies_take b_head.0.0 (length bytes) b_head.0.1 b_head.0.2 t t0.0.rest_fits b_head.2)
 
--- an item of a table, with what may be long in it
-abbrev MayHave : {X : Type 0} → Version → (X → Bool) → (List X → X → Type 0) → List X → X → Type 0
-MayHave version long IsItem seen x = IsItem seen x × (may_have version (long x) ≡ true)
+-- an item of a table, which the version may have
+abbrev MayHave : {X : Type 0} → (X → Bool) → (List X → X → Type 0) → List X → X → Type 0
+MayHave may IsItem seen x = IsItem seen x × (may x ≡ true)
 
 bodies_again : (total : ℕ) (t : Tables) → AreTables t → AreShort t → bodies_at t.version total (counts_of t) (bodies_bytes t) ≡ Ok t
 unfolding bodies_at
@@ -261,14 +262,14 @@ bodies_again total t are short =
     let ds = declared_in t in
     let next = next_word version total ds t.labels t.constants in
     let IsWord = IsNext ds t.labels t.constants in
-    let variables = items_may IsVariable version is_long_variable [] t.variables are.variables short.variables in
-    let constants = items_may IsConstant version is_long_value [] t.constants are.constants short.constants in
-    let words = items_may IsWord version is_long_word [] t.words are.words short.words in
-    let h0 : items_from (variable_at version total) (length t.variables) [] (flat_map (variable_bytes version) t.variables ++ (b1 ++ (b2 ++ (b3 ++ b4)))) ≡ Ok (t.variables, b1 ++ (b2 ++ (b3 ++ b4))) = items_again (variable_at version total) (variable_bytes version) (MayHave version is_long_variable IsVariable) (λ seen v rest is. variable_again version total seen v rest is.0 is.1) t.variables [] (b1 ++ (b2 ++ (b3 ++ b4))) variables in
+    let variables = items_may IsVariable (may_declare version) [] t.variables are.variables short.variables in
+    let constants = items_may IsConstant (may_keep version) [] t.constants are.constants short.constants in
+    let words = items_may IsWord (may_read version) [] t.words are.words short.words in
+    let h0 : items_from (variable_at version total) (length t.variables) [] (flat_map (variable_bytes version) t.variables ++ (b1 ++ (b2 ++ (b3 ++ b4)))) ≡ Ok (t.variables, b1 ++ (b2 ++ (b3 ++ b4))) = items_again (variable_at version total) (variable_bytes version) (MayHave (may_declare version) IsVariable) (λ seen v rest is. variable_again version total seen v rest is.0 is.1) t.variables [] (b1 ++ (b2 ++ (b3 ++ b4))) variables in
     let h1 : items_from (instance_at total t.variables) (length t.instances) [] (b1 ++ (b2 ++ (b3 ++ b4))) ≡ Ok (t.instances, b2 ++ (b3 ++ b4)) = items_again (instance_at total t.variables) instance_bytes (IsInstance t.variables) (instance_again total t.variables) t.instances [] (b2 ++ (b3 ++ b4)) are.instances in
     let h2 : items_from (mark_at total) (length t.labels) [] (b2 ++ (b3 ++ b4)) ≡ Ok (t.labels, b3 ++ b4) = items_again (mark_at total) mark_bytes IsMark (mark_again total) t.labels [] (b3 ++ b4) are.labels in
-    let h3 : items_from (constant_at version total) (length t.constants) [] (b3 ++ b4) ≡ Ok (t.constants, b4) = items_again (constant_at version total) (constant_bytes version) (MayHave version is_long_value IsConstant) (λ seen v rest is. constant_again version total seen v rest is.0 is.1) t.constants [] b4 constants in
-    let h4 : items_from next (length t.words) [] b4 ≡ Ok (t.words, []) = ap (items_from next (length t.words) []) (sym (append-nil b4)) ∙ items_again next read_word_bytes (MayHave version is_long_word IsWord) (λ seen w rest is. word_again version (total - length (read_word_bytes w ++ rest)) ds t.labels t.constants (length seen) w rest is.0 is.1) t.words [] [] words in
+    let h3 : items_from (constant_at version total) (length t.constants) [] (b3 ++ b4) ≡ Ok (t.constants, b4) = items_again (constant_at version total) (constant_bytes version) (MayHave (may_keep version) IsConstant) (λ seen v rest is. constant_again version total seen v rest is.0 is.1) t.constants [] b4 constants in
+    let h4 : items_from next (length t.words) [] b4 ≡ Ok (t.words, []) = ap (items_from next (length t.words) []) (sym (append-nil b4)) ∙ items_again next read_word_bytes (MayHave (may_read version) IsWord) (λ seen w rest is. word_again version (total - length (read_word_bytes w ++ rest)) ds t.labels t.constants (length seen) w rest is.0 is.1) t.words [] [] words in
     rw (h0, h1, h2, h3, h4) refl
 
 pub tables_again : (t : Tables) → AreTables t → AreShort t → tables_at (tables_bytes t) ≡ Ok t

@@ -33,6 +33,8 @@ use Rattle.il_model.specs.declared.coded_operand.CodedOperand.{CodedOperand}
 use Rattle.il_model.specs.declared.coded_operand.CodedOperand.TheVariants as coded
 use Rattle.il_model.specs.Values.{ty_of, zero_of, number_of, typed_value}
 use Rattle.il_model.specs.Operators.{is_zero}
+use Rattle.il_model.proofs.RealValues.{real_same}
+use Rattle.il_real.specs.Reals.{zero_real}
 use Rattle.il_model.specs.Words.{AreDistinct, same_name, is_lawful_name}
 use Rattle.il_model.specs.Locations.{area_of}
 use Rattle.il_model.specs.Kinds.{kind_fields, field_name, field_type}
@@ -285,6 +287,7 @@ zero_is types.Int = refl
 zero_is types.Dint = refl
 zero_is types.Time = refl
 zero_is types.Lint = refl
+zero_is types.Real = refl
 
 start_by : (b : Bool) (v : Value) (t : Ty) → (b ≡ false → v ≡ zero_of t) → (b || is_zero (number_of v)) ≡ true
 start_by true v t start = refl
@@ -309,6 +312,7 @@ zero_value (values.Int z) e = ap values.Int (zero_number z e)
 zero_value (values.Dint z) e = ap values.Dint (zero_number z e)
 zero_value (values.Time z) e = ap values.Time (zero_number z e)
 zero_value (values.Lint z) e = ap values.Lint (zero_number z e)
+zero_value (values.Real r) e = real_same r zero_real (zero_number (pos r.pattern) e)
 
 -- the first value of a variable of an image
 record StartsSo (t : Ty) (o : Option Loc) (v : Value) : Type 0 where

@@ -10,6 +10,7 @@ use Rattle.il_model.specs.declared.coded_operand.CodedOperand.{CodedOperand}
 use Rattle.il_model.specs.declared.coded_operand.CodedOperand.TheVariants as coded
 use Rattle.il_model.specs.declared.typing.TypeFault.{TypeFault}
 use Rattle.il_model.specs.declared.typing.TypeFault.TheVariants.{UnknownLabel}
+use Rattle.il_model.specs.declared.value.Value.{Value}
 use Rattle.il_model.specs.declared.codes.Version.{Version}
 use Rattle.il_model.specs.Program.{Program, program_of}
 use Rattle.il_model.specs.Image.{version_number, number_width, version_with}
@@ -138,6 +139,10 @@ all_used version total words count (Err n) = Ok tt
 abbrev pub is_same : Version → Version → Bool
 is_same version own = nat_eq (version_number version) (version_number own)
 
+-- the version is that of the program, whose constants these are
+unfoldable pub is_own_version : Version → List Value → Program → Bool
+is_own_version version constants Q = is_same version (version_with Q.variables constants Q.code)
+
 abbrev pub small : Option Program → Result Program LoadFault
 small None = Err BadCount
 small (Some Q) = Ok Q
@@ -150,7 +155,7 @@ judged_tables total t = do
   rising ← risen (constant_place t.version total (length t.words) (length t.constants) 0) 0 t.words t.labels
   fine ← words_fine total (length t.words) (misspelled t.words (used_from 0 0 t.words)) (at_word Q (judgement_of Q))
   used ← all_used t.version total (length t.words) (length t.constants) (used_from 0 0 t.words)
-  own ← agrees BadVersion (is_same t.version (version_with t.variables t.constants Q.code))
+  own ← agrees BadVersion (is_own_version t.version t.constants Q)
   Ok Q
 
 unfoldable pub image_of : List ℕ → Result Program LoadFault

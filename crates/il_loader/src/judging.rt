@@ -8,13 +8,15 @@ ghost use Rattle.il_loader.specs.declared.fault.LoadFault.TheVariants.{BadVersio
 ghost use Rattle.il_loader.specs.Reading.{Gives, agrees};
 ghost use Rattle.il_loader.specs.Judging.{word_place, constant_length, constant_place, label_place, is_start, risen};
 ghost use Rattle.il_loader.specs.Judging.{constant_in, used_from, sooner, says_nothing, takes_argument, stray_from};
-ghost use Rattle.il_loader.specs.Judging.{misspelled, type_fault, words_fine, all_used, is_same};
+ghost use Rattle.il_loader.specs.Judging.{misspelled, type_fault, words_fine, all_used, is_same, is_own_version};
 
 use crate::fault::{LoadError, LoadFault};
 use crate::label::Label;
 use crate::reading::agrees;
 use crate::word::{Content, Word};
-use il_model::{CodedOperand, Op, Operand, TypeFault, Version, is_pointless};
+use il_model::{
+    CodedOperand, Op, Operand, Program, TypeFault, Value, Version, is_pointless, version_with,
+};
 
 fn word_place(total: usize, count: usize, n: usize) -> usize
     ensures { result ≡ word_place total count n }
@@ -28,7 +30,7 @@ fn constant_length(version: Version) -> usize
 {
     match version {
         Version::One => 5,
-        Version::Two => 9,
+        Version::Two | Version::Three => 9,
     }
 }
 
@@ -257,9 +259,24 @@ pub fn check_used(
     }
 }
 
-/// Whether the version is the one that the program has.
-pub fn check_version(version: Version, own: Version) -> Result<(), LoadError>
+fn check_same(version: Version, own: Version) -> Result<(), LoadError>
     ensures { Gives (λ x. x) result (agrees BadVersion (is_same version own)) }
 {
     agrees(LoadFault::BadVersion, version == own)
+}
+
+/// Whether the version is that of the program, whose constants these are.
+pub fn check_version(
+    version: Version,
+    constants: &[Value],
+    program: &Program,
+) -> Result<(), LoadError>
+    ensures { Gives (λ x. x) result (agrees BadVersion (is_own_version version constants.now program.now)) }
+{
+    let own = version_with(
+        program.variables.as_slice(),
+        constants,
+        program.code.as_slice(),
+    );
+    check_same(version, own)
 }

@@ -79,7 +79,7 @@ fn signed_at(version: Version, bytes: &[u8]) -> Result<(i64, &[u8]), LoadError>
             let (bits, rest) = u32_at(bytes)?;
             Ok((i64::from(bits.cast_signed()), rest))
         }
-        Version::Two => {
+        Version::Two | Version::Three => {
             let (bits, rest) = u64_at(bytes)?;
             Ok((bits.cast_signed(), rest))
         }

@@ -1,6 +1,6 @@
 -- A table that has each constant's number, and one more.
 use Rattle.std.proofs.Common.{◌≡◌, ℕ, ◌<◌, Bool, true, false, cond, List, [], ◌∷◌, ◌++◌, length, Option, Some, None, refl, sym, ap, ◌∙◌, arith}
-use Rattle.std.specs.Prelude.{ℤ, is_some, IfSome, ◌^◌}
+use Rattle.std.specs.Prelude.{ℤ, pos, is_some, IfSome, ◌^◌}
 use Rattle.std.specs.List.{position}
 use Rattle.std.specs.Ordering.{nat_cmp, int_cmp, ordering_then, is_eq}
 use Rattle.std.proofs.lemmas.Cmp.{int_ranked}
@@ -13,6 +13,7 @@ use Rattle.il_model.specs.declared.value.Value.TheVariants as values
 use Rattle.il_model.specs.Operators.{same_number}
 use Rattle.il_model.specs.Constants.{same_value}
 use Rattle.il_model.specs.Tables.{key_of, key_cmp, place_in, IsConstantTable}
+use Rattle.il_model.proofs.RealValues.{real_same}
 use Rattle.il_model.proofs.Positions.{position_behind, position_past, position_kept}
 
 number_key : (a b : ℤ) → is_eq (int_cmp a b) ≡ same_number b a
@@ -27,6 +28,7 @@ key_same (values.Int a) (values.Int b) = number_key a b
 key_same (values.Dint a) (values.Dint b) = number_key a b
 key_same (values.Lint a) (values.Lint b) = number_key a b
 key_same (values.Time a) (values.Time b) = number_key a b
+key_same (values.Real a) (values.Real b) = number_key (pos a.pattern) (pos b.pattern)
 key_same _ _ = refl
 
 number_same : (a b : ℤ) → same_number a b ≡ true → a ≡ b
@@ -41,6 +43,7 @@ value_same (values.Int a) (values.Int b) e = ap values.Int (number_same a b e)
 value_same (values.Dint a) (values.Dint b) e = ap values.Dint (number_same a b e)
 value_same (values.Lint a) (values.Lint b) e = ap values.Lint (number_same a b e)
 value_same (values.Time a) (values.Time b) e = ap values.Time (number_same a b e)
+value_same (values.Real a) (values.Real b) e = real_same a b (number_same (pos a.pattern) (pos b.pattern) e)
 value_same _ _ e = absurd cc
 
 -- ---- a constant behind the others

@@ -22,7 +22,7 @@ use Rattle.il_model.specs.declared.program.Operand.{Operand}
 use Rattle.il_model.specs.declared.program.Operand.TheVariants as operands
 use Rattle.il_model.specs.declared.program.Instr.{Instr}
 use Rattle.il_model.specs.Program.{Program, Declarations, declared_by}
-use Rattle.il_model.specs.Values.{ty_of, number_of, is_within, typed_value}
+use Rattle.il_model.specs.Values.{ty_of, number_of, is_within, typed_value, bare_value}
 use Rattle.il_model.specs.Kinds.{any_field, field_type}
 use Rattle.il_model.specs.Typing.{Shape}
 use Rattle.il_model.specs.Checking.{shape_at, typing_end, HasNoTypeFault}
@@ -34,6 +34,7 @@ use Rattle.il_model.specs.Declarable as declarable
 use Rattle.il_model.specs.Settled.{wanted_type, settled_number, settled_as, settled_operand, settled_passing, settled_argument, settled_line, typed_program_of, is_bare, has_bare, IsTypedProgramOf}
 use Rattle.il_model.proofs.TypedLines.{bind_ok, ok_before}
 use Rattle.il_model.proofs.Judged.{arrives, faultless}
+use Rattle.il_model.proofs.RealValues.{real_is, real_again, bare_made}
 use Rattle.il_model.proofs.Lawful.{lawful_image}
 use Rattle.il_model.proofs.SettledPrograms.{typed_plain, typed_program}
 
@@ -56,10 +57,11 @@ made_again types.Int z v e = let k = keeps (is_within 32768 z) (values.Int z) v 
 made_again types.Dint z v e = let k = keeps (is_within 2147483648 z) (values.Dint z) v e in subst (λ (w : Value). typed_value (ty_of w) (number_of w) ≡ Some w) k.1 (rw k.0 refl)
 made_again types.Lint z v e = let k = keeps (is_within 9223372036854775808 z) (values.Lint z) v e in subst (λ (w : Value). typed_value (ty_of w) (number_of w) ≡ Some w) k.1 (rw k.0 refl)
 made_again types.Time z v e = let k = keeps (is_within 2147483648 z) (values.Time z) v e in subst (λ (w : Value). typed_value (ty_of w) (number_of w) ≡ Some w) k.1 (rw k.0 refl)
+made_again types.Real z v e = let m = real_is z v e in subst (λ (w : Value). typed_value (ty_of w) (number_of w) ≡ Some w) m.1 (real_again m.0)
 
-by_type : (wanted : Option Ty) (z : ℤ) (v : Value) → option_and_then (λ t. typed_value t z) wanted ≡ Some v → typed_value (ty_of v) (number_of v) ≡ Some v
+by_type : (wanted : Option Ty) (z : ℤ) (v : Value) → option_and_then (λ t. bare_value t z) wanted ≡ Some v → typed_value (ty_of v) (number_of v) ≡ Some v
 by_type None z v e = absurd cc
-by_type (Some t) z v e = made_again t z v e
+by_type (Some t) z v e = made_again t z v (bare_made t z v e)
 
 bare_operand : (ds : Declarations) (z : ℤ) (o : Option Value) → ((v : Value) → o ≡ Some v → typed_value (ty_of v) (number_of v) ≡ Some v) → is_bare (settled_as z o) ≡ false → IsOperand ds (settled_as z o)
 bare_operand ds z (Some v) fits e = fits v refl

@@ -30,7 +30,9 @@ use Rattle.il_model.specs.Kinds.{field_type}
 use Rattle.il_model.specs.Operators.{joined_type}
 use Rattle.il_model.specs.Codes.{is_jump, is_call}
 use Rattle.il_model.specs.Resolved.{source_of, target_of, called_kind}
-use Rattle.il_model.specs.Row.{row, same_type, is_bool, negatable, load_row, store_row, set_row, truth_row, leave_row, jump_row, call_row, close_row, closes_to, convert_row, opened_row, opens_with, combine_row, sets_to}
+use Rattle.il_model.specs.Row.{row, same_type, is_bool, negatable, load_row, store_row, set_row, truth_row, leave_row, jump_row, call_row, close_row, closes_to, convert_row, opened_row, opens_with, combine_row, sets_to, function_row}
+use Rattle.il_model.specs.declared.function.Function.{Function}
+use Rattle.il_model.specs.Functions.{function_type}
 use Rattle.il_model.specs.Typing.{Shape, kind_field, shape_on_arrival}
 use Rattle.il_model.specs.Checking.{◌>>=◌, top_of, source_kind, missing_kind, operand_kind, source_row, without_effect, fault_rank, first_fault, passing_fault, goes_so, field_fault, argument_fault, arguments_fault, with_fault, line_row_of, line_row, label_at, label_row, shape_after, after_line}
 use Rattle.il_model.specs.InstructionFaults.{leaves, is_closing, writes, combines, has_operand, needs_result, is_target, is_instance, is_no_field, may_be_written, result_is, both_are, joins, begins_inside, takes, if_goes_so, argument_field, is_field_bad, is_output_side, is_unwritable, is_of_field, is_mismatched, has_twins, is_doubled, applies, IsFirst, TellsFirst}
@@ -323,6 +325,10 @@ sets_told true (Some t) = refl
 sets_told true None = refl
 sets_told false o = refl
 
+function_told : (within room : Bool) (cr : Option Ty) (held : Option Held) (f : Function) (n c b : Bool) (kind : OperandKind) → fault_of (function_row cr f) ≡ first_found (row_has within room cr held (ops.Apply f) (letters n c b) kind)
+function_told within room None held f n c b kind = refl
+function_told within room (Some x) held f n c b kind = sets_told true (function_type f x)
+
 operand_told : (room : Bool) (cr : Option Ty) (op : Op) (n c b : Bool) (kind : OperandKind)
     → fault_of (cond b (cond room (opened_row cr op n kind) (Err TooDeep)) (combine_row cr op n kind)) ≡ first_found (operand_has room cr op (letters n c b) kind)
 operand_told false cr op n c true kind = refl
@@ -355,6 +361,7 @@ row_told cr held depth ops.IntToDint n c b kind = to_dint_told (nat_lt 0 depth) 
 row_told cr held depth ops.DintToInt n c b kind = to_int_told (nat_lt 0 depth) (nat_lt depth 16) cr held n c b kind
 row_told cr held depth ops.DintToLint n c b kind = to_lint_told (nat_lt 0 depth) (nat_lt depth 16) cr held n c b kind
 row_told cr held depth ops.LintToDint n c b kind = from_lint_told (nat_lt 0 depth) (nat_lt depth 16) cr held n c b kind
+row_told cr held depth (ops.Apply f) n c b kind = function_told (nat_lt 0 depth) (nat_lt depth 16) cr held f n c b kind
 row_told cr held depth op n c b kind = operand_told (nat_lt depth 16) cr op n c b kind
 
 -- ---- an operand that stands for nothing

@@ -37,11 +37,13 @@ use Rattle.il_model.specs.Kinds.{kind_fields, field_type, is_input}
 use Rattle.il_model.specs.Words.{same_name, AreDistinct}
 use Rattle.il_model.specs.Operators.{joined_type}
 use Rattle.il_model.specs.Resolved.{source_of, target_of, place_of, field_of, instance_number, is_labelled, called_kind}
-use Rattle.il_model.specs.Row.{row, same_type, is_bool, negatable, load_row, store_row, set_row, truth_row, leave_row, jump_row, call_row, close_row, closes_to, convert_row, open_row, opened_row, opens_with, combine_row, sets_to, outside}
+use Rattle.il_model.specs.Row.{row, same_type, is_bool, negatable, load_row, store_row, set_row, truth_row, leave_row, jump_row, call_row, close_row, closes_to, convert_row, open_row, opened_row, opens_with, combine_row, sets_to, outside, function_row}
 use Rattle.il_model.specs.Typing as Typing
-use Rattle.il_model.specs.Typing.{Shape, place_type, is_writable, source_type, HasType, MayStore, Leaves, Converts, Begins, Operates, Takes, Passes, kind_field, IsPassed, ArePassed, MayStand, Leads, shape_on_arrival, Arrives, IsTyped}
+use Rattle.il_model.specs.declared.function.Function.{Function}
+use Rattle.il_model.specs.Functions.{function_type}
+use Rattle.il_model.specs.Typing.{Shape, place_type, is_writable, source_type, HasType, MayStore, Leaves, Converts, Applies, Begins, Operates, Takes, Passes, kind_field, IsPassed, ArePassed, MayStand, Leads, shape_on_arrival, Arrives, IsTyped}
 use Rattle.il_model.specs.Checking.{◌>>=◌, source_kind, typed_kind, operand_kind, missing_kind, top_of, source_row, unless_same, passing_fault, goes_so, field_fault, first_fault, argument_fault, arguments_fault, with_fault, line_row, label_at, label_row, shape_after, after_line, after_at, shape_at, typing_end, HasNoTypeFault}
-use Rattle.il_model.proofs.RowTypes.{guarded, typed_kind_is, load_typed, same_type_is, store_typed, set_typed, truth_typed_row, combine_typed, no_close, opened_typed, closes_typed, convert_typed, call_typed}
+use Rattle.il_model.proofs.RowTypes.{guarded, typed_kind_is, load_typed, same_type_is, store_typed, set_typed, truth_typed_row, combine_typed, no_close, opened_typed, closes_typed, convert_typed, call_typed, function_typed}
 use Rattle.il_model.proofs.TypedLines.{bind_ok, ok_is, get_line, numbered_ok, no_depth, outside_ok, sourced, fault_none, first_none, IsArgumentOf, argument_typed, arguments_typed, no_arguments, is_among}
 use Rattle.il_model.proofs.Loop.{goes_at}
 
@@ -153,6 +155,7 @@ allows_n true types.Int h e = absurd cc
 allows_n true types.Dint h e = absurd cc
 allows_n true types.Lint h e = absurd cc
 allows_n true types.Time h e = absurd cc
+allows_n true types.Real h e = absurd cc
 allows_n false t h e = absurd cc
 
 is_negatable : (n : Bool) (t : Ty) → (n ≡ true → t ≡ types.Bool) → negatable n t ≡ true
@@ -165,6 +168,7 @@ same_self types.Int = refl
 same_self types.Dint = refl
 same_self types.Lint = refl
 same_self types.Time = refl
+same_self types.Real = refl
 
 -- ---- from a row that has an effect
 
@@ -246,6 +250,9 @@ close_by (Some c) (held ∷ rest) e h =
 convert_takes : (from to : Ty) (sh : Shape) (e : Effect) → convert_row sh.cr from to ≡ Ok e → Converts from to sh (shape_after sh e)
 convert_takes from to sh e h = let r = convert_typed sh.cr from to e h in subst (λ (e : Effect). Converts from to sh (shape_after sh e)) r.1 (r.0, refl)
 
+function_takes : (f : Function) (sh : Shape) (e : Effect) → function_row sh.cr f ≡ Ok e → Applies f sh (shape_after sh e)
+function_takes f sh e h = let r = function_typed sh.cr f e h in subst (λ (e : Effect). Applies f sh (shape_after sh e)) r.4 (r.0, r.1, r.2, r.3, refl)
+
 abbrev OperatesIt : Bool → Program → Op → Modifier → Operand → Shape → Effect → Type 0
 OperatesIt b Q op m x sh e = Operates b Q op m x sh (shape_after sh e)
 
@@ -303,6 +310,7 @@ row_takes Q ops.IntToDint m x src sh e s h = convert_takes types.Int types.Dint 
 row_takes Q ops.DintToInt m x src sh e s h = convert_takes types.Dint types.Int sh e h
 row_takes Q ops.DintToLint m x src sh e s h = convert_takes types.Dint types.Lint sh e h
 row_takes Q ops.LintToDint m x src sh e s h = convert_takes types.Lint types.Dint sh e h
+row_takes Q (ops.Apply f) m x src sh e s h = function_takes f sh e h
 row_takes Q op m x src sh e s h = operate_takes m.opens Q op m x src sh e s h
 
 -- ---- to a row that has an effect
@@ -409,6 +417,9 @@ to_operate : (b : Bool) (Q : Program) (op : Op) (m : Modifier) (x : Operand) (sr
 to_operate true Q op m x src before after s o = to_open Q op m x src before after s o
 to_operate false Q op m x src before after s o = to_combine Q op m x src before after s o
 
+to_function : (f : Function) (before after : Shape) → Applies f before after → LeadsTo (function_row before.cr f) before after
+to_function f before after a = (Sets (Some a.1), ap (λ (o : Option Ty). function_row o f) a.2 ∙ ap sets_to a.3, sym a.4)
+
 to_row : (Q : Program) (op : Op) (m : Modifier) (x : Operand) (src : Source) (before after : Shape) → source_of Q x ≡ Some src → Takes Q op m x before after → LeadsTo (row before.cr (top_of before.kept) (length before.kept) op m (source_kind Q src)) before after
 to_row Q ops.Empty m x src before after s t = (Sets before.cr, refl, sym t)
 to_row Q ops.Ld m x src before after s t = to_load Q m x src before after s t
@@ -424,6 +435,7 @@ to_row Q ops.IntToDint m x src before after s t = to_convert types.Int types.Din
 to_row Q ops.DintToInt m x src before after s t = to_convert types.Dint types.Int before after t
 to_row Q ops.DintToLint m x src before after s t = to_convert types.Dint types.Lint before after t
 to_row Q ops.LintToDint m x src before after s t = to_convert types.Lint types.Dint before after t
+to_row Q (ops.Apply f) m x src before after s t = to_function f before after t
 to_row Q op m x src before after s t = to_operate m.opens Q op m x src before after s t
 
 -- ---- the arguments of a call

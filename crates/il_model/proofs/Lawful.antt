@@ -14,6 +14,7 @@ use Rattle.il_model.specs.declared.value.Value.{Value}
 use Rattle.il_model.specs.declared.value.Value.TheVariants as values
 use Rattle.il_model.specs.declared.op.Op.{Op}
 use Rattle.il_model.specs.declared.op.Op.TheVariants as ops
+use Rattle.il_model.specs.declared.function.Function.TheVariants as functions
 use Rattle.il_model.specs.declared.op.Modifier.{Modifier}
 use Rattle.il_model.specs.declared.kind.BlockKind.{BlockKind}
 use Rattle.il_model.specs.declared.kind.Field.{Field}
@@ -46,6 +47,7 @@ use Rattle.il_model.specs.Image.{type_code, op_code, flag, modifier_code, number
 use Rattle.il_model.specs.Codes.{if_passes, type_of, is_known, usage_of, allows, has_form, allowed_by, formed_by, op_of, modifier_of, letters_of, named_operand, value_operand, label_there, is_jump, is_call, numbered_operand}
 use Rattle.il_model.specs.Fits.{IsVariable, IsInstance, IsMark, IsConstant, IsPassing, IsWord, AreItems, IsImage}
 use Rattle.il_model.specs.Lawful.{IsOperand, IsLabel, IsPassed, IsLawful, AreLawful}
+use Rattle.il_model.proofs.RealValues.{real_same}
 use Rattle.il_model.proofs.TypedLines.{bind_ok, ok_before, typed_line, IsArgumentOf, arguments_typed, no_arguments}
 use Rattle.il_model.proofs.Judged.{first_by, faultless}
 use Rattle.il_model.proofs.Positions.{position_front, found_in_front, found_last, position_later, position_first}
@@ -89,8 +91,24 @@ listed ops.IntToDint = refl
 listed ops.DintToInt = refl
 listed ops.DintToLint = refl
 listed ops.LintToDint = refl
+listed ops.Min = refl
+listed ops.Max = refl
+listed (ops.Apply functions.IntToReal) = refl
+listed (ops.Apply functions.DintToReal) = refl
+listed (ops.Apply functions.LintToReal) = refl
+listed (ops.Apply functions.TimeToReal) = refl
+listed (ops.Apply functions.RealToInt) = refl
+listed (ops.Apply functions.RealToDint) = refl
+listed (ops.Apply functions.RealToLint) = refl
+listed (ops.Apply functions.RealToTime) = refl
+listed (ops.Apply functions.Trunc) = refl
+listed (ops.Apply functions.Abs) = refl
+listed (ops.Apply functions.Sqrt) = refl
+listed (ops.Apply functions.TimeToDint) = refl
+listed (ops.Apply functions.DintToTime) = refl
+listed (ops.Apply functions.Move) = refl
 
-op_below : (op : Op) → op_code op < 2 ^ 8
+pub op_below : (op : Op) → op_code op < 2 ^ 8
 op_below ops.Empty = omega arith
 op_below ops.Ld = omega arith
 op_below ops.St = omega arith
@@ -119,6 +137,22 @@ op_below ops.IntToDint = omega arith
 op_below ops.DintToInt = omega arith
 op_below ops.DintToLint = omega arith
 op_below ops.LintToDint = omega arith
+op_below ops.Min = omega arith
+op_below ops.Max = omega arith
+op_below (ops.Apply functions.IntToReal) = omega arith
+op_below (ops.Apply functions.DintToReal) = omega arith
+op_below (ops.Apply functions.LintToReal) = omega arith
+op_below (ops.Apply functions.TimeToReal) = omega arith
+op_below (ops.Apply functions.RealToInt) = omega arith
+op_below (ops.Apply functions.RealToDint) = omega arith
+op_below (ops.Apply functions.RealToLint) = omega arith
+op_below (ops.Apply functions.RealToTime) = omega arith
+op_below (ops.Apply functions.Trunc) = omega arith
+op_below (ops.Apply functions.Abs) = omega arith
+op_below (ops.Apply functions.Sqrt) = omega arith
+op_below (ops.Apply functions.TimeToDint) = omega arith
+op_below (ops.Apply functions.DintToTime) = omega arith
+op_below (ops.Apply functions.Move) = omega arith
 
 not_both : (l : LetterSet) (n c o : Bool) → (let m : Modifier = record { negated = n; conditional = c; opens = o } in allows l m ≡ true) → (c && o) ≡ false
 not_both letters.None true true true e = absurd cc
@@ -205,6 +239,9 @@ jump_row ops.IntToDint = refl
 jump_row ops.DintToInt = refl
 jump_row ops.DintToLint = refl
 jump_row ops.LintToDint = refl
+jump_row ops.Min = refl
+jump_row ops.Max = refl
+jump_row (ops.Apply f) = refl
 
 -- CAL alone takes an instance
 call_row : (op : Op) → is_call op ≡ is_instance_form (usage_of op).form
@@ -236,6 +273,9 @@ call_row ops.IntToDint = refl
 call_row ops.DintToInt = refl
 call_row ops.DintToLint = refl
 call_row ops.LintToDint = refl
+call_row ops.Min = refl
+call_row ops.Max = refl
+call_row (ops.Apply f) = refl
 
 abbrev is_label : Operand → Bool
 is_label (operands.Label name) = true
@@ -350,26 +390,8 @@ same_value_is (values.Int a) (values.Int b) e = ap (λ (x : ℤ). values.Int x) 
 same_value_is (values.Dint a) (values.Dint b) e = ap (λ (x : ℤ). values.Dint x) (same_number_is a b e)
 same_value_is (values.Time a) (values.Time b) e = ap (λ (x : ℤ). values.Time x) (same_number_is a b e)
 same_value_is (values.Lint a) (values.Lint b) e = ap (λ (x : ℤ). values.Lint x) (same_number_is a b e)
-same_value_is (values.Bool a) (values.Int b) e = absurd cc
-same_value_is (values.Bool a) (values.Dint b) e = absurd cc
-same_value_is (values.Bool a) (values.Time b) e = absurd cc
-same_value_is (values.Bool a) (values.Lint b) e = absurd cc
-same_value_is (values.Int a) (values.Bool b) e = absurd cc
-same_value_is (values.Int a) (values.Dint b) e = absurd cc
-same_value_is (values.Int a) (values.Time b) e = absurd cc
-same_value_is (values.Int a) (values.Lint b) e = absurd cc
-same_value_is (values.Dint a) (values.Bool b) e = absurd cc
-same_value_is (values.Dint a) (values.Int b) e = absurd cc
-same_value_is (values.Dint a) (values.Time b) e = absurd cc
-same_value_is (values.Dint a) (values.Lint b) e = absurd cc
-same_value_is (values.Time a) (values.Bool b) e = absurd cc
-same_value_is (values.Time a) (values.Int b) e = absurd cc
-same_value_is (values.Time a) (values.Dint b) e = absurd cc
-same_value_is (values.Time a) (values.Lint b) e = absurd cc
-same_value_is (values.Lint a) (values.Bool b) e = absurd cc
-same_value_is (values.Lint a) (values.Int b) e = absurd cc
-same_value_is (values.Lint a) (values.Dint b) e = absurd cc
-same_value_is (values.Lint a) (values.Time b) e = absurd cc
+same_value_is (values.Real a) (values.Real b) e = real_same a b (same_number_is (pos a.pattern) (pos b.pattern) e)
+same_value_is _ _ e = absurd cc
 
 pub type_again : (t : Ty) → type_of (type_code t) ≡ Some t
 type_again types.Bool = refl
@@ -377,6 +399,7 @@ type_again types.Int = refl
 type_again types.Dint = refl
 type_again types.Time = refl
 type_again types.Lint = refl
+type_again types.Real = refl
 
 constant_fits : (seen : List Value) (v : Value) → typed_value (ty_of v) (number_of v) ≡ Some v → is_known seen v ≡ false → IsConstant seen v
 constant_fits seen v e new = record { type = type_again (ty_of v); value = again (λ v. not (is_known seen v)) (typed_value (ty_of v) (number_of v)) v e (ap not new) }

@@ -1,3 +1,5 @@
+pub mod RealValues
+pub mod OpCodes
 pub mod RowTypes
 pub mod TypedLines
 pub mod Room

@@ -12,8 +12,15 @@ use Rattle.il_model.specs.declared.literal.Literal.TheVariants.{Bare, Typed}
 use Rattle.il_model.specs.Values.{ty_of, number_of, is_within, truth_made, typed_value}
 use Rattle.il_model.specs.Words.{spells}
 use Rattle.il_model.specs.Codes.{may_start_with, initial_of}
+use Rattle.il_model.proofs.RealValues.{real_is, real_again}
+use Rattle.il_model.specs.declared.dialect.Dialect.{Dialect}
+use Rattle.il_model.specs.declared.dialect.Dialect.TheVariants as dialects
+use Rattle.il_model.specs.Dialects.{literal_in}
 use Rattle.il_model.specs.Literals.{integer_of, hash_at, signed_by, based_by, whole_by, time_by, truth_literal}
-use Rattle.il_model.specs.Literals.{typed_literal, bare_literal, prefixed_literal, is_word, literal_of}
+use Rattle.il_model.specs.Literals.{typed_literal, bare_literal, prefixed_literal, is_word, literal_of, has_point, typed_real}
+use Rattle.il_model.specs.Literals.{extended_prefixed, extended_plain, extended_literal_of}
+use Rattle.il_real.specs.declared.real.Real.{Real}
+use Rattle.il_real.specs.Literals.{real_literal}
 
 -- a value of its type's range
 abbrev pub IsValue : Value → Type 0
@@ -91,6 +98,18 @@ good_literal bytes =
 pub literal_good : (bytes : List ℕ) → IsInRange (literal_of bytes)
 literal_good bytes = (good_literal bytes).good
 
+-- ---- literals of extended texts
+
+real_good : (o : Option Real) → Good (typed_real o)
+real_good None = record { good = tt }
+real_good (Some r) = record { good = real_again r }
+
+pub extended_good : (bytes : List ℕ) → IsInRange (extended_literal_of bytes)
+extended_good bytes =
+    (either (ltb (hash_at bytes) (length bytes)) (extended_prefixed (take (hash_at bytes) bytes) (drop (hash_at bytes + 1) bytes) bytes) (extended_plain bytes)
+    (either (spells (codes "REAL") (take (hash_at bytes) bytes)) (typed_real (real_literal (drop (hash_at bytes + 1) bytes))) (literal_of bytes) (real_good (real_literal (drop (hash_at bytes + 1) bytes))) (good_literal bytes))
+    (either (has_point bytes) (typed_real (real_literal bytes)) (literal_of bytes) (real_good (real_literal bytes)) (good_literal bytes))).good
+
 -- ---- initial values
 
 abbrev one_value : Value → Option Value
@@ -129,9 +148,15 @@ made_is types.Lint z v e =
 made_is types.Time z v e =
     let m = some_of (is_within (2 ^ 31) z) (values.Time z) v e in
     subst (IsMade types.Time) m.1 (record { again = rw m.0 refl })
+made_is types.Real z v e = let m = real_is z v e in subst (IsMade types.Real) m.1 (record { again = real_again m.0 })
 
 -- an initial value is made again of its number
 pub start_again : (type : Ty) (loc : Option Loc) (z : ℤ) (v : Value) → typed_value type z ≡ Some v → may_start_with loc v ≡ true → initial_of type loc (number_of v) ≡ Some v
 start_again type loc z v e may =
     let m = made_is type z v e in
     rw (m.again, may) refl
+
+-- the literal that a text is, by its dialect
+pub literal_in_good : (dialect : Dialect) (bytes : List ℕ) → IsInRange (literal_in dialect bytes)
+literal_in_good dialects.Plain bytes = literal_good bytes
+literal_in_good dialects.Extended bytes = extended_good bytes

@@ -30,11 +30,12 @@ use Rattle.il_model.specs.declared.typing.OperandKind.TheVariants as kinds
 use Rattle.il_model.specs.declared.typing.Held.{Held}
 use Rattle.il_model.specs.declared.typing.Effect.{Effect}
 use Rattle.il_model.specs.Program.{Program}
-use Rattle.il_model.specs.Values.{ty_of, number_of, typed_value, truth_made, is_within}
+use Rattle.il_model.specs.Values.{ty_of, number_of, typed_value, bare_value, truth_made, is_within}
 use Rattle.il_model.specs.Resolved.{has_label, target_of, source_of, place_of, instance_in, instance_number, field_in, field_of, called_kind, bears_label, is_labelled}
 use Rattle.il_model.specs.Kinds.{any_field, field_type}
 use Rattle.il_model.specs.Constants.{operand_literal}
 use Rattle.il_model.specs.Row.{row}
+use Rattle.il_model.proofs.RealValues.{real_is, bare_made}
 use Rattle.il_model.proofs.RowTypes.{some_yes}
 use Rattle.il_model.proofs.TypedLines.{bind_ok, ok_before, typed_line, sourced, fault_none, IsArgumentOf, arguments_typed, no_arguments, is_among}
 use Rattle.il_model.proofs.ArgumentFaults.{literal_by}
@@ -356,9 +357,10 @@ made_number types.Int z v e = sym (ap number_of (some_yes (is_within (2 ^ 15) z)
 made_number types.Dint z v e = sym (ap number_of (some_yes (is_within (2 ^ 31) z) (values.Dint z) v e).1)
 made_number types.Lint z v e = sym (ap number_of (some_yes (is_within (2 ^ 63) z) (values.Lint z) v e).1)
 made_number types.Time z v e = sym (ap number_of (some_yes (is_within (2 ^ 31) z) (values.Time z) v e).1)
+made_number types.Real z v e = let m = real_is z v e in sym (ap number_of m.1) ∙ m.2
 
-wanted_number : (w : Option Ty) (z : ℤ) (v : Value) → option_and_then (λ (t : Ty). typed_value t z) w ≡ Some v → number_of v ≡ z
-wanted_number (Some t) z v e = made_number t z v e
+wanted_number : (w : Option Ty) (z : ℤ) (v : Value) → option_and_then (λ (t : Ty). bare_value t z) w ≡ Some v → number_of v ≡ z
+wanted_number (Some t) z v e = made_number t z v (bare_made t z v e)
 wanted_number None z v e = absurd cc
 
 settles_by : (z : ℤ) (x : Option Value) → ((v : Value) → x ≡ Some v → number_of v ≡ z) → is_bare (settled_as z x) ≡ false → Settles (operands.Bare z) (settled_as z x)

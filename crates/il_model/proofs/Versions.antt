@@ -1,7 +1,7 @@
 -- Numbers, types and operators of an image of a version read back.
 use Rattle.std.proofs.Common.{◌≡◌, ℕ, ◌<◌, ◌≤◌, ◌^◌, Bool, true, false, cond, ltb, List, [], ◌∷◌, ◌++◌, Option, Some, None, refl, sym, ap, subst, arith}
-use Rattle.std.specs.Prelude.{ℤ, pos, negsuc, not, ◌||◌, nat_eq, zero, suc}
-use Rattle.std.specs.List.{list_any, AllByRecursion}
+use Rattle.std.specs.Prelude.{ℤ, pos, negsuc, not, ◌&&◌, nat_eq, zero, suc}
+use Rattle.std.specs.List.{list_all, AllByRecursion}
 use Rattle.std.specs.Option.{option_and_then}
 use Rattle.std.specs.Int.{w32, w64, cast_signed, cast_unsigned}
 use Rattle.std.proofs.lemmas.Bool.{ltb-true, lt-ltb}
@@ -17,18 +17,23 @@ use Rattle.il_model.specs.declared.program.Loc.{Loc}
 use Rattle.il_model.specs.declared.program.Variable.{Variable}
 use Rattle.il_model.specs.declared.program.Instr.{Instr}
 use Rattle.il_model.specs.Values.{ty_of, number_of, is_within, truth_made, typed_value}
-use Rattle.il_model.specs.Image.{type_code, op_code, version_number, number_width, is_long_type, is_long_variable, is_long_value, is_long_line, converts_long, version_with}
-use Rattle.il_model.specs.Codes.{if_passes, may_have, may_start_with, type_of, type_in, op_of, op_in, version_numbered, initial_of, is_known}
+use Rattle.il_model.specs.Image.{type_code, op_code, version_number, number_width, type_version, value_version, op_version, may_have, may_declare, may_keep, may_write, suffices, version_with}
+use Rattle.il_model.specs.Codes.{if_passes, may_start_with, type_of, type_in, op_of, op_in, version_numbered, initial_of, is_known}
 use Rattle.il_model.specs.Fits.{IsVariable, IsConstant, AreItems}
 use Rattle.il_model.proofs.LiteralLaws.{IsValue}
 use Rattle.il_model.proofs.Lawful.{listed, type_again}
 use Rattle.il_model.proofs.SettledPrograms.{made_number}
+use Rattle.il_model.proofs.RealValues.{real_is}
+use Rattle.il_model.proofs.RowTypes.{and_yes}
+use Rattle.il_real.specs.declared.real.Real.{Real}
+use Rattle.il_real.proofs.Values.{real_small}
 
 -- ---- numbers
 
 abbrev pub number_limit : Version → ℕ
 number_limit versions.One = 2 ^ 32
 number_limit versions.Two = 2 ^ 64
+number_limit versions.Three = 2 ^ 64
 
 -- a number that an image of this version keeps
 pub record IsKept (version : Version) (z : ℤ) : Type 0 where
@@ -58,19 +63,22 @@ long_kept (values.Int z) is = long_number z (wider (2 ^ 15) (2 ^ 63) z (omega ar
 long_kept (values.Dint z) is = long_number z (wider (2 ^ 31) (2 ^ 63) z (omega arith) (within_by (is_within (2 ^ 31) z) (values.Dint z) (values.Dint z) is))
 long_kept (values.Time z) is = long_number z (wider (2 ^ 31) (2 ^ 63) z (omega arith) (within_by (is_within (2 ^ 31) z) (values.Time z) (values.Time z) is))
 long_kept (values.Lint z) is = long_number z (within_by (is_within (2 ^ 63) z) (values.Lint z) (values.Lint z) is)
+long_kept (values.Real r) is = long_number (pos r.pattern) (lt-ltb r.pattern (2 ^ 63) (omega (arith, real_small r)))
 
-short_kept : (v : Value) → IsValue v → not (is_long_value v) ≡ true → IsKept versions.One (number_of v)
+short_kept : (v : Value) → IsValue v → may_have versions.One (value_version v) ≡ true → IsKept versions.One (number_of v)
 short_kept (values.Bool true) is e = short_number (pos 1) refl
 short_kept (values.Bool false) is e = short_number (pos 0) refl
 short_kept (values.Int z) is e = short_number z (wider (2 ^ 15) (2 ^ 31) z (omega arith) (within_by (is_within (2 ^ 15) z) (values.Int z) (values.Int z) is))
 short_kept (values.Dint z) is e = short_number z (within_by (is_within (2 ^ 31) z) (values.Dint z) (values.Dint z) is)
 short_kept (values.Time z) is e = short_number z (within_by (is_within (2 ^ 31) z) (values.Time z) (values.Time z) is)
 short_kept (values.Lint z) is e = absurd cc
+short_kept (values.Real r) is e = absurd cc
 
 -- a value that this version may have
-pub number_back : (version : Version) (v : Value) → IsValue v → may_have version (is_long_value v) ≡ true → IsKept version (number_of v)
+pub number_back : (version : Version) (v : Value) → IsValue v → may_keep version v ≡ true → IsKept version (number_of v)
 number_back versions.One v is may = short_kept v is may
 number_back versions.Two v is may = long_kept v is
+number_back versions.Three v is may = let kept = long_kept v is in record { back = kept.back; small = kept.small }
 
 -- ---- values that were made of a type and a number
 
@@ -93,6 +101,7 @@ made_type types.Int z v e = sym (ap ty_of (made_by (is_within (2 ^ 15) z) (value
 made_type types.Dint z v e = sym (ap ty_of (made_by (is_within (2 ^ 31) z) (values.Dint z) v e))
 made_type types.Time z v e = sym (ap ty_of (made_by (is_within (2 ^ 31) z) (values.Time z) v e))
 made_type types.Lint z v e = sym (ap ty_of (made_by (is_within (2 ^ 63) z) (values.Lint z) v e))
+made_type types.Real z v e = sym (ap ty_of (real_is z v e).1)
 
 pub made_value : (t : Ty) (z : ℤ) (v : Value) → typed_value t z ≡ Some v → IsValue v
 made_value t z v e = rw (made_type t z v e, made_number t z v e) e
@@ -110,36 +119,45 @@ initial_made t loc z v e = (passed (may_start_with loc) (typed_value t z) v e).0
 
 -- ---- what a version may have
 
-pub or_may : (version : Version) (a b : Bool) → may_have version (a || b) ≡ true → (may_have version a ≡ true) × (may_have version b ≡ true)
-or_may versions.One true b e = absurd cc
-or_may versions.One false b e = (refl, e)
-or_may versions.Two a b e = (refl, refl)
+all_yes : {A : Type 0} (may : A → Bool) → ((x : A) → may x ≡ true) → (xs : List A) → list_all may xs ≡ true
+all_yes may each [] = refl
+all_yes may each (x ∷ xs) = rw (each x) (all_yes may each xs)
 
-three_may : (a b c : Bool) → let version : Version = cond (a || (b || c)) versions.Two versions.One in (may_have version a ≡ true) × (may_have version b ≡ true) × (may_have version c ≡ true)
-three_may true b c = (refl, refl, refl)
-three_may false true c = (refl, refl, refl)
-three_may false false true = (refl, refl, refl)
-three_may false false false = (refl, refl, refl)
+-- the third version may have everything
+three_suffices : (variables : List Variable) (constants : List Value) (code : List Instr) → suffices versions.Three variables constants code ≡ true
+three_suffices variables constants code =
+    rw (all_yes (may_declare versions.Three) (λ v. refl) variables, all_yes (may_keep versions.Three) (λ v. refl) constants) (all_yes (may_write versions.Three) (λ line. refl) code)
+
+first_suffices : (variables : List Variable) (constants : List Value) (code : List Instr) (a b : Bool) → suffices versions.One variables constants code ≡ a → suffices versions.Two variables constants code ≡ b
+    → let version : Version = cond a versions.One (cond b versions.Two versions.Three) in suffices version variables constants code ≡ true
+first_suffices variables constants code true b e f = e
+first_suffices variables constants code false true e f = f
+first_suffices variables constants code false false e f = three_suffices variables constants code
 
 -- the version of a program may have what the program has
 pub version_may : (variables : List Variable) (constants : List Value) (code : List Instr)
-    → let version = version_with variables constants code in (may_have version (list_any is_long_variable variables) ≡ true) × (may_have version (list_any is_long_value constants) ≡ true) × (may_have version (list_any is_long_line code) ≡ true)
-version_may variables constants code = three_may (list_any is_long_variable variables) (list_any is_long_value constants) (list_any is_long_line code)
+    → let version = version_with variables constants code in (list_all (may_declare version) variables ≡ true) × (list_all (may_keep version) constants ≡ true) × (list_all (may_write version) code ≡ true)
+version_may variables constants code =
+    let version = version_with variables constants code in
+    let all = first_suffices variables constants code (suffices versions.One variables constants code) (suffices versions.Two variables constants code) refl refl in
+    let first = and_yes (list_all (may_declare version) variables) (list_all (may_keep version) constants && list_all (may_write version) code) all in
+    let rest = and_yes (list_all (may_keep version) constants) (list_all (may_write version) code) first.1 in
+    (first.0, rest.0, rest.1)
 
-pub any_may : {A : Type 0} (version : Version) (long : A → Bool) (xs : List A) → may_have version (list_any long xs) ≡ true → AllByRecursion (λ x. may_have version (long x) ≡ true) xs
-any_may version long [] e = tt
-any_may version long (x ∷ xs) e = let m = or_may version (long x) (list_any long xs) e in (m.0, any_may version long xs m.1)
+pub any_may : {A : Type 0} (may : A → Bool) (xs : List A) → list_all may xs ≡ true → AllByRecursion (λ x. may x ≡ true) xs
+any_may may [] e = tt
+any_may may (x ∷ xs) e = let m = and_yes (may x) (list_all may xs) e in (m.0, any_may may xs m.1)
 
-pub items_may : {A : Type 0} (IsItem : List A → A → Type 0) (version : Version) (long : A → Bool) (seen xs : List A) → AreItems IsItem seen xs → may_have version (list_any long xs) ≡ true → AreItems (λ s x. IsItem s x × (may_have version (long x) ≡ true)) seen xs
-items_may IsItem version long seen [] are e = tt
-items_may IsItem version long seen (x ∷ xs) are e = let m = or_may version (long x) (list_any long xs) e in ((are.0, m.0), items_may IsItem version long (seen ++ x ∷ []) xs are.1 m.1)
+pub items_may : {A : Type 0} (IsItem : List A → A → Type 0) (may : A → Bool) (seen xs : List A) → AreItems IsItem seen xs → list_all may xs ≡ true → AreItems (λ s x. IsItem s x × (may x ≡ true)) seen xs
+items_may IsItem may seen [] are e = tt
+items_may IsItem may seen (x ∷ xs) are e = let m = and_yes (may x) (list_all may xs) e in ((are.0, m.0), items_may IsItem may (seen ++ x ∷ []) xs are.1 m.1)
 
-pub variable_kept : (version : Version) (seen : List Variable) (v : Variable) → IsVariable seen v → may_have version (is_long_variable v) ≡ true → IsKept version (number_of v.initial)
+pub variable_kept : (version : Version) (seen : List Variable) (v : Variable) → IsVariable seen v → may_declare version v ≡ true → IsKept version (number_of v.initial)
 variable_kept version seen v is may =
     let made = initial_made v.ty v.location (number_of v.initial) v.initial is.initial in
-    number_back version v.initial (made_value v.ty (number_of v.initial) v.initial made) (or_may version (is_long_type v.ty) (is_long_value v.initial) may).1
+    number_back version v.initial (made_value v.ty (number_of v.initial) v.initial made) (and_yes (may_have version (type_version v.ty)) (may_have version (value_version v.initial)) may).1
 
-pub constant_kept : (version : Version) (seen : List Value) (v : Value) → IsConstant seen v → may_have version (is_long_value v) ≡ true → IsKept version (number_of v)
+pub constant_kept : (version : Version) (seen : List Value) (v : Value) → IsConstant seen v → may_keep version v ≡ true → IsKept version (number_of v)
 constant_kept version seen v is may = number_back version v (passed (λ x. not (is_known seen x)) (typed_value (ty_of v) (number_of v)) v is.value).0 may
 
 -- ---- codes
@@ -147,29 +165,40 @@ constant_kept version seen v is may = number_back version v (passed (λ x. not (
 pub version_again : (version : Version) → version_numbered (version_number version) ≡ Some version
 version_again versions.One = refl
 version_again versions.Two = refl
+version_again versions.Three = refl
 
 pub version_is : (n : ℕ) (version : Version) → version_numbered n ≡ Some version → version_number version ≡ n
 version_is zero version e = absurd cc
 version_is (suc zero) versions.One e = refl
 version_is (suc zero) versions.Two e = absurd cc
+version_is (suc zero) versions.Three e = absurd cc
 version_is (suc (suc zero)) versions.One e = absurd cc
 version_is (suc (suc zero)) versions.Two e = refl
-version_is (suc (suc (suc n))) version e = absurd cc
+version_is (suc (suc zero)) versions.Three e = absurd cc
+version_is (suc (suc (suc zero))) versions.One e = absurd cc
+version_is (suc (suc (suc zero))) versions.Two e = absurd cc
+version_is (suc (suc (suc zero))) versions.Three e = refl
+version_is (suc (suc (suc (suc n)))) version e = absurd cc
 
 pub same_version : (a b : Version) → nat_eq (version_number a) (version_number b) ≡ true → a ≡ b
 same_version versions.One versions.One e = refl
 same_version versions.Two versions.Two e = refl
+same_version versions.Three versions.Three e = refl
 same_version versions.One versions.Two e = absurd cc
+same_version versions.One versions.Three e = absurd cc
 same_version versions.Two versions.One e = absurd cc
+same_version versions.Two versions.Three e = absurd cc
+same_version versions.Three versions.One e = absurd cc
+same_version versions.Three versions.Two e = absurd cc
 
-pub type_in_again : (version : Version) (t : Ty) → may_have version (is_long_type t) ≡ true → type_in version (type_code t) ≡ Some t
+pub type_in_again : (version : Version) (t : Ty) → may_have version (type_version t) ≡ true → type_in version (type_code t) ≡ Some t
 type_in_again version t e = rw (type_again t, e) refl
 
-pub type_in_is : (version : Version) (n : ℕ) (t : Ty) → type_in version n ≡ Some t → (type_of n ≡ Some t) × (may_have version (is_long_type t) ≡ true)
-type_in_is version n t e = passed (λ t. may_have version (is_long_type t)) (type_of n) t e
+pub type_in_is : (version : Version) (n : ℕ) (t : Ty) → type_in version n ≡ Some t → (type_of n ≡ Some t) × (may_have version (type_version t) ≡ true)
+type_in_is version n t e = passed (λ t. may_have version (type_version t)) (type_of n) t e
 
-pub op_in_again : (version : Version) (op : Op) → may_have version (converts_long op) ≡ true → op_in version (op_code op) ≡ Some op
+pub op_in_again : (version : Version) (op : Op) → may_have version (op_version op) ≡ true → op_in version (op_code op) ≡ Some op
 op_in_again version op e = rw (listed op, e) refl
 
-pub op_in_is : (version : Version) (n : ℕ) (op : Op) → op_in version n ≡ Some op → (op_of n ≡ Some op) × (may_have version (converts_long op) ≡ true)
-op_in_is version n op e = passed (λ op. may_have version (converts_long op)) (op_of n) op e
+pub op_in_is : (version : Version) (n : ℕ) (op : Op) → op_in version n ≡ Some op → (op_of n ≡ Some op) × (may_have version (op_version op) ≡ true)
+op_in_is version n op e = passed (λ op. may_have version (op_version op)) (op_of n) op e

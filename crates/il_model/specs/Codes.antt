@@ -1,5 +1,5 @@
 -- What the numbers in an image stand for: types, locations, operators, letters, operands.
-use Rattle.std.specs.Prelude.{ℕ, zero, suc, Bool, true, false, not, ◌&&◌, ◌||◌, List, [], ◌∷◌, slice_get, Option, Some}
+use Rattle.std.specs.Prelude.{ℕ, zero, suc, ◌-◌, Bool, true, false, not, ◌&&◌, ◌||◌, List, [], ◌∷◌, slice_get, Option, Some}
 use Rattle.std.specs.Prelude.{None, ℤ, is_some, is_none, nat_lt, nat_eq, if◌then◌else◌}
 use Rattle.std.specs.List.{position}
 use Rattle.std.specs.Option.{option_map, option_and_then}
@@ -36,7 +36,8 @@ use Rattle.il_model.specs.Locations.{area_of}
 use Rattle.il_model.specs.Typing.{loc_type, is_writable_area}
 use Rattle.il_model.specs.Marks.{Mark}
 use Rattle.il_model.specs.Constants.{same_value}
-use Rattle.il_model.specs.Image.{is_long_type, converts_long}
+use Rattle.il_model.specs.Image.{type_version, op_version, may_have}
+use Rattle.il_model.specs.Functions.{function_list}
 use Rattle.il_model.specs.declared.coded_operand.CodedOperand.{CodedOperand}
 use Rattle.il_model.specs.declared.coded_operand.CodedOperand.TheVariants as coded
 use Rattle.il_model.specs.CodedOperands.{loc_code, with_code}
@@ -68,21 +69,18 @@ type_of (suc zero) = Some types.Int
 type_of (suc (suc zero)) = Some types.Dint
 type_of (suc (suc (suc zero))) = Some types.Time
 type_of (suc (suc (suc (suc zero)))) = Some types.Lint
+type_of (suc (suc (suc (suc (suc zero))))) = Some types.Real
 type_of n = None
 
 abbrev pub version_numbered : ℕ → Option Version
 version_numbered (suc zero) = Some versions.One
 version_numbered (suc (suc zero)) = Some versions.Two
+version_numbered (suc (suc (suc zero))) = Some versions.Three
 version_numbered n = None
-
--- the first version has nothing long
-abbrev pub may_have : Version → Bool → Bool
-may_have versions.One long = not long
-may_have versions.Two long = true
 
 -- the type of a code in an image of this version
 abbrev pub type_in : Version → ℕ → Option Ty
-type_in version n = option_and_then (if_passes (λ t. may_have version (is_long_type t))) (type_of n)
+type_in version n = option_and_then (if_passes (λ t. may_have version (type_version t))) (type_of n)
 
 abbrev pub has_code : ℕ → Option Loc → Bool
 has_code n None = false
@@ -162,6 +160,8 @@ usage_of ops.Xor = record { letters = letters.NOpens; form = forms.Value }
 usage_of ops.Not = record { letters = letters.None; form = forms.Absent }
 usage_of ops.Add = record { letters = letters.Opens; form = forms.Value }
 usage_of ops.Sub = record { letters = letters.Opens; form = forms.Value }
+usage_of ops.Min = record { letters = letters.Opens; form = forms.Value }
+usage_of ops.Max = record { letters = letters.Opens; form = forms.Value }
 usage_of ops.Mul = record { letters = letters.Opens; form = forms.Value }
 usage_of ops.Div = record { letters = letters.Opens; form = forms.Value }
 usage_of ops.Mod = record { letters = letters.Opens; form = forms.Value }
@@ -179,6 +179,7 @@ usage_of ops.IntToDint = record { letters = letters.None; form = forms.Absent }
 usage_of ops.DintToInt = record { letters = letters.None; form = forms.Absent }
 usage_of ops.DintToLint = record { letters = letters.None; form = forms.Absent }
 usage_of ops.LintToDint = record { letters = letters.None; form = forms.Absent }
+usage_of (ops.Apply f) = record { letters = letters.None; form = forms.Absent }
 
 -- no letter; N or none; C, CN or none; a parenthesis or none; that with N or without
 abbrev pub allows : LetterSet → Modifier → Bool
@@ -208,21 +209,25 @@ formed_by usage m o = has_form usage.form m.opens o
 
 -- ---- words
 
--- the operators in the order of their codes; 26 and 27 are the codes of arguments
+-- the operators in the order of their codes; 26 and 27 are the codes of arguments, and functions have those from 32
 abbrev pub op_list : List Op
 op_list =
     ops.Empty ∷ ops.Ld ∷ ops.St ∷ ops.S ∷ ops.R ∷ ops.And ∷ ops.Or ∷ ops.Xor ∷ ops.Not ∷
     ops.Add ∷ ops.Sub ∷ ops.Mul ∷ ops.Div ∷ ops.Mod ∷ ops.Gt ∷ ops.Ge ∷ ops.Eq ∷ ops.Ne ∷ ops.Le ∷ ops.Lt ∷
     ops.Jmp ∷ ops.Cal ∷ ops.Ret ∷ ops.Close ∷ ops.IntToDint ∷ ops.DintToInt ∷ []
 
+abbrev pub low_op_of : ℕ → Option Op
+low_op_of n = if nat_eq n 28 then Some ops.DintToLint
+    else (if nat_eq n 29 then Some ops.LintToDint
+    else (if nat_eq n 30 then Some ops.Min else (if nat_eq n 31 then Some ops.Max else slice_get op_list n)))
+
 -- the operator of a code
 abbrev pub op_of : ℕ → Option Op
-op_of n = if nat_eq n 28 then Some ops.DintToLint
-    else (if nat_eq n 29 then Some ops.LintToDint else slice_get op_list n)
+op_of n = if nat_lt n 32 then low_op_of n else option_map ops.Apply (slice_get function_list (n - 32))
 
 -- the operator of a code in an image of this version
 abbrev pub op_in : Version → ℕ → Option Op
-op_in version n = option_and_then (if_passes (λ op. may_have version (converts_long op))) (op_of n)
+op_in version n = option_and_then (if_passes (λ op. may_have version (op_version op))) (op_of n)
 
 -- the letters of an operator
 abbrev pub letters_of : Op → ℕ → Option Modifier

@@ -1,5 +1,5 @@
 -- The constants of a program, in the order of their first use.
-use Rattle.std.specs.Prelude.{ℕ, suc, Bool, false, List, [], ◌∷◌, ◌++◌, map, Option, Some, None, is_some, nat_lt}
+use Rattle.std.specs.Prelude.{ℕ, suc, Bool, false, List, [], ◌∷◌, ◌++◌, map, Option, Some, None, is_some, nat_lt, pos}
 use Rattle.std.specs.Prelude.{nat_eq, if◌then◌else◌}
 use Rattle.std.specs.List.{position, flat_map}
 use Rattle.il_model.specs.declared.value.Value.{Value}
@@ -18,6 +18,7 @@ same_value (values.Int a) (values.Int b) = same_number a b
 same_value (values.Dint a) (values.Dint b) = same_number a b
 same_value (values.Lint a) (values.Lint b) = same_number a b
 same_value (values.Time a) (values.Time b) = same_number a b
+same_value (values.Real a) (values.Real b) = same_number (pos a.pattern) (pos b.pattern)
 same_value a b = false
 
 abbrev pub operand_literal : Operand → Option Value

@@ -1,9 +1,9 @@
 -- The bytes of a program: one spelling for each. In this order: a header, the variables, the instances, the labels, the
 -- constants, the words. All numbers are big-endian.
-use Rattle.std.specs.Prelude.{ℕ, ℤ, ◌+◌, Bool, true, false, ◌||◌, if◌then◌else◌, List, ◌++◌, length, codes, Option}
+use Rattle.std.specs.Prelude.{ℕ, ℤ, ◌+◌, Bool, true, false, ◌&&◌, if◌then◌else◌, List, ◌++◌, length, codes, Option}
 use Rattle.std.specs.Prelude.{Some, None}
 use Rattle.std.specs.Option.{option_map, option_and_then}
-use Rattle.std.specs.List.{flat_map, list_any}
+use Rattle.std.specs.List.{flat_map, list_all}
 use Rattle.std.specs.Int.{Width, w8, w16, w32, w64, to_be_bytes, cast_unsigned}
 use Rattle.il_model.specs.declared.value.Ty.{Ty}
 use Rattle.il_model.specs.declared.value.Ty.TheVariants as types
@@ -36,6 +36,7 @@ use Rattle.il_model.specs.Kinds.{kind_code, field_number}
 use Rattle.il_model.specs.Resolved.{target_of, instance_in, field_in, called_kind}
 use Rattle.il_model.specs.Marks.{Mark, marks_from, words_in, address_of}
 use Rattle.il_model.specs.Constants.{same_value, constants_of}
+use Rattle.il_model.specs.Functions.{function_code}
 
 abbrev pub type_code : Ty → ℕ
 type_code types.Bool = 0
@@ -43,6 +44,7 @@ type_code types.Int = 1
 type_code types.Dint = 2
 type_code types.Time = 3
 type_code types.Lint = 4
+type_code types.Real = 5
 
 abbrev pub location_code : Option Loc → ℕ
 location_code None = code_of coded.Unused
@@ -51,40 +53,63 @@ location_code (Some loc) = code_of (coded.Location loc)
 abbrev pub name_bytes : List ℕ → List ℕ
 name_bytes name = to_be_bytes w8 (length name) ++ name
 
--- ---- versions: the second has numbers of 64 bits
+-- ---- versions: the second came with LINT, and has numbers of 64 bits, as the third, which came with REAL
 
 abbrev pub version_number : Version → ℕ
 version_number versions.One = 1
 version_number versions.Two = 2
+version_number versions.Three = 3
 
 abbrev pub number_width : Version → Width
 number_width versions.One = w32
 number_width versions.Two = w64
+number_width versions.Three = w64
 
-abbrev pub is_long_type : Ty → Bool
-is_long_type types.Lint = true
-is_long_type _ = false
+-- the version that a type came with
+abbrev pub type_version : Ty → Version
+type_version types.Lint = versions.Two
+type_version types.Real = versions.Three
+type_version _ = versions.One
 
-abbrev pub is_long_value : Value → Bool
-is_long_value v = is_long_type (ty_of v)
+abbrev pub value_version : Value → Version
+value_version v = type_version (ty_of v)
 
--- a LINT by its type or by its first value: in each program that has an image the two are of one type
-abbrev pub is_long_variable : Variable → Bool
-is_long_variable v = is_long_type v.ty || is_long_value v.initial
+-- the version that an operator came with: the conversions from LINT and to it with the second; MIN, MAX and functions
+-- with the third
+abbrev pub op_version : Op → Version
+op_version ops.DintToLint = versions.Two
+op_version ops.LintToDint = versions.Two
+op_version ops.Min = versions.Three
+op_version ops.Max = versions.Three
+op_version (ops.Apply f) = versions.Three
+op_version _ = versions.One
 
--- the conversions from LINT and to it
-abbrev pub converts_long : Op → Bool
-converts_long ops.DintToLint = true
-converts_long ops.LintToDint = true
-converts_long _ = false
+-- an image of a version may have what came with this one or an earlier one
+abbrev pub may_have : Version → Version → Bool
+may_have versions.One versions.One = true
+may_have versions.One needed = false
+may_have versions.Two versions.Three = false
+may_have version needed = true
 
-abbrev pub is_long_line : Instr → Bool
-is_long_line line = converts_long line.op
+-- by its type and by its first value: in each program that has an image the two are of one type
+abbrev pub may_declare : Version → Variable → Bool
+may_declare version v = may_have version (type_version v.ty) && may_have version (value_version v.initial)
 
--- the second version exactly where a variable or a constant is LINT, or an instruction converts to it or from it
+abbrev pub may_keep : Version → Value → Bool
+may_keep version v = may_have version (value_version v)
+
+abbrev pub may_write : Version → Instr → Bool
+may_write version line = may_have version (op_version line.op)
+
+-- an image of a version may have all of this
+abbrev pub suffices : Version → List Variable → List Value → List Instr → Bool
+suffices version variables constants code = list_all (may_declare version) variables
+    && (list_all (may_keep version) constants && list_all (may_write version) code)
+
+-- the first version that suffices; the third always does
 abbrev pub version_with : List Variable → List Value → List Instr → Version
-version_with variables constants code = if list_any is_long_variable variables
-    || (list_any is_long_value constants || list_any is_long_line code) then versions.Two else versions.One
+version_with variables constants code = if suffices versions.One variables constants code then versions.One
+    else (if suffices versions.Two variables constants code then versions.Two else versions.Three)
 
 abbrev pub version_of : Program → Version
 version_of Q = version_with Q.variables (constants_of Q) Q.code
@@ -127,6 +152,9 @@ op_code ops.IntToDint = 24
 op_code ops.DintToInt = 25
 op_code ops.DintToLint = 28
 op_code ops.LintToDint = 29
+op_code ops.Min = 30
+op_code ops.Max = 31
+op_code (ops.Apply f) = function_code f
 
 abbrev pub flag : Bool → ℕ → ℕ
 flag true n = n

@@ -23,6 +23,7 @@ use Rattle.il_model.specs.declared.typing.OperandKind.TheVariants as kinds
 use Rattle.il_model.specs.declared.typing.Held.{Held}
 use Rattle.il_model.specs.declared.limits.TheConstants.{MOST_OPEN_PARENTHESES}
 use Rattle.il_model.specs.Operators.{joined_type}
+use Rattle.il_model.specs.Functions.{function_type}
 use Rattle.il_model.specs.Kinds.{field_type}
 use Rattle.il_model.specs.Words.{same_name}
 use Rattle.il_model.specs.Codes.{is_jump, is_call}
@@ -67,6 +68,7 @@ combines ops.IntToDint = false
 combines ops.DintToInt = false
 combines ops.DintToLint = false
 combines ops.LintToDint = false
+combines (ops.Apply f) = false
 combines op = true
 
 -- a value or a place follows it
@@ -144,6 +146,7 @@ takes cr held ops.IntToDint m kind = result_is (λ c. same_type c types.Int) cr
 takes cr held ops.DintToInt m kind = result_is (λ c. same_type c types.Dint) cr
 takes cr held ops.DintToLint m kind = result_is (λ c. same_type c types.Dint) cr
 takes cr held ops.LintToDint m kind = result_is (λ c. same_type c types.Lint) cr
+takes cr held (ops.Apply f) m kind = result_is (λ c. is_some (function_type f c)) cr
 takes cr held op m kind =
     if m.opens then result_is (λ c. joins op c c) cr && begins_inside kind
     else both_are (λ c t. negatable m.negated t && joins op c t) cr kind

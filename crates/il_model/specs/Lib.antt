@@ -1,5 +1,6 @@
 pub mod Values
 pub mod Operators
+pub mod Functions
 pub mod Words
 pub mod Locations
 pub mod Program
@@ -19,6 +20,7 @@ pub mod InstructionFaults
 pub mod Fits
 pub mod Kinds
 pub mod Literals
+pub mod Dialects
 pub mod Answers
 pub mod Lawful
 pub mod Declarable

@@ -2,7 +2,7 @@
 use Rattle.std.specs.Prelude.{ℕ, ◌+◌, ◌-◌, ◌*◌, ◌^◌, min, option_map, Bool, true, false, ◌&&◌, List, [], ◌∷◌, length}
 use Rattle.std.specs.Prelude.{Option, Some, None, nat_lt, nat_le, ◌==◌, if◌then◌else◌, zero, suc, ◌/◌, ◌%◌, ◌||◌, take}
 use Rattle.std.specs.Prelude.{drop, codes, not, ℤ, pos, negsuc}
-use Rattle.std.specs.List.{prefix_len}
+use Rattle.std.specs.List.{prefix_len, list_any}
 use Rattle.std.specs.Option.{option_and_then}
 use Rattle.il_model.specs.declared.duration.TimeUnit.{TimeUnit}
 use Rattle.il_model.specs.declared.duration.TimePart.{TimePart}
@@ -12,6 +12,8 @@ use Rattle.il_model.specs.declared.literal.Literal.TheVariants.{Bare, Typed}
 use Rattle.il_model.specs.declared.value.Ty.TheVariants as types
 use Rattle.il_model.specs.declared.value.Value.TheVariants as values
 use Rattle.il_model.specs.Words.{upper, spells}
+use Rattle.il_real.specs.declared.real.Real.{Real}
+use Rattle.il_real.specs.Literals.{real_literal}
 use Rattle.il_model.specs.Values.{is_within, typed_value}
 
 -- ---- digits (B.1.2.1)
@@ -243,3 +245,23 @@ literal_by read bytes =
 
 unfoldable pub literal_of : List ℕ → Option Literal
 literal_of bytes = literal_by integer_of bytes
+
+-- ---- literals of extended texts: those, and REALs
+
+abbrev pub has_point : List ℕ → Bool
+has_point bytes = list_any (λ b. b == 46) bytes
+
+abbrev pub typed_real : Option Real → Option Literal
+typed_real r = option_map (λ r. Typed (values.Real r)) r
+
+-- behind a word and a #
+abbrev pub extended_prefixed : List ℕ → List ℕ → List ℕ → Option Literal
+extended_prefixed word rest bytes = if spells (codes "REAL") word then typed_real (real_literal rest) else literal_of bytes
+
+abbrev pub extended_plain : List ℕ → Option Literal
+extended_plain bytes = if has_point bytes then typed_real (real_literal bytes) else literal_of bytes
+
+-- the literal that a text is in an extended text
+abbrev pub extended_literal_of : List ℕ → Option Literal
+extended_literal_of bytes = if nat_lt (hash_at bytes) (length bytes)
+    then extended_prefixed (take (hash_at bytes) bytes) (drop (hash_at bytes + 1) bytes) bytes else extended_plain bytes

@@ -15,7 +15,9 @@ use Rattle.il_model.specs.declared.typing.Held.{Held}
 use Rattle.il_model.specs.declared.typing.Effect.{Effect}
 use Rattle.il_model.specs.declared.typing.Effect.TheVariants.{Sets, Opens, Closes}
 use Rattle.il_model.specs.declared.limits.TheConstants.{MOST_OPEN_PARENTHESES}
+use Rattle.il_model.specs.declared.function.Function.{Function}
 use Rattle.il_model.specs.Operators.{joined_type}
+use Rattle.il_model.specs.Functions.{function_type}
 
 abbrev pub same_type : Ty → Ty → Bool
 same_type types.Bool types.Bool = true
@@ -23,6 +25,7 @@ same_type types.Int types.Int = true
 same_type types.Dint types.Dint = true
 same_type types.Lint types.Lint = true
 same_type types.Time types.Time = true
+same_type types.Real types.Real = true
 same_type a b = false
 
 abbrev pub is_bool : Ty → Bool
@@ -92,6 +95,10 @@ abbrev pub sets_to : Option Ty → Result Effect TypeFault
 sets_to (Some t) = Ok (Sets (Some t))
 sets_to None = Err TypeMismatch
 
+abbrev pub function_row : Option Ty → Function → Result Effect TypeFault
+function_row None f = Err NoCurrentResult
+function_row (Some c) f = sets_to (function_type f c)
+
 abbrev pub combine_row : Option Ty → Op → Bool → OperandKind → Result Effect TypeFault
 combine_row cr op negated kinds.NoField = Err BadField
 combine_row None op negated kind = Err NoCurrentResult
@@ -127,6 +134,7 @@ row cr top depth ops.IntToDint m kind = convert_row cr types.Int types.Dint
 row cr top depth ops.DintToInt m kind = convert_row cr types.Dint types.Int
 row cr top depth ops.DintToLint m kind = convert_row cr types.Dint types.Lint
 row cr top depth ops.LintToDint m kind = convert_row cr types.Lint types.Dint
+row cr top depth (ops.Apply f) m kind = function_row cr f
 row cr top depth op m kind = if m.opens then open_row cr depth op m.negated kind else combine_row cr op m.negated kind
 
 -- an operator is deferred only where there is room, and applied only where there is one

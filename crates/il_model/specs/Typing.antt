@@ -33,7 +33,9 @@ use Rattle.il_model.specs.Values.{ty_of}
 use Rattle.il_model.specs.Locations.{area_of}
 use Rattle.il_model.specs.Kinds.{kind_fields, field_number, field_type, is_input}
 use Rattle.il_model.specs.Words.{AreDistinct}
+use Rattle.il_model.specs.declared.function.Function.{Function}
 use Rattle.il_model.specs.Operators.{joined_type}
+use Rattle.il_model.specs.Functions.{function_type}
 use Rattle.il_model.specs.Resolved.{source_of, target_of, is_labelled, called_kind}
 
 -- ---- operands
@@ -103,6 +105,11 @@ Leaves m before after = (before.kept ≡ []) × AllowsC m before
 abbrev pub Converts : Ty → Ty → Shape → Shape → Type 0
 Converts from to before after = (before.cr ≡ Some from) × (after ≡ record before { cr = Some to })
 
+-- a function takes the current result and leaves another
+abbrev pub Applies : Function → Shape → Shape → Type 0
+Applies f before after = (from : Ty) × (to : Ty) × (before.cr ≡ Some from) × (function_type f from ≡ Some to)
+    × (after ≡ record before { cr = Some to })
+
 -- the current result inside a parenthesis is the operand behind it, if there is one
 abbrev pub Begins : Program → Operand → Option Ty → Type 0
 Begins Q x None = x ≡ operands.Absent
@@ -142,6 +149,7 @@ Takes Q ops.IntToDint m x before after = Converts types.Int types.Dint before af
 Takes Q ops.DintToInt m x before after = Converts types.Dint types.Int before after
 Takes Q ops.DintToLint m x before after = Converts types.Dint types.Lint before after
 Takes Q ops.LintToDint m x before after = Converts types.Lint types.Dint before after
+Takes Q (ops.Apply f) m x before after = Applies f before after
 Takes Q op m x before after = Operates m.opens Q op m x before after
 
 -- ---- the arguments of a call

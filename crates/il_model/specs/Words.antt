@@ -52,6 +52,10 @@ mnemonic_table =
     (codes "INT_TO_DINT", ops.IntToDint, plain) ∷ (codes "DINT_TO_INT", ops.DintToInt, plain) ∷
     (codes "DINT_TO_LINT", ops.DintToLint, plain) ∷ (codes "LINT_TO_DINT", ops.LintToDint, plain) ∷ []
 
+-- the operators that extended texts have besides
+abbrev pub extended_mnemonic_table : List (List ℕ × Op × Modifier)
+extended_mnemonic_table = (codes "MIN", ops.Min, plain) ∷ (codes "MAX", ops.Max, plain) ∷ []
+
 -- the first entry that is spelled so
 unfoldable pub look : List (List ℕ × Op × Modifier) → List ℕ → Option Mnemonic
 look [] w = None
@@ -59,6 +63,9 @@ look (e ∷ es) w = if spells e.0 w then Some (record { op = e.1; modifier = e.2
 
 unfoldable pub mnemonic_of : List ℕ → Option Mnemonic
 mnemonic_of w = look mnemonic_table w
+
+unfoldable pub extended_mnemonic_of : List ℕ → Option Mnemonic
+extended_mnemonic_of name = look extended_mnemonic_table name
 
 -- ---- names
 

@@ -1,10 +1,11 @@
 //! The numbers that stand for the parts of a program in an image, both ways.
 
 ghost use Rattle.std.specs.Prelude.{◌≡◌, Some, false};
-ghost use Rattle.std.specs.List.{list_any};
+ghost use Rattle.std.specs.List.{list_all};
 ghost use Rattle.il_model.specs.declared.codes.OperandForm.TheVariants as forms;
-ghost use Rattle.il_model.specs.Image.{type_code, location_code, op_code, version_number, is_long_variable};
-ghost use Rattle.il_model.specs.Image.{is_long_value, is_long_line, version_with, flag, modifier_code, side_code};
+ghost use Rattle.il_model.specs.Image.{type_code, location_code, op_code, version_number, type_version, op_version};
+ghost use Rattle.il_model.specs.Image.{may_have, may_declare, may_keep, may_write, suffices, version_with, flag};
+ghost use Rattle.il_model.specs.Image.{modifier_code, side_code};
 ghost use Rattle.il_model.specs.Codes.{length_of, type_of, type_in, op_in, version_numbered, is_type, may_start_with};
 ghost use Rattle.il_model.specs.Codes.{initial_of, op_of, modifier_of, usage_of, allows, has_form, allowed_by};
 ghost use Rattle.il_model.specs.Codes.{formed_by, letters_of, side_of, is_pointless};
@@ -28,6 +29,7 @@ pub fn type_code(ty: Ty) -> usize
         Ty::Dint => 2,
         Ty::Time => 3,
         Ty::Lint => 4,
+        Ty::Real => 5,
     }
 }
 
@@ -41,6 +43,7 @@ pub fn type_of(code: u8) -> Option<Ty>
         2 => Some(Ty::Dint),
         3 => Some(Ty::Time),
         4 => Some(Ty::Lint),
+        5 => Some(Ty::Real),
         _ => None,
     }
 }
@@ -66,11 +69,12 @@ pub fn is_type(ty: Ty, other: Option<Ty>) -> bool
     }
 }
 
-/// The version of an image: in the second each initial value and constant has 64 bits.
+/// The version of an image: from the second on each initial value and constant has 64 bits; the third came with REAL.
 #[derive(Clone, Copy, PartialEq, Eq)]
 pub enum Version {
     One,
     Two,
+    Three,
 }
 
 impl Version {
@@ -81,68 +85,110 @@ impl Version {
         match number {
             1 => Some(Version::One),
             2 => Some(Version::Two),
+            3 => Some(Version::Three),
             _ => None,
         }
     }
 
-    /// Its number, 1 or 2.
+    /// Its number, from 1.
     pub fn number(self) -> u16
         ensures { result ≡ version_number self }
     {
         match self {
             Version::One => 1,
             Version::Two => 2,
+            Version::Three => 3,
         }
     }
 }
 
-/// Whether a value is a LINT.
-pub fn is_long(v: Value) -> bool
-    ensures { result ≡ is_long_value v }
-{
-    matches!(v, Value::Lint(_))
+impl Version {
+    /// Whether an image of this version may have what came with another.
+    pub fn may_have(self, needed: Version) -> bool
+        ensures { result ≡ may_have self needed }
+    {
+        match (self, needed) {
+            (Version::One, Version::Two | Version::Three) | (Version::Two, Version::Three) => false,
+            _ => true,
+        }
+    }
+
+    fn may_declare(self, v: &Variable) -> bool
+        ensures { result ≡ may_declare self v.now }
+    {
+        self.may_have(type_version(v.ty)) && self.may_keep(v.initial)
+    }
+
+    fn may_keep(self, v: Value) -> bool
+        ensures { result ≡ may_keep self v }
+    {
+        self.may_have(type_version(v.ty()))
+    }
+
+    fn may_write(self, line: &Instr) -> bool
+        ensures { result ≡ may_write self line.now }
+    {
+        self.may_have(op_version(line.op))
+    }
+
+    fn may_declare_all(self, variables: &[Variable]) -> bool
+        ensures { result ≡ list_all (may_declare self) variables.now }
+    {
+        variables.iter().all(|v| self.may_declare(v))
+    }
+
+    fn may_keep_all(self, constants: &[Value]) -> bool
+        ensures { result ≡ list_all (may_keep self) constants.now }
+    {
+        constants.iter().all(|v| self.may_keep(*v))
+    }
+
+    fn may_write_all(self, code: &[Instr]) -> bool
+        ensures { result ≡ list_all (may_write self) code.now }
+    {
+        code.iter().all(|line| self.may_write(line))
+    }
+
+    /// Whether an image of this version may have all of this.
+    fn suffices(self, variables: &[Variable], constants: &[Value], code: &[Instr]) -> bool
+        ensures { result ≡ suffices self variables.now constants.now code.now }
+    {
+        self.may_declare_all(variables) && self.may_keep_all(constants) && self.may_write_all(code)
+    }
 }
 
-/// Whether a variable is a LINT, by its type or by its first value.
-fn is_long_variable(v: &Variable) -> bool
-    ensures { result ≡ is_long_variable v.now }
+/// The version that a type came with.
+pub fn type_version(ty: Ty) -> Version
+    ensures { result ≡ type_version ty }
 {
-    v.ty == Ty::Lint || is_long(v.initial)
+    match ty {
+        Ty::Lint => Version::Two,
+        Ty::Real => Version::Three,
+        _ => Version::One,
+    }
 }
 
-fn has_long_variable(variables: &[Variable]) -> bool
-    ensures { result ≡ list_any is_long_variable variables.now }
+/// The version that an operator came with.
+pub fn op_version(op: Op) -> Version
+    ensures { result ≡ op_version op }
 {
-    variables.iter().any(|v| is_long_variable(v))
+    match op {
+        Op::DintToLint | Op::LintToDint => Version::Two,
+        Op::Min | Op::Max | Op::Apply(_) => Version::Three,
+        _ => Version::One,
+    }
 }
 
-fn has_long_constant(constants: &[Value]) -> bool
-    ensures { result ≡ list_any is_long_value constants.now }
-{
-    constants.iter().any(|v| is_long(*v))
-}
-
-/// Whether an instruction converts to LINT or from it.
-fn converts_long(line: &Instr) -> bool
-    ensures { result ≡ is_long_line line.now }
-{
-    matches!(line.op, Op::DintToLint | Op::LintToDint)
-}
-
-fn has_long_line(code: &[Instr]) -> bool
-    ensures { result ≡ list_any is_long_line code.now }
-{
-    code.iter().any(|line| converts_long(line))
-}
-
-/// The version of a program with these variables, constants and instructions.
+/// The version of a program with these variables, constants and instructions: the first that suffices.
 pub fn version_with(variables: &[Variable], constants: &[Value], code: &[Instr]) -> Version
     ensures { result ≡ version_with variables.now constants.now code.now }
 {
-    if has_long_variable(variables) || has_long_constant(constants) || has_long_line(code) {
+    if Version::One.suffices(variables, constants, code) {
+        Version::One
+    } else if Version::Two.suffices(variables, constants, code) {
         Version::Two
     } else {
-        Version::One
+        Version::Three
     }
 }
 
@@ -178,9 +224,11 @@ pub fn op_code(op: Op) -> usize
 pub fn type_in(version: Version, code: u8) -> Option<Ty>
     ensures { result ≡ type_in version code }
 {
-    match (version, type_of(code)?) {
-        (Version::One, Ty::Lint) => None,
-        (_, ty) => Some(ty),
+    let ty = type_of(code)?;
+    if version.may_have(type_version(ty)) {
+        Some(ty)
+    } else {
+        None
     }
 }
 
@@ -188,9 +236,11 @@ pub fn type_in(version: Version, code: u8) -> Option<Ty>
 pub fn op_in(version: Version, code: u8) -> Option<Op>
     ensures { result ≡ op_in version code }
 {
-    match (version, Op::of_code(code)?) {
-        (Version::One, Op::DintToLint | Op::LintToDint) => None,
-        (_, op) => Some(op),
+    let op = Op::of_code(code)?;
+    if version.may_have(op_version(op)) {
+        Some(op)
+    } else {
+        None
     }
 }
 
@@ -287,7 +337,7 @@ fn usage_of(op: Op) -> Usage
         Op::Ld | Op::St => row(LetterSet::N, OperandForm::Value),
         Op::S | Op::R => row(LetterSet::None, OperandForm::Value),
         Op::And | Op::Or | Op::Xor => row(LetterSet::NOpens, OperandForm::Value),
-        Op::Add | Op::Sub | Op::Mul | Op::Div | Op::Mod => row(
+        Op::Add | Op::Sub | Op::Mul | Op::Div | Op::Mod | Op::Min | Op::Max => row(
             LetterSet::Opens,
             OperandForm::Value,
         ),
@@ -303,7 +353,8 @@ fn usage_of(op: Op) -> Usage
         | Op::IntToDint
         | Op::DintToInt
         | Op::DintToLint
-        | Op::LintToDint => { row(LetterSet::None, OperandForm::Absent) }
+        | Op::LintToDint
+        | Op::Apply(_) => { row(LetterSet::None, OperandForm::Absent) }
         Op::Cal => row(LetterSet::C, OperandForm::Instance),
     }
 }

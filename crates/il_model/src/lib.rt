@@ -1,6 +1,6 @@
 //! The words of the language: plain types of an Instruction List program (IEC 61131-3:2003, 3.2), its tables of
 //! operators, types and codes, and the definitions that all other crates cite: values, operators, names, typing, the
-//! image's spelling. It uses no other crate of this repository.
+//! image's spelling. Of this repository it uses il_real, the values of REAL.
 //!
 //! ```rust
 //! use il_model::{Op, Stop, Value, operate};
@@ -26,9 +26,11 @@ mod coded_operand;
 mod codes;
 mod command;
 mod constant_table;
+mod dialect;
 mod duration;
 mod faulty;
 mod fetched;
+mod function;
 mod image_bytes;
 mod indexed;
 mod kind;
@@ -83,11 +85,14 @@ pub use command::Answer;
 pub use command::Command;
 pub use command::Refusal;
 pub use constant_table::Constants;
+pub use dialect::Dialect;
 pub use faulty::faulty_word;
 pub use fetched::Deferred;
 pub use fetched::Fetched;
 pub use fetched::Passed;
 pub use fetched::Source;
+pub use function::Function;
+pub use function::function_from;
 pub use image_bytes::ImageBytes;
 pub use indexed::IndexedProgram;
 pub use kind::BlockKind;
@@ -115,6 +120,8 @@ pub use op::calculate;
 pub use op::long_divided;
 pub use op::long_rest;
 pub use op::operate;
+pub use op::real_within;
+pub use op::reals;
 pub use op::truths;
 pub use op::within;
 pub use program::Area;
@@ -145,8 +152,10 @@ pub use value::Stop;
 pub use value::Ty;
 pub use value::Value;
 pub use value::make;
+pub use value::make_bare;
 pub use words::Mnemonic;
 pub use words::capital;
 pub use words::is_spelled;
 pub use words::mnemonic_from;
+pub use written::extended_literal as extended_literal_from;
 pub use written::literal as literal_from;

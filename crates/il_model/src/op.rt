@@ -3,13 +3,16 @@
 ghost use Rattle.std.specs.Prelude.{◌≡◌};
 ghost use Rattle.il_model.specs.declared.value.Ty.TheVariants as types;
 ghost use Rattle.il_model.specs.Image.{op_code};
-ghost use Rattle.il_model.specs.Codes.{op_of};
+ghost use Rattle.il_model.specs.Codes.{low_op_of, op_of};
 ghost use Rattle.il_model.specs.Values.{ty_of};
 ghost use Rattle.il_model.specs.Operators.{joined_type, numeric_type, operation_result, on_numbers, on_truths, in_type};
-ghost use Rattle.il_model.specs.Operators.{bounded, quotient, remainder, calculation};
+ghost use Rattle.il_model.specs.Operators.{bounded, quotient, remainder, calculation, real_type};
+ghost use Rattle.il_model.specs.Operators.{real_or_overflow, real_quotient, on_reals};
 ghost use Rattle.std.specs.Prelude.{◌*ℤ◌, int_div, int_rem, pos, ◌≢◌};
 
+use crate::function::Function;
 use crate::value::{Stop, Ty, Value, make};
+use il_real::Real;
 
 /// An operator, in the order of its code.
 #[derive(Clone, Copy, Debug, PartialEq, Eq)]
@@ -42,6 +45,10 @@ pub enum Op {
     DintToInt,
     DintToLint,
     LintToDint,
+    Min,
+    Max,
+    /// A standard function of the current result.
+    Apply(Function),
 }
 
 /// The letters after an operator.
@@ -53,15 +60,31 @@ pub struct Modifier {
 }
 
 impl Op {
-    /// The operator of a code. 26 and 27 are the codes of arguments.
+    /// The operator of a code. 26 and 27 are the codes of arguments; functions have those from 32.
     pub fn of_code(code: u8) -> Option<Op>
         ensures { result ≡ op_of code }
+    {
+        if code < 32 {
+            Op::of_low_code(code)
+        } else {
+            Some(Op::Apply(Function::of_code(code)?))
+        }
+    }
+
+    fn of_low_code(code: u8) -> Option<Op>
+        ensures { result ≡ low_op_of code }
     {
         if code == 28 {
             return Some(Op::DintToLint);
         }
         if code == 29 {
             return Some(Op::LintToDint);
+        }
+        if code == 30 {
+            return Some(Op::Min);
+        }
+        if code == 31 {
+            return Some(Op::Max);
         }
         if code >= 26 {
             return None;
@@ -130,6 +153,9 @@ impl Op {
             Op::DintToInt => 25,
             Op::DintToLint => 28,
             Op::LintToDint => 29,
+            Op::Min => 30,
+            Op::Max => 31,
+            Op::Apply(function) => function.code(),
         }
     }
 }
@@ -147,8 +173,9 @@ pub fn joined(op: Op, cr: Ty, operand: Ty) -> Option<Ty>
         (Ty::Int, Ty::Int) => numeric(op, Ty::Int),
         (Ty::Dint, Ty::Dint) => numeric(op, Ty::Dint),
         (Ty::Lint, Ty::Lint) => numeric(op, Ty::Lint),
+        (Ty::Real, Ty::Real) => real(op),
         (Ty::Time, Ty::Time) => match op {
-            Op::Add | Op::Sub => Some(Ty::Time),
+            Op::Add | Op::Sub | Op::Min | Op::Max => Some(Ty::Time),
             Op::Gt | Op::Ge | Op::Eq | Op::Ne | Op::Le | Op::Lt => Some(Ty::Bool),
             _ => None,
         },
@@ -156,11 +183,20 @@ pub fn joined(op: Op, cr: Ty, operand: Ty) -> Option<Ty>
     }
 }
 
+fn real(op: Op) -> Option<Ty>
+    ensures { result ≡ real_type op }
+{
+    match op {
+        Op::Mod => None,
+        _ => numeric(op, Ty::Real),
+    }
+}
+
 fn numeric(op: Op, ty: Ty) -> Option<Ty>
     ensures { result ≡ numeric_type op ty }
 {
     match op {
-        Op::Add | Op::Sub | Op::Mul | Op::Div | Op::Mod => Some(ty),
+        Op::Add | Op::Sub | Op::Mul | Op::Div | Op::Mod | Op::Min | Op::Max => Some(ty),
         Op::Gt | Op::Ge | Op::Eq | Op::Ne | Op::Le | Op::Lt => Some(Ty::Bool),
         _ => None,
     }
@@ -176,6 +212,7 @@ pub fn operate(op: Op, cr: Value, operand: Value) -> Option<Result<Value, Stop>>
         (Value::Int(a), Value::Int(b)) => (Ty::Int, a as i32, b as i32),
         (Value::Dint(a), Value::Dint(b)) => (Ty::Dint, a, b),
         (Value::Lint(a), Value::Lint(b)) => return long_numbers(op, a, b),
+        (Value::Real(a), Value::Real(b)) => return reals(op, a, b),
         (Value::Time(a), Value::Time(b)) => match op {
             Op::Mul | Op::Div | Op::Mod => return None,
             _ => (Ty::Time, a, b),
@@ -205,6 +242,48 @@ pub fn truths(op: Op, a: bool, b: bool) -> Option<Result<Value, Stop>>
     Some(Ok(Value::Bool(truth)))
 }
 
+/// A REAL, or the stop where there is none.
+pub fn real_within(r: Option<Real>) -> Result<Value, Stop>
+    ensures { result ≡ real_or_overflow r }
+{
+    match r {
+        Some(r) => Ok(Value::Real(r)),
+        None => Err(Stop::Overflow),
+    }
+}
+
+fn real_quotient(a: Real, b: Real) -> Result<Value, Stop>
+    ensures { result ≡ real_quotient a b }
+{
+    if b.is(Real::zero()) {
+        Err(Stop::ZeroDivisor)
+    } else {
+        real_within(a.over(b))
+    }
+}
+
+/// An operator on two REALs, or none where it has no row at REAL. It stands apart, as that on numbers of 64 bits does.
+#[inline(never)]
+pub fn reals(op: Op, a: Real, b: Real) -> Option<Result<Value, Stop>>
+    ensures { result ≡ on_reals op a b }
+{
+    match op {
+        Op::Add => Some(real_within(a.plus(b))),
+        Op::Sub => Some(real_within(a.minus(b))),
+        Op::Mul => Some(real_within(a.times(b))),
+        Op::Div => Some(real_quotient(a, b)),
+        Op::Min => Some(Ok(Value::Real(if b.is_below(a) { b } else { a }))),
+        Op::Max => Some(Ok(Value::Real(if a.is_below(b) { b } else { a }))),
+        Op::Gt => Some(Ok(Value::Bool(b.is_below(a)))),
+        Op::Ge => Some(Ok(Value::Bool(b.is_at_most(a)))),
+        Op::Eq => Some(Ok(Value::Bool(a.is(b)))),
+        Op::Ne => Some(Ok(Value::Bool(!a.is(b)))),
+        Op::Le => Some(Ok(Value::Bool(a.is_at_most(b)))),
+        Op::Lt => Some(Ok(Value::Bool(a.is_below(b)))),
+        _ => None,
+    }
+}
+
 /// The value of a type with a number, or the stop where it doesn't fit.
 #[inline(always)]
 pub fn within(ty: Ty, z: i64) -> Result<Value, Stop>
@@ -231,6 +310,8 @@ pub fn calculate(op: Op, a: i32, b: i32) -> Option<Unbounded>
     match op {
         Op::Add => Some(Unbounded::Number(x + y)),
         Op::Sub => Some(Unbounded::Number(x - y)),
+        Op::Min => Some(Unbounded::Number(if b < a { y } else { x })),
+        Op::Max => Some(Unbounded::Number(if a < b { y } else { x })),
         Op::Mul => Some(Unbounded::Number(multiplied(a, b))),
         Op::Div => Some(quotient(a, b)),
         Op::Mod => Some(remainder(a, b)),
@@ -263,6 +344,8 @@ pub fn long_numbers(op: Op, a: i64, b: i64) -> Option<Result<Value, Stop>>
     match op {
         Op::Add => Some(within_long(a as i128 + b as i128)),
         Op::Sub => Some(within_long(a as i128 - b as i128)),
+        Op::Min => Some(Ok(Value::Lint(if b < a { b } else { a }))),
+        Op::Max => Some(Ok(Value::Lint(if a < b { b } else { a }))),
         Op::Mul => Some(within_long(long_product(a, b))),
         Op::Div => Some(long_quotient(a, b)),
         Op::Mod => Some(long_remainder(a, b)),

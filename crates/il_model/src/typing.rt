@@ -3,11 +3,12 @@
 ghost use Rattle.std.specs.Prelude.{◌≡◌};
 ghost use Rattle.il_model.specs.Settled.{settled_number, first_type};
 ghost use Rattle.il_model.specs.Row.{row, load_row, store_row, set_row, truth_row, call_row, open_row, opened_row};
-ghost use Rattle.il_model.specs.Row.{combine_row, close_row, leave_row, convert_row};
+ghost use Rattle.il_model.specs.Row.{combine_row, close_row, leave_row, convert_row, function_row};
 
+use crate::function::Function;
 use crate::limits::MOST_OPEN_PARENTHESES;
 use crate::op::{Modifier, Op, joined};
-use crate::value::{Ty, Value, make};
+use crate::value::{Ty, Value, make_bare};
 use thiserror::Error;
 
 /// Why a program is not typed.
@@ -123,6 +124,7 @@ pub fn row_of(
         Op::DintToInt => convert_types(cr, Ty::Dint, Ty::Int),
         Op::DintToLint => convert_types(cr, Ty::Dint, Ty::Lint),
         Op::LintToDint => convert_types(cr, Ty::Lint, Ty::Dint),
+        Op::Apply(function) => function_types(cr, function),
         _ => {
             if modifier.opens {
                 open_types(cr, depth, op, modifier, kind)
@@ -252,6 +254,18 @@ fn convert_types(cr: Option<Ty>, from: Ty, to: Ty) -> Result<Effect, TypeFault>
     }
 }
 
+fn function_types(cr: Option<Ty>, function: Function) -> Result<Effect, TypeFault>
+    ensures { result ≡ function_row cr function }
+{
+    let Some(c) = cr else {
+        return Err(TypeFault::NoCurrentResult);
+    };
+    match function.type_of(c) {
+        Some(after) => Ok(Effect::Sets(Some(after))),
+        None => Err(TypeFault::TypeMismatch),
+    }
+}
+
 fn open_types(
     cr: Option<Ty>,
     depth: usize,
@@ -352,5 +366,5 @@ pub fn settle(cr: Option<Ty>, op: Op, opens: bool, z: i32) -> Option<Value>
         Op::Ld => Some(first_type(z)),
         _ => if opens { Some(first_type(z)) } else { cr },
     };
-    make(wanted?, z as i64)
+    make_bare(wanted?, z as i64)
 }

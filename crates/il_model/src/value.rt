@@ -1,7 +1,9 @@
 //! Types and values.
 
 ghost use Rattle.std.specs.Prelude.{◌≡◌};
-ghost use Rattle.il_model.specs.Values.{ty_of, zero_of, number_of, typed_value};
+ghost use Rattle.il_model.specs.Values.{ty_of, zero_of, number_of, real_made, typed_value, bare_value};
+
+use il_real::Real;
 
 /// An elementary type (IEC 61131-3:2003, 2.3.1).
 #[derive(Clone, Copy, Debug, PartialEq, Eq)]
@@ -11,6 +13,7 @@ pub enum Ty {
     Dint,
     Time,
     Lint,
+    Real,
 }
 
 /// A value of a type. A duration counts milliseconds.
@@ -21,6 +24,7 @@ pub enum Value {
     Dint(i32),
     Time(i32),
     Lint(i64),
+    Real(Real),
 }
 
 /// Why a run stops.
@@ -50,7 +54,7 @@ impl Stop {
 }
 
 impl Value {
-    /// FALSE, 0, or no time.
+    /// FALSE, 0, no time, or 0.0.
     pub fn zero(ty: Ty) -> Value
         ensures { result ≡ zero_of ty }
     {
@@ -60,6 +64,7 @@ impl Value {
             Ty::Dint => Value::Dint(0),
             Ty::Time => Value::Time(0),
             Ty::Lint => Value::Lint(0),
+            Ty::Real => Value::Real(Real::zero()),
         }
     }
 
@@ -73,10 +78,11 @@ impl Value {
             Value::Dint(_) => Ty::Dint,
             Value::Time(_) => Ty::Time,
             Value::Lint(_) => Ty::Lint,
+            Value::Real(_) => Ty::Real,
         }
     }
 
-    /// The whole number of a value.
+    /// The whole number of a value; that of a REAL is its pattern.
     pub fn number(self) -> i64
         ensures { result ≡ number_of self }
     {
@@ -86,7 +92,29 @@ impl Value {
             Value::Dint(z) => z as i64,
             Value::Time(z) => z as i64,
             Value::Lint(z) => z,
+            Value::Real(r) => r.pattern as i64,
         }
+    }
+}
+
+/// The REAL with a pattern.
+fn make_real(z: i64) -> Option<Value>
+    ensures { result ≡ real_made z }
+{
+    if 0 <= z && z < 4294967296 {
+        Some(Value::Real(Real::of_pattern(z as u32)?))
+    } else {
+        None
+    }
+}
+
+/// The value that a bare number is where a type is asked for, if it fits; none for REAL, which is written with a point.
+pub fn make_bare(ty: Ty, z: i64) -> Option<Value>
+    ensures { result ≡ bare_value ty z }
+{
+    match ty {
+        Ty::Real => None,
+        _ => make(ty, z),
     }
 }
 
@@ -127,6 +155,7 @@ pub fn make(ty: Ty, z: i64) -> Option<Value>
             }
         }
         Ty::Lint => Some(Value::Lint(z)),
+        Ty::Real => make_real(z),
     }
 }
 

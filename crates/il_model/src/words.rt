@@ -1,7 +1,7 @@
 //! The words that operators are written as (IEC 61131-3:2003, table 52), without regard to case.
 
 ghost use Rattle.std.specs.Prelude.{◌≡◌, map};
-ghost use Rattle.il_model.specs.Words.{upper, spells, look, mnemonic_of};
+ghost use Rattle.il_model.specs.Words.{upper, spells, look, mnemonic_of, extended_mnemonic_of};
 
 use crate::op::{Modifier, Op};
 
@@ -80,6 +80,12 @@ pub static MNEMONICS: [(&[u8], Op, Modifier); 39] = [
     (b"LINT_TO_DINT", Op::LintToDint, PLAIN),
 ];
 
+/// The operator words that extended texts have besides.
+pub static EXTENDED_MNEMONICS: [(&[u8], Op, Modifier); 2] = [
+    (b"MIN", Op::Min, PLAIN),
+    (b"MAX", Op::Max, PLAIN),
+];
+
 /// A byte, a small letter as its capital one.
 pub fn capital(b: u8) -> u8
     ensures { result ≡ upper b }
@@ -125,4 +131,12 @@ pub fn mnemonic_from(text: &[u8]) -> Option<Mnemonic>
     ensures { result ≡ mnemonic_of text.now }
 {
     looked_up(&MNEMONICS, text)
+}
+
+/// The operator that a text is in extended texts alone, without regard to case; None where it is none, or a function.
+#[tactic(auto, unfolding(crate::specs::Words::extended_mnemonic_of))]
+pub fn extended_mnemonic_from(text: &[u8]) -> Option<Mnemonic>
+    ensures { result ≡ extended_mnemonic_of text.now }
+{
+    looked_up(&EXTENDED_MNEMONICS, text)
 }

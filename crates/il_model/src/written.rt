@@ -3,13 +3,16 @@
 ghost use Rattle.std.specs.Prelude.{◌≡◌, ◌≤◌, ◌<◌, ◌^◌, length, option_map, IfSome};
 ghost use Rattle.il_model.specs.Literals.{held_integer, positive, minus, signed_by, is_no_hash, hash_at, based_by};
 ghost use Rattle.il_model.specs.Literals.{whole_by, time_by, truth_literal, typed_literal, bare_literal};
-ghost use Rattle.il_model.specs.Literals.{prefixed_literal, is_word, literal_by, literal_of};
+ghost use Rattle.il_model.specs.Literals.{prefixed_literal, is_word, literal_by, literal_of, has_point, typed_real};
+ghost use Rattle.il_model.specs.Literals.{extended_prefixed, extended_plain, extended_literal_of};
+ghost use Rattle.il_real.specs.Literals.{real_literal};
 ghost use Rattle.il_model.specs.Values.{typed_value};
 
 use crate::duration::duration;
 use crate::literal::{Literal, integer};
 use crate::value::{Ty, Value, make};
 use crate::words::is_spelled;
+use il_real::real_from;
 
 fn above(n: Option<u128>) -> Option<i128>
     requires { IfSome n (λ n. n < 2 ^ 127) }
@@ -176,4 +179,50 @@ pub fn literal(bytes: &[u8]) -> Option<Literal>
     ensures { result ≡ literal_of bytes.now }
 {
     judged(bytes)
+}
+
+/// A REAL that a text is.
+fn real(bytes: &[u8]) -> Option<Literal>
+    ensures { result ≡ typed_real (real_literal bytes.now) }
+{
+    Some(Literal::Typed(Value::Real(real_from(bytes)?)))
+}
+
+fn has_point(bytes: &[u8]) -> bool
+    ensures { result ≡ has_point bytes.now }
+{
+    bytes.iter().any(|b| *b == b'.')
+}
+
+fn extended_prefixed(word: &[u8], rest: &[u8], bytes: &[u8]) -> Option<Literal>
+    ensures { result ≡ extended_prefixed word.now rest.now bytes.now }
+{
+    if is_spelled(b"REAL", word) {
+        real(rest)
+    } else {
+        literal(bytes)
+    }
+}
+
+fn extended_plain(bytes: &[u8]) -> Option<Literal>
+    ensures { result ≡ extended_plain bytes.now }
+{
+    if has_point(bytes) {
+        real(bytes)
+    } else {
+        literal(bytes)
+    }
+}
+
+/// The literal that a text is in an extended text: a REAL, which has a point, with `REAL#` before it or not, or one of
+/// every text. None where it is none.
+pub fn extended_literal(bytes: &[u8]) -> Option<Literal>
+    ensures { result ≡ extended_literal_of bytes.now }
+{
+    let hash = hash(bytes);
+    if hash < bytes.len() {
+        extended_prefixed(&bytes[..hash], &bytes[hash + 1..], bytes)
+    } else {
+        extended_plain(bytes)
+    }
 }

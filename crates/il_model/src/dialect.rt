@@ -1,0 +1,73 @@
+//! Dialects: the words and the literals of a text.
+
+ghost use Rattle.std.specs.Prelude.{◌≡◌};
+ghost use Rattle.il_model.specs.Words.{plain, extended_mnemonic_of};
+ghost use Rattle.il_model.specs.Functions.{function_named};
+ghost use Rattle.il_model.specs.Dialects.{applied, or_function, operator_in, literal_in};
+
+use crate::function::{Function, function_from};
+use crate::literal::Literal;
+use crate::op::{Modifier, Op};
+use crate::words::{Mnemonic, extended_mnemonic_from, mnemonic_from};
+use crate::written::{extended_literal, literal};
+
+/// What may stand in a text: the words and literals of every text, or those and REAL, MIN, MAX and the functions.
+#[derive(Clone, Copy, Debug, PartialEq, Eq)]
+pub enum Dialect {
+    Plain,
+    Extended,
+}
+
+fn plain() -> Modifier
+    ensures { result ≡ plain }
+{
+    Modifier {
+        negated: false,
+        conditional: false,
+        opens: false,
+    }
+}
+
+fn applied(function: Option<Function>) -> Option<Mnemonic>
+    ensures { result ≡ applied function }
+{
+    match function {
+        Some(function) => Some(Mnemonic {
+            op: Op::Apply(function),
+            modifier: plain(),
+        }),
+        None => None,
+    }
+}
+
+fn extended_operator(text: &[u8]) -> Option<Mnemonic>
+    ensures { result ≡ or_function text.now (extended_mnemonic_of text.now) }
+{
+    match extended_mnemonic_from(text) {
+        None => applied(function_from(text)),
+        found => found,
+    }
+}
+
+impl Dialect {
+    /// The operator that a word is in a text of this dialect, without regard to case.
+    pub fn operator(self, text: &[u8]) -> Option<Mnemonic>
+        ensures { result ≡ operator_in self text.now }
+    {
+        let found = mnemonic_from(text);
+        match (self, found) {
+            (Dialect::Extended, None) => extended_operator(text),
+            _ => found,
+        }
+    }
+
+    /// The literal that a text is in a text of this dialect.
+    pub fn literal(self, text: &[u8]) -> Option<Literal>
+        ensures { result ≡ literal_in self text.now }
+    {
+        match self {
+            Dialect::Plain => literal(text),
+            Dialect::Extended => extended_literal(text),
+        }
+    }
+}
